@@ -1,0 +1,11 @@
+pub mod Message
+pub mod Length
+pub mod Integer
+pub mod ObjectIdentifier
+pub mod Ber
+pub mod Spelling
+pub mod Canonical
+pub mod NameReading
+pub mod Reading
+pub mod Walk
+pub mod View

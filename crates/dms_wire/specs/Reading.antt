@@ -1,0 +1,213 @@
+-- Reading on lists, from left to right, with the first fault that is met. The laws that join it to Spelling stand in
+-- proofs/.
+use Rattle.std.specs.Prelude.{◌≡◌, ℕ, ℤ, pos, negsuc, zero, suc, ◌+◌, ◌-◌, Bool, false, nat_lt, nat_le, ◌==◌, ◌&&◌, List, [], ◌∷◌, length, take, drop, Option, Some, None, ok_or, option_map, option_and_then, ◌||◌, Result, Ok, Err, if◌then◌else◌}
+use Rattle.std.specs.Int.Digits.{number_from_digits}
+use Rattle.dms_wire.specs.declared.fault.FaultKind.{FaultKind}
+use Rattle.dms_wire.specs.declared.fault.FaultKind.TheVariants.{Truncated, BadTag, BadLength, LengthPast, BadInteger, BadName, BadVersion, TrailingBytes, TooLong}
+use Rattle.dms_wire.specs.declared.fault.WireFault.{WireFault}
+use Rattle.dms_wire.specs.declared.message.Kind.{Kind}
+use Rattle.dms_wire.specs.declared.message.Kind.TheVariants.{Get, GetNext, Response, Set}
+use Rattle.dms_wire.specs.Message.{ObjectValue, integer, octet_string, null, object_identifier, ip_address, counter, gauge, time_ticks, opaque, VarBind, SnmpMessage}
+use Rattle.dms_wire.specs.Integer.{is_shortest, signed_value, in_range}
+use Rattle.dms_wire.specs.NameReading.{is_name, numbers_of}
+
+infixl 10 ◌>>=◌
+abbrev pub ◌>>=◌ : {A B : Type 0} → Result A WireFault → (A → Result B WireFault) → Result B WireFault
+(Ok x) >>= f = f x
+(Err e) >>= f = Err e
+
+-- what a function returned, seen by view, is what reading gives
+abbrev pub Gives : {X Y : Type 0} → (X → Y) → Result X WireFault → Result Y WireFault → Type 0
+Gives view (Ok x) read = read ≡ Ok (view x)
+Gives view (Err e) read = read ≡ Err e
+
+abbrev pub fault : FaultKind → ℕ → WireFault
+fault kind place = record { kind = kind; place = place }
+
+-- end is the offset at which the octets end
+unfoldable pub length_at : ℕ → List ℕ → Result (ℕ × List ℕ) WireFault
+length_at end [] = Err (fault Truncated end)
+length_at end (b ∷ bs) =
+    if nat_lt b 128 then Ok (b, bs)
+    else if nat_lt 132 b then Err (fault BadLength (end - length bs - 1))
+    else if b == 128 then Err (fault BadLength (end - length bs - 1))
+    else if nat_lt (length bs) (b - 128) then Err (fault Truncated end)
+    else Ok (number_from_digits 256 (take (b - 128) bs), drop (b - 128) bs)
+
+unfoldable pub integer_value : List ℕ → Option ℤ
+integer_value bs =
+    if nat_lt 5 (length bs) then None
+    else if is_shortest bs then (if in_range (signed_value bs) then Some (signed_value bs) else None)
+    else None
+
+-- behind a tag: the content, and the octets after it
+unfoldable pub content_at : ℕ → List ℕ → Result (List ℕ × List ℕ) WireFault
+content_at end bytes = do
+  n ← length_at end bytes
+  if nat_lt (length n.1) n.0 then Err (fault LengthPast (end - length bytes)) else Ok (take n.0 n.1, drop n.0 n.1)
+
+unfoldable pub element_at : ℕ → ℕ → List ℕ → Result (List ℕ × List ℕ) WireFault
+element_at tag end [] = Err (fault Truncated end)
+element_at tag end (b ∷ bytes) = (if b == tag then content_at end bytes else Err (fault BadTag (end - length (b ∷ bytes))))
+
+-- the offset of the first octet of a content before these octets
+abbrev pub place_of : ℕ → List ℕ → List ℕ → ℕ
+place_of end content rest = end - length rest - length content
+
+unfoldable pub integer_at : ℕ → List ℕ → Result (ℤ × List ℕ) WireFault
+integer_at end bytes = do
+  c ← element_at 2 end bytes
+  z ← ok_or (integer_value c.0) (fault BadInteger (place_of end c.0 c.1))
+  Ok (z, c.1)
+
+abbrev pub name_of : ℕ → List ℕ → Result (List ℕ) WireFault
+name_of place content = (if is_name content then Ok (numbers_of content) else Err (fault BadName place))
+
+unfoldable pub name_at : ℕ → List ℕ → Result (List ℕ × List ℕ) WireFault
+name_at end bytes = do
+  c ← element_at 6 end bytes
+  n ← name_of (place_of end c.0 c.1) c.0
+  Ok (n, c.1)
+
+-- a number from 0 to 2^32 - 1
+abbrev pub natural : ℤ → Option ℕ
+natural (pos n) = Some n
+natural _ = None
+
+abbrev pub natural_value : List ℕ → Option ℕ
+natural_value bytes = option_and_then natural (integer_value bytes)
+
+-- The value that a tag and a content are. before is the offset of the length, and place that of the content.
+unfoldable pub value_from : ℕ → ℕ → ℕ → List ℕ → Result ObjectValue WireFault
+value_from tag before place content =
+    if tag == 2 then (ok_or (option_map integer (integer_value content)) (fault BadInteger place))
+    else if tag == 4 then Ok (octet_string content)
+    else if tag == 5 then (if length content == 0 then Ok null else Err (fault BadLength before))
+    else if tag == 6 then (if is_name content then Ok (object_identifier (numbers_of content)) else Err (fault BadName place))
+    else if tag == 64 then (if length content == 4 then Ok (ip_address content) else Err (fault BadLength before))
+    else if tag == 65 then (ok_or (option_map counter (natural_value content)) (fault BadInteger place))
+    else if tag == 66 then (ok_or (option_map gauge (natural_value content)) (fault BadInteger place))
+    else if tag == 67 then (ok_or (option_map time_ticks (natural_value content)) (fault BadInteger place))
+    else Ok (opaque content)
+
+abbrev pub is_value_tag : ℕ → Bool
+is_value_tag b = (b == 2) || (b == 4) || (b == 5) || (b == 6) || (nat_le 64 b && nat_le b 68)
+
+unfoldable pub behind_tag : ℕ → ℕ → List ℕ → Result (ObjectValue × List ℕ) WireFault
+behind_tag tag end bytes = do
+  c ← content_at end bytes
+  d ← value_from tag (end - length bytes) (place_of end c.0 c.1) c.0
+  Ok (d, c.1)
+
+unfoldable pub value_at : ℕ → List ℕ → Result (ObjectValue × List ℕ) WireFault
+value_at end [] = Err (fault Truncated end)
+value_at end (b ∷ bytes) = (if is_value_tag b then behind_tag b end bytes else Err (fault BadTag (end - length (b ∷ bytes))))
+
+-- nothing follows the last member
+unfoldable pub ended : ℕ → List ℕ → Result (Unit {0}) WireFault
+ended end [] = Ok tt
+ended end (b ∷ bytes) = Err (fault TrailingBytes (end - length (b ∷ bytes)))
+
+-- a binding's two members, in its content
+unfoldable pub members_at : ℕ → List ℕ → Result VarBind WireFault
+members_at end bytes = do
+  n ← name_at end bytes
+  v ← value_at end n.1
+  _ ← ended end v.1
+  Ok (record { name = n.0; value = v.0 })
+
+unfoldable pub binding_at : ℕ → List ℕ → Result (VarBind × List ℕ) WireFault
+binding_at end bytes = do
+  c ← element_at 48 end bytes
+  m ← members_at (end - length c.1) c.0
+  Ok (m, c.1)
+
+-- at most k bindings
+unfoldable pub bindings_up_to : ℕ → ℕ → List ℕ → Result (List VarBind) WireFault
+bindings_up_to zero end bytes = Ok []
+bindings_up_to (suc k) end [] = Ok []
+bindings_up_to (suc k) end (b ∷ bytes) = do
+  first ← binding_at end (b ∷ bytes)
+  others ← bindings_up_to k end first.1
+  Ok (first.0 ∷ others)
+
+abbrev pub bindings_at : ℕ → List ℕ → Result (List VarBind) WireFault
+bindings_at end bytes = bindings_up_to (length bytes) end bytes
+
+abbrev pub is_zero : ℤ → Bool
+is_zero (pos n) = n == 0
+is_zero (negsuc n) = false
+
+abbrev pub kind_of : ℕ → Option Kind
+kind_of b = (if b == 160 then Some Get else if b == 161 then Some GetNext else if b == 162 then Some Response else if b == 163 then Some Set else None)
+
+-- the version, which is 0
+abbrev pub version_of : ℕ → List ℕ → Result (Unit {0}) WireFault
+version_of place content = do
+  z ← ok_or (integer_value content) (fault BadInteger place)
+  if is_zero z then Ok tt else Err (fault BadVersion place)
+
+unfoldable pub version_at : ℕ → List ℕ → Result (Unit {0} × List ℕ) WireFault
+version_at end bytes = do
+  c ← element_at 2 end bytes
+  v ← version_of (place_of end c.0 c.1) c.0
+  Ok (v, c.1)
+
+unfoldable pub list_at : ℕ → List ℕ → Result (List VarBind × List ℕ) WireFault
+list_at end bytes = do
+  c ← element_at 48 end bytes
+  es ← bindings_at (end - length c.1) c.0
+  Ok (es, c.1)
+
+-- what a PDU says beside its kind
+pub record Numbered : Type 0 where
+  pub request : ℤ
+  pub status : ℤ
+  pub index : ℤ
+  pub bindings : List VarBind
+
+unfoldable pub pdu_at : ℕ → List ℕ → Result Numbered WireFault
+pdu_at end bytes = do
+  request ← integer_at end bytes
+  status ← integer_at end request.1
+  index ← integer_at end status.1
+  bindings ← list_at end index.1
+  _ ← ended end bindings.1
+  Ok (record { request = request.0; status = status.0; index = index.0; bindings = bindings.0 })
+
+unfoldable pub tagged_pdu_at : ℕ → List ℕ → Result ((Kind × Numbered) × List ℕ) WireFault
+tagged_pdu_at end [] = Err (fault Truncated end)
+tagged_pdu_at end (b ∷ bytes) = do
+  kind ← ok_or (kind_of b) (fault BadTag (end - length (b ∷ bytes)))
+  c ← content_at end bytes
+  p ← pdu_at (end - length c.1) c.0
+  Ok ((kind, p), c.1)
+
+-- the three members of a message
+unfoldable pub inside_at : ℕ → List ℕ → Result SnmpMessage WireFault
+inside_at end bytes = do
+  version ← version_at end bytes
+  community ← element_at 4 end version.1
+  p ← tagged_pdu_at end community.1
+  _ ← ended end p.1
+  Ok (record { community = community.0; kind = p.0.0; request = p.0.1.request; status = p.0.1.status; index = p.0.1.index; bindings = p.0.1.bindings })
+
+-- the outermost element's content behind its tag, and what follows it
+unfoldable pub outer_content : ℕ → List ℕ → Result (List ℕ × List ℕ) WireFault
+outer_content end bytes = do
+  n ← length_at end bytes
+  if nat_lt (length n.1) n.0 then Err (fault Truncated end) else Ok (take n.0 n.1, drop n.0 n.1)
+
+unfoldable pub outer_at : List ℕ → Result (List ℕ × List ℕ) WireFault
+outer_at [] = Err (fault Truncated 0)
+outer_at (b ∷ bytes) = (if b == 48 then outer_content (1 + length bytes) bytes else Err (fault BadTag 0))
+
+unfoldable pub datagram_at : List ℕ → Result SnmpMessage WireFault
+datagram_at bytes = do
+  c ← outer_at bytes
+  m ← inside_at (length bytes - length c.1) c.0
+  _ ← ended (length bytes) c.1
+  Ok m
+
+unfoldable pub message_at : List ℕ → Result SnmpMessage WireFault
+message_at bytes = if nat_lt 1472 (length bytes) then Err (fault TooLong 1472) else datagram_at bytes

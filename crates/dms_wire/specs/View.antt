@@ -1,0 +1,28 @@
+-- What the code's messages say.
+use Rattle.std.specs.Prelude.{map}
+use Rattle.dms_wire.specs.declared.message.Value.{Value}
+use Rattle.dms_wire.specs.declared.message.Value.TheVariants.{Integer, Octets, Null, Name, Address, Counter, Gauge, Ticks, Opaque}
+use Rattle.dms_wire.specs.declared.message.Bind.{Bind}
+use Rattle.dms_wire.specs.declared.message.Message.{Message}
+use Rattle.dms_wire.specs.declared.message.MessageParts.{MessageParts}
+use Rattle.dms_wire.specs.Message.{ObjectValue, integer, octet_string, null, object_identifier, ip_address, counter, gauge, time_ticks, opaque, VarBind, SnmpMessage}
+
+abbrev pub object_value : Value → ObjectValue
+object_value (Integer z) = integer z
+object_value (Octets s) = octet_string s.now
+object_value Null = null
+object_value (Name o) = object_identifier o
+object_value (Address a) = ip_address a
+object_value (Counter n) = counter n
+object_value (Gauge n) = gauge n
+object_value (Ticks n) = time_ticks n
+object_value (Opaque s) = opaque s.now
+
+abbrev pub var_bind : Bind → VarBind
+var_bind b = record { name = b.name; value = object_value b.value }
+
+abbrev pub snmp_message : Message → SnmpMessage
+snmp_message m = record { community = m.community.now; kind = m.kind; request = m.request; status = m.status; index = m.index; bindings = m.binds }
+
+abbrev pub snmp_message_of_parts : MessageParts → SnmpMessage
+snmp_message_of_parts p = record { community = p.community.now; kind = p.kind; request = p.request; status = p.status; index = p.index; bindings = map var_bind p.binds.now }

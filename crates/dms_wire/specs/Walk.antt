@@ -1,0 +1,17 @@
+-- The bindings that octets spell, as far as they spell any.
+use Rattle.std.specs.Prelude.{ℕ, zero, suc, List, [], ◌∷◌, length, Result, Ok, Err}
+use Rattle.dms_wire.specs.declared.fault.WireFault.{WireFault}
+use Rattle.dms_wire.specs.Message.{VarBind}
+use Rattle.dms_wire.specs.Reading.{binding_at}
+
+abbrev pub or_none : {A : Type 0} → List A → (A → List ℕ → List A) → Result (A × List ℕ) WireFault → List A
+or_none none more (Ok x) = more x.0 x.1
+or_none none more (Err f) = none
+
+-- at most k of them
+unfoldable pub bindings_within : ℕ → List ℕ → List VarBind
+bindings_within zero bytes = []
+bindings_within (suc k) bytes = or_none [] (λ b rest. b ∷ bindings_within k rest) (binding_at (length bytes) bytes)
+
+abbrev pub bindings_of : List ℕ → List VarBind
+bindings_of bytes = bindings_within (length bytes) bytes

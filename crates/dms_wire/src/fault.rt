@@ -1,0 +1,71 @@
+//! What is wrong with a datagram.
+
+use std::error::Error;
+use std::fmt;
+
+/// The rule that a datagram breaks.
+#[derive(Clone, Copy, Debug, PartialEq, Eq, Hash)]
+pub enum FaultKind {
+    /// A tag or length octet is missing, or the outermost content passes the datagram.
+    Truncated,
+    /// Another tag than one allowed here.
+    BadTag,
+    /// A refused form of a length, a NULL with content or an IpAddress that is not four octets.
+    BadLength,
+    /// A content passes the element around it.
+    LengthPast,
+    /// An integer in no shortest form or out of range.
+    BadInteger,
+    /// An object identifier out of form or limits.
+    BadName,
+    /// A version other than 0.
+    BadVersion,
+    /// Octets after the last member of an element, or after the message.
+    TrailingBytes,
+    /// A datagram over 1,472 octets.
+    TooLong,
+}
+
+impl fmt::Display for FaultKind {
+    fn fmt<W: fmt::Write>(&self, f: &mut fmt::Formatter<W>) -> fmt::Result {
+        let text = match self {
+            FaultKind::Truncated => "truncated",
+            FaultKind::BadTag => "unexpected tag",
+            FaultKind::BadLength => "bad length",
+            FaultKind::LengthPast => "content passes its element",
+            FaultKind::BadInteger => "bad integer",
+            FaultKind::BadName => "bad object identifier",
+            FaultKind::BadVersion => "version is not 0",
+            FaultKind::TrailingBytes => "trailing octets",
+            FaultKind::TooLong => "datagram over 1472 octets",
+        };
+        f.write_str(text)
+    }
+}
+
+/// The first fault of a datagram, and the offset in octets, from 0, at which it stands.
+#[derive(Clone, Copy, Debug, PartialEq, Eq, Hash)]
+pub struct WireFault {
+    pub kind: FaultKind,
+    pub place: usize,
+}
+
+impl fmt::Display for WireFault {
+    fn fmt<W: fmt::Write>(&self, f: &mut fmt::Formatter<W>) -> fmt::Result {
+        write!(f, "{} at octet {}", self.kind, self.place)
+    }
+}
+
+impl Error for WireFault {}
+
+/// The shortest spelling of a message has more than 1,472 octets.
+#[derive(Clone, Copy, Debug, PartialEq, Eq, Hash)]
+pub struct TooBig;
+
+impl fmt::Display for TooBig {
+    fn fmt<W: fmt::Write>(&self, f: &mut fmt::Formatter<W>) -> fmt::Result {
+        f.write_str("the message has more than 1472 octets")
+    }
+}
+
+impl Error for TooBig {}

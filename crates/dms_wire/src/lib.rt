@@ -1,0 +1,8 @@
+//! SNMPv1 messages in BER: reading a datagram, and writing the shortest one.
+#![tactic(auto)]
+
+pub mod fault;
+pub mod message;
+
+pub use fault::{FaultKind, TooBig, WireFault};
+pub use message::{Bind, Binds, Kind, Message, MessageParts, Oid, Out, Value};

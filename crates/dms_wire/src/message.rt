@@ -1,0 +1,100 @@
+//! Messages, their bindings and values, over the octets of a datagram.
+
+use arrayvec::ArrayVec;
+use std::marker::Model;
+
+/// The most octets of a datagram.
+pub const MAX_DATAGRAM: usize = 1472;
+
+/// A datagram to send.
+pub type Out = ArrayVec<u8, MAX_DATAGRAM>;
+
+/// What a message asks or answers (RFC 1157, 4.1.2 to 4.1.5).
+#[derive(Clone, Copy, Debug, PartialEq, Eq, Hash)]
+pub enum Kind {
+    Get,
+    GetNext,
+    Response,
+    Set,
+}
+
+/// An object identifier, over its content octets. A contract sees the list of its numbers, of which there are 2 to 128.
+#[derive(Drop)]
+pub struct Oid<'a> {
+    pub(crate) content: &'a [u8],
+}
+
+impl<'a> Model for Oid<'a> {
+    ghost use Rattle.std.specs.Prelude.{ℕ, List, IsTrue};
+    ghost use Rattle.dms_wire.specs.NameReading.{numbers_of, is_name};
+
+    ghost Value = { List ℕ };
+
+    ghost view = { λ a. numbers_of a.content.now };
+
+    ghost invariant = { λ a. IsTrue (is_name a.content.now) };
+}
+
+/// The value of an object (RFC 1155, 3.2).
+#[derive(Drop)]
+pub enum Value<'a> {
+    /// From -2^31 to 2^32 - 1 in what is read.
+    Integer(i64),
+    Octets(&'a [u8]),
+    Null,
+    Name(Oid<'a>),
+    Address([u8; 4]),
+    Counter(u32),
+    Gauge(u32),
+    /// Hundredths of a second.
+    Ticks(u32),
+    Opaque(&'a [u8]),
+}
+
+/// A binding: an object's name and its value.
+#[derive(Drop)]
+pub struct Bind<'a> {
+    pub name: Oid<'a>,
+    pub value: Value<'a>,
+}
+
+/// The bindings of a message, over its octets: an iterator, which a contract sees as the list of what is left.
+#[derive(Drop)]
+pub struct Binds<'a> {
+    pub(crate) content: &'a [u8],
+}
+
+impl<'a> Model for Binds<'a> {
+    ghost use Rattle.std.specs.Prelude.{List};
+    ghost use Rattle.dms_wire.specs.Message.{VarBind};
+    ghost use Rattle.dms_wire.specs.Walk.{bindings_of};
+
+    ghost Value = { List VarBind };
+
+    ghost view = { λ a. bindings_of a.content.now };
+}
+
+/// A message that was read, over the octets of its datagram.
+#[derive(Drop)]
+pub struct Message<'a> {
+    pub community: &'a [u8],
+    pub kind: Kind,
+    /// The request-id.
+    pub request: i64,
+    /// The error-status.
+    pub status: i64,
+    /// The error-index.
+    pub index: i64,
+    pub binds: Binds<'a>,
+}
+
+/// A message to write: as `Message`, with its bindings in a slice.
+#[derive(Drop)]
+pub struct MessageParts<'a> {
+    pub community: &'a [u8],
+    pub kind: Kind,
+    pub request: i64,
+    pub status: i64,
+    pub index: i64,
+    pub binds: &'a [Bind<'a>],
+}
