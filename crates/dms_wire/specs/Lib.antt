@@ -4,6 +4,7 @@ pub mod Integer
 pub mod ObjectIdentifier
 pub mod Ber
 pub mod Spelling
+pub mod Limits
 pub mod Canonical
 pub mod NameReading
 pub mod Reading

@@ -3,6 +3,8 @@
 
 pub mod fault;
 pub mod message;
+pub mod object_identifier;
 
 pub use fault::{FaultKind, TooBig, WireFault};
-pub use message::{Bind, Binds, Kind, Message, MessageParts, Oid, Out, Value};
+pub use message::{Bind, Binds, Kind, Message, MessageParts, Out, Value};
+pub use object_identifier::Oid;

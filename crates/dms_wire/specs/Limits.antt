@@ -1,0 +1,35 @@
+-- The limits of what a message can say: its numbers, its names and its values.
+use Rattle.std.specs.Prelude.{◌≡◌, ℕ, ◌+◌, ◌*◌, ◌^◌, ◌<◌, ◌≤◌, IsTrue, List, [], ◌∷◌, length}
+use Rattle.std.specs.Int.Digits.{AllBelowBase}
+use Rattle.dms_wire.specs.Message.{ObjectValue, integer, octet_string, null, object_identifier, ip_address, counter, gauge, time_ticks, opaque, VarBind, SnmpMessage}
+use Rattle.dms_wire.specs.Integer.{in_range}
+
+-- A name is 2 to 128 numbers a, b, ..: a at most 2, b below 40 where a is 0 or 1 (X.690, 8.19.4); 40a + b and each later number
+-- below 2^32.
+abbrev pub IsNameInLimits : List ℕ → Type 0
+IsNameInLimits [] = ⊥
+IsNameInLimits (a ∷ []) = ⊥
+IsNameInLimits (a ∷ b ∷ ns) =
+    (a ≤ 2) × (a < 2 → b < 40) × (40 * a + b < 2 ^ 32) × AllBelowBase (2 ^ 32) ns × (length ns ≤ 126)
+
+abbrev pub IsValueInLimits : ObjectValue → Type 0
+IsValueInLimits (integer z) = IsTrue (in_range z)
+IsValueInLimits (octet_string s) = AllBelowBase 256 s
+IsValueInLimits null = Unit {0}
+IsValueInLimits (object_identifier numbers) = IsNameInLimits numbers
+IsValueInLimits (ip_address address) = AllBelowBase 256 address × (length address ≡ 4)
+IsValueInLimits (counter n) = n < 2 ^ 32
+IsValueInLimits (gauge n) = n < 2 ^ 32
+IsValueInLimits (time_ticks n) = n < 2 ^ 32
+IsValueInLimits (opaque s) = AllBelowBase 256 s
+
+abbrev pub AreBindingsInLimits : List VarBind → Type 0
+AreBindingsInLimits [] = Unit {0}
+AreBindingsInLimits (b ∷ bs) = IsNameInLimits b.name × IsValueInLimits b.value × AreBindingsInLimits bs
+
+pub record IsMessageInLimits (m : SnmpMessage) : Type 0 where
+  pub community : AllBelowBase 256 m.community
+  pub request : IsTrue (in_range m.request)
+  pub status : IsTrue (in_range m.status)
+  pub index : IsTrue (in_range m.index)
+  pub bindings : AreBindingsInLimits m.bindings
