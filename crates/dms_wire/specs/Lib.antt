@@ -6,6 +6,7 @@ pub mod Ber
 pub mod Spelling
 pub mod Limits
 pub mod Canonical
+pub mod Response
 pub mod NameReading
 pub mod Reading
 pub mod Walk

@@ -1,0 +1,200 @@
+-- The list of bindings: what reading gives is spelled, what is spelled is read, and the walk gives the same bindings.
+use Rattle.std.proofs.Common.{◌≡◌, ◌-◌, ◌<◌, ◌≤◌, ℕ, zero, suc, ◌++◌, List, [], ◌∷◌, length, Ok, Err, Result, refl, sym, ap, ◌∙◌, subst, arith, append_assoc, append-nil, length-append}
+use Rattle.std.proofs.lemmas.List.{nil_from_length}
+use Rattle.dms_wire.specs.declared.fault.WireFault.{WireFault}
+use Rattle.dms_wire.specs.declared.fault.FaultKind.TheVariants.{TrailingBytes}
+use Rattle.dms_wire.specs.Message.{VarBind}
+use Rattle.dms_wire.specs.Ber.{IsElement, ◌⨾◌}
+use Rattle.dms_wire.specs.ObjectIdentifier.{IsName}
+use Rattle.dms_wire.specs.Spelling.{IsValue, IsBinding, AreBindings}
+use Rattle.dms_wire.specs.Reading.{◌>>=◌, fault, element_at, name_at, value_at, ended, members_at, binding_at, bindings_up_to, bindings_at}
+use Rattle.dms_wire.specs.Walk.{or_none, bindings_within, bindings_of}
+use Rattle.dms_wire.proofs.Elements.{bind_ok, done, ok_is, not_ok}
+use Rattle.dms_wire.proofs.Values.{Front, after, joined, last, with_found, with_only, name_at_found, name_at_only, value_found, value_only}
+
+pub ended_found : (end : ℕ) (bytes : List ℕ) (x : Unit {0}) → ended end bytes ≡ Ok x → bytes ≡ []
+unfolding ended
+ended_found end [] x h = refl
+ended_found end (b ∷ bytes) x h = not_ok (fault TrailingBytes (end - length (b ∷ bytes))) x h
+
+-- a binding's content
+abbrev Members : VarBind → List ℕ → Type 0
+Members b = IsElement 6 (IsName b.name) ⨾ IsValue b.value
+
+members_found : (end : ℕ) (bytes : List ℕ) (x : VarBind) → members_at end bytes ≡ Ok x → Members x bytes
+unfolding members_at
+members_found end bytes x h =
+    after (name_at end bytes) _ x h λ name name_read h.
+    after (value_at end name.1) _ x h λ value value_read h.
+    let b : VarBind = record { name = name.0; value = value.0 } in
+    after (ended end value.1) (λ _. done b) x h λ nothing nothing_read h.
+    let value_spelled = last (IsValue value.0) name.1 value.1 (value_found end name.1 value value_read) (ended_found end value.1 nothing nothing_read) in
+    subst (λ x. Members x bytes) (ok_is b x h)
+    (joined (IsElement 6 (IsName name.0)) (IsValue value.0) bytes name.1 (name_at_found end bytes name name_read) value_spelled)
+
+members_only : (end : ℕ) (b : VarBind) (bytes : List ℕ) → Members b bytes → members_at end bytes ≡ Ok b
+unfolding members_at ended
+members_only end b bytes m =
+    let value : value_at end m.back ≡ Ok (b.value, []) = ap (value_at end) (sym (append-nil m.back)) ∙ value_only b.value end m.back [] m.second in
+    ap (members_at end) m.parts
+    ∙ rw (name_at_only end b.name m.front m.back m.first, value) refl
+
+pub binding_found : (end : ℕ) (bytes : List ℕ) (x : VarBind × List ℕ) → binding_at end bytes ≡ Ok x → Front (IsBinding x.0) bytes x.1
+unfolding binding_at
+binding_found end bytes x h =
+    with_found Members (λ c. members_at (end - length c.1) c.0) (λ c b h. members_found (end - length c.1) c.0 b h) 48 end bytes x h
+
+pub binding_only : (end : ℕ) (b : VarBind) (front rest : List ℕ) → IsBinding b front → binding_at end (front ++ rest) ≡ Ok (b, rest)
+unfolding binding_at
+binding_only end b front rest e =
+    with_only Members (λ c. members_at (end - length c.1) c.0) (λ c b h. members_only (end - length c.1) b c.0 h) 48 end b front rest e
+
+-- what is spelled as an element has octets
+pub some_octets : (tag : ℕ) (P : List ℕ → Type 0) (bytes : List ℕ) → IsElement tag P bytes → 0 < length bytes
+some_octets tag P bytes e = omega (arith, ap length e.parts)
+
+-- what follows a binding is shorter
+fewer_left : (b : VarBind) (front back bytes : List ℕ) → IsBinding b front → bytes ≡ front ++ back → length back < length bytes
+fewer_left b front back bytes e parts =
+    omega (arith, some_octets 48 (Members b) front e, length-append front back, ap length parts)
+
+fewer_found : (end : ℕ) (bytes rest : List ℕ) (b : VarBind) → binding_at end bytes ≡ Ok (b, rest) → length rest < length bytes
+fewer_found end bytes rest b h =
+    let f = binding_found end bytes (b, rest) h in
+    fewer_left b f.front rest bytes f.spelled f.parts
+
+no_bindings : (bytes : List ℕ) (bs : List VarBind) → length bytes ≤ 0 → done [] ≡ Ok bs → AreBindings bs bytes
+no_bindings bytes bs none h =
+    let size : length bytes ≡ 0 = omega arith in
+    subst (λ bs. AreBindings bs bytes) (ok_is [] bs h) (nil_from_length bytes size)
+
+pub bindings_found : (k end : ℕ) (bytes : List ℕ) (bs : List VarBind) → length bytes ≤ k → bindings_up_to k end bytes ≡ Ok bs → AreBindings bs bytes
+unfolding bindings_up_to
+bindings_found zero end bytes bs small h = no_bindings bytes bs small h
+bindings_found (suc k) end [] bs small h = no_bindings [] bs (omega arith) h
+bindings_found (suc k) end (octet ∷ bytes) bs small h =
+    let b = bind_ok (binding_at end (octet ∷ bytes)) (λ first. bindings_up_to k end first.1 >>= λ others. done (first.0 ∷ others)) bs h in
+    let others = bind_ok (bindings_up_to k end b.0.1) (λ others. done (b.0.0 ∷ others)) bs b.2 in
+    let fewer = fewer_found end (octet ∷ bytes) b.0.1 b.0.0 b.1 in
+    subst (λ bs. AreBindings bs (octet ∷ bytes)) (ok_is (b.0.0 ∷ others.0) bs others.2)
+    (joined (IsBinding b.0.0) (AreBindings others.0) (octet ∷ bytes) b.0.1 (binding_found end (octet ∷ bytes) b.0 b.1)
+    (bindings_found k end b.0.1 others.0 (omega arith) others.1))
+
+pub bindings_step : (k end : ℕ) (bytes : List ℕ) → 0 < length bytes
+    → bindings_up_to (suc k) end bytes ≡ (binding_at end bytes >>= λ first. bindings_up_to k end first.1 >>= λ others. done (first.0 ∷ others))
+unfolding bindings_up_to
+bindings_step k end [] some = absurd (omega arith)
+bindings_step k end (b ∷ bytes) some = refl
+
+pub bindings_only : (bs : List VarBind) (k end : ℕ) (bytes : List ℕ) → length bytes ≤ k → AreBindings bs bytes → bindings_up_to k end bytes ≡ Ok bs
+unfolding bindings_up_to
+bindings_only [] zero end bytes small nil = refl
+bindings_only [] (suc k) end bytes small nil = rw nil refl
+bindings_only (b ∷ bs) zero end bytes small are =
+    absurd (omega (arith, fewer_left b are.front are.back bytes are.first are.parts))
+bindings_only (b ∷ bs) (suc k) end bytes small are =
+    let fewer = fewer_left b are.front are.back bytes are.first are.parts in
+    bindings_step k end bytes (omega arith)
+    ∙ rw (are.parts, binding_only end b are.front are.back are.first, bindings_only bs k end are.back (omega arith) are.second) refl
+
+no_binding : (k : ℕ) → bindings_within k [] ≡ []
+unfolding bindings_within binding_at element_at
+no_binding zero = refl
+no_binding (suc k) = refl
+
+pub bindings_of_only : (bs : List VarBind) (k : ℕ) (bytes : List ℕ) → length bytes ≤ k → AreBindings bs bytes → bindings_within k bytes ≡ bs
+unfolding bindings_within
+bindings_of_only [] k bytes small nil = ap (bindings_within k) nil ∙ no_binding k
+bindings_of_only (b ∷ bs) zero bytes small are =
+    absurd (omega (arith, fewer_left b are.front are.back bytes are.first are.parts))
+bindings_of_only (b ∷ bs) (suc k) bytes small are =
+    let fewer = fewer_left b are.front are.back bytes are.first are.parts in
+    ap (bindings_within (suc k)) are.parts
+    ∙ rw (binding_only (length (are.front ++ are.back)) b are.front are.back are.first, bindings_of_only bs k are.back (omega arith) are.second) refl
+
+-- bindings that were read are those of the walk
+pub walked : (end : ℕ) (bytes : List ℕ) (bs : List VarBind) → bindings_at end bytes ≡ Ok bs → bindings_of bytes ≡ bs
+walked end bytes bs h = bindings_of_only bs (length bytes) bytes (omega arith) (bindings_found (length bytes) end bytes bs (omega arith) h)
+
+-- what was read before, and what is still read
+abbrev pub with_front : List VarBind → Result (List VarBind) WireFault → Result (List VarBind) WireFault
+with_front front (Ok bs) = Ok (front ++ bs)
+with_front front (Err f) = Err f
+
+nothing_before : (read : Result (List VarBind) WireFault) → with_front [] read ≡ read
+nothing_before (Ok bs) = refl
+nothing_before (Err f) = refl
+
+-- The rest of the content is what is left to read of it, behind bindings that were read.
+abbrev pub IsRest : ℕ → List ℕ → List ℕ → Type 0
+IsRest end content rest =
+    (turns : ℕ) × (front : List VarBind) × (length rest ≤ turns) × (with_front front (bindings_up_to turns end rest) ≡ bindings_at end content)
+
+pub rest_first : (end : ℕ) (content : List ℕ) → IsRest end content content
+rest_first end content = (length content, [], omega arith, nothing_before (bindings_at end content))
+
+regroup : (front : List VarBind) (b : VarBind) (read : Result (List VarBind) WireFault)
+    → with_front front (read >>= λ bs. Ok (b ∷ bs)) ≡ with_front (front ++ b ∷ []) read
+regroup front b (Ok bs) = ap Ok (sym (append_assoc front (b ∷ []) bs))
+regroup front b (Err f) = refl
+
+pub rest_more : (end : ℕ) (content rest after : List ℕ) (b : VarBind) → 0 < length rest → IsRest end content rest → binding_at end rest ≡ Ok (b, after)
+    → IsRest end content after
+rest_more end content rest after b some (zero, front, fits, is) h = absurd (omega arith)
+rest_more end content rest after b some (suc t, front, fits, is) h =
+    let fewer = fewer_found end rest after b h in
+    let turn : bindings_up_to (suc t) end rest ≡ (bindings_up_to t end after >>= λ bs. done (b ∷ bs)) = bindings_step t end rest some ∙ rw h refl in
+    (t, front ++ b ∷ [], omega arith, sym (ap (with_front front) turn ∙ regroup front b (bindings_up_to t end after)) ∙ is)
+
+pub rest_fault : (end : ℕ) (content rest : List ℕ) (f : WireFault) → 0 < length rest → IsRest end content rest → binding_at end rest ≡ Err f
+    → bindings_at end content ≡ Err f
+rest_fault end content rest f some (zero, front, fits, is) h = absurd (omega arith)
+rest_fault end content rest f some (suc t, front, fits, is) h =
+    let failed : bindings_up_to (suc t) end rest ≡ Err f = bindings_step t end rest some ∙ rw h refl in
+    sym is ∙ ap (with_front front) failed
+
+pub rest_done : (end : ℕ) (content rest : List ℕ) → length rest ≡ 0 → IsRest end content rest → bindings_at end content ≡ Ok (bindings_of content)
+rest_done end content rest none (turns, front, fits, is) =
+    let all : bindings_at end content ≡ Ok (front ++ []) = sym is ∙ ap (with_front front) (bindings_only [] turns end rest fits (nil_from_length rest none)) in
+    all ∙ ap Ok (sym (walked end content (front ++ []) all))
+
+no_turn : (k : ℕ) (bytes : List ℕ) → length bytes ≤ 0 → bindings_within k bytes ≡ []
+no_turn k bytes none =
+    let size : length bytes ≡ 0 = omega arith in
+    ap (bindings_within k) (nil_from_length bytes size) ∙ no_binding k
+
+-- one turn more on both sides
+turn_same : (j k : ℕ) (bytes : List ℕ) (read : Result (VarBind × List ℕ) WireFault) → binding_at (length bytes) bytes ≡ read → length bytes ≤ suc j → length bytes ≤ suc k
+    → ((rest : List ℕ) → length rest ≤ j → length rest ≤ k → bindings_within j rest ≡ bindings_within k rest)
+    → or_none [] (λ b rest. b ∷ bindings_within j rest) read ≡ or_none [] (λ b rest. b ∷ bindings_within k rest) read
+turn_same j k bytes (Ok (b, rest)) is fits_j fits_k same =
+    let fewer = fewer_found (length bytes) bytes rest b is in
+    ap (λ bs. b ∷ bs) (same rest (omega arith) (omega arith))
+turn_same j k bytes (Err f) is fits_j fits_k same = refl
+
+-- more turns than octets give the same bindings
+turns_same : (j k : ℕ) (bytes : List ℕ) → length bytes ≤ j → length bytes ≤ k → bindings_within j bytes ≡ bindings_within k bytes
+unfolding bindings_within
+turns_same zero k bytes fits_j fits_k = sym (no_turn k bytes fits_j)
+turns_same (suc j) zero bytes fits_j fits_k = no_turn (suc j) bytes fits_k
+turns_same (suc j) (suc k) bytes fits_j fits_k =
+    turn_same j k bytes (binding_at (length bytes) bytes) refl fits_j fits_k (λ rest. turns_same j k rest)
+
+walk_turns : (k : ℕ) (bytes rest : List ℕ) (b : VarBind) → length bytes ≡ k → binding_at (length bytes) bytes ≡ Ok (b, rest)
+    → bindings_within k bytes ≡ b ∷ bindings_of rest
+unfolding bindings_within
+walk_turns zero bytes rest b size h = absurd (omega (arith, fewer_found (length bytes) bytes rest b h))
+walk_turns (suc k) bytes rest b size h =
+    let fewer = fewer_found (length bytes) bytes rest b h in
+    rw h (ap (λ bs. b ∷ bs) (turns_same k (length rest) rest (omega arith) (omega arith)))
+
+pub walk_more : (bytes rest : List ℕ) (b : VarBind) → binding_at (length bytes) bytes ≡ Ok (b, rest) → bindings_of bytes ≡ b ∷ bindings_of rest
+walk_more bytes rest b h = walk_turns (length bytes) bytes rest b refl h
+
+walk_stops : (k : ℕ) (bytes : List ℕ) (f : WireFault) → binding_at (length bytes) bytes ≡ Err f → bindings_within k bytes ≡ []
+unfolding bindings_within
+walk_stops zero bytes f h = refl
+walk_stops (suc k) bytes f h = rw h refl
+
+pub walk_end : (bytes : List ℕ) (f : WireFault) → binding_at (length bytes) bytes ≡ Err f → bindings_of bytes ≡ []
+walk_end bytes f h = walk_stops (length bytes) bytes f h

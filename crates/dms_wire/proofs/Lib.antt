@@ -1,0 +1,15 @@
+pub mod BelowBase
+pub mod Elements
+pub mod Integers
+pub mod Names
+pub mod Values
+pub mod Bindings
+pub mod Unique
+pub mod ShorterContents
+pub mod ShorterSpellings
+pub mod CanonicalIntegers
+pub mod CanonicalNames
+pub mod CanonicalElements
+pub mod CanonicalLaws
+pub mod LimitsLaws
+pub mod FewBindings

@@ -1,0 +1,94 @@
+-- What octets spell is in the limits.
+use Rattle.std.proofs.Common.{◌≡◌, ℕ, pos, ◌^◌, ◌<◌, ◌≤◌, List, [], ◌∷◌, ◌++◌, length, sym, arith, subst, inl, inr, ltb, ltb-true, ltb-false}
+use Rattle.std.proofs.lemmas.Bool.{cases_Bool}
+use Rattle.std.specs.Int.Digits.{AllBelowBase}
+use Rattle.dms_wire.specs.Message.{ObjectValue, integer, octet_string, null, object_identifier, ip_address, counter, gauge, time_ticks, opaque, VarBind, SnmpMessage}
+use Rattle.dms_wire.specs.Integer.{IsInteger}
+use Rattle.dms_wire.specs.ObjectIdentifier.{AreSubIdentifiers, IsName, numbers_from}
+use Rattle.dms_wire.specs.Ber.{IsElement, ◌⨾◌}
+use Rattle.dms_wire.specs.Spelling.{IsValue, AreBindings, Spells}
+use Rattle.dms_wire.specs.Limits.{IsNameInLimits, IsValueInLimits, AreBindingsInLimits, IsMessageInLimits}
+use Rattle.dms_wire.proofs.BelowBase.{below_front, below_back}
+
+sub_identifiers_small : (ns bytes : List ℕ) → AreSubIdentifiers ns bytes → AllBelowBase (2 ^ 32) ns
+sub_identifiers_small [] bytes are = tt
+sub_identifiers_small (n ∷ ns) bytes are = (are.2, sub_identifiers_small ns are.1 are.4)
+
+numbers_within : (n : ℕ) (ns : List ℕ) → n < 2 ^ 32 → AllBelowBase (2 ^ 32) ns → length ns ≤ 126 → IsNameInLimits (numbers_from (n ∷ ns))
+numbers_within n ns first small few =
+    elim (cases_Bool (ltb n 40)) [
+      | inl low ↦ let l = ltb-true n 40 low in rw low (omega arith, λ _. l, omega arith, small, few)
+      | inr high ↦ let h = ltb-false n 40 high in elim (cases_Bool (ltb n 80)) [
+        | inl low ↦ let l = ltb-true n 80 low in rw (high, low) (omega arith, λ _. omega arith, omega arith, small, few)
+        | inr most ↦ let m = ltb-false n 80 most in rw (high, most) (omega arith, λ less. absurd (omega arith), omega arith, small, few)
+      ]
+    ]
+
+sub_identifiers_within : (ns : List ℕ) → 0 < length ns → length ns ≤ 127 → AllBelowBase (2 ^ 32) ns → IsNameInLimits (numbers_from ns)
+sub_identifiers_within [] some few small = absurd (omega arith)
+sub_identifiers_within (n ∷ ns) some few small = numbers_within n ns small.0 small.1 (omega arith)
+
+name_within : (numbers bytes : List ℕ) → IsName numbers bytes → IsNameInLimits numbers
+name_within numbers bytes is =
+    subst IsNameInLimits (sym is.numbers_is) (sub_identifiers_within is.sub_identifiers is.some is.few (sub_identifiers_small is.sub_identifiers bytes is.spelled))
+
+-- a content's octets are among those of its element
+content_below : (tag : ℕ) (P : List ℕ → Type 0) (bytes : List ℕ) (is : IsElement tag P bytes) → AllBelowBase 256 bytes → AllBelowBase 256 is.content
+content_below tag P bytes is below =
+    let whole : AllBelowBase 256 (tag ∷ (is.len ++ is.content)) = subst (AllBelowBase 256) is.parts below in
+    below_back 256 is.len is.content whole.1
+
+octets_below : (tag : ℕ) (octets bytes : List ℕ) → IsElement tag (λ content. content ≡ octets) bytes → AllBelowBase 256 bytes → AllBelowBase 256 octets
+octets_below tag octets bytes is below = subst (AllBelowBase 256) is.spelled (content_below tag (λ content. content ≡ octets) bytes is below)
+
+natural_small : (tag n : ℕ) (bytes : List ℕ) → IsElement tag (IsInteger (pos n)) bytes → n < 2 ^ 32
+natural_small tag n bytes is = ltb-true n (2 ^ 32) is.spelled.range
+
+value_within : (v : ObjectValue) (bytes : List ℕ) → IsValue v bytes → AllBelowBase 256 bytes → IsValueInLimits v
+value_within (integer z) bytes is below = is.spelled.range
+value_within (octet_string s) bytes is below = octets_below 4 s bytes is below
+value_within null bytes is below = tt
+value_within (object_identifier numbers) bytes is below = name_within numbers is.content is.spelled
+value_within (ip_address address) bytes is below = (subst (AllBelowBase 256) is.spelled.0 (content_below 64 _ bytes is below), is.spelled.1)
+value_within (counter n) bytes is below = natural_small 65 n bytes is
+value_within (gauge n) bytes is below = natural_small 66 n bytes is
+value_within (time_ticks n) bytes is below = natural_small 67 n bytes is
+value_within (opaque s) bytes is below = octets_below 68 s bytes is below
+
+-- the octets of the one and of the other are among those of both
+front_below : (P Q : List ℕ → Type 0) (bytes : List ℕ) (is : (P ⨾ Q) bytes) → AllBelowBase 256 bytes → AllBelowBase 256 is.front
+front_below P Q bytes is below = below_front 256 is.front is.back (subst (AllBelowBase 256) is.parts below)
+
+back_below : (P Q : List ℕ → Type 0) (bytes : List ℕ) (is : (P ⨾ Q) bytes) → AllBelowBase 256 bytes → AllBelowBase 256 is.back
+back_below P Q bytes is below = below_back 256 is.front is.back (subst (AllBelowBase 256) is.parts below)
+
+bindings_within : (bs : List VarBind) (bytes : List ℕ) → AreBindings bs bytes → AllBelowBase 256 bytes → AreBindingsInLimits bs
+bindings_within [] bytes are below = tt
+bindings_within (b ∷ bs) bytes are below =
+    let members = are.first.spelled in
+    let inside = content_below 48 _ are.front are.first (front_below _ _ bytes are below) in (
+      name_within b.name members.first.content members.first.spelled,
+      value_within b.value members.back members.second (back_below _ _ are.first.content members inside),
+      bindings_within bs are.back are.second (back_below _ _ bytes are below),
+    )
+
+pub spelled_in_limits : (m : SnmpMessage) (octets : List ℕ) → Spells m octets → IsMessageInLimits m
+spelled_in_limits m octets spells =
+    let message = spells.message.spelled in
+    let inside = content_below 48 _ octets spells.message spells.octets in
+    let behind_version = back_below _ _ spells.message.content message inside in
+    let community = front_below _ _ message.back message.second behind_version in
+    let pdu = message.second.second.spelled in
+    let list = pdu.second.second.second in
+    let tagged = back_below _ _ message.back message.second behind_version in
+    let numbers = content_below _ _ message.second.back message.second.second tagged in
+    let behind_request = back_below _ _ message.second.second.content pdu numbers in
+    let behind_status = back_below _ _ pdu.back pdu.second behind_request in
+    let behind_index = back_below _ _ pdu.second.back pdu.second.second behind_status in
+    record {
+      community = octets_below 4 m.community message.second.front message.second.first community;
+      request = pdu.first.spelled.range;
+      status = pdu.second.first.spelled.range;
+      index = pdu.second.second.first.spelled.range;
+      bindings = bindings_within m.bindings list.content list.spelled (content_below 48 _ pdu.second.second.back list behind_index);
+    }

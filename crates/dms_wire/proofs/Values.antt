@@ -1,0 +1,249 @@
+-- Values and the elements around them: what reading gives is spelled, and what is spelled is read.
+use Rattle.std.proofs.Common.{◌≡◌, ℕ, ℤ, pos, negsuc, inl, inr, ◌++◌, List, [], ◌∷◌, length, eqb, ◌==◌, Ok, Some, None, true, false, Result, Option, ok_or, option_map, option_and_then, refl, sym, ap, ◌∙◌, subst, arith, append-nil, eq-eqb, ◌-◌}
+use Rattle.std.proofs.lemmas.Bool.{eqb-true}
+use Rattle.std.proofs.lemmas.Bool.Decides.{nat_tests}
+use Rattle.std.proofs.lemmas.List.{nil_from_length}
+use Rattle.dms_wire.specs.declared.fault.WireFault.{WireFault}
+use Rattle.dms_wire.specs.declared.fault.FaultKind.TheVariants.{BadInteger, BadLength, BadName, Truncated}
+use Rattle.dms_wire.specs.Message.{ObjectValue, integer, octet_string, null, object_identifier, ip_address, counter, gauge, time_ticks, opaque}
+use Rattle.dms_wire.specs.Length.{IsLength}
+use Rattle.dms_wire.specs.Integer.{IsInteger}
+use Rattle.dms_wire.specs.ObjectIdentifier.{IsName}
+use Rattle.dms_wire.specs.NameReading.{is_name, numbers_of}
+use Rattle.dms_wire.specs.Ber.{IsElement, ◌⨾◌}
+use Rattle.dms_wire.specs.Spelling.{IsValue, IsAddress}
+use Rattle.dms_wire.specs.Reading.{◌>>=◌, fault, place_of, content_at, element_at, integer_value, integer_at, name_of, name_at, natural, natural_value, value_from, is_value_tag, behind_tag, value_at}
+use Rattle.dms_wire.proofs.Elements.{bind_ok, chosen, done, ok_is, not_ok, tested, content_found, content_only, element_found, element_only}
+use Rattle.dms_wire.proofs.Integers.{integer_found, integer_only}
+use Rattle.dms_wire.proofs.Names.{name_found, name_only}
+
+-- the octets begin with octets of which P holds, and rest follows
+pub record Front (P : List ℕ → Type 0) (bytes rest : List ℕ) : Type 0 where
+  pub front : List ℕ
+  pub spelled : P front
+  pub parts : bytes ≡ front ++ rest
+
+pub joined : (P Q : List ℕ → Type 0) (bytes rest : List ℕ) → Front P bytes rest → Q rest → (P ⨾ Q) bytes
+joined P Q bytes rest first second =
+    record { front = first.front; back = rest; first = first.spelled; second = second; parts = first.parts }
+
+-- where nothing follows
+pub last : (P : List ℕ → Type 0) (bytes rest : List ℕ) → Front P bytes rest → rest ≡ [] → P bytes
+last P bytes rest first nil =
+    subst P (sym (first.parts ∙ ap (λ rest. first.front ++ rest) nil ∙ append-nil first.front)) first.spelled
+
+-- what follows from a step that did not fail, and from the step after it
+pub after : {A B : Type 0} {P : Type 0} (r : Result A WireFault) (f : A → Result B WireFault) (y : B) → (r >>= f) ≡ Ok y
+    → ((x : A) → r ≡ Ok x → f x ≡ Ok y → P) → P
+after r f y h then =
+    let x = bind_ok r f y h in
+    then x.0 x.1 x.2
+
+pub ok_or_found : {A : Type 0} (o : Option A) (f : WireFault) (x : A) → ok_or o f ≡ Ok x → o ≡ Some x
+ok_or_found (Some a) f x h = ap Some (ok_is a x h)
+ok_or_found None f x h = not_ok f x h
+
+-- an element of which the content is read by parse
+abbrev pub with_content : {A : Type 0} → (List ℕ × List ℕ → Result A WireFault) → ℕ → ℕ → List ℕ → Result (A × List ℕ) WireFault
+with_content parse tag end bytes = element_at tag end bytes >>= λ c. parse c >>= λ v. done (v, c.1)
+
+pub with_found : {A : Type 0} (P : A → List ℕ → Type 0) (parse : List ℕ × List ℕ → Result A WireFault) → ((c : List ℕ × List ℕ) (v : A) → parse c ≡ Ok v → P v c.0)
+    → (tag end : ℕ) (bytes : List ℕ) (x : A × List ℕ) → with_content parse tag end bytes ≡ Ok x → Front (IsElement tag (P x.0)) bytes x.1
+with_found P parse law tag end bytes x h =
+    let c = bind_ok (element_at tag end bytes) (λ c. parse c >>= λ v. done (v, c.1)) x h in
+    let v = bind_ok (parse c.0) (λ v. done (v, c.0.1)) x c.2 in
+    let e : (v.0, c.0.1) ≡ x = ok_is (v.0, c.0.1) x v.2 in
+    let found = element_found tag end bytes c.0 c.1 in
+    subst (λ x. Front (IsElement tag (P x.0)) bytes x.1) e record {
+      front = tag ∷ (found.0 ++ c.0.0);
+      spelled = record { len = found.0; content = c.0.0; form = found.1; spelled = law c.0 v.0 v.1; parts = refl };
+      parts = found.2;
+    }
+
+pub with_only : {A : Type 0} (P : A → List ℕ → Type 0) (parse : List ℕ × List ℕ → Result A WireFault) → ((c : List ℕ × List ℕ) (v : A) → P v c.0 → parse c ≡ Ok v)
+    → (tag end : ℕ) (v : A) (front rest : List ℕ) → IsElement tag (P v) front → with_content parse tag end (front ++ rest) ≡ Ok (v, rest)
+with_only P parse law tag end v front rest e =
+    let back = λ (c : List ℕ × List ℕ). parse c >>= λ v. done (v, c.1) in
+    ap (λ bytes. with_content parse tag end (bytes ++ rest)) e.parts
+    ∙ ap (λ r. r >>= back) (element_only tag end e.len e.content rest e.form)
+    ∙ ap (λ r. r >>= λ v. done (v, rest)) (law (e.content, rest) v e.spelled)
+
+pub integer_at_found : (end : ℕ) (bytes : List ℕ) (x : ℤ × List ℕ) → integer_at end bytes ≡ Ok x → Front (IsElement 2 (IsInteger x.0)) bytes x.1
+unfolding integer_at
+integer_at_found end bytes x h =
+    with_found IsInteger (λ c. ok_or (integer_value c.0) (fault BadInteger (place_of end c.0 c.1)))
+    (λ c z h. integer_found c.0 z (ok_or_found (integer_value c.0) _ z h)) 2 end bytes x h
+
+pub integer_at_only : (end : ℕ) (z : ℤ) (front rest : List ℕ) → IsElement 2 (IsInteger z) front → integer_at end (front ++ rest) ≡ Ok (z, rest)
+unfolding integer_at
+integer_at_only end z front rest e =
+    with_only IsInteger (λ c. ok_or (integer_value c.0) (fault BadInteger (place_of end c.0 c.1)))
+    (λ c z h. ap (λ o. ok_or o (fault BadInteger (place_of end c.0 c.1))) (integer_only c.0 z h)) 2 end z front rest e
+
+name_of_found : (place : ℕ) (content numbers : List ℕ) → name_of place content ≡ Ok numbers → IsName numbers content
+name_of_found place content numbers h =
+    let t = tested (is_name content) (fault BadName place) (Ok (numbers_of content)) numbers h in
+    subst (λ ns. IsName ns content) (ok_is (numbers_of content) numbers t.1) (name_found content t.0)
+
+name_of_only : (place : ℕ) (content numbers : List ℕ) → IsName numbers content → name_of place content ≡ Ok numbers
+name_of_only place content numbers h =
+    let n = name_only numbers content h in
+    rw (n.0, n.1) refl
+
+pub name_at_found : (end : ℕ) (bytes : List ℕ) (x : List ℕ × List ℕ) → name_at end bytes ≡ Ok x → Front (IsElement 6 (IsName x.0)) bytes x.1
+unfolding name_at
+name_at_found end bytes x h =
+    with_found IsName (λ c. name_of (place_of end c.0 c.1) c.0) (λ c n h. name_of_found (place_of end c.0 c.1) c.0 n h) 6 end bytes x h
+
+pub name_at_only : (end : ℕ) (numbers front rest : List ℕ) → IsElement 6 (IsName numbers) front → name_at end (front ++ rest) ≡ Ok (numbers, rest)
+unfolding name_at
+name_at_only end numbers front rest e =
+    with_only IsName (λ c. name_of (place_of end c.0 c.1) c.0) (λ c n h. name_of_only (place_of end c.0 c.1) c.0 n h) 6 end numbers front rest e
+
+pub some_is : {A : Type 0} (x y : A) → Some x ≡ Some y → x ≡ y
+some_is x y h = cc
+
+natural_from : (content : List ℕ) (o : Option ℤ) (n : ℕ) → integer_value content ≡ o → option_and_then natural o ≡ Some n → IsInteger (pos n) content
+natural_from content (Some (pos k)) n is h = integer_found content (pos n) (is ∙ ap (λ k. Some (pos k)) (some_is k n h))
+natural_from content (Some (negsuc k)) n is h = cc h
+natural_from content None n is h = cc h
+
+natural_found : (content : List ℕ) (n : ℕ) → natural_value content ≡ Some n → IsInteger (pos n) content
+natural_found content n h = natural_from content (integer_value content) n refl h
+
+natural_only : (content : List ℕ) (n : ℕ) → IsInteger (pos n) content → natural_value content ≡ Some n
+natural_only content n h = ap (option_and_then natural) (integer_only content (pos n) h)
+
+-- a tag and a content spell the value, behind any form of the length
+abbrev Stands : ℕ → List ℕ → ObjectValue → Type 0
+Stands tag content value = (len : List ℕ) → IsLength len (length content) → IsValue value (tag ∷ (len ++ content))
+
+pub made : (k tag : ℕ) (P : List ℕ → Type 0) (len content : List ℕ) → tag ≡ k → IsLength len (length content) → P content → IsElement k P (tag ∷ (len ++ content))
+made k tag P len content is form spelled =
+    record { len = len; content = content; form = form; spelled = spelled; parts = ap (λ t. t ∷ (len ++ content)) is }
+
+map_found : {A : Type 0} (make : A → ObjectValue) (o : Option A) (f : WireFault) (value : ObjectValue) → ok_or (option_map make o) f ≡ Ok value → (v : A) × (o ≡ Some v) × (make v ≡ value)
+map_found make (Some v) f value h = (v, refl, ok_is (make v) value h)
+map_found make None f value h = not_ok f value h
+
+-- the tag that is none of the others
+last_tag : (tag : ℕ) → is_value_tag tag ≡ true → eqb tag 2 ≡ false → eqb tag 4 ≡ false → eqb tag 5 ≡ false → eqb tag 6 ≡ false
+    → eqb tag 64 ≡ false → eqb tag 65 ≡ false → eqb tag 66 ≡ false → eqb tag 67 ≡ false → tag ≡ 68
+last_tag tag is n2 n4 n5 n6 n64 n65 n66 n67 = grind (arith, nat_tests)
+
+-- a content whose number is read by parse, as the value of a tag
+number_found : {A : Type 0} (make : A → ObjectValue) (P : A → List ℕ → Type 0) (parse : List ℕ → Option A) → ((content : List ℕ) (v : A) → parse content ≡ Some v → P v content)
+    → (k tag place : ℕ) (len content : List ℕ) (value : ObjectValue) → eqb tag k ≡ true → IsLength len (length content)
+    → ((v : A) → IsElement k (P v) (tag ∷ (len ++ content)) → IsValue (make v) (tag ∷ (len ++ content)))
+    → ok_or (option_map make (parse content)) (fault BadInteger place) ≡ Ok value → IsValue value (tag ∷ (len ++ content))
+number_found make P parse law k tag place len content value is form spells h =
+    let v = map_found make (parse content) (fault BadInteger place) value h in
+    subst (λ value. IsValue value (tag ∷ (len ++ content))) v.2
+    (spells v.0 (made k tag (P v.0) len content (eqb-true tag k is) form (law content v.0 v.1)))
+
+-- what is read as v is the value
+spells_same : (v value : ObjectValue) (bytes : List ℕ) → done v ≡ Ok value → IsValue v bytes → IsValue value bytes
+spells_same v value bytes e spelled = subst (λ v. IsValue v bytes) (ok_is v value e) spelled
+
+value_from_found : (tag before place : ℕ) (content : List ℕ) (value : ObjectValue) → is_value_tag tag ≡ true
+    → value_from tag before place content ≡ Ok value → Stands tag content value
+unfolding value_from
+value_from_found tag before place content value is h len form =
+    let bytes : List ℕ = tag ∷ (len ++ content) in
+    elim (chosen (eqb tag 2) _ _ (Ok value) h) [
+      | inl t ↦ number_found integer IsInteger integer_value integer_found 2 tag place len content value t.0 form (λ v e. e) t.1
+      | inr n2 ↦ elim (chosen (eqb tag 4) _ _ (Ok value) n2.1) [
+        | inl t ↦
+            spells_same (octet_string content) value bytes t.1 (made 4 tag (λ c. c ≡ content) len content (eqb-true tag 4 t.0) form refl)
+        | inr n4 ↦ elim (chosen (eqb tag 5) _ _ (Ok value) n4.1) [
+          | inl t ↦
+              let empty = tested (length content == 0) (fault BadLength before) (Ok null) value t.1 in
+              let nil : content ≡ [] = nil_from_length content (eqb-true (length content) 0 empty.0) in
+              spells_same null value bytes empty.1 (made 5 tag (λ c. c ≡ []) len content (eqb-true tag 5 t.0) form nil)
+          | inr n5 ↦ elim (chosen (eqb tag 6) _ _ (Ok value) n5.1) [
+            | inl t ↦
+                let numbers : List ℕ = numbers_of content in
+                let name = tested (is_name content) (fault BadName place) (Ok (object_identifier numbers)) value t.1 in
+                spells_same (object_identifier numbers) value bytes name.1
+                (made 6 tag (IsName numbers) len content (eqb-true tag 6 t.0) form (name_found content name.0))
+            | inr n6 ↦ elim (chosen (eqb tag 64) _ _ (Ok value) n6.1) [
+              | inl t ↦
+                  let four = tested (length content == 4) (fault BadLength before) (Ok (ip_address content)) value t.1 in
+                  let size : length content ≡ 4 = eqb-true (length content) 4 four.0 in
+                  spells_same (ip_address content) value bytes four.1
+                  (made 64 tag (IsAddress content) len content (eqb-true tag 64 t.0) form (refl, size))
+              | inr n64 ↦ elim (chosen (eqb tag 65) _ _ (Ok value) n64.1) [
+                | inl t ↦
+                    number_found counter (λ n. IsInteger (pos n)) natural_value natural_found 65 tag place len content value t.0 form (λ v e. e) t.1
+                | inr n65 ↦ elim (chosen (eqb tag 66) _ _ (Ok value) n65.1) [
+                  | inl t ↦
+                      number_found gauge (λ n. IsInteger (pos n)) natural_value natural_found 66 tag place len content value t.0 form (λ v e. e) t.1
+                  | inr n66 ↦ elim (chosen (eqb tag 67) _ _ (Ok value) n66.1) [
+                    | inl t ↦
+                        number_found time_ticks (λ n. IsInteger (pos n)) natural_value natural_found 67 tag place len content value t.0 form (λ v e. e) t.1
+                    | inr n67 ↦
+                        let rest : tag ≡ 68 = last_tag tag is n2.0 n4.0 n5.0 n6.0 n64.0 n65.0 n66.0 n67.0 in
+                        spells_same (opaque content) value bytes n67.1 (made 68 tag (λ c. c ≡ content) len content rest form refl)
+                  ]
+                ]
+              ]
+            ]
+          ]
+        ]
+      ]
+    ]
+
+-- an element of a value's tag, whose content is the value's
+value_element : (tag end : ℕ) (P : List ℕ → Type 0) (front rest : List ℕ) (value : ObjectValue) → is_value_tag tag ≡ true → (e : IsElement tag P front)
+    → ((before place : ℕ) → value_from tag before place e.content ≡ Ok value) → value_at end (front ++ rest) ≡ Ok (value, rest)
+unfolding value_at behind_tag
+value_element tag end P front rest value is e law =
+    let before : ℕ = end - length ((e.len ++ e.content) ++ rest) in
+    let back = λ (c : List ℕ × List ℕ). value_from tag before (place_of end c.0 c.1) c.0 >>= λ v. done (v, c.1) in
+    ap (λ bytes. value_at end (bytes ++ rest)) e.parts
+    ∙ rw is
+    (ap (λ r. r >>= back) (content_only end e.len e.content rest e.form) ∙ ap (λ r. r >>= λ v. done (v, rest)) (law before (place_of end e.content rest)))
+
+pub value_only : (value : ObjectValue) (end : ℕ) (front rest : List ℕ) → IsValue value front → value_at end (front ++ rest) ≡ Ok (value, rest)
+unfolding value_from
+value_only (integer z) end front rest e =
+    value_element 2 end (IsInteger z) front rest (integer z) refl e (λ before place. rw (integer_only e.content z e.spelled) refl)
+value_only (octet_string s) end front rest e =
+    value_element 4 end (λ content. content ≡ s) front rest (octet_string s) refl e (λ before place. rw e.spelled refl)
+value_only null end front rest e =
+    value_element 5 end (λ content. content ≡ []) front rest null refl e (λ before place. rw e.spelled refl)
+value_only (object_identifier numbers) end front rest e =
+    let name = name_only numbers e.content e.spelled in
+    value_element 6 end (IsName numbers) front rest (object_identifier numbers) refl e (λ before place. rw (name.0, name.1) refl)
+value_only (ip_address address) end front rest e =
+    let four = eq-eqb (length address) 4 e.spelled.1 in
+    value_element 64 end (IsAddress address) front rest (ip_address address) refl e (λ before place. rw (e.spelled.0, four) refl)
+value_only (counter n) end front rest e =
+    value_element 65 end (IsInteger (pos n)) front rest (counter n) refl e (λ before place. rw (natural_only e.content n e.spelled) refl)
+value_only (gauge n) end front rest e =
+    value_element 66 end (IsInteger (pos n)) front rest (gauge n) refl e (λ before place. rw (natural_only e.content n e.spelled) refl)
+value_only (time_ticks n) end front rest e =
+    value_element 67 end (IsInteger (pos n)) front rest (time_ticks n) refl e (λ before place. rw (natural_only e.content n e.spelled) refl)
+value_only (opaque s) end front rest e =
+    value_element 68 end (λ content. content ≡ s) front rest (opaque s) refl e (λ before place. rw e.spelled refl)
+
+-- behind the tag of a value
+behind_found : (tag end : ℕ) (bytes : List ℕ) (x : ObjectValue × List ℕ) → is_value_tag tag ≡ true → behind_tag tag end bytes ≡ Ok x → Front (IsValue x.0) (tag ∷ bytes) x.1
+unfolding behind_tag
+behind_found tag end bytes x is h =
+    let before : ℕ = end - length bytes in
+    let c = bind_ok (content_at end bytes) (λ c. value_from tag before (place_of end c.0 c.1) c.0 >>= λ value. done (value, c.1)) x h in
+    let value = bind_ok (value_from tag before (place_of end c.0.0 c.0.1) c.0.0) (λ value. done (value, c.0.1)) x c.2 in
+    let found = content_found end bytes c.0 c.1 in
+    subst (λ x. Front (IsValue x.0) (tag ∷ bytes) x.1) (ok_is (value.0, c.0.1) x value.2) record {
+      front = tag ∷ (found.0 ++ c.0.0);
+      spelled = value_from_found tag before (place_of end c.0.0 c.0.1) c.0.0 value.0 is value.1 found.0 found.1;
+      parts = ap (λ bytes. tag ∷ bytes) found.2;
+    }
+
+pub value_found : (end : ℕ) (bytes : List ℕ) (x : ObjectValue × List ℕ) → value_at end bytes ≡ Ok x → Front (IsValue x.0) bytes x.1
+unfolding value_at
+value_found end [] x h = not_ok (fault Truncated end) x h
+value_found end (b ∷ bytes) x h =
+    let t = tested (is_value_tag b) _ (behind_tag b end bytes) x h in
+    behind_found b end bytes x t.0 t.1

@@ -1,0 +1,41 @@
+//! Laws over the definitions of specs/ alone, stated as functions with nothing to run.
+
+ghost use Rattle.std.specs.Prelude.{ℕ, ◌*◌, ◌<◌, ◌≤◌, List, length};
+ghost use Rattle.dms_wire.specs.Message.{SnmpMessage};
+ghost use Rattle.dms_wire.specs.Limits.{IsMessageInLimits};
+ghost use Rattle.dms_wire.specs.Spelling.{Spells};
+ghost use Rattle.dms_wire.specs.Canonical.{canonical};
+ghost use Rattle.dms_wire.specs.Response.{response_to};
+
+/// The canonical octets of a message in the limits spell it, where they fit a datagram.
+#[tactic(auto, using(crate::proofs::CanonicalLaws::canonical_spells))]
+pub fn canonical_spells()
+    ensures { (m : SnmpMessage) → IsMessageInLimits m → length (canonical m) ≤ 1472
+        → Spells m (canonical m) }
+{}
+
+/// A message that octets spell is in the limits.
+pub fn spelled_in_limits()
+    ensures { (m : SnmpMessage) (octets : List ℕ) → Spells m octets → IsMessageInLimits m }
+{}
+
+/// The canonical spelling of a message is as short as any: whatever octets spell the message, with lengths in
+/// whatever form, there are at least as many of them.
+#[tactic(auto, using(crate::proofs::ShorterSpellings::canonical_is_shortest))]
+pub fn canonical_is_shortest()
+    ensures { (m : SnmpMessage) (octets : List ℕ) → Spells m octets → length (canonical m) ≤ length octets }
+{}
+
+/// The Response to a message, which repeats the community, the request-id and the bindings, with an error-status
+/// and an error-index below 128, takes no more octets than the message that was received.
+#[tactic(auto, using(crate::proofs::ShorterSpellings::response_no_longer))]
+pub fn response_is_no_longer()
+    ensures { (m : SnmpMessage) (octets : List ℕ) (status index : ℕ) → Spells m octets → status < 128 → index < 128
+        → length (canonical (response_to m status index)) ≤ length octets }
+{}
+
+/// Each binding takes seven octets at least, so a datagram of 1,472 octets has at most 210.
+#[tactic(auto, using(crate::proofs::FewBindings::few_bindings))]
+pub fn few_bindings()
+    ensures { (m : SnmpMessage) (octets : List ℕ) → Spells m octets → 7 * length m.bindings ≤ length octets }
+{}
