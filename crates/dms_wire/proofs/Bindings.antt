@@ -125,38 +125,54 @@ nothing_before : (read : Result (List VarBind) WireFault) → with_front [] read
 nothing_before (Ok bs) = refl
 nothing_before (Err f) = refl
 
--- The rest of the content is what is left to read of it, behind bindings that were read.
-abbrev pub IsRest : ℕ → List ℕ → List ℕ → Type 0
-IsRest end content rest =
-    (turns : ℕ) × (front : List VarBind) × (length rest ≤ turns) × (with_front front (bindings_up_to turns end rest) ≡ bindings_at end content)
+-- rest is what is left of the content behind some of its bindings
+pub record IsRest (end : ℕ) (content rest : List ℕ) : Type 0 where
+  pub turns : ℕ
+  pub front : List VarBind
+  pub enough : length rest ≤ turns
+  pub same : with_front front (bindings_up_to turns end rest) ≡ bindings_at end content
 
 pub rest_first : (end : ℕ) (content : List ℕ) → IsRest end content content
-rest_first end content = (length content, [], omega arith, nothing_before (bindings_at end content))
+rest_first end content =
+    record { turns = length content; front = []; enough = omega arith; same = nothing_before (bindings_at end content) }
 
 regroup : (front : List VarBind) (b : VarBind) (read : Result (List VarBind) WireFault)
     → with_front front (read >>= λ bs. Ok (b ∷ bs)) ≡ with_front (front ++ b ∷ []) read
 regroup front b (Ok bs) = ap Ok (sym (append_assoc front (b ∷ []) bs))
 regroup front b (Err f) = refl
 
+-- where octets are left, so is a turn
+turn_left : (turns : ℕ) (rest : List ℕ) → 0 < length rest → length rest ≤ turns → (t : ℕ) × (turns ≡ suc t)
+turn_left zero rest some enough = absurd (omega arith)
+turn_left (suc t) rest some enough = (t, refl)
+
+turn_taken : (turns t end : ℕ) (rest : List ℕ) (read : Result (VarBind × List ℕ) WireFault) → turns ≡ suc t → 0 < length rest → binding_at end rest ≡ read
+    → bindings_up_to turns end rest ≡ (read >>= λ first. bindings_up_to t end first.1 >>= λ others. done (first.0 ∷ others))
+turn_taken turns t end rest read is some h = ap (λ turns. bindings_up_to turns end rest) is ∙ bindings_step t end rest some ∙ rw h refl
+
 pub rest_more : (end : ℕ) (content rest after : List ℕ) (b : VarBind) → 0 < length rest → IsRest end content rest → binding_at end rest ≡ Ok (b, after)
     → IsRest end content after
-rest_more end content rest after b some (zero, front, fits, is) h = absurd (omega arith)
-rest_more end content rest after b some (suc t, front, fits, is) h =
-    let fewer = fewer_found end rest after b h in
-    let turn : bindings_up_to (suc t) end rest ≡ (bindings_up_to t end after >>= λ bs. done (b ∷ bs)) = bindings_step t end rest some ∙ rw h refl in
-    (t, front ++ b ∷ [], omega arith, sym (ap (with_front front) turn ∙ regroup front b (bindings_up_to t end after)) ∙ is)
+rest_more end content rest after b some is h =
+    let t = turn_left is.turns rest some is.enough in
+    let turn = turn_taken is.turns t.0 end rest (Ok (b, after)) t.1 some h in
+    record {
+      turns = t.0;
+      front = is.front ++ b ∷ [];
+      enough = omega (arith, t.1, is.enough, fewer_found end rest after b h);
+      same = sym (ap (with_front is.front) turn ∙ regroup is.front b (bindings_up_to t.0 end after)) ∙ is.same;
+    }
 
 pub rest_fault : (end : ℕ) (content rest : List ℕ) (f : WireFault) → 0 < length rest → IsRest end content rest → binding_at end rest ≡ Err f
     → bindings_at end content ≡ Err f
-rest_fault end content rest f some (zero, front, fits, is) h = absurd (omega arith)
-rest_fault end content rest f some (suc t, front, fits, is) h =
-    let failed : bindings_up_to (suc t) end rest ≡ Err f = bindings_step t end rest some ∙ rw h refl in
-    sym is ∙ ap (with_front front) failed
+rest_fault end content rest f some is h =
+    let t = turn_left is.turns rest some is.enough in
+    sym is.same ∙ ap (with_front is.front) (turn_taken is.turns t.0 end rest (Err f) t.1 some h)
 
 pub rest_done : (end : ℕ) (content rest : List ℕ) → length rest ≡ 0 → IsRest end content rest → bindings_at end content ≡ Ok (bindings_of content)
-rest_done end content rest none (turns, front, fits, is) =
-    let all : bindings_at end content ≡ Ok (front ++ []) = sym is ∙ ap (with_front front) (bindings_only [] turns end rest fits (nil_from_length rest none)) in
-    all ∙ ap Ok (sym (walked end content (front ++ []) all))
+rest_done end content rest none is =
+    let nothing : bindings_up_to is.turns end rest ≡ Ok [] = bindings_only [] is.turns end rest is.enough (nil_from_length rest none) in
+    let all : bindings_at end content ≡ Ok (is.front ++ []) = sym is.same ∙ ap (with_front is.front) nothing in
+    all ∙ ap Ok (sym (walked end content (is.front ++ []) all))
 
 no_turn : (k : ℕ) (bytes : List ℕ) → length bytes ≤ 0 → bindings_within k bytes ≡ []
 no_turn k bytes none =

@@ -1,10 +1,15 @@
+pub mod Octets
 pub mod BelowBase
 pub mod Elements
 pub mod Integers
 pub mod Names
+pub mod Unique
+pub mod Named
+pub mod NameWalk
 pub mod Values
 pub mod Bindings
-pub mod Unique
+pub mod Messages
+pub mod Promises
 pub mod ShorterContents
 pub mod ShorterSpellings
 pub mod CanonicalIntegers
@@ -12,4 +17,6 @@ pub mod CanonicalNames
 pub mod CanonicalElements
 pub mod CanonicalLaws
 pub mod LimitsLaws
+pub mod MessageOfLaws
 pub mod FewBindings
+pub mod Rows

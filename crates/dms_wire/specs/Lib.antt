@@ -2,12 +2,16 @@ pub mod Message
 pub mod Length
 pub mod Integer
 pub mod ObjectIdentifier
+pub mod NameOrder
 pub mod Ber
 pub mod Spelling
 pub mod Limits
 pub mod Canonical
 pub mod Response
 pub mod NameReading
+pub mod NameWalk
 pub mod Reading
+pub mod MessageOf
 pub mod Walk
 pub mod View
+pub mod PduView

@@ -1,11 +1,22 @@
 //! Laws over the definitions of specs/ alone, stated as functions with nothing to run.
 
-ghost use Rattle.std.specs.Prelude.{ℕ, ◌*◌, ◌<◌, ◌≤◌, List, length};
+ghost use Rattle.std.specs.Prelude.{◌≡◌, ◌↔◌, ℕ, ◌*◌, ◌<◌, ◌≤◌, List, length, Some};
 ghost use Rattle.dms_wire.specs.Message.{SnmpMessage};
 ghost use Rattle.dms_wire.specs.Limits.{IsMessageInLimits};
 ghost use Rattle.dms_wire.specs.Spelling.{Spells};
 ghost use Rattle.dms_wire.specs.Canonical.{canonical};
 ghost use Rattle.dms_wire.specs.Response.{response_to};
+ghost use Rattle.dms_wire.specs.MessageOf.{message_of};
+
+/// Octets spell at most one message.
+pub fn one_message()
+    ensures { (m : SnmpMessage) (n : SnmpMessage) (octets : List ℕ) → Spells m octets → Spells n octets → m ≡ n }
+{}
+
+/// Octets spell a message exactly where `message_of` computes that message from them.
+pub fn read_is_spelled()
+    ensures { (octets : List ℕ) (m : SnmpMessage) → (message_of octets ≡ Some m) ↔ Spells m octets }
+{}
 
 /// The canonical octets of a message in the limits spell it, where they fit a datagram.
 #[tactic(auto, using(crate::proofs::CanonicalLaws::canonical_spells))]

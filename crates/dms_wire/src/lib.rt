@@ -5,7 +5,9 @@ pub mod fault;
 pub mod laws;
 pub mod message;
 pub mod object_identifier;
+mod reading;
 
 pub use fault::{FaultKind, TooBig, WireFault};
 pub use message::{Bind, Binds, Kind, Message, MessageParts, Out, Value};
-pub use object_identifier::Oid;
+pub use object_identifier::{Numbers, Oid, oid_cmp};
+pub use reading::read;

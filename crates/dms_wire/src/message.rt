@@ -1,6 +1,9 @@
 //! Messages, their bindings and values, over the octets of a datagram.
 
+ghost use Rattle.std.specs.Prelude.{◌≡◌};
+
 use crate::object_identifier::Oid;
+use crate::reading::first_binding;
 use arrayvec::ArrayVec;
 use std::marker::Model;
 
@@ -56,6 +59,34 @@ impl<'a> Model for Binds<'a> {
     ghost Value = { List VarBind };
 
     ghost view = { λ a. bindings_of a.content.now };
+}
+
+impl<'a> Binds<'a> {
+    /// The bindings that are left, to walk them once more.
+    pub fn again(&self) -> Binds<'a>
+        ensures { result ≡ self.now }
+    {
+        Binds {
+            content: self.content,
+        }
+    }
+}
+
+impl<'a> Iterator for Binds<'a> {
+    ghost use Rattle.std.specs.Iterator.{YieldsFirstBy, item_count};
+    ghost use Rattle.dms_wire.specs.View.{var_bind};
+
+    type Item = Bind<'a>;
+
+    ghost next_gives = { YieldsFirstBy var_bind (λ s. s) };
+
+    ghost remaining = { item_count (λ s. s) };
+
+    fn next(&mut self) -> Option<Bind<'a>> {
+        let (first, rest) = first_binding(self.content)?;
+        self.content = rest;
+        Some(first)
+    }
 }
 
 /// A message that was read, over the octets of its datagram.

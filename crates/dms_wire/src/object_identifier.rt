@@ -1,6 +1,21 @@
 //! Object identifiers over their octets.
+ghost use Rattle.std.specs.Prelude.{◌≡◌, ◌↔◌, ℕ, ◌<◌, List, [], ◌∷◌, length, IsTrue, IsSome, IfSome, IfNone};
+ghost use Rattle.std.specs.Prelude.{nat_eq, refl};
+ghost use Rattle.std.specs.Cmp.{partial_equiv_from_equiv};
+ghost use Rattle.std.specs.Cmp.Lexicographic.{pointwise, nat_list_cmp_total, nat_list_eq_equiv, texts_po, texts_ties};
+ghost use Rattle.std.specs.Ordering.{as_partial_cmp};
+ghost use Rattle.std.specs.Iterator.{YieldsFirst, item_count};
+ghost use Rattle.dms_wire.specs.ObjectIdentifier.{IsName, numbers_from};
+ghost use Rattle.dms_wire.specs.NameReading.{part_after, is_name, numbers_of, sub_identifiers_after};
+ghost use Rattle.dms_wire.specs.NameWalk.{fits_after};
+ghost use Rattle.dms_wire.specs.NameOrder.{numbers_cmp};
+ghost use Rattle.dms_wire.specs.Canonical.{name_octets};
 
+use std::cmp::Ordering;
 use std::marker::Model;
+
+/// The most sub-identifiers of an object identifier.
+const MAX_SUB_IDENTIFIERS: usize = 127;
 
 /// An object identifier, over its content octets. A contract sees the list of its numbers, of which there are 2 to 128.
 #[derive(Drop)]
@@ -17,4 +32,245 @@ impl<'a> Model for Oid<'a> {
     ghost view = { λ a. numbers_of a.content.now };
 
     ghost invariant = { λ a. IsTrue (is_name a.content.now) };
+}
+
+impl<'a> Oid<'a> {
+    /// The object identifier with this content (X.690, 8.19), or none where the octets are none's: there is no octet, a
+    /// sub-identifier begins with octet 128, is 2^32 or more or lacks its last octet, or there are more than 127.
+    pub fn of(content: &'a [u8]) -> Option<Oid<'a>>
+        ensures some { IfSome result (λ o. IsName o content.now) }
+        ensures only { (numbers : List ℕ) → IsName numbers content.now → result ≡ Some numbers }
+        ensures none { IfNone result ((numbers : List ℕ) → IsName numbers content.now → ⊥) }
+    {
+        name_of(content)
+    }
+
+    /// The content octets: the only ones that spell this object identifier.
+    pub fn content(&self) -> &'a [u8]
+        ensures { result.now ≡ name_octets self.now }
+    {
+        self.content
+    }
+
+    /// The same object identifier once more, over the same octets.
+    pub fn again(&self) -> Oid<'a>
+        ensures { result ≡ self.now }
+    {
+        Oid {
+            content: self.content,
+        }
+    }
+
+    /// The numbers, from the first on.
+    pub fn numbers(&self) -> Numbers<'a>
+        ensures { result ≡ self.now }
+    {
+        Numbers {
+            rest: self.content,
+            begun: false,
+            ahead: None,
+        }
+    }
+}
+
+impl<'a> IntoIterator for &Oid<'a> {
+    type Item = u32;
+
+    type IntoIter = Numbers<'a>;
+
+    ghost into_iter_gives = { λ o it. it ≡ o.now };
+
+    fn into_iter(self) -> Numbers<'a> {
+        self.numbers()
+    }
+}
+
+/// The numbers of an object identifier, in order: an iterator, which a contract sees as the list of those that are left.
+#[derive(Drop)]
+pub struct Numbers<'a> {
+    rest: &'a [u8],
+    /// Whether the first sub-identifier, which is two numbers, was read.
+    begun: bool,
+    /// The second number, once the first was given.
+    ahead: Option<u32>,
+}
+
+impl<'a> Model for Numbers<'a> {
+    ghost use Rattle.std.specs.Prelude.{ℕ, List, IsTrue};
+    ghost use Rattle.dms_wire.specs.NameWalk.{numbers_left, fits_after};
+
+    ghost Value = { List ℕ };
+
+    ghost view = { λ a. numbers_left a.ahead a.begun a.rest.now };
+
+    ghost invariant = { λ a. IsTrue (fits_after 0 a.rest.now) };
+}
+
+impl<'a> Iterator for Numbers<'a> {
+    type Item = u32;
+
+    ghost next_gives = { YieldsFirst (λ left. left) };
+
+    ghost remaining = { item_count (λ left. left) };
+
+    fn next(&mut self) -> Option<u32> {
+        if let Some(number) = self.ahead.take() {
+            return Some(number);
+        }
+        let (number, rest) = first_sub_identifier(self.rest)?;
+        self.rest = rest;
+        if self.begun {
+            return Some(number);
+        }
+        self.begun = true;
+        let (first, second) = first_two(number);
+        self.ahead = Some(second);
+        Some(first)
+    }
+}
+
+/// The two numbers that the first sub-identifier is (X.690, 8.19.4).
+fn first_two(sub_identifier: u32) -> (u32, u32)
+    ensures { (others : List ℕ) → numbers_from (sub_identifier ∷ others) ≡ result.0 ∷ result.1 ∷ others }
+{
+    match sub_identifier {
+        0..40 => (0, sub_identifier),
+        40..80 => (1, sub_identifier - 40),
+        _ => (2, sub_identifier - 80),
+    }
+}
+
+/// The order of object identifiers (RFC 1157, 4.1.3): the first two numbers that differ decide, and one that another begins
+/// with comes before it.
+pub fn oid_cmp(a: &Oid<'_>, b: &Oid<'_>) -> Ordering
+    ensures { result ≡ numbers_cmp a.now b.now }
+{
+    sub_identifiers_cmp(a.content, b.content)
+}
+
+impl PartialEq for Oid<'_> {
+    ghost eq = { pointwise nat_eq };
+
+    ghost laws = { partial_equiv_from_equiv nat_list_eq_equiv };
+
+    fn eq(&self, other: &Oid<'_>) -> bool {
+        self.content == other.content
+    }
+}
+
+impl Eq for Oid<'_> {
+    ghost laws = { nat_list_eq_equiv };
+}
+
+impl PartialOrd for Oid<'_> {
+    ghost partial_cmp = { as_partial_cmp numbers_cmp };
+
+    ghost laws = { texts_po };
+
+    fn partial_cmp(&self, other: &Oid<'_>) -> Option<Ordering> {
+        Some(oid_cmp(self, other))
+    }
+}
+
+impl Ord for Oid<'_> {
+    ghost cmp = { numbers_cmp };
+
+    ghost total = { nat_list_cmp_total };
+
+    ghost matches_partial_cmp = { λ a b. refl };
+
+    ghost matches_eq = { texts_ties };
+
+    fn cmp(&self, other: &Oid<'_>) -> Ordering {
+        oid_cmp(self, other)
+    }
+}
+
+/// The order of the sub-identifiers, which is that of the numbers.
+fn sub_identifiers_cmp(a: &[u8], b: &[u8]) -> Ordering
+    requires left { IsTrue (fits_after 0 a.now) }
+    requires right { IsTrue (fits_after 0 b.now) }
+    ensures { result ≡ numbers_cmp (sub_identifiers_after 0 a.now) (sub_identifiers_after 0 b.now) }
+{
+    let mut left = a;
+    let mut right = b;
+    while let Some((x, left_rest)) = first_sub_identifier(left) {
+        let Some((y, right_rest)) = first_sub_identifier(right) else {
+            return Ordering::Greater;
+        };
+        if x != y {
+            return x.cmp(&y);
+        }
+        left = left_rest;
+        right = right_rest;
+    }
+    match first_sub_identifier(right) {
+        Some(_) => Ordering::Less,
+        None => Ordering::Equal,
+    }
+}
+
+/// As `Oid::of`, with what it answers in the words of reading on lists.
+pub(crate) fn name_of(content: &[u8]) -> Option<Oid<'_>>
+    ensures some { IfSome result (λ o. o ≡ numbers_of content.now) }
+    ensures exact { IsSome result ↔ IsTrue (is_name content.now) }
+{
+    if is_name(content) {
+        Some(Oid { content })
+    } else {
+        None
+    }
+}
+
+/// Whether the octets are an object identifier's content.
+#[tactic(auto, using(crate::proofs::Names::steps))]
+fn is_name(octets: &[u8]) -> bool
+    ensures { IsTrue result ↔ IsTrue (is_name octets.now) }
+{
+    let mut count = 0;
+    let mut number = 0;
+    for octet in octets {
+        match part(count, number, *octet) {
+            Some(next) => (count, number) = next,
+            None => return false,
+        }
+    }
+    number == 0 && 0 < count
+}
+
+/// One octet more: how many sub-identifiers came, and what came of the next one.
+fn part(count: usize, number: u32, octet: u8) -> Option<(usize, u32)>
+    ensures { result ≡ part_after count number octet }
+{
+    if octet < 128 {
+        if number < 1 << 25 && count < MAX_SUB_IDENTIFIERS {
+            Some((count + 1, 0))
+        } else {
+            None
+        }
+    } else if 1 << 25 <= number || octet == 128 && number == 0 {
+        None
+    } else {
+        Some((count, number * 128 + u32::from(octet % 128)))
+    }
+}
+
+/// The first sub-identifier of the octets, and what follows it; none where no octet is below 128.
+fn first_sub_identifier(octets: &[u8]) -> Option<(u32, &[u8])>
+    requires { IsTrue (fits_after 0 octets.now) }
+    ensures some { IfSome result (λ x. sub_identifiers_after 0 octets.now ≡ x.0 ∷ sub_identifiers_after 0 x.1.now) }
+    ensures fits { IfSome result (λ x. IsTrue (fits_after 0 x.1.now)) }
+    ensures shorter { IfSome result (λ x. length x.1.now < length octets.now) }
+    ensures none { IfNone result (sub_identifiers_after 0 octets.now ≡ []) }
+{
+    let mut number = 0;
+    let mut rest = octets;
+    while let [octet, others @ ..] = rest {
+        if *octet < 128 {
+            return Some((number * 128 + u32::from(*octet), others));
+        }
+        number = number * 128 + u32::from(*octet % 128);
+        rest = others;
+    }
+    None
 }

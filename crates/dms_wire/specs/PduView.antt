@@ -1,0 +1,6 @@
+-- What the code's PDUs say.
+use Rattle.dms_wire.specs.declared.reading.PduFields.{PduFields}
+use Rattle.dms_wire.specs.Reading.{Numbered}
+
+abbrev pub numbered : PduFields → Numbered
+numbered p = record { request = p.request; status = p.status; index = p.index; bindings = p.binds }
