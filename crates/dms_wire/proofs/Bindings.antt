@@ -68,7 +68,8 @@ no_bindings bytes bs none h =
     let size : length bytes ≡ 0 = omega arith in
     subst (λ bs. AreBindings bs bytes) (ok_is [] bs h) (nil_from_length bytes size)
 
-pub bindings_found : (k end : ℕ) (bytes : List ℕ) (bs : List VarBind) → length bytes ≤ k → bindings_up_to k end bytes ≡ Ok bs → AreBindings bs bytes
+pub bindings_found : (k end : ℕ) (bytes : List ℕ) (bs : List VarBind) → length bytes ≤ k → bindings_up_to k end bytes ≡ Ok bs
+    → AreBindings bs bytes
 unfolding bindings_up_to
 bindings_found zero end bytes bs small h = no_bindings bytes bs small h
 bindings_found (suc k) end [] bs small h = no_bindings [] bs (omega arith) h
@@ -86,7 +87,8 @@ unfolding bindings_up_to
 bindings_step k end [] some = absurd (omega arith)
 bindings_step k end (b ∷ bytes) some = refl
 
-pub bindings_only : (bs : List VarBind) (k end : ℕ) (bytes : List ℕ) → length bytes ≤ k → AreBindings bs bytes → bindings_up_to k end bytes ≡ Ok bs
+pub bindings_only : (bs : List VarBind) (k end : ℕ) (bytes : List ℕ) → length bytes ≤ k → AreBindings bs bytes
+    → bindings_up_to k end bytes ≡ Ok bs
 unfolding bindings_up_to
 bindings_only [] zero end bytes small nil = refl
 bindings_only [] (suc k) end bytes small nil = rw nil refl
@@ -146,11 +148,13 @@ turn_left : (turns : ℕ) (rest : List ℕ) → 0 < length rest → length rest 
 turn_left zero rest some enough = absurd (omega arith)
 turn_left (suc t) rest some enough = (t, refl)
 
-turn_taken : (turns t end : ℕ) (rest : List ℕ) (read : Result (VarBind × List ℕ) WireFault) → turns ≡ suc t → 0 < length rest → binding_at end rest ≡ read
+turn_taken : (turns t end : ℕ) (rest : List ℕ) (read : Result (VarBind × List ℕ) WireFault) → turns ≡ suc t → 0 < length rest
+    → binding_at end rest ≡ read
     → bindings_up_to turns end rest ≡ (read >>= λ first. bindings_up_to t end first.1 >>= λ others. done (first.0 ∷ others))
 turn_taken turns t end rest read is some h = ap (λ turns. bindings_up_to turns end rest) is ∙ bindings_step t end rest some ∙ rw h refl
 
-pub rest_more : (end : ℕ) (content rest after : List ℕ) (b : VarBind) → 0 < length rest → IsRest end content rest → binding_at end rest ≡ Ok (b, after)
+pub rest_more : (end : ℕ) (content rest after : List ℕ) (b : VarBind) → 0 < length rest → IsRest end content rest
+    → binding_at end rest ≡ Ok (b, after)
     → IsRest end content after
 rest_more end content rest after b some is h =
     let t = turn_left is.turns rest some is.enough in
@@ -168,7 +172,8 @@ rest_fault end content rest f some is h =
     let t = turn_left is.turns rest some is.enough in
     sym is.same ∙ ap (with_front is.front) (turn_taken is.turns t.0 end rest (Err f) t.1 some h)
 
-pub rest_done : (end : ℕ) (content rest : List ℕ) → length rest ≡ 0 → IsRest end content rest → bindings_at end content ≡ Ok (bindings_of content)
+pub rest_done : (end : ℕ) (content rest : List ℕ) → length rest ≡ 0 → IsRest end content rest
+    → bindings_at end content ≡ Ok (bindings_of content)
 rest_done end content rest none is =
     let nothing : bindings_up_to is.turns end rest ≡ Ok [] = bindings_only [] is.turns end rest is.enough (nil_from_length rest none) in
     let all : bindings_at end content ≡ Ok (is.front ++ []) = sym is.same ∙ ap (with_front is.front) nothing in
@@ -180,7 +185,8 @@ no_turn k bytes none =
     ap (bindings_within k) (nil_from_length bytes size) ∙ no_binding k
 
 -- one turn more on both sides
-turn_same : (j k : ℕ) (bytes : List ℕ) (read : Result (VarBind × List ℕ) WireFault) → binding_at (length bytes) bytes ≡ read → length bytes ≤ suc j → length bytes ≤ suc k
+turn_same : (j k : ℕ) (bytes : List ℕ) (read : Result (VarBind × List ℕ) WireFault) → binding_at (length bytes) bytes ≡ read
+    → length bytes ≤ suc j → length bytes ≤ suc k
     → ((rest : List ℕ) → length rest ≤ j → length rest ≤ k → bindings_within j rest ≡ bindings_within k rest)
     → or_none [] (λ b rest. b ∷ bindings_within j rest) read ≡ or_none [] (λ b rest. b ∷ bindings_within k rest) read
 turn_same j k bytes (Ok (b, rest)) is fits_j fits_k same =
@@ -204,7 +210,8 @@ walk_turns (suc k) bytes rest b size h =
     let fewer = fewer_found (length bytes) bytes rest b h in
     rw h (ap (λ bs. b ∷ bs) (turns_same k (length rest) rest (omega arith) (omega arith)))
 
-pub walk_more : (bytes rest : List ℕ) (b : VarBind) → binding_at (length bytes) bytes ≡ Ok (b, rest) → bindings_of bytes ≡ b ∷ bindings_of rest
+pub walk_more : (bytes rest : List ℕ) (b : VarBind) → binding_at (length bytes) bytes ≡ Ok (b, rest)
+    → bindings_of bytes ≡ b ∷ bindings_of rest
 walk_more bytes rest b h = walk_turns (length bytes) bytes rest b refl h
 
 walk_stops : (k : ℕ) (bytes : List ℕ) (f : WireFault) → binding_at (length bytes) bytes ≡ Err f → bindings_within k bytes ≡ []

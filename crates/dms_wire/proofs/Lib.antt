@@ -18,5 +18,7 @@ pub mod CanonicalElements
 pub mod CanonicalLaws
 pub mod LimitsLaws
 pub mod MessageOfLaws
+pub mod Shortest
+pub mod Writes
 pub mod FewBindings
 pub mod Rows

@@ -18,13 +18,15 @@ use Rattle.dms_wire.proofs.Integers.{integer_found, integer_only}
 use Rattle.dms_wire.proofs.Values.{Front, after, joined, last, some_is, ok_or_found, made, with_found, with_only, integer_at_found, integer_at_only}
 use Rattle.dms_wire.proofs.Bindings.{ended_found, bindings_found, bindings_only}
 
-list_found : (end : ℕ) (bytes : List ℕ) (x : List VarBind × List ℕ) → list_at end bytes ≡ Ok x → Front (IsElement 48 (AreBindings x.0)) bytes x.1
+list_found : (end : ℕ) (bytes : List ℕ) (x : List VarBind × List ℕ) → list_at end bytes ≡ Ok x
+    → Front (IsElement 48 (AreBindings x.0)) bytes x.1
 unfolding list_at
 list_found end bytes x h =
     with_found AreBindings (λ c. bindings_at (end - length c.1) c.0)
     (λ c bs h. bindings_found (length c.0) (end - length c.1) c.0 bs (omega arith) h) 48 end bytes x h
 
-list_only : (end : ℕ) (bs : List VarBind) (front rest : List ℕ) → IsElement 48 (AreBindings bs) front → list_at end (front ++ rest) ≡ Ok (bs, rest)
+list_only : (end : ℕ) (bs : List VarBind) (front rest : List ℕ) → IsElement 48 (AreBindings bs) front
+    → list_at end (front ++ rest) ≡ Ok (bs, rest)
 unfolding list_at
 list_only end bs front rest e =
     with_only AreBindings (λ c. bindings_at (end - length c.1) c.0)
@@ -47,7 +49,8 @@ version_of_found place content x h =
 version_of_only : (place : ℕ) (content : List ℕ) (x : Unit {0}) → IsInteger (pos 0) content → version_of place content ≡ Ok x
 version_of_only place content x e = rw (integer_only content (pos 0) e) refl
 
-version_found : (end : ℕ) (bytes : List ℕ) (x : Unit {0} × List ℕ) → version_at end bytes ≡ Ok x → Front (IsElement 2 (IsInteger (pos 0))) bytes x.1
+version_found : (end : ℕ) (bytes : List ℕ) (x : Unit {0} × List ℕ) → version_at end bytes ≡ Ok x
+    → Front (IsElement 2 (IsInteger (pos 0))) bytes x.1
 unfolding version_at
 version_found end bytes x h =
     with_found IsVersion (λ c. version_of (place_of end c.0 c.1) c.0) (λ c v h. version_of_found (place_of end c.0 c.1) c.0 v h) 2 end bytes x h
@@ -148,7 +151,8 @@ abbrev message : List ℕ → Kind × Numbered → SnmpMessage
 message community p =
     record { community = community; kind = p.0; request = p.1.request; status = p.1.status; index = p.1.index; bindings = p.1.bindings }
 
-community_found : (end : ℕ) (bytes : List ℕ) (x : List ℕ × List ℕ) → element_at 4 end bytes ≡ Ok x → Front (IsElement 4 (λ content. content ≡ x.0)) bytes x.1
+community_found : (end : ℕ) (bytes : List ℕ) (x : List ℕ × List ℕ) → element_at 4 end bytes ≡ Ok x
+    → Front (IsElement 4 (λ content. content ≡ x.0)) bytes x.1
 community_found end bytes x h =
     let found = element_found 4 end bytes x h in
     record {

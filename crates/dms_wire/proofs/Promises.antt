@@ -24,7 +24,8 @@ pub is_only : (bytes : List ℕ) (r : Result Message WireFault) → Gives snmp_m
 is_only bytes (Ok x) gives m s = sym (message_only bytes m s) ∙ gives
 is_only bytes (Err f) gives m s = sym (message_only bytes m s) ∙ gives
 
-pub is_none : (bytes : List ℕ) (r : Result Message WireFault) → Gives snmp_message r (message_at bytes) → OnErr r ((m : SnmpMessage) → Spells m bytes → ⊥)
+pub is_none : (bytes : List ℕ) (r : Result Message WireFault) → Gives snmp_message r (message_at bytes)
+    → OnErr r ((m : SnmpMessage) → Spells m bytes → ⊥)
 is_none bytes (Ok x) gives = tt
 is_none bytes (Err f) gives = λ m s. not_ok f m (sym gives ∙ message_only bytes m s)
 
@@ -37,7 +38,8 @@ refusal f = Err f
 same_fault : (g f : WireFault) → refused g ≡ refused f → refusal g ≡ refusal f
 same_fault g f h = cc
 
-pub is_fault : (bytes : List ℕ) (r : Result Message WireFault) (f : WireFault) → Gives snmp_message r (message_at bytes) → message_at bytes ≡ Err f → r ≡ Err f
+pub is_fault : (bytes : List ℕ) (r : Result Message WireFault) (f : WireFault) → Gives snmp_message r (message_at bytes)
+    → message_at bytes ≡ Err f → r ≡ Err f
 is_fault bytes (Ok x) f gives h = not_ok f (snmp_message x) (sym h ∙ gives)
 is_fault bytes (Err g) f gives h = same_fault g f (sym gives ∙ h)
 

@@ -47,7 +47,8 @@ ok_or_found None f x h = not_ok f x h
 abbrev pub with_content : {A : Type 0} → (List ℕ × List ℕ → Result A WireFault) → ℕ → ℕ → List ℕ → Result (A × List ℕ) WireFault
 with_content parse tag end bytes = element_at tag end bytes >>= λ c. parse c >>= λ v. done (v, c.1)
 
-pub with_found : {A : Type 0} (P : A → List ℕ → Type 0) (parse : List ℕ × List ℕ → Result A WireFault) → ((c : List ℕ × List ℕ) (v : A) → parse c ≡ Ok v → P v c.0)
+pub with_found : {A : Type 0} (P : A → List ℕ → Type 0) (parse : List ℕ × List ℕ → Result A WireFault)
+    → ((c : List ℕ × List ℕ) (v : A) → parse c ≡ Ok v → P v c.0)
     → (tag end : ℕ) (bytes : List ℕ) (x : A × List ℕ) → with_content parse tag end bytes ≡ Ok x → Front (IsElement tag (P x.0)) bytes x.1
 with_found P parse law tag end bytes x h =
     let c = bind_ok (element_at tag end bytes) (λ c. parse c >>= λ v. done (v, c.1)) x h in
@@ -60,7 +61,8 @@ with_found P parse law tag end bytes x h =
       parts = found.2;
     }
 
-pub with_only : {A : Type 0} (P : A → List ℕ → Type 0) (parse : List ℕ × List ℕ → Result A WireFault) → ((c : List ℕ × List ℕ) (v : A) → P v c.0 → parse c ≡ Ok v)
+pub with_only : {A : Type 0} (P : A → List ℕ → Type 0) (parse : List ℕ × List ℕ → Result A WireFault)
+    → ((c : List ℕ × List ℕ) (v : A) → P v c.0 → parse c ≡ Ok v)
     → (tag end : ℕ) (v : A) (front rest : List ℕ) → IsElement tag (P v) front → with_content parse tag end (front ++ rest) ≡ Ok (v, rest)
 with_only P parse law tag end v front rest e =
     let back = λ (c : List ℕ × List ℕ). parse c >>= λ v. done (v, c.1) in
@@ -68,13 +70,15 @@ with_only P parse law tag end v front rest e =
     ∙ ap (λ r. r >>= back) (element_only tag end e.len e.content rest e.form)
     ∙ ap (λ r. r >>= λ v. done (v, rest)) (law (e.content, rest) v e.spelled)
 
-pub integer_at_found : (end : ℕ) (bytes : List ℕ) (x : ℤ × List ℕ) → integer_at end bytes ≡ Ok x → Front (IsElement 2 (IsInteger x.0)) bytes x.1
+pub integer_at_found : (end : ℕ) (bytes : List ℕ) (x : ℤ × List ℕ) → integer_at end bytes ≡ Ok x
+    → Front (IsElement 2 (IsInteger x.0)) bytes x.1
 unfolding integer_at
 integer_at_found end bytes x h =
     with_found IsInteger (λ c. ok_or (integer_value c.0) (fault BadInteger (place_of end c.0 c.1)))
     (λ c z h. integer_found c.0 z (ok_or_found (integer_value c.0) _ z h)) 2 end bytes x h
 
-pub integer_at_only : (end : ℕ) (z : ℤ) (front rest : List ℕ) → IsElement 2 (IsInteger z) front → integer_at end (front ++ rest) ≡ Ok (z, rest)
+pub integer_at_only : (end : ℕ) (z : ℤ) (front rest : List ℕ) → IsElement 2 (IsInteger z) front
+    → integer_at end (front ++ rest) ≡ Ok (z, rest)
 unfolding integer_at
 integer_at_only end z front rest e =
     with_only IsInteger (λ c. ok_or (integer_value c.0) (fault BadInteger (place_of end c.0 c.1)))
@@ -95,7 +99,8 @@ unfolding name_at
 name_at_found end bytes x h =
     with_found IsName (λ c. name_of (place_of end c.0 c.1) c.0) (λ c n h. name_of_found (place_of end c.0 c.1) c.0 n h) 6 end bytes x h
 
-pub name_at_only : (end : ℕ) (numbers front rest : List ℕ) → IsElement 6 (IsName numbers) front → name_at end (front ++ rest) ≡ Ok (numbers, rest)
+pub name_at_only : (end : ℕ) (numbers front rest : List ℕ) → IsElement 6 (IsName numbers) front
+    → name_at end (front ++ rest) ≡ Ok (numbers, rest)
 unfolding name_at
 name_at_only end numbers front rest e =
     with_only IsName (λ c. name_of (place_of end c.0 c.1) c.0) (λ c n h. name_of_only (place_of end c.0 c.1) c.0 n h) 6 end numbers front rest e
@@ -103,7 +108,8 @@ name_at_only end numbers front rest e =
 pub some_is : {A : Type 0} (x y : A) → Some x ≡ Some y → x ≡ y
 some_is x y h = cc
 
-natural_from : (content : List ℕ) (o : Option ℤ) (n : ℕ) → integer_value content ≡ o → option_and_then natural o ≡ Some n → IsInteger (pos n) content
+natural_from : (content : List ℕ) (o : Option ℤ) (n : ℕ) → integer_value content ≡ o → option_and_then natural o ≡ Some n
+    → IsInteger (pos n) content
 natural_from content (Some (pos k)) n is h = integer_found content (pos n) (is ∙ ap (λ k. Some (pos k)) (some_is k n h))
 natural_from content (Some (negsuc k)) n is h = cc h
 natural_from content None n is h = cc h
@@ -118,11 +124,13 @@ natural_only content n h = ap (option_and_then natural) (integer_only content (p
 abbrev Stands : ℕ → List ℕ → ObjectValue → Type 0
 Stands tag content value = (len : List ℕ) → IsLength len (length content) → IsValue value (tag ∷ (len ++ content))
 
-pub made : (k tag : ℕ) (P : List ℕ → Type 0) (len content : List ℕ) → tag ≡ k → IsLength len (length content) → P content → IsElement k P (tag ∷ (len ++ content))
+pub made : (k tag : ℕ) (P : List ℕ → Type 0) (len content : List ℕ) → tag ≡ k → IsLength len (length content) → P content
+    → IsElement k P (tag ∷ (len ++ content))
 made k tag P len content is form spelled =
     record { len = len; content = content; form = form; spelled = spelled; parts = ap (λ t. t ∷ (len ++ content)) is }
 
-map_found : {A : Type 0} (make : A → ObjectValue) (o : Option A) (f : WireFault) (value : ObjectValue) → ok_or (option_map make o) f ≡ Ok value → (v : A) × (o ≡ Some v) × (make v ≡ value)
+map_found : {A : Type 0} (make : A → ObjectValue) (o : Option A) (f : WireFault) (value : ObjectValue)
+    → ok_or (option_map make o) f ≡ Ok value → (v : A) × (o ≡ Some v) × (make v ≡ value)
 map_found make (Some v) f value h = (v, refl, ok_is (make v) value h)
 map_found make None f value h = not_ok f value h
 
@@ -132,7 +140,8 @@ last_tag : (tag : ℕ) → is_value_tag tag ≡ true → eqb tag 2 ≡ false →
 last_tag tag is n2 n4 n5 n6 n64 n65 n66 n67 = grind (arith, nat_tests)
 
 -- a content whose number is read by parse, as the value of a tag
-number_found : {A : Type 0} (make : A → ObjectValue) (P : A → List ℕ → Type 0) (parse : List ℕ → Option A) → ((content : List ℕ) (v : A) → parse content ≡ Some v → P v content)
+number_found : {A : Type 0} (make : A → ObjectValue) (P : A → List ℕ → Type 0) (parse : List ℕ → Option A)
+    → ((content : List ℕ) (v : A) → parse content ≡ Some v → P v content)
     → (k tag place : ℕ) (len content : List ℕ) (value : ObjectValue) → eqb tag k ≡ true → IsLength len (length content)
     → ((v : A) → IsElement k (P v) (tag ∷ (len ++ content)) → IsValue (make v) (tag ∷ (len ++ content)))
     → ok_or (option_map make (parse content)) (fault BadInteger place) ≡ Ok value → IsValue value (tag ∷ (len ++ content))
@@ -194,7 +203,8 @@ value_from_found tag before place content value is h len form =
     ]
 
 -- an element of a value's tag, whose content is the value's
-value_element : (tag end : ℕ) (P : List ℕ → Type 0) (front rest : List ℕ) (value : ObjectValue) → is_value_tag tag ≡ true → (e : IsElement tag P front)
+value_element : (tag end : ℕ) (P : List ℕ → Type 0) (front rest : List ℕ) (value : ObjectValue) → is_value_tag tag ≡ true
+    → (e : IsElement tag P front)
     → ((before place : ℕ) → value_from tag before place e.content ≡ Ok value) → value_at end (front ++ rest) ≡ Ok (value, rest)
 unfolding value_at behind_tag
 value_element tag end P front rest value is e law =
@@ -204,7 +214,8 @@ value_element tag end P front rest value is e law =
     ∙ rw is
     (ap (λ r. r >>= back) (content_only end e.len e.content rest e.form) ∙ ap (λ r. r >>= λ v. done (v, rest)) (law before (place_of end e.content rest)))
 
-pub value_only : (value : ObjectValue) (end : ℕ) (front rest : List ℕ) → IsValue value front → value_at end (front ++ rest) ≡ Ok (value, rest)
+pub value_only : (value : ObjectValue) (end : ℕ) (front rest : List ℕ) → IsValue value front
+    → value_at end (front ++ rest) ≡ Ok (value, rest)
 unfolding value_from
 value_only (integer z) end front rest e =
     value_element 2 end (IsInteger z) front rest (integer z) refl e (λ before place. rw (integer_only e.content z e.spelled) refl)
@@ -228,7 +239,8 @@ value_only (opaque s) end front rest e =
     value_element 68 end (λ content. content ≡ s) front rest (opaque s) refl e (λ before place. rw e.spelled refl)
 
 -- behind the tag of a value
-behind_found : (tag end : ℕ) (bytes : List ℕ) (x : ObjectValue × List ℕ) → is_value_tag tag ≡ true → behind_tag tag end bytes ≡ Ok x → Front (IsValue x.0) (tag ∷ bytes) x.1
+behind_found : (tag end : ℕ) (bytes : List ℕ) (x : ObjectValue × List ℕ) → is_value_tag tag ≡ true → behind_tag tag end bytes ≡ Ok x
+    → Front (IsValue x.0) (tag ∷ bytes) x.1
 unfolding behind_tag
 behind_found tag end bytes x is h =
     let before : ℕ = end - length bytes in

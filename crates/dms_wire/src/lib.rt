@@ -6,8 +6,10 @@ pub mod laws;
 pub mod message;
 pub mod object_identifier;
 mod reading;
+mod writing;
 
 pub use fault::{FaultKind, TooBig, WireFault};
 pub use message::{Bind, Binds, Kind, Message, MessageParts, Out, Value};
 pub use object_identifier::{Numbers, Oid, oid_cmp};
 pub use reading::read;
+pub use writing::write;

@@ -274,3 +274,89 @@ fn first_sub_identifier(octets: &[u8]) -> Option<(u32, &[u8])>
     }
     None
 }
+
+#[cfg(test)]
+mod tests {
+    use super::*;
+    use std::process::Abort;
+
+    fn check_numbers(rt: &impl Abort, content: &[u8], numbers: &[u32]) {
+        let oid = Oid::of(content).expect(rt, "an object identifier");
+        let mut left = numbers.iter();
+        for number in &oid {
+            assert_eq!(rt; Some(number), left.next().copied());
+        }
+        assert_eq!(rt; left.next(), None);
+    }
+
+    // X.690, 8.19.5, and the ends of the ranges
+    #[test]
+    fn numbers_of_contents(rt: HostRuntime) {
+        check_numbers(&rt, [0x88, 0x37, 0x03].as_slice(), [2, 999, 3].as_slice());
+        check_numbers(
+            &rt,
+            [0x2b, 0x06, 0x01, 0x02, 0x01].as_slice(),
+            [1, 3, 6, 1, 2, 1].as_slice(),
+        );
+        check_numbers(&rt, [0x00].as_slice(), [0, 0].as_slice());
+        check_numbers(&rt, [0x27].as_slice(), [0, 39].as_slice());
+        check_numbers(&rt, [0x28].as_slice(), [1, 0].as_slice());
+        check_numbers(&rt, [0x50].as_slice(), [2, 0].as_slice());
+        check_numbers(
+            &rt,
+            [0x8f, 0xff, 0xff, 0xff, 0x7f].as_slice(),
+            [2, 4294967215].as_slice(),
+        );
+        check_numbers(
+            &rt,
+            [0x2b, 0x8f, 0xff, 0xff, 0xff, 0x7f].as_slice(),
+            [1, 3, 4294967295].as_slice(),
+        );
+    }
+
+    #[test]
+    fn no_names(rt: HostRuntime) {
+        assert!(rt; Oid::of([].as_slice()).is_none());
+        assert!(rt; Oid::of([0x80, 0x01].as_slice()).is_none());
+        assert!(rt; Oid::of([0x2b, 0x86].as_slice()).is_none());
+        assert!(rt; Oid::of([0x90, 0x80, 0x80, 0x80, 0x00].as_slice()).is_none());
+        assert!(rt; Oid::of([0x2b; 128].as_slice()).is_none());
+        assert!(rt; Oid::of([0x2b; 127].as_slice()).is_some());
+    }
+
+    fn check_order(rt: &impl Abort, a: &[u8], b: &[u8], order: Ordering) {
+        let a = Oid::of(a).expect(rt, "an object identifier");
+        let b = Oid::of(b).expect(rt, "an object identifier");
+        assert_eq!(rt; oid_cmp(&a, &b), order);
+        assert_eq!(rt; a == b, order == Ordering::Equal);
+        assert_eq!(rt; oid_cmp(&b, &a), order.reverse());
+    }
+
+    #[test]
+    fn order(rt: HostRuntime) {
+        check_order(
+            &rt,
+            [0x2b, 0x06].as_slice(),
+            [0x2b, 0x06].as_slice(),
+            Ordering::Equal,
+        );
+        check_order(
+            &rt,
+            [0x2b].as_slice(),
+            [0x2b, 0x00].as_slice(),
+            Ordering::Less,
+        );
+        check_order(
+            &rt,
+            [0x27, 0x05].as_slice(),
+            [0x28].as_slice(),
+            Ordering::Less,
+        );
+        check_order(
+            &rt,
+            [0x2b, 0xff, 0x7f].as_slice(),
+            [0x2b, 0x81, 0x80, 0x00].as_slice(),
+            Ordering::Less,
+        );
+    }
+}

@@ -1,0 +1,482 @@
+//! Writing a message in its shortest spelling. The sizes are computed first, so that each octet is written once.
+ghost use Rattle.std.specs.Prelude.{◌≡◌, ◌↔◌, ℕ, ◌+◌, ◌≤◌, ◌<◌, ◌^◌, ◌++◌, [], ◌∷◌, pos, length, map, IsOk, IfOk, OnOk, OnErr};
+ghost use Rattle.std.specs.List.{flat_map};
+ghost use Rattle.std.specs.Int.Digits.{digits_of};
+ghost use Rattle.arrayvec.specs.ArrayVec.{array_vec_len};
+ghost use Rattle.dms_wire.specs.Integer.{inverted};
+ghost use Rattle.dms_wire.specs.Spelling.{tag_of};
+ghost use Rattle.dms_wire.specs.View.{object_value, var_bind, snmp_message_of_parts};
+ghost use Rattle.dms_wire.specs.Canonical.{short_length, element, positive_octets, integer_octets, name_octets, value_octets, binding_octets, numbers_octets, pdu_octets, canonical};
+
+use crate::fault::TooBig;
+use crate::message::{Bind, Kind, MAX_DATAGRAM, MessageParts, Out, Value};
+use crate::object_identifier::Oid;
+
+/// How many octets a number not below 0 takes.
+#[inline]
+#[tactic(auto, using(crate::proofs::Shortest::number_sizes))]
+fn size_of_number(number: u64) -> usize
+    ensures exact { result ≡ length (positive_octets number) }
+    ensures small { result ≤ 9 }
+{
+    if number < 128 {
+        1
+    } else {
+        size_of_number(number / 256) + 1
+    }
+}
+
+/// How many octets the content of an INTEGER takes.
+#[inline]
+#[tactic(auto, unfolding(crate::specs::Canonical::integer_octets))]
+fn size_of_integer_content(number: &i64) -> usize
+    ensures exact { result ≡ length (integer_octets number.now) }
+    ensures small { result ≤ 9 }
+{
+    if *number < 0 {
+        size_of_number((-1 - *number) as u64)
+    } else {
+        size_of_number(*number as u64)
+    }
+}
+
+/// How many octets a number has in base 256.
+#[tactic(auto, using(crate::proofs::Shortest::digit_sizes))]
+fn count_digits(number: usize) -> usize
+    requires { 0 < number }
+    ensures exact { result ≡ length (digits_of 256 number) }
+    ensures small { result ≤ 8 }
+{
+    if number < 256 {
+        1
+    } else {
+        count_digits(number / 256) + 1
+    }
+}
+
+/// How many octets an element with a content of `size` octets takes.
+#[inline]
+fn size_of_element(size: usize) -> usize
+    requires { size < 2 ^ 63 }
+    ensures exact { result ≡ 1 + length (short_length size) + size }
+    ensures small { result ≤ size + 10 }
+{
+    let length = if size < 128 {
+        1
+    } else {
+        1 + count_digits(size)
+    };
+    1 + length + size
+}
+
+/// Writes the octets of a number not below 0.
+#[tactic(auto, using(crate::proofs::Shortest::number_steps))]
+fn put_number(out: &mut Out, number: u64)
+    requires { array_vec_len out.old + length (positive_octets number) ≤ 1472 }
+    ensures { out.new.items ≡ out.old.items ++ positive_octets number }
+{
+    if number < 128 {
+        out.push(number as u8);
+    } else {
+        put_number(out, number / 256);
+        out.push((number % 256) as u8);
+    }
+}
+
+/// Writes the octets of a number not below 0, each inverted.
+#[tactic(auto, using(crate::proofs::Shortest::number_steps))]
+fn put_inverted(out: &mut Out, number: u64)
+    requires { array_vec_len out.old + length (positive_octets number) ≤ 1472 }
+    ensures { out.new.items ≡ out.old.items ++ inverted (positive_octets number) }
+{
+    if number < 128 {
+        out.push(255 - number as u8);
+    } else {
+        put_inverted(out, number / 256);
+        out.push(255 - (number % 256) as u8);
+    }
+}
+
+/// Writes a tag and the length of the content.
+#[inline]
+fn put_head(out: &mut Out, tag: u8, size: usize)
+    requires { array_vec_len out.old + (1 + length (short_length size) + size) ≤ 1472 }
+    ensures { out.new.items ≡ out.old.items ++ tag ∷ short_length size }
+{
+    out.push(tag);
+    put_length(out, size);
+}
+
+/// Writes the length of a content.
+#[inline]
+#[tactic(auto, using(crate::proofs::Shortest::length_steps))]
+fn put_length(out: &mut Out, size: usize)
+    requires { array_vec_len out.old + (length (short_length size) + size) ≤ 1472 }
+    ensures { out.new.items ≡ out.old.items ++ short_length size }
+{
+    if size < 128 {
+        out.push(size as u8);
+    } else if size < 256 {
+        out.push(129);
+        out.push(size as u8);
+    } else {
+        out.push(130);
+        out.push((size / 256) as u8);
+        out.push((size % 256) as u8);
+    }
+}
+
+/// Writes an element whose content is at hand.
+#[inline]
+#[tactic(auto, using(crate::proofs::Shortest::element_steps), unfolding(crate::specs::Canonical::element))]
+fn put_octets(out: &mut Out, tag: u8, content: &[u8])
+    requires { array_vec_len out.old + length (element tag content.now) ≤ 1472 }
+    ensures { out.new.items ≡ out.old.items ++ element tag content.now }
+{
+    put_head(out, tag, content.len());
+    put_content(out, content);
+}
+
+/// Writes octets as they are.
+#[inline]
+fn put_content(out: &mut Out, content: &[u8])
+    requires { array_vec_len out.old + length content.now ≤ 1472 }
+    ensures { out.new.items ≡ out.old.items ++ content.now }
+{
+    let _ = out.try_extend_from_slice(content);
+}
+
+/// Writes an INTEGER.
+#[inline]
+#[tactic(auto, using(crate::proofs::Shortest::element_steps), unfolding(crate::specs::Canonical::element))]
+fn put_integer(out: &mut Out, number: &i64)
+    requires { array_vec_len out.old + length (element 2 (integer_octets number.now)) ≤ 1472 }
+    ensures { out.new.items ≡ out.old.items ++ element 2 (integer_octets number.now) }
+{
+    put_head(out, 2, size_of_integer_content(number));
+    put_integer_content(out, number);
+}
+
+/// Writes the content of an INTEGER.
+#[inline]
+#[tactic(auto, using(crate::proofs::Shortest::number_steps), unfolding(crate::specs::Canonical::integer_octets))]
+fn put_integer_content(out: &mut Out, number: &i64)
+    requires { array_vec_len out.old + length (integer_octets number.now) ≤ 1472 }
+    ensures { out.new.items ≡ out.old.items ++ integer_octets number.now }
+{
+    if *number < 0 {
+        put_inverted(out, (-1 - *number) as u64);
+    } else {
+        put_number(out, *number as u64);
+    }
+}
+
+/// Writes a Counter, a Gauge or TimeTicks.
+#[inline]
+#[tactic(auto, using(crate::proofs::Shortest::element_steps), unfolding(crate::specs::Canonical::element, crate::specs::Canonical::integer_octets))]
+fn put_natural(out: &mut Out, tag: u8, number: u32)
+    requires { array_vec_len out.old + length (element tag (integer_octets (pos number))) ≤ 1472 }
+    ensures { out.new.items ≡ out.old.items ++ element tag (integer_octets (pos number)) }
+{
+    let number = u64::from(number);
+    put_head(out, tag, size_of_number(number));
+    put_number(out, number);
+}
+
+/// How many octets an INTEGER takes.
+#[inline]
+#[tactic(auto, using(crate::proofs::Shortest::sizes))]
+fn size_of_integer(number: &i64) -> usize
+    ensures exact { result ≡ length (element 2 (integer_octets number.now)) }
+    ensures small { result < 20 }
+{
+    size_of_element(size_of_integer_content(number))
+}
+
+/// How many octets an element with this content takes.
+#[inline]
+#[tactic(auto, using(crate::proofs::Shortest::sizes))]
+fn size_of_octets(content: &[u8]) -> usize
+    ensures exact { (tag : ℕ) → result ≡ length (element tag content.now) }
+    ensures small { result ≤ length content.now + 10 }
+{
+    size_of_element(content.len())
+}
+
+/// How many octets the element of a number not below 0 takes.
+#[inline]
+#[tactic(auto, using(crate::proofs::Shortest::sizes), unfolding(crate::specs::Canonical::integer_octets))]
+fn size_of_natural(number: u32) -> usize
+    ensures { (tag : ℕ) → result ≡ length (element tag (integer_octets (pos number))) }
+{
+    size_of_element(size_of_number(u64::from(number)))
+}
+
+/// How many octets a value takes.
+#[inline]
+#[tactic(auto, using(crate::proofs::Shortest::sizes), unfolding(crate::specs::Canonical::integer_octets))]
+fn size_of_value(value: &Value<'_>) -> usize
+    ensures { result ≡ length (value_octets (object_value value.now)) }
+{
+    match value {
+        Value::Integer(number) => size_of_integer(number),
+        Value::Octets(octets) | Value::Opaque(octets) => size_of_octets(octets),
+        Value::Null => size_of_octets(&[]),
+        Value::Name(name) => size_of_octets(name.content()),
+        Value::Address(octets) => size_of_octets(octets),
+        Value::Counter(number) | Value::Gauge(number) | Value::Ticks(number) => size_of_natural(
+            *number,
+        ),
+    }
+}
+
+/// Writes a value.
+#[inline]
+fn put_value(out: &mut Out, value: &Value<'_>)
+    requires { array_vec_len out.old + length (value_octets (object_value value.now)) ≤ 1472 }
+    ensures { out.new.items ≡ out.old.items ++ value_octets (object_value value.now) }
+{
+    match value {
+        Value::Integer(number) => put_integer(out, number),
+        Value::Octets(octets) => put_octets(out, 4, octets),
+        Value::Null => put_octets(out, 5, &[]),
+        Value::Name(name) => put_octets(out, 6, name.content()),
+        Value::Address(octets) => put_octets(out, 64, octets),
+        Value::Counter(number) => put_natural(out, 65, *number),
+        Value::Gauge(number) => put_natural(out, 66, *number),
+        Value::Ticks(number) => put_natural(out, 67, *number),
+        Value::Opaque(octets) => put_octets(out, 68, octets),
+    }
+}
+
+/// How many octets a binding takes.
+#[inline]
+#[tactic(auto, using(crate::proofs::Shortest::sizes), unfolding(crate::specs::Canonical::binding_octets))]
+fn size_of_binding(binding: &Bind<'_>) -> Result<usize, TooBig>
+    ensures ok { IfOk result (λ n. n ≡ length (binding_octets (var_bind binding.now))) }
+    ensures small { IfOk result (λ n. n < 2 ^ 12) }
+    ensures too_big { OnErr result (1472 < length (binding_octets (var_bind binding.now))) }
+{
+    let name = size_of_octets(binding.name.content());
+    let value = size_of_value(&binding.value);
+    if name > MAX_DATAGRAM || value > MAX_DATAGRAM {
+        return Err(TooBig);
+    }
+    Ok(size_of_element(name + value))
+}
+
+/// Writes the name and the value of a binding.
+#[inline]
+#[tactic(auto, using(crate::proofs::Shortest::element_steps))]
+fn put_members(out: &mut Out, binding: &Bind<'_>)
+    requires { array_vec_len out.old + length (element 6 (name_octets binding.now.name) ++ value_octets (object_value binding.now.value)) ≤ 1472 }
+    ensures { out.new.items ≡ out.old.items ++ (element 6 (name_octets binding.now.name) ++ value_octets (object_value binding.now.value)) }
+{
+    put_octets(out, 6, binding.name.content());
+    put_value(out, &binding.value);
+}
+
+/// Writes a binding.
+#[tactic(auto, using(crate::proofs::Shortest::nested_steps), unfolding(crate::specs::Canonical::binding_octets))]
+fn put_binding(out: &mut Out, binding: &Bind<'_>)
+    requires { array_vec_len out.old + length (binding_octets (var_bind binding.now)) ≤ 1472 }
+    ensures { out.new.items ≡ out.old.items ++ binding_octets (var_bind binding.now) }
+{
+    put_head(
+        out,
+        48,
+        size_of_octets(binding.name.content()) + size_of_value(&binding.value),
+    );
+    put_members(out, binding);
+}
+
+/// How many octets bindings take, one after the other.
+#[tactic(auto, using(crate::proofs::Writes::written_steps))]
+fn size_of_bindings(bindings: &[Bind<'_>]) -> Result<usize, TooBig>
+    ensures ok { IfOk result (λ n. (n ≡ length (flat_map binding_octets (map var_bind bindings.now))) × (n ≤ 1472)) }
+    ensures too_big { OnErr result (1472 < length (flat_map binding_octets (map var_bind bindings.now))) }
+{
+    let mut size = 0;
+    for binding in bindings {
+        size += size_of_binding(binding)?;
+        if size > MAX_DATAGRAM {
+            return Err(TooBig);
+        }
+    }
+    Ok(size)
+}
+
+/// Writes bindings, one after the other.
+#[tactic(auto, using(crate::proofs::Writes::written_steps))]
+fn put_bindings(out: &mut Out, bindings: &[Bind<'_>])
+    requires { array_vec_len out.old + length (flat_map binding_octets (map var_bind bindings.now)) ≤ 1472 }
+    ensures { out.new.items ≡ out.old.items ++ flat_map binding_octets (map var_bind bindings.now) }
+{
+    for binding in bindings {
+        put_binding(out, binding);
+    }
+}
+
+/// The tag of a PDU.
+#[inline]
+fn tag_of_pdu(kind: Kind) -> u8
+    ensures { result ≡ tag_of kind }
+{
+    match kind {
+        Kind::Get => 160,
+        Kind::GetNext => 161,
+        Kind::Response => 162,
+        Kind::Set => 163,
+    }
+}
+
+/// How many octets the request-id, the error-status and the error-index take.
+#[inline]
+#[tactic(auto, using(crate::proofs::Shortest::sizes), unfolding(crate::specs::Canonical::numbers_octets))]
+fn size_of_numbers(parts: &MessageParts<'_>) -> usize
+    ensures exact { result ≡ length (numbers_octets (snmp_message_of_parts parts.now)) }
+    ensures small { result < 60 }
+{
+    size_of_integer(&parts.request) + size_of_integer(&parts.status) + size_of_integer(&parts.index)
+}
+
+/// Writes the request-id, the error-status and the error-index.
+#[tactic(auto, using(crate::proofs::Shortest::element_steps), unfolding(crate::specs::Canonical::numbers_octets))]
+fn put_numbers(out: &mut Out, parts: &MessageParts<'_>)
+    requires { array_vec_len out.old + length (numbers_octets (snmp_message_of_parts parts.now)) ≤ 1472 }
+    ensures { out.new.items ≡ out.old.items ++ numbers_octets (snmp_message_of_parts parts.now) }
+{
+    put_integer(out, &parts.request);
+    put_integer(out, &parts.status);
+    put_integer(out, &parts.index);
+}
+
+/// How many octets the content of the PDU takes, where the bindings take `size`.
+#[inline]
+#[tactic(auto, using(crate::proofs::Shortest::sizes), unfolding(crate::specs::Canonical::pdu_octets))]
+fn size_of_pdu(parts: &MessageParts<'_>, size: usize) -> usize
+    requires bindings { size ≡ length (flat_map binding_octets (map var_bind parts.now.binds.now)) }
+    requires limit { size ≤ 1472 }
+    ensures exact { result ≡ length (pdu_octets (snmp_message_of_parts parts.now)) }
+    ensures small { result < 2 ^ 11 }
+{
+    size_of_numbers(parts) + size_of_element(size)
+}
+
+/// Writes the list of bindings, which take `size` octets.
+#[inline]
+#[tactic(auto, using(crate::proofs::Shortest::nested_steps))]
+fn put_list(out: &mut Out, bindings: &[Bind<'_>], size: usize)
+    requires bindings { size ≡ length (flat_map binding_octets (map var_bind bindings.now)) }
+    requires room { array_vec_len out.old + length (element 48 (flat_map binding_octets (map var_bind bindings.now))) ≤ 1472 }
+    ensures { out.new.items ≡ out.old.items ++ element 48 (flat_map binding_octets (map var_bind bindings.now)) }
+{
+    put_head(out, 48, size);
+    put_bindings(out, bindings);
+}
+
+/// Writes the content of the PDU, of which the bindings take `size` octets.
+#[inline]
+#[tactic(auto, using(crate::proofs::Shortest::element_steps), unfolding(crate::specs::Canonical::pdu_octets))]
+fn put_pdu_content(out: &mut Out, parts: &MessageParts<'_>, size: usize)
+    requires bindings { size ≡ length (flat_map binding_octets (map var_bind parts.now.binds.now)) }
+    requires room { array_vec_len out.old + length (pdu_octets (snmp_message_of_parts parts.now)) ≤ 1472 }
+    ensures { out.new.items ≡ out.old.items ++ pdu_octets (snmp_message_of_parts parts.now) }
+{
+    put_numbers(out, parts);
+    put_list(out, parts.binds, size);
+}
+
+/// Writes the PDU, of which the bindings take `size` octets.
+#[inline]
+#[tactic(auto, using(crate::proofs::Shortest::nested_steps))]
+fn put_pdu(out: &mut Out, parts: &MessageParts<'_>, size: usize)
+    requires bindings { size ≡ length (flat_map binding_octets (map var_bind parts.now.binds.now)) }
+    requires limit { size ≤ 1472 }
+    requires room { array_vec_len out.old + length (element (tag_of parts.now.kind) (pdu_octets (snmp_message_of_parts parts.now))) ≤ 1472 }
+    ensures { out.new.items ≡ out.old.items ++ element (tag_of parts.now.kind) (pdu_octets (snmp_message_of_parts parts.now)) }
+{
+    put_head(out, tag_of_pdu(parts.kind), size_of_pdu(parts, size));
+    put_pdu_content(out, parts, size);
+}
+
+/// How many octets the content of the message takes, of which the bindings take `size`.
+#[inline]
+#[tactic(auto, using(crate::proofs::Shortest::sizes))]
+fn size_of_content(parts: &MessageParts<'_>, size: usize) -> usize
+    requires bindings { size ≡ length (flat_map binding_octets (map var_bind parts.now.binds.now)) }
+    requires limit { size ≤ 1472 }
+    requires community { length parts.now.community.now ≤ 1472 }
+    ensures exact { result ≡ length (element 2 (0 ∷ []) ++ element 4 parts.now.community.now ++ element (tag_of parts.now.kind) (pdu_octets (snmp_message_of_parts parts.now))) }
+    ensures small { result < 2 ^ 12 }
+{
+    size_of_octets(&[0])
+        + size_of_octets(parts.community)
+        + size_of_element(size_of_pdu(parts, size))
+}
+
+/// How many octets the bindings take, where the message is no larger than a datagram.
+#[tactic(auto, using(crate::proofs::Shortest::sizes), unfolding(crate::specs::Canonical::canonical, crate::specs::Canonical::pdu_octets))]
+fn measure(parts: &MessageParts<'_>) -> Result<usize, TooBig>
+    ensures ok { IfOk result (λ n. (n ≡ length (flat_map binding_octets (map var_bind parts.now.binds.now))) × (n ≤ 1472)) }
+    ensures fits { OnOk result (length (canonical (snmp_message_of_parts parts.now)) ≤ 1472) }
+    ensures too_big { OnErr result (1472 < length (canonical (snmp_message_of_parts parts.now))) }
+{
+    let size = size_of_bindings(parts.binds)?;
+    if parts.community.len() > MAX_DATAGRAM
+        || size_of_element(size_of_content(parts, size)) > MAX_DATAGRAM
+    {
+        return Err(TooBig);
+    }
+    Ok(size)
+}
+
+/// Writes the version, which is 0, and the community.
+#[inline]
+#[tactic(auto, using(crate::proofs::Shortest::element_steps))]
+fn put_opening(out: &mut Out, community: &[u8])
+    requires { array_vec_len out.old + length (element 2 (0 ∷ []) ++ element 4 community.now) ≤ 1472 }
+    ensures { out.new.items ≡ out.old.items ++ (element 2 (0 ∷ []) ++ element 4 community.now) }
+{
+    put_octets(out, 2, &[0]);
+    put_octets(out, 4, community);
+}
+
+/// Writes the content of the message, of which the bindings take `size` octets.
+#[inline]
+#[tactic(auto, using(crate::proofs::Shortest::element_steps))]
+fn put_content_of(out: &mut Out, parts: &MessageParts<'_>, size: usize)
+    requires bindings { size ≡ length (flat_map binding_octets (map var_bind parts.now.binds.now)) }
+    requires limit { size ≤ 1472 }
+    requires room { array_vec_len out.old + length (element 2 (0 ∷ []) ++ element 4 parts.now.community.now ++ element (tag_of parts.now.kind) (pdu_octets (snmp_message_of_parts parts.now))) ≤ 1472 }
+    ensures { out.new.items ≡ out.old.items ++ (element 2 (0 ∷ []) ++ element 4 parts.now.community.now ++ element (tag_of parts.now.kind) (pdu_octets (snmp_message_of_parts parts.now))) }
+{
+    put_opening(out, parts.community);
+    put_pdu(out, parts, size);
+}
+
+/// Writes a message, of which the bindings take `size` octets.
+#[inline]
+#[tactic(auto, using(crate::proofs::Shortest::nested_steps), unfolding(crate::specs::Canonical::canonical))]
+fn put_message(out: &mut Out, parts: &MessageParts<'_>, size: usize)
+    requires bindings { size ≡ length (flat_map binding_octets (map var_bind parts.now.binds.now)) }
+    requires limit { size ≤ 1472 }
+    requires room { array_vec_len out.old + length (canonical (snmp_message_of_parts parts.now)) ≤ 1472 }
+    ensures { out.new.items ≡ out.old.items ++ canonical (snmp_message_of_parts parts.now) }
+{
+    put_head(out, 48, size_of_content(parts, size));
+    put_content_of(out, parts, size);
+}
+
+/// Writes the shortest spelling of a message over what `out` holds: each length in its shortest form, each number
+/// without needless octets (X.690, 8.1.3 and 8.3). Where that is more than 1,472 octets, `out` is left empty.
+pub fn write(parts: &MessageParts<'_>, out: &mut Out) -> Result<(), TooBig>
+    ensures ok { OnOk result (out.new.items ≡ canonical (snmp_message_of_parts parts.now)) }
+    ensures fits { IsOk result ↔ (length (canonical (snmp_message_of_parts parts.now)) ≤ 1472) }
+    ensures too_big { OnErr result (out.new.items ≡ []) }
+{
+    out.clear();
+    let size = measure(parts)?;
+    put_message(out, parts, size);
+    Ok(())
+}
