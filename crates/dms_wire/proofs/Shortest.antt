@@ -1,5 +1,5 @@
 -- The shortest lengths and numbers, an octet at a time.
-use Rattle.std.proofs.Common.{◌≡◌, ℕ, zero, suc, ◌+◌, ◌-◌, ◌*◌, ◌/◌, ◌%◌, ◌^◌, ◌<◌, ◌≤◌, nat_lt, cond, Bool, true, false, List, [], ◌∷◌, ◌++◌, length, map, get_or, refl, sym, ap, ◌∙◌, arith, rules, inl, inr, length-append, append_assoc}
+use Rattle.std.proofs.Common.{◌≡◌, ℕ, zero, suc, ◌+◌, ◌-◌, ◌/◌, ◌%◌, ◌^◌, ◌<◌, ◌≤◌, cond, Bool, true, false, List, [], ◌∷◌, ◌++◌, length, map, get_or, refl, sym, ap, ◌∙◌, arith, inl, inr, length-append, append_assoc}
 use Rattle.std.proofs.lemmas.List.{map-append, length-map}
 use Rattle.std.proofs.lemmas.Bool.{cases_lt}
 use Rattle.std.specs.Int.Digits.{digits_of}
@@ -8,7 +8,7 @@ use Rattle.std.proofs.lemmas.Bool.Decides.{nat_tests}
 use Rattle.dms_wire.specs.Integer.{inverted}
 use Rattle.dms_wire.specs.Canonical.{short_length, positive_octets, element}
 
--- the last digit, and those before it
+-- the digits are those of the number without its last digit, and that one
 digits_more : (n : ℕ) → 0 < n → digits_of 256 n ≡ digits_of 256 (n / 256) ++ (n % 256) ∷ []
 digits_more n some = digits_of_step 256 n (omega arith) some
 
@@ -27,9 +27,7 @@ length-digits_small n some small = ap length (digits_small n some small)
 pub length-digits_le : (n : ℕ) → n < 2 ^ 64 → length (digits_of 256 n) ≤ 8
 length-digits_le n h = length-digits_of-le 256 8 n (omega arith) h
 
-pub length-short_le : (n : ℕ) → n < 2 ^ 64 → length (short_length n) ≤ 9
-length-short_le n h = grind (arith, nat_tests, length-digits_le n h)
-
+-- the short form, and the long one of one octet and of two
 pub short_length_small : (n : ℕ) → n < 128 → short_length n ≡ n ∷ []
 short_length_small n small = grind (arith, nat_tests)
 
@@ -44,6 +42,7 @@ short_length_two n large small =
     let f : digits_of 256 n ≡ (n / 256) ∷ ((n % 256) ∷ []) = digits_more n (omega arith) ∙ ap (λ ds. ds ++ (n % 256) ∷ []) e in
     rw f (grind (arith, nat_tests))
 
+-- a number that fits seven bits is its octet
 pub positive_small : (n : ℕ) → n < 128 → positive_octets n ≡ n ∷ []
 positive_small zero small = refl
 positive_small (suc n) small =
@@ -62,6 +61,7 @@ cond_append false xs ys zs = refl
 digits_some : (n : ℕ) → 0 < n → 0 < length (digits_of 256 n)
 digits_some n some = omega (arith, length-digits_more n some)
 
+-- an octet more behind digits
 positive_long : (n : ℕ) → 0 < n / 256 → positive_octets n ≡ positive_octets (n / 256) ++ (n % 256) ∷ []
 positive_long n some =
     let e = digits_more n (omega arith) in
@@ -74,6 +74,7 @@ positive_short n large small =
     let e : digits_of 256 n ≡ n ∷ [] = digits_small n (omega arith) small in
     rw e (grind (arith, nat_tests))
 
+-- an octet more
 pub positive_more : (n : ℕ) → 128 ≤ n → positive_octets n ≡ positive_octets (n / 256) ++ (n % 256) ∷ []
 positive_more n large =
     elim (cases_lt n 256) [
@@ -97,7 +98,7 @@ length-cond false xs ys n p q = q
 -- a number of at most eight octets, and a 0 before them
 pub length-positive_le : (n : ℕ) → n < 2 ^ 64 → length (positive_octets n) ≤ 9
 length-positive_le n h =
-    let e : length (digits_of 256 n) ≤ 8 = length-digits_of-le 256 8 n (omega arith) h in
+    let e = length-digits_le n h in
     length-cond _ (digits_of 256 n) (0 ∷ digits_of 256 n) 9 (omega (arith, e)) (omega (arith, e))
 
 pub inverted_more : (n : ℕ) → 128 ≤ n → inverted (positive_octets n) ≡ inverted (positive_octets (n / 256)) ++ (255 - n % 256) ∷ []
@@ -106,28 +107,35 @@ inverted_more n large = ap inverted (positive_more n large) ∙ map-append (λ b
 pub inverted_small : (n : ℕ) → n < 128 → inverted (positive_octets n) ≡ (255 - n) ∷ []
 inverted_small n small = ap inverted (positive_small n small)
 
+pub length-inverted : (n : ℕ) → length (inverted (positive_octets n)) ≡ length (positive_octets n)
+length-inverted n = length-map (positive_octets n) (λ b. 255 - b)
+
 pub element_length : (tag : ℕ) (content : List ℕ) → length (element tag content) ≡ suc (length (short_length (length content)) + length content)
 unfolding element
 element_length tag content = ap suc (length-append (short_length (length content)) content)
-
-pub length-inverted : (n : ℕ) → length (inverted (positive_octets n)) ≡ length (positive_octets n)
-length-inverted n = length-map (positive_octets n) (λ b. 255 - b)
 
 -- the head of an element and its content
 pub element_put : (before : List ℕ) (tag size : ℕ) (content : List ℕ) → size ≡ length content → (before ++ tag ∷ short_length size) ++ content ≡ before ++ element tag content
 unfolding element
 element_put before tag size content e = rw e (append_assoc before (tag ∷ short_length (length content)) content)
 
-pub ruleset number_sizes = (length-positive_more, length-positive_small, length-positive_le)
+-- how many octets a number takes
+pub ruleset number_sizes = (length-positive_more, length-positive_small)
 
-pub ruleset digit_sizes = (length-short_le, length-digits_more, length-digits_small, length-digits_le)
+-- how many digits a number has
+pub ruleset digit_sizes = (length-digits_more, length-digits_small)
 
-pub ruleset number_steps = (length-positive_more, length-positive_small, positive_small, positive_more, inverted_small, inverted_more, length-inverted, length-append, append_assoc)
-
-pub ruleset length_steps = (short_length_small, short_length_one, short_length_two, append_assoc)
-
+-- how many octets elements take
 pub ruleset sizes = (element_length, length-append)
 
+-- a number written, one octet after the other
+pub ruleset number_steps = (positive_small, positive_more, inverted_small, inverted_more, length-inverted, length-append, append_assoc)
+
+-- a length written
+pub ruleset length_steps = (short_length_small, short_length_one, short_length_two, append_assoc)
+
+-- octets written, one part after the other
 pub ruleset element_steps = (length-append, append_assoc)
 
+-- an element written around others
 pub ruleset nested_steps = (element_put, element_length, length-append)

@@ -7,10 +7,11 @@ use Rattle.dms_wire.specs.declared.message.Bind.{Bind}
 use Rattle.dms_wire.specs.View.{var_bind}
 use Rattle.dms_wire.specs.Canonical.{binding_octets}
 
--- the octets of the code's bindings
+-- the octets of bindings as the code has them
 abbrev pub written : List Bind → List ℕ
 written bs = flat_map binding_octets (map var_bind bs)
 
+-- and of one
 octets_of : Bind → List ℕ
 octets_of b = binding_octets (var_bind b)
 
@@ -29,7 +30,7 @@ written_more bs i x h e =
     ∙ ap (λ xs. xs ++ octets_of (get_or bs i x)) (sym (written_is (take i bs)))
     ∙ ap (λ b. written (take i bs) ++ octets_of b) (sym e)
 
--- it is no longer than all
+-- with one more they are no longer than all
 pub written_fits : (bs : List Bind) (i : ℕ) (x : Bind) → i < length bs → x ≡ get_or bs i x → length (written (take i bs)) + length (binding_octets (var_bind x)) ≤ length (written bs)
 unfolding octets_of
 written_fits bs i x h e =

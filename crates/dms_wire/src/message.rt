@@ -23,11 +23,12 @@ pub enum Kind {
 }
 
 /// The value of an object (RFC 1155, 3.2).
-#[derive(Drop)]
+#[derive(Default, Drop)]
 pub enum Value<'a> {
     /// From -2^31 to 2^32 - 1 in what is read.
     Integer(i64),
     Octets(&'a [u8]),
+    #[default]
     Null,
     Name(Oid<'a>),
     Address([u8; 4]),
@@ -39,7 +40,7 @@ pub enum Value<'a> {
 }
 
 /// A binding: an object's name and its value.
-#[derive(Drop)]
+#[derive(Default, Drop)]
 pub struct Bind<'a> {
     pub name: Oid<'a>,
     pub value: Value<'a>,

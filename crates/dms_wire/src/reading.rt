@@ -17,6 +17,9 @@ use crate::fault::{FaultKind, WireFault};
 use crate::message::{Bind, Binds, Kind, MAX_DATAGRAM, Message, Value};
 use crate::object_identifier::{Oid, name_of};
 
+/// The most octets of an integer in range.
+const MAX_INTEGER_OCTETS: usize = 5;
+
 /// Reads the message that the octets of a datagram spell, or says what is wrong with them: the first fault from left to
 /// right, and its place. Every accepted form of a length is read, with leading zeros too.
 pub fn read(octets: &[u8]) -> Result<Message<'_>, WireFault>
@@ -33,9 +36,6 @@ pub fn read(octets: &[u8]) -> Result<Message<'_>, WireFault>
 {
     message(octets)
 }
-
-/// The most octets of an integer in range.
-const MAX_INTEGER_OCTETS: usize = 5;
 
 fn fault_at(kind: FaultKind, place: usize) -> WireFault
     ensures { result ≡ record { kind = kind; place = place } }
@@ -344,18 +344,18 @@ fn bindings(octets: &[u8], end: usize) -> Result<Binds<'_>, WireFault>
     Ok(Binds { content: octets })
 }
 
-/// The version, which is 0, and the octets after it.
+/// The octets after the version, which is 0.
 #[tactic(auto, unfolding(crate::specs::Reading::version_at))]
-fn version(octets: &[u8], end: usize) -> Result<((), &[u8]), WireFault>
+fn after_version(octets: &[u8], end: usize) -> Result<&[u8], WireFault>
     requires { length octets.now ≤ end }
-    ensures exact { Gives (λ x. (tt, x.1.now)) result (version_at end octets.now) }
-    ensures rest { IfOk result (λ x. length x.1.now < length octets.now) }
+    ensures exact { Gives (λ rest. (tt, rest.now)) result (version_at end octets.now) }
+    ensures rest { IfOk result (λ rest. length rest.now < length octets.now) }
 {
     let (content, rest) = element(2, octets, end)?;
     let place = end - rest.len() - content.len();
     match integer_of(content) {
         None => Err(fault_at(FaultKind::BadInteger, place)),
-        Some(0) => Ok(((), rest)),
+        Some(0) => Ok(rest),
         Some(_) => Err(fault_at(FaultKind::BadVersion, place)),
     }
 }
@@ -416,6 +416,7 @@ fn tagged_pdu(octets: &[u8], end: usize) -> Result<((Kind, PduFields<'_>), &[u8]
     Ok(((kind, fields), rest))
 }
 
+/// The kind of a PDU with this tag.
 fn kind_of(tag: u8) -> Option<Kind>
     ensures { result ≡ kind_of tag }
 {
@@ -434,7 +435,7 @@ fn inside(octets: &[u8], end: usize) -> Result<Message<'_>, WireFault>
     requires { length octets.now ≤ end }
     ensures { Gives snmp_message result (inside_at end octets.now) }
 {
-    let (_, rest) = version(octets, end)?;
+    let rest = after_version(octets, end)?;
     let (community, rest) = element(4, rest, end)?;
     let ((kind, fields), rest) = tagged_pdu(rest, end)?;
     ended(rest, end)?;

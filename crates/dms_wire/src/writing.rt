@@ -10,7 +10,27 @@ ghost use Rattle.dms_wire.specs.Canonical.{short_length, element, positive_octet
 
 use crate::fault::TooBig;
 use crate::message::{Bind, Kind, MAX_DATAGRAM, MessageParts, Out, Value};
-use crate::object_identifier::Oid;
+
+// The tags (X.690, 8.2 to 8.19; RFC 1155, 3.2.3).
+const INTEGER: u8 = 2;
+
+const OCTET_STRING: u8 = 4;
+
+const NULL: u8 = 5;
+
+const OBJECT_IDENTIFIER: u8 = 6;
+
+const SEQUENCE: u8 = 48;
+
+const IP_ADDRESS: u8 = 64;
+
+const COUNTER: u8 = 65;
+
+const GAUGE: u8 = 66;
+
+const TIME_TICKS: u8 = 67;
+
+const OPAQUE: u8 = 68;
 
 /// How many octets a number not below 0 takes.
 #[inline]
@@ -37,6 +57,48 @@ fn size_of_integer_content(number: &i64) -> usize
         size_of_number((-1 - *number) as u64)
     } else {
         size_of_number(*number as u64)
+    }
+}
+
+/// Writes the octets of a number not below 0.
+#[tactic(auto, using(crate::proofs::Shortest::number_steps))]
+fn put_number(out: &mut Out, number: u64)
+    requires { array_vec_len out.old + length (positive_octets number) ≤ 1472 }
+    ensures { out.new.items ≡ out.old.items ++ positive_octets number }
+{
+    if number < 128 {
+        out.push(number as u8);
+    } else {
+        put_number(out, number / 256);
+        out.push((number % 256) as u8);
+    }
+}
+
+/// Writes the octets of a number not below 0, each inverted.
+#[tactic(auto, using(crate::proofs::Shortest::number_steps))]
+fn put_inverted(out: &mut Out, number: u64)
+    requires { array_vec_len out.old + length (positive_octets number) ≤ 1472 }
+    ensures { out.new.items ≡ out.old.items ++ inverted (positive_octets number) }
+{
+    if number < 128 {
+        out.push(255 - number as u8);
+    } else {
+        put_inverted(out, number / 256);
+        out.push(255 - (number % 256) as u8);
+    }
+}
+
+/// Writes the content of an INTEGER.
+#[inline]
+#[tactic(auto, using(crate::proofs::Shortest::number_steps), unfolding(crate::specs::Canonical::integer_octets))]
+fn put_integer_content(out: &mut Out, number: &i64)
+    requires { array_vec_len out.old + length (integer_octets number.now) ≤ 1472 }
+    ensures { out.new.items ≡ out.old.items ++ integer_octets number.now }
+{
+    if *number < 0 {
+        put_inverted(out, (-1 - *number) as u64);
+    } else {
+        put_number(out, *number as u64);
     }
 }
 
@@ -69,45 +131,7 @@ fn size_of_element(size: usize) -> usize
     1 + length + size
 }
 
-/// Writes the octets of a number not below 0.
-#[tactic(auto, using(crate::proofs::Shortest::number_steps))]
-fn put_number(out: &mut Out, number: u64)
-    requires { array_vec_len out.old + length (positive_octets number) ≤ 1472 }
-    ensures { out.new.items ≡ out.old.items ++ positive_octets number }
-{
-    if number < 128 {
-        out.push(number as u8);
-    } else {
-        put_number(out, number / 256);
-        out.push((number % 256) as u8);
-    }
-}
-
-/// Writes the octets of a number not below 0, each inverted.
-#[tactic(auto, using(crate::proofs::Shortest::number_steps))]
-fn put_inverted(out: &mut Out, number: u64)
-    requires { array_vec_len out.old + length (positive_octets number) ≤ 1472 }
-    ensures { out.new.items ≡ out.old.items ++ inverted (positive_octets number) }
-{
-    if number < 128 {
-        out.push(255 - number as u8);
-    } else {
-        put_inverted(out, number / 256);
-        out.push(255 - (number % 256) as u8);
-    }
-}
-
-/// Writes a tag and the length of the content.
-#[inline]
-fn put_head(out: &mut Out, tag: u8, size: usize)
-    requires { array_vec_len out.old + (1 + length (short_length size) + size) ≤ 1472 }
-    ensures { out.new.items ≡ out.old.items ++ tag ∷ short_length size }
-{
-    out.push(tag);
-    put_length(out, size);
-}
-
-/// Writes the length of a content.
+/// Writes the length of a content: below 128 as one octet, else as 128 more than the number of its octets, and those.
 #[inline]
 #[tactic(auto, using(crate::proofs::Shortest::length_steps))]
 fn put_length(out: &mut Out, size: usize)
@@ -126,71 +150,14 @@ fn put_length(out: &mut Out, size: usize)
     }
 }
 
-/// Writes an element whose content is at hand.
+/// Writes a tag and the length of the content.
 #[inline]
-#[tactic(auto, using(crate::proofs::Shortest::element_steps), unfolding(crate::specs::Canonical::element))]
-fn put_octets(out: &mut Out, tag: u8, content: &[u8])
-    requires { array_vec_len out.old + length (element tag content.now) ≤ 1472 }
-    ensures { out.new.items ≡ out.old.items ++ element tag content.now }
+fn put_head(out: &mut Out, tag: u8, size: usize)
+    requires { array_vec_len out.old + (1 + length (short_length size) + size) ≤ 1472 }
+    ensures { out.new.items ≡ out.old.items ++ tag ∷ short_length size }
 {
-    put_head(out, tag, content.len());
-    put_content(out, content);
-}
-
-/// Writes octets as they are.
-#[inline]
-fn put_content(out: &mut Out, content: &[u8])
-    requires { array_vec_len out.old + length content.now ≤ 1472 }
-    ensures { out.new.items ≡ out.old.items ++ content.now }
-{
-    let _ = out.try_extend_from_slice(content);
-}
-
-/// Writes an INTEGER.
-#[inline]
-#[tactic(auto, using(crate::proofs::Shortest::element_steps), unfolding(crate::specs::Canonical::element))]
-fn put_integer(out: &mut Out, number: &i64)
-    requires { array_vec_len out.old + length (element 2 (integer_octets number.now)) ≤ 1472 }
-    ensures { out.new.items ≡ out.old.items ++ element 2 (integer_octets number.now) }
-{
-    put_head(out, 2, size_of_integer_content(number));
-    put_integer_content(out, number);
-}
-
-/// Writes the content of an INTEGER.
-#[inline]
-#[tactic(auto, using(crate::proofs::Shortest::number_steps), unfolding(crate::specs::Canonical::integer_octets))]
-fn put_integer_content(out: &mut Out, number: &i64)
-    requires { array_vec_len out.old + length (integer_octets number.now) ≤ 1472 }
-    ensures { out.new.items ≡ out.old.items ++ integer_octets number.now }
-{
-    if *number < 0 {
-        put_inverted(out, (-1 - *number) as u64);
-    } else {
-        put_number(out, *number as u64);
-    }
-}
-
-/// Writes a Counter, a Gauge or TimeTicks.
-#[inline]
-#[tactic(auto, using(crate::proofs::Shortest::element_steps), unfolding(crate::specs::Canonical::element, crate::specs::Canonical::integer_octets))]
-fn put_natural(out: &mut Out, tag: u8, number: u32)
-    requires { array_vec_len out.old + length (element tag (integer_octets (pos number))) ≤ 1472 }
-    ensures { out.new.items ≡ out.old.items ++ element tag (integer_octets (pos number)) }
-{
-    let number = u64::from(number);
-    put_head(out, tag, size_of_number(number));
-    put_number(out, number);
-}
-
-/// How many octets an INTEGER takes.
-#[inline]
-#[tactic(auto, using(crate::proofs::Shortest::sizes))]
-fn size_of_integer(number: &i64) -> usize
-    ensures exact { result ≡ length (element 2 (integer_octets number.now)) }
-    ensures small { result < 20 }
-{
-    size_of_element(size_of_integer_content(number))
+    out.push(tag);
+    put_length(out, size);
 }
 
 /// How many octets an element with this content takes.
@@ -203,13 +170,66 @@ fn size_of_octets(content: &[u8]) -> usize
     size_of_element(content.len())
 }
 
-/// How many octets the element of a number not below 0 takes.
+/// Writes the octets of a content.
+#[inline]
+fn put_content(out: &mut Out, content: &[u8])
+    requires { array_vec_len out.old + length content.now ≤ 1472 }
+    ensures { out.new.items ≡ out.old.items ++ content.now }
+{
+    let _ = out.try_extend_from_slice(content);
+}
+
+/// Writes an element with this content.
+#[inline]
+#[tactic(auto, using(crate::proofs::Shortest::element_steps), unfolding(crate::specs::Canonical::element))]
+fn put_octets(out: &mut Out, tag: u8, content: &[u8])
+    requires { array_vec_len out.old + length (element tag content.now) ≤ 1472 }
+    ensures { out.new.items ≡ out.old.items ++ element tag content.now }
+{
+    put_head(out, tag, content.len());
+    put_content(out, content);
+}
+
+/// How many octets an INTEGER takes.
+#[inline]
+#[tactic(auto, using(crate::proofs::Shortest::sizes))]
+fn size_of_integer(number: &i64) -> usize
+    ensures exact { result ≡ length (element 2 (integer_octets number.now)) }
+    ensures small { result < 20 }
+{
+    size_of_element(size_of_integer_content(number))
+}
+
+/// Writes an INTEGER.
+#[inline]
+#[tactic(auto, using(crate::proofs::Shortest::element_steps), unfolding(crate::specs::Canonical::element))]
+fn put_integer(out: &mut Out, number: &i64)
+    requires { array_vec_len out.old + length (element 2 (integer_octets number.now)) ≤ 1472 }
+    ensures { out.new.items ≡ out.old.items ++ element 2 (integer_octets number.now) }
+{
+    put_head(out, INTEGER, size_of_integer_content(number));
+    put_integer_content(out, number);
+}
+
+/// How many octets a Counter, a Gauge or TimeTicks takes.
 #[inline]
 #[tactic(auto, using(crate::proofs::Shortest::sizes), unfolding(crate::specs::Canonical::integer_octets))]
-fn size_of_natural(number: u32) -> usize
+fn size_of_unsigned(number: u32) -> usize
     ensures { (tag : ℕ) → result ≡ length (element tag (integer_octets (pos number))) }
 {
     size_of_element(size_of_number(u64::from(number)))
+}
+
+/// Writes a Counter, a Gauge or TimeTicks.
+#[inline]
+#[tactic(auto, using(crate::proofs::Shortest::element_steps), unfolding(crate::specs::Canonical::element, crate::specs::Canonical::integer_octets))]
+fn put_unsigned(out: &mut Out, tag: u8, number: u32)
+    requires { array_vec_len out.old + length (element tag (integer_octets (pos number))) ≤ 1472 }
+    ensures { out.new.items ≡ out.old.items ++ element tag (integer_octets (pos number)) }
+{
+    let number = u64::from(number);
+    put_head(out, tag, size_of_number(number));
+    put_number(out, number);
 }
 
 /// How many octets a value takes.
@@ -224,9 +244,9 @@ fn size_of_value(value: &Value<'_>) -> usize
         Value::Null => size_of_octets(&[]),
         Value::Name(name) => size_of_octets(name.content()),
         Value::Address(octets) => size_of_octets(octets),
-        Value::Counter(number) | Value::Gauge(number) | Value::Ticks(number) => size_of_natural(
-            *number,
-        ),
+        Value::Counter(number) => size_of_unsigned(*number),
+        Value::Gauge(number) => size_of_unsigned(*number),
+        Value::Ticks(number) => size_of_unsigned(*number),
     }
 }
 
@@ -238,18 +258,18 @@ fn put_value(out: &mut Out, value: &Value<'_>)
 {
     match value {
         Value::Integer(number) => put_integer(out, number),
-        Value::Octets(octets) => put_octets(out, 4, octets),
-        Value::Null => put_octets(out, 5, &[]),
-        Value::Name(name) => put_octets(out, 6, name.content()),
-        Value::Address(octets) => put_octets(out, 64, octets),
-        Value::Counter(number) => put_natural(out, 65, *number),
-        Value::Gauge(number) => put_natural(out, 66, *number),
-        Value::Ticks(number) => put_natural(out, 67, *number),
-        Value::Opaque(octets) => put_octets(out, 68, octets),
+        Value::Octets(octets) => put_octets(out, OCTET_STRING, octets),
+        Value::Null => put_octets(out, NULL, &[]),
+        Value::Name(name) => put_octets(out, OBJECT_IDENTIFIER, name.content()),
+        Value::Address(octets) => put_octets(out, IP_ADDRESS, octets),
+        Value::Counter(number) => put_unsigned(out, COUNTER, *number),
+        Value::Gauge(number) => put_unsigned(out, GAUGE, *number),
+        Value::Ticks(number) => put_unsigned(out, TIME_TICKS, *number),
+        Value::Opaque(octets) => put_octets(out, OPAQUE, octets),
     }
 }
 
-/// How many octets a binding takes.
+/// How many octets a binding takes, where its name and its value are no larger than a datagram.
 #[inline]
 #[tactic(auto, using(crate::proofs::Shortest::sizes), unfolding(crate::specs::Canonical::binding_octets))]
 fn size_of_binding(binding: &Bind<'_>) -> Result<usize, TooBig>
@@ -268,11 +288,11 @@ fn size_of_binding(binding: &Bind<'_>) -> Result<usize, TooBig>
 /// Writes the name and the value of a binding.
 #[inline]
 #[tactic(auto, using(crate::proofs::Shortest::element_steps))]
-fn put_members(out: &mut Out, binding: &Bind<'_>)
+fn put_binding_content(out: &mut Out, binding: &Bind<'_>)
     requires { array_vec_len out.old + length (element 6 (name_octets binding.now.name) ++ value_octets (object_value binding.now.value)) ≤ 1472 }
     ensures { out.new.items ≡ out.old.items ++ (element 6 (name_octets binding.now.name) ++ value_octets (object_value binding.now.value)) }
 {
-    put_octets(out, 6, binding.name.content());
+    put_octets(out, OBJECT_IDENTIFIER, binding.name.content());
     put_value(out, &binding.value);
 }
 
@@ -282,15 +302,12 @@ fn put_binding(out: &mut Out, binding: &Bind<'_>)
     requires { array_vec_len out.old + length (binding_octets (var_bind binding.now)) ≤ 1472 }
     ensures { out.new.items ≡ out.old.items ++ binding_octets (var_bind binding.now) }
 {
-    put_head(
-        out,
-        48,
-        size_of_octets(binding.name.content()) + size_of_value(&binding.value),
-    );
-    put_members(out, binding);
+    let size = size_of_octets(binding.name.content()) + size_of_value(&binding.value);
+    put_head(out, SEQUENCE, size);
+    put_binding_content(out, binding);
 }
 
-/// How many octets bindings take, one after the other.
+/// How many octets bindings take, where that is no more than a datagram.
 #[tactic(auto, using(crate::proofs::Writes::written_steps))]
 fn size_of_bindings(bindings: &[Bind<'_>]) -> Result<usize, TooBig>
     ensures ok { IfOk result (λ n. (n ≡ length (flat_map binding_octets (map var_bind bindings.now))) × (n ≤ 1472)) }
@@ -315,6 +332,18 @@ fn put_bindings(out: &mut Out, bindings: &[Bind<'_>])
     for binding in bindings {
         put_binding(out, binding);
     }
+}
+
+/// Writes the list of bindings, of which the content takes `size` octets.
+#[inline]
+#[tactic(auto, using(crate::proofs::Shortest::nested_steps))]
+fn put_binding_list(out: &mut Out, bindings: &[Bind<'_>], size: usize)
+    requires bindings { size ≡ length (flat_map binding_octets (map var_bind bindings.now)) }
+    requires room { array_vec_len out.old + length (element 48 (flat_map binding_octets (map var_bind bindings.now))) ≤ 1472 }
+    ensures { out.new.items ≡ out.old.items ++ element 48 (flat_map binding_octets (map var_bind bindings.now)) }
+{
+    put_head(out, SEQUENCE, size);
+    put_bindings(out, bindings);
 }
 
 /// The tag of a PDU.
@@ -351,28 +380,16 @@ fn put_numbers(out: &mut Out, parts: &MessageParts<'_>)
     put_integer(out, &parts.index);
 }
 
-/// How many octets the content of the PDU takes, where the bindings take `size`.
+/// How many octets the content of the PDU takes, of which the bindings take `size`.
 #[inline]
 #[tactic(auto, using(crate::proofs::Shortest::sizes), unfolding(crate::specs::Canonical::pdu_octets))]
-fn size_of_pdu(parts: &MessageParts<'_>, size: usize) -> usize
+fn size_of_pdu_content(parts: &MessageParts<'_>, size: usize) -> usize
     requires bindings { size ≡ length (flat_map binding_octets (map var_bind parts.now.binds.now)) }
     requires limit { size ≤ 1472 }
     ensures exact { result ≡ length (pdu_octets (snmp_message_of_parts parts.now)) }
     ensures small { result < 2 ^ 11 }
 {
     size_of_numbers(parts) + size_of_element(size)
-}
-
-/// Writes the list of bindings, which take `size` octets.
-#[inline]
-#[tactic(auto, using(crate::proofs::Shortest::nested_steps))]
-fn put_list(out: &mut Out, bindings: &[Bind<'_>], size: usize)
-    requires bindings { size ≡ length (flat_map binding_octets (map var_bind bindings.now)) }
-    requires room { array_vec_len out.old + length (element 48 (flat_map binding_octets (map var_bind bindings.now))) ≤ 1472 }
-    ensures { out.new.items ≡ out.old.items ++ element 48 (flat_map binding_octets (map var_bind bindings.now)) }
-{
-    put_head(out, 48, size);
-    put_bindings(out, bindings);
 }
 
 /// Writes the content of the PDU, of which the bindings take `size` octets.
@@ -384,7 +401,7 @@ fn put_pdu_content(out: &mut Out, parts: &MessageParts<'_>, size: usize)
     ensures { out.new.items ≡ out.old.items ++ pdu_octets (snmp_message_of_parts parts.now) }
 {
     put_numbers(out, parts);
-    put_list(out, parts.binds, size);
+    put_binding_list(out, parts.binds, size);
 }
 
 /// Writes the PDU, of which the bindings take `size` octets.
@@ -396,14 +413,15 @@ fn put_pdu(out: &mut Out, parts: &MessageParts<'_>, size: usize)
     requires room { array_vec_len out.old + length (element (tag_of parts.now.kind) (pdu_octets (snmp_message_of_parts parts.now))) ≤ 1472 }
     ensures { out.new.items ≡ out.old.items ++ element (tag_of parts.now.kind) (pdu_octets (snmp_message_of_parts parts.now)) }
 {
-    put_head(out, tag_of_pdu(parts.kind), size_of_pdu(parts, size));
+    let content = size_of_pdu_content(parts, size);
+    put_head(out, tag_of_pdu(parts.kind), content);
     put_pdu_content(out, parts, size);
 }
 
 /// How many octets the content of the message takes, of which the bindings take `size`.
 #[inline]
 #[tactic(auto, using(crate::proofs::Shortest::sizes))]
-fn size_of_content(parts: &MessageParts<'_>, size: usize) -> usize
+fn size_of_message_content(parts: &MessageParts<'_>, size: usize) -> usize
     requires bindings { size ≡ length (flat_map binding_octets (map var_bind parts.now.binds.now)) }
     requires limit { size ≤ 1472 }
     requires community { length parts.now.community.now ≤ 1472 }
@@ -412,23 +430,7 @@ fn size_of_content(parts: &MessageParts<'_>, size: usize) -> usize
 {
     size_of_octets(&[0])
         + size_of_octets(parts.community)
-        + size_of_element(size_of_pdu(parts, size))
-}
-
-/// How many octets the bindings take, where the message is no larger than a datagram.
-#[tactic(auto, using(crate::proofs::Shortest::sizes), unfolding(crate::specs::Canonical::canonical, crate::specs::Canonical::pdu_octets))]
-fn measure(parts: &MessageParts<'_>) -> Result<usize, TooBig>
-    ensures ok { IfOk result (λ n. (n ≡ length (flat_map binding_octets (map var_bind parts.now.binds.now))) × (n ≤ 1472)) }
-    ensures fits { OnOk result (length (canonical (snmp_message_of_parts parts.now)) ≤ 1472) }
-    ensures too_big { OnErr result (1472 < length (canonical (snmp_message_of_parts parts.now))) }
-{
-    let size = size_of_bindings(parts.binds)?;
-    if parts.community.len() > MAX_DATAGRAM
-        || size_of_element(size_of_content(parts, size)) > MAX_DATAGRAM
-    {
-        return Err(TooBig);
-    }
-    Ok(size)
+        + size_of_element(size_of_pdu_content(parts, size))
 }
 
 /// Writes the version, which is 0, and the community.
@@ -438,14 +440,14 @@ fn put_opening(out: &mut Out, community: &[u8])
     requires { array_vec_len out.old + length (element 2 (0 ∷ []) ++ element 4 community.now) ≤ 1472 }
     ensures { out.new.items ≡ out.old.items ++ (element 2 (0 ∷ []) ++ element 4 community.now) }
 {
-    put_octets(out, 2, &[0]);
-    put_octets(out, 4, community);
+    put_octets(out, INTEGER, &[0]);
+    put_octets(out, OCTET_STRING, community);
 }
 
 /// Writes the content of the message, of which the bindings take `size` octets.
 #[inline]
 #[tactic(auto, using(crate::proofs::Shortest::element_steps))]
-fn put_content_of(out: &mut Out, parts: &MessageParts<'_>, size: usize)
+fn put_message_content(out: &mut Out, parts: &MessageParts<'_>, size: usize)
     requires bindings { size ≡ length (flat_map binding_octets (map var_bind parts.now.binds.now)) }
     requires limit { size ≤ 1472 }
     requires room { array_vec_len out.old + length (element 2 (0 ∷ []) ++ element 4 parts.now.community.now ++ element (tag_of parts.now.kind) (pdu_octets (snmp_message_of_parts parts.now))) ≤ 1472 }
@@ -464,8 +466,24 @@ fn put_message(out: &mut Out, parts: &MessageParts<'_>, size: usize)
     requires room { array_vec_len out.old + length (canonical (snmp_message_of_parts parts.now)) ≤ 1472 }
     ensures { out.new.items ≡ out.old.items ++ canonical (snmp_message_of_parts parts.now) }
 {
-    put_head(out, 48, size_of_content(parts, size));
-    put_content_of(out, parts, size);
+    put_head(out, SEQUENCE, size_of_message_content(parts, size));
+    put_message_content(out, parts, size);
+}
+
+/// How many octets the bindings take, where the message is no larger than a datagram.
+#[tactic(auto, using(crate::proofs::Shortest::sizes), unfolding(crate::specs::Canonical::canonical, crate::specs::Canonical::pdu_octets))]
+fn measure(parts: &MessageParts<'_>) -> Result<usize, TooBig>
+    ensures ok { IfOk result (λ n. (n ≡ length (flat_map binding_octets (map var_bind parts.now.binds.now))) × (n ≤ 1472)) }
+    ensures fits { OnOk result (length (canonical (snmp_message_of_parts parts.now)) ≤ 1472) }
+    ensures too_big { OnErr result (1472 < length (canonical (snmp_message_of_parts parts.now))) }
+{
+    let size = size_of_bindings(parts.binds)?;
+    if parts.community.len() > MAX_DATAGRAM
+        || size_of_element(size_of_message_content(parts, size)) > MAX_DATAGRAM
+    {
+        return Err(TooBig);
+    }
+    Ok(size)
 }
 
 /// Writes the shortest spelling of a message over what `out` holds: each length in its shortest form, each number
