@@ -1,0 +1,39 @@
+//! A dynamic message sign's controller on the command line.
+#![tactic(auto)]
+
+pub mod act;
+pub mod command_line;
+pub mod sign;
+
+use crate::act::act;
+use crate::command_line::asked;
+use std::io;
+use std::process::ExitCode;
+
+/// The status for a command line that is no call.
+const MISUSED: u8 = 2;
+
+fn main(rt: HostRuntime) -> ExitCode {
+    let words = match words(&rt) {
+        Ok(words) => words,
+        Err(error) => {
+            let _ = eprintln!(rt; "{error}");
+            return ExitCode::from(MISUSED);
+        }
+    };
+    match asked(rt.alloc(), words.as_slice()) {
+        Ok(call) => ExitCode::from(act(rt.alloc(), &call, &mut rt.stdin(), &mut rt.stdout())),
+        Err(usage) => {
+            let _ = eprint!(rt; "{usage}");
+            ExitCode::from(MISUSED)
+        }
+    }
+}
+
+/// The words of the command line. Words that are no text are a fault of the command line.
+fn words(rt: &HostRuntime) -> io::Result<Vec<String>> {
+    Ok(std::env::args(rt)?.collect(rt.alloc())?)
+}
+
+#[cfg(test)]
+mod tests;
