@@ -1,7 +1,9 @@
 //! A call, carried out.
 
-use crate::command_line::Call;
+use crate::address::address;
+use crate::command_line::{Call, CodeWords};
 use crate::sign::{Receipt, Sign};
+use dms_table::{Activation, MessageId, Order, crc};
 use dms_wire::Out;
 use hex::FromHexError;
 use std::alloc::Global;
@@ -17,6 +19,7 @@ pub fn act<R: Read, W: Write>(
 ) -> u8 {
     match call {
         Call::Answer { hex } => answer(alloc, hex, writer),
+        Call::Code(words) => code(alloc, words, writer),
     }
 }
 
@@ -34,6 +37,46 @@ fn answer<W: Write>(alloc: Global, digits: &str, writer: &mut W) -> u8 {
             Ok(text) => tell(writer, text.as_str(), 0),
             Err(_) => tell(writer, "memory", 1),
         },
+    }
+}
+
+/// The most octets of a message's text.
+const MAX_TEXT: usize = 512;
+
+/// Prints the checksum of a message, and the code that puts it up.
+fn code<W: Write>(alloc: Global, words: &CodeWords<'_>, writer: &mut W) -> u8 {
+    let Some(address) = address(words.address) else {
+        return tell(writer, "bad address", 2);
+    };
+    if words.text.len() > MAX_TEXT {
+        return tell(writer, "text too long", 1);
+    }
+    let crc = crc(
+        words.text.as_bytes(),
+        u8::from(words.beacon),
+        u8::from(words.pixel),
+    );
+    let activation = Activation {
+        minutes: words.duration,
+        priority: words.priority,
+        id: MessageId {
+            memory: words.memory,
+            number: words.number,
+            crc,
+        },
+        address,
+    };
+    let order = if words.swapped {
+        Order::Swapped
+    } else {
+        Order::High
+    };
+    match hex::encode(alloc, activation.to_bytes(order).as_slice()) {
+        Ok(octets) => match writeln!(writer, "crc {crc:04x}\ncode {octets}") {
+            Ok(()) => 0,
+            Err(_) => 1,
+        },
+        Err(_) => tell(writer, "memory", 1),
     }
 }
 

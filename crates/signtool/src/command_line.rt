@@ -1,6 +1,8 @@
 //! The command line as a call.
 
-use clap::{Arg, Command};
+ghost use Rattle.std.specs.Prelude.{◌≤◌};
+
+use clap::{Arg, ArgAction, ArgMatches, Command, value_parser};
 use std::alloc::{AllocError, Global};
 use std::convert::AsStr;
 use std::fmt;
@@ -10,6 +12,29 @@ use std::fmt;
 pub enum Call<'a> {
     /// The sign's reply to a datagram in hexadecimal digits.
     Answer { hex: &'a str },
+    /// The checksum of a message, and the code that puts it up.
+    Code(CodeWords<'a>),
+}
+
+/// A message of the table, and how it is to be put up.
+#[derive(Clone, Copy, Debug)]
+pub struct CodeWords<'a> {
+    /// The type of its memory, 2 to 4.
+    pub memory: u8,
+    /// Its number, from 1.
+    pub number: u16,
+    pub text: &'a str,
+    pub beacon: bool,
+    pub pixel: bool,
+    /// Whether a checksum has its low octet first.
+    pub swapped: bool,
+    /// The minutes that it is shown; 65535 is without end.
+    pub duration: u16,
+    pub priority: u8,
+    /// As it was written: four numbers with dots between them.
+    pub address: &'a str,
+    ghost memory_in_range: { (2 ≤ memory) × (memory ≤ 4) },
+    ghost number_in_range: { (1 ≤ number) × (number ≤ 65535) },
 }
 
 /// Why a command line is no call: it is at fault, asks for help, or memory was wanting.
@@ -23,7 +48,7 @@ impl fmt::Display for Usage {
     fn fmt<W: fmt::Write>(&self, f: &mut fmt::Formatter<W>) -> fmt::Result {
         match self {
             Usage::Line(error) => write!(f, "{error}"),
-            Usage::NoCall => writeln!(f, "a subcommand is wanted"),
+            Usage::NoCall => writeln!(f, "a subcommand and its words are wanted"),
         }
     }
 }
@@ -39,23 +64,102 @@ pub fn asked<S: AsStr>(alloc: Global, words: &[S]) -> Result<Call<'_>, Usage> {
     let matches = command(alloc)
         .map_err(clap::Error::from)?
         .try_get_matches_from(words)?;
-    if let Some(answer) = matches.subcommand_matches("answer") {
-        let hex = answer.get_str("HEX").ok_or(Usage::NoCall)?;
-        return Ok(Call::Answer { hex });
+    match matches.subcommand() {
+        Some(("answer", answer)) => {
+            let hex = answer.get_str("HEX").ok_or(Usage::NoCall)?;
+            Ok(Call::Answer { hex })
+        }
+        Some(("code", code)) => code_words(code).map(Call::Code).ok_or(Usage::NoCall),
+        _ => Err(Usage::NoCall),
     }
-    Err(Usage::NoCall)
+}
+
+/// The words of `code`, which clap has read by their ranges.
+fn code_words<'a>(code: &ArgMatches<'a>) -> Option<CodeWords<'a>> {
+    let memory = code.get_one::<u8>("TYPE")?;
+    let number = code.get_one::<u16>("NUMBER")?;
+    if memory < 2 || 4 < memory || number == 0 {
+        return None;
+    }
+    Some(CodeWords {
+        memory,
+        number,
+        text: code.get_str("TEXT")?,
+        beacon: code.get_flag("beacon"),
+        pixel: code.get_flag("pixel"),
+        swapped: code.get_flag("swapped"),
+        duration: code.get_one::<u16>("duration")?,
+        priority: code.get_one::<u8>("priority")?,
+        address: code.get_str("address")?,
+    })
 }
 
 /// The program's subcommands.
 fn command<'a>(alloc: Global) -> Result<Command<'a>, AllocError> {
-    let hex = Arg::new(alloc, "HEX")
-        .required(true)
-        .help("the datagram, in hexadecimal digits");
-    let answer = Command::new(alloc, "answer")
-        .about("Prints the sign's reply to a datagram")
-        .arg(hex)?;
     Command::new(alloc, "signtool")
         .about("A dynamic message sign's controller on the command line")
         .subcommand_required(true)
-        .subcommand(answer)
+        .subcommand(answer_command(alloc)?)?
+        .subcommand(code_command(alloc)?)
+}
+
+fn answer_command<'a>(alloc: Global) -> Result<Command<'a>, AllocError> {
+    let hex = Arg::new(alloc, "HEX")
+        .required(true)
+        .help("the datagram, in hexadecimal digits");
+    Command::new(alloc, "answer")
+        .about("Prints the sign's reply to a datagram")
+        .arg(hex)
+}
+
+fn code_command<'a>(alloc: Global) -> Result<Command<'a>, AllocError> {
+    let memory = Arg::new(alloc, "TYPE")
+        .required(true)
+        .value_parser(value_parser!(u8).range(2..=4))
+        .help("the memory type: 2 permanent, 3 changeable, 4 volatile");
+    let number = Arg::new(alloc, "NUMBER")
+        .required(true)
+        .value_parser(value_parser!(u16).range(1..))
+        .help("the message's number");
+    let text = Arg::new(alloc, "TEXT")
+        .required(true)
+        .help("the message's text");
+    let command = Command::new(alloc, "code")
+        .about("Prints a message's checksum and the code that puts it up")
+        .arg(memory)?
+        .arg(number)?
+        .arg(text)?;
+    code_options(alloc, command)
+}
+
+/// The options of `code`.
+fn code_options<'a>(alloc: Global, command: Command<'a>) -> Result<Command<'a>, AllocError> {
+    let duration = Arg::new(alloc, "duration")
+        .long("duration")
+        .value_parser(value_parser!(u16))
+        .default_value("65535")
+        .help("minutes; 65535 is without end");
+    let priority = Arg::new(alloc, "priority")
+        .long("priority")
+        .value_parser(value_parser!(u8))
+        .default_value("255")
+        .help("the activation priority");
+    let address = Arg::new(alloc, "address")
+        .long("address")
+        .default_value("0.0.0.0")
+        .help("the source address");
+    command
+        .arg(flag(alloc, "beacon", "the beacon is on"))?
+        .arg(flag(alloc, "pixel", "the pixel service is on"))?
+        .arg(flag(alloc, "swapped", "a checksum has its low octet first"))?
+        .arg(duration)?
+        .arg(priority)?
+        .arg(address)
+}
+
+fn flag<'a>(alloc: Global, name: &'a str, help: &'a str) -> Arg<'a> {
+    Arg::new(alloc, name)
+        .long(name)
+        .action(ArgAction::SetTrue)
+        .help(help)
 }

@@ -2,6 +2,7 @@
 #![tactic(auto)]
 
 pub mod act;
+pub mod address;
 pub mod command_line;
 pub mod sign;
 

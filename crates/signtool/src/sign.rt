@@ -1,6 +1,5 @@
 //! A small sign: the status of three rows of its message table, which may be read.
-ghost use Rattle.std.specs.Prelude.{◌≡◌, ◌↔◌, ℕ, ◌≤◌, ◌*◌, [], map, length, position, is_none, IsTrue, IsSome, IfSome, IfNone, IfOk, IfErr, IsOk, OnOk, pos, nat_eq};
-ghost use Rattle.std.specs.Option.{option_map};
+ghost use Rattle.std.specs.Prelude.{◌≡◌, ◌↔◌, ℕ, ◌≤◌, [], map, length, IfOk, IfErr, IsOk, OnOk, pos, nat_eq};
 ghost use Rattle.std.specs.Cmp.Lexicographic.{pointwise};
 ghost use Rattle.dms_wire.specs.Message.{SnmpMessage};
 ghost use Rattle.dms_wire.specs.Spelling.{Spells};

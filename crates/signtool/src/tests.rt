@@ -79,6 +79,110 @@ fn answers(rt: HostRuntime) -> Result<(), Fail> {
     Ok(())
 }
 
+/// Command lines of `code`, and what it prints with which exit status.
+const CODES: [(&[&str], &str, u8); 9] = [
+    (
+        &["signtool", "code", "3", "1", "A", "--address", "192.0.2.1"],
+        "crc 9a66\ncode ffffff0300019a66c0000201\n",
+        0,
+    ),
+    (
+        &[
+            "signtool",
+            "code",
+            "3",
+            "1",
+            "A",
+            "--address",
+            "192.0.2.1",
+            "--swapped",
+        ],
+        "crc 9a66\ncode ffffff030001669ac0000201\n",
+        0,
+    ),
+    (
+        &["signtool", "code", "2", "1", "B"],
+        "crc 7502\ncode ffffff020001750200000000\n",
+        0,
+    ),
+    (
+        &[
+            "signtool",
+            "code",
+            "4",
+            "65535",
+            "A",
+            "--beacon",
+            "--duration",
+            "5",
+            "--priority",
+            "10",
+        ],
+        "crc 83be\ncode 00050a04ffff83be00000000\n",
+        0,
+    ),
+    (
+        &["signtool", "code", "3", "1", "", "--address", "001.2.3.255"],
+        "crc 0f47\ncode ffffff0300010f47010203ff\n",
+        0,
+    ),
+    (
+        &["signtool", "code", "3", "1", "A", "--address", "1.2.3"],
+        "bad address\n",
+        2,
+    ),
+    (
+        &["signtool", "code", "3", "1", "A", "--address", "1.2.3.4.5"],
+        "bad address\n",
+        2,
+    ),
+    (
+        &["signtool", "code", "3", "1", "A", "--address", "256.0.0.0"],
+        "bad address\n",
+        2,
+    ),
+    (
+        &["signtool", "code", "3", "1", "A", "--address", "0001.0.0.0"],
+        "bad address\n",
+        2,
+    ),
+];
+
+#[test]
+fn codes(rt: HostRuntime) -> Result<(), Fail> {
+    for (words, printed, status) in CODES {
+        let Ok(call) = asked(rt.alloc(), words) else {
+            return Err(Fail::from("no call"));
+        };
+        let mut output = Vec::new(rt.alloc());
+        let mut input: &[u8] = &[];
+        let found = act(rt.alloc(), &call, &mut input, &mut output);
+        assert!(rt; output.as_slice() == printed.as_bytes(), "for {words:?}");
+        assert_eq!(rt; found, status, "for {words:?}");
+    }
+    Ok(())
+}
+
+#[test]
+fn refuses_a_long_text(rt: HostRuntime) -> Result<(), Fail> {
+    let long = [b'A'; 513];
+    for (length, status) in [(512, 0), (513, 1)] {
+        let text = std::str::from_utf8(&long[..length])?;
+        let words = ["signtool", "code", "3", "1", text];
+        let Ok(call) = asked(rt.alloc(), words.as_slice()) else {
+            return Err(Fail::from("no call"));
+        };
+        let mut output = Vec::new(rt.alloc());
+        let mut input: &[u8] = &[];
+        assert_eq!(rt; act(rt.alloc(), &call, &mut input, &mut output), status);
+        assert_eq!(rt;
+            output.as_slice() == b"text too long\n".as_slice(),
+            status == 1
+        );
+    }
+    Ok(())
+}
+
 #[test]
 fn reads_the_command_line(rt: HostRuntime) -> Result<(), Fail> {
     let Ok(Call::Answer { hex }) = asked(rt.alloc(), &["signtool", "answer", "30"]) else {
@@ -90,6 +194,25 @@ fn reads_the_command_line(rt: HostRuntime) -> Result<(), Fail> {
     assert!(rt; asked(rt.alloc(), &["signtool", "answer", "30", "31"]).is_err());
     assert!(rt; asked(rt.alloc(), &["signtool", "reply", "30"]).is_err());
     assert!(rt; asked(rt.alloc(), &["signtool", "--help"]).is_err());
+    assert!(rt; asked(rt.alloc(), &["signtool", "code", "3", "1"]).is_err());
+    assert!(rt; asked(rt.alloc(), &["signtool", "code", "1", "1", "A"]).is_err());
+    assert!(rt; asked(rt.alloc(), &["signtool", "code", "5", "1", "A"]).is_err());
+    assert!(rt; asked(rt.alloc(), &["signtool", "code", "3", "0", "A"]).is_err());
+    assert!(rt; asked(rt.alloc(), &["signtool", "code", "3", "65536", "A"]).is_err());
+    assert!(rt;
+        asked(
+            rt.alloc(),
+            &["signtool", "code", "3", "1", "A", "--duration", "65536"]
+        )
+        .is_err()
+    );
+    assert!(rt;
+        asked(
+            rt.alloc(),
+            &["signtool", "code", "3", "1", "A", "--priority", "256"]
+        )
+        .is_err()
+    );
     assert!(rt; asked(rt.alloc(), &["signtool", "help"]).is_err());
     Ok(())
 }
