@@ -28,7 +28,7 @@ sub_identifiers_within : (ns : List ℕ) → 0 < length ns → length ns ≤ 127
 sub_identifiers_within [] some few small = absurd (omega arith)
 sub_identifiers_within (n ∷ ns) some few small = numbers_within n ns small.0 small.1 (omega arith)
 
-name_within : (numbers bytes : List ℕ) → IsName numbers bytes → IsNameInLimits numbers
+pub name_within : (numbers bytes : List ℕ) → IsName numbers bytes → IsNameInLimits numbers
 name_within numbers bytes is =
     subst IsNameInLimits (sym is.numbers_is) (sub_identifiers_within is.sub_identifiers is.some is.few (sub_identifiers_small is.sub_identifiers bytes is.spelled))
 

@@ -5,6 +5,7 @@ ghost use Rattle.std.specs.Cmp.Lexicographic.{pointwise, nat_list_cmp_total, nat
 ghost use Rattle.std.specs.Ordering.{as_partial_cmp};
 ghost use Rattle.std.specs.Iterator.{YieldsFirst, item_count};
 ghost use Rattle.dms_wire.specs.ObjectIdentifier.{IsName, numbers_from};
+ghost use Rattle.dms_wire.specs.Limits.{IsNameInLimits};
 ghost use Rattle.dms_wire.specs.NameReading.{part_after, is_name, numbers_of, sub_identifiers_after};
 ghost use Rattle.dms_wire.specs.NameWalk.{fits_after};
 ghost use Rattle.dms_wire.specs.NameOrder.{numbers_cmp};
@@ -62,7 +63,8 @@ impl<'a> Oid<'a> {
 
     /// The numbers, from the first on.
     pub fn numbers(&self) -> Numbers<'a>
-        ensures { result ≡ self.now }
+        ensures walk { result ≡ self.now }
+        ensures in_limits { IsNameInLimits self.now }
     {
         Numbers {
             rest: self.content,
