@@ -3,14 +3,15 @@
 
 mod peer;
 
+use std::hint::black_box;
 use std::time::Instant;
 use std::{env, fs, process};
 
-/// Runs of a measure, of which the best counts.
-const RUNS: usize = 40;
+/// Runs of a measure, of which the best counts: many short ones, since other programs disturb some of them.
+const RUNS: usize = 400;
 
 /// How long a run takes, in nanoseconds.
-const RUN_NANOSECONDS: f64 = 5e6;
+const RUN_NANOSECONDS: f64 = 1e6;
 
 /// Does one thing `times` times over a datagram, and sums what came out.
 type Exported = unsafe extern "C" fn(datagram: *const u8, size: usize, times: u32) -> u64;
@@ -30,15 +31,23 @@ unsafe extern "C" {
     fn dms_bench_write(datagram: *const u8, size: usize, times: u32) -> u64;
 }
 
-/// The best time of a call, in nanoseconds, over runs of many calls.
-fn best(call: impl Fn(u32) -> u64) -> f64 {
-    let run = |times: u32| {
-        let start = Instant::now();
-        call(times);
-        start.elapsed().as_nanos() as f64 / f64::from(times)
-    };
-    let times = (RUN_NANOSECONDS / run(1000)).max(1.0) as u32;
-    (0..RUNS).map(|_| run(times)).fold(f64::INFINITY, f64::min)
+/// The nanoseconds of a call, over `times` calls.
+fn run(call: &dyn Fn(u32) -> u64, times: u32) -> f64 {
+    let start = Instant::now();
+    black_box(call(times));
+    start.elapsed().as_nanos() as f64 / f64::from(times)
+}
+
+/// The best time of each call, in nanoseconds, over runs that take turns.
+fn best<const N: usize>(calls: [&dyn Fn(u32) -> u64; N]) -> [f64; N] {
+    let times = calls.map(|call| (RUN_NANOSECONDS / run(call, 100)).max(1.0) as u32);
+    let mut best = [f64::INFINITY; N];
+    for _ in 0..RUNS {
+        for at in 0..N {
+            best[at] = best[at].min(run(calls[at], times[at]));
+        }
+    }
+    best
 }
 
 fn datagram_of(file: &str) -> Option<Vec<u8>> {
@@ -60,7 +69,8 @@ fn main() {
             let proved = |times| unsafe { exported(datagram.as_ptr(), datagram.len(), times) };
             let by_hand = |times| plain(&datagram, times);
             assert_eq!(proved(3), by_hand(3), "{measure} of {file}");
-            println!("{measure:<16} {name:<24} {:>10.1} {:>12.1}", best(proved), best(by_hand));
+            let [proved, by_hand] = best([&proved, &by_hand]);
+            println!("{measure:<16} {name:<24} {proved:>10.1} {by_hand:>12.1}");
         }
     }
 }
