@@ -208,7 +208,7 @@ fn natural_of(content: &[u8]) -> Option<u32>
 }
 
 /// An INTEGER, and the octets after it.
-#[inline]
+#[inline(always)]
 #[tactic(auto, unfolding(crate::specs::Reading::integer_at))]
 fn integer(octets: &[u8], end: usize) -> Result<(i64, &[u8]), WireFault>
     requires { length octets.now ≤ end }
