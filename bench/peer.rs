@@ -486,12 +486,24 @@ mod measures {
         sum
     }
 
+    fn weight(value: &Value<'_>) -> u64 {
+        match value {
+            Value::Integer(number) => number.unsigned_abs(),
+            Value::Octets(octets) | Value::Opaque(octets) => octets.len() as u64,
+            Value::Null => 1,
+            Value::Name(name) => name.content.len() as u64,
+            Value::Address(octets) => u64::from(u32::from_be_bytes(*octets)),
+            Value::Counter(number) | Value::Gauge(number) | Value::Ticks(number) => u64::from(*number),
+        }
+    }
+
     pub fn walk_times(datagram: &[u8], times: u32) -> u64 {
         let mut sum = 0_u64;
         for _ in 0..times {
             if let Ok(message) = read(black_box(datagram)) {
                 for bind in message.binds {
                     sum = sum.wrapping_add(bind.name.content.len() as u64);
+                    sum = sum.wrapping_add(weight(&bind.value));
                 }
             }
         }
@@ -513,11 +525,13 @@ mod measures {
         };
         let mut out = Out::new();
         let mut sum = 0_u64;
-        for _ in 0..times {
+        for time in 0..times {
             if write(black_box(&parts), &mut out).is_ok() {
-                sum = sum.wrapping_add(black_box(&out).as_slice().len() as u64);
+                let written = out.as_slice();
+                let octet = written.get(time as usize % MAX_DATAGRAM).copied().unwrap_or(0);
+                sum = sum.wrapping_add(written.len() as u64 + u64::from(octet));
             }
-            parts.request = parts.request.wrapping_add(1);
+            parts.request = parts.request.wrapping_sub(1);
         }
         sum
     }

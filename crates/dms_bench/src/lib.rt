@@ -5,6 +5,9 @@
 use dms_wire::{Bind, MessageParts, Oid, Out, Value, read, write};
 use std::array;
 
+/// The most octets of a datagram.
+const MAX_DATAGRAM: usize = 1472;
+
 /// The most bindings of a datagram.
 const MAX_BINDINGS: usize = 210;
 
@@ -20,7 +23,19 @@ pub extern "C" fn dms_bench_read(datagram: &[u8], times: u32) -> u64 {
     sum
 }
 
-/// Reads the datagram and walks its bindings, and sums the sizes of their names.
+/// A number that depends on all that a value holds.
+fn weight(value: &Value<'_>) -> u64 {
+    match value {
+        Value::Integer(number) => number.unsigned_abs(),
+        Value::Octets(octets) | Value::Opaque(octets) => octets.len() as u64,
+        Value::Null => 1,
+        Value::Name(name) => name.content().len() as u64,
+        Value::Address(octets) => u64::from(u32::from_be_bytes(*octets)),
+        Value::Counter(number) | Value::Gauge(number) | Value::Ticks(number) => u64::from(*number),
+    }
+}
+
+/// Reads the datagram and walks its bindings, and sums the sizes of their names and the weights of their values.
 #[unsafe(no_mangle)]
 pub extern "C" fn dms_bench_walk(datagram: &[u8], times: u32) -> u64 {
     let mut sum = 0_u64;
@@ -28,13 +43,15 @@ pub extern "C" fn dms_bench_walk(datagram: &[u8], times: u32) -> u64 {
         if let Ok(message) = read(datagram) {
             for bind in message.binds {
                 sum = sum.wrapping_add(bind.name.content().len() as u64);
+                sum = sum.wrapping_add(weight(&bind.value));
             }
         }
     }
     sum
 }
 
-/// Reads the datagram once and writes its message, with the request-ids that follow its own, and sums the sizes.
+/// Reads the datagram once and writes its message, each time with the request-id before. It sums the sizes, and of each
+/// datagram that was written another octet.
 #[unsafe(no_mangle)]
 pub extern "C" fn dms_bench_write(datagram: &[u8], times: u32) -> u64 {
     let Ok(message) = read(datagram) else {
@@ -64,11 +81,12 @@ pub extern "C" fn dms_bench_write(datagram: &[u8], times: u32) -> u64 {
     };
     let mut out = Out::new();
     let mut sum = 0_u64;
-    for _ in 0..times {
+    for time in 0..times {
         if write(&parts, &mut out).is_ok() {
-            sum = sum.wrapping_add(out.len() as u64);
+            let octet = out.get(time as usize % MAX_DATAGRAM).copied().unwrap_or(0);
+            sum = sum.wrapping_add(out.len() as u64 + u64::from(octet));
         }
-        parts.request = parts.request.wrapping_add(1);
+        parts.request = parts.request.wrapping_sub(1);
     }
     sum
 }
