@@ -2,6 +2,10 @@
 //! datagram, and returns a sum of what came out, so that nothing of the work can be left away.
 #![tactic(auto)]
 
+ghost use Rattle.std.specs.Prelude.{◌≡◌};
+ghost use Rattle.dms_wire.specs.Message.{SnmpMessage};
+ghost use Rattle.dms_wire.specs.Spelling.{Spells};
+
 use dms_wire::{Bind, MessageParts, Oid, Out, Value, read, write};
 use std::array;
 
@@ -13,7 +17,9 @@ const MAX_BINDINGS: usize = 210;
 
 /// Reads the datagram, and sums its request-ids up to their signs.
 #[unsafe(no_mangle)]
-pub extern "C" fn dms_bench_read(datagram: &[u8], times: u32) -> u64 {
+pub extern "C" fn dms_bench_read(datagram: &[u8], times: u32) -> u64
+    ensures { ((m : SnmpMessage) → Spells m datagram.now → ⊥) → result ≡ 0 }
+{
     let mut sum = 0_u64;
     for _ in 0..times {
         if let Ok(message) = read(datagram) {
@@ -37,7 +43,9 @@ fn weight(value: &Value<'_>) -> u64 {
 
 /// Reads the datagram and walks its bindings, and sums the sizes of their names and the weights of their values.
 #[unsafe(no_mangle)]
-pub extern "C" fn dms_bench_walk(datagram: &[u8], times: u32) -> u64 {
+pub extern "C" fn dms_bench_walk(datagram: &[u8], times: u32) -> u64
+    ensures { ((m : SnmpMessage) → Spells m datagram.now → ⊥) → result ≡ 0 }
+{
     let mut sum = 0_u64;
     for _ in 0..times {
         if let Ok(message) = read(datagram) {
@@ -53,7 +61,9 @@ pub extern "C" fn dms_bench_walk(datagram: &[u8], times: u32) -> u64 {
 /// Reads the datagram once and writes its message, each time with the request-id before. It sums the sizes, and of each
 /// datagram that was written another octet.
 #[unsafe(no_mangle)]
-pub extern "C" fn dms_bench_write(datagram: &[u8], times: u32) -> u64 {
+pub extern "C" fn dms_bench_write(datagram: &[u8], times: u32) -> u64
+    ensures { ((m : SnmpMessage) → Spells m datagram.now → ⊥) → result ≡ 0 }
+{
     let Ok(message) = read(datagram) else {
         return 0;
     };
