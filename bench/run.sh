@@ -12,7 +12,7 @@ trap 'rm -f "$log"' EXIT
 rustc --edition 2024 -O -L "$build" -o "$build/measure" "$bench/measure.rs"
 "$build/measure" "$@"
 
-if gcc -O2 -o "$build/netsnmp" "$bench/netsnmp.c" -lnetsnmp 2> /dev/null; then
+if "${CC:-cc}" -O2 -o "$build/netsnmp" "$bench/netsnmp.c" -lnetsnmp 2> /dev/null; then
     for datagram in "$@"; do
         printf '%-16s %-24s %10s ns\n' "Net-SNMP's parse" "$(basename "$datagram" .hex)" "$("$build/netsnmp" "$(cat "$datagram")")"
     done

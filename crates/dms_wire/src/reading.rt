@@ -345,16 +345,26 @@ pub(crate) fn first_binding(octets: &[u8]) -> Option<(Bind<'_>, &[u8])>
     }
 }
 
-/// Bindings up to the end of the octets, each of which is read once here.
+/// Checks the bindings up to the end of the octets, each of them once.
 #[inline(never)]
-fn bindings(octets: &[u8], end: usize) -> Result<Binds<'_>, WireFault>
+fn check_bindings(octets: &[u8], end: usize) -> Result<(), WireFault>
     requires { length octets.now ≤ end }
-    ensures { Gives (λ bs. bs) result (bindings_at end octets.now) }
+    ensures { Gives (λ _. bindings_of octets.now) result (bindings_at end octets.now) }
 {
     let mut rest = octets;
     while !rest.is_empty() {
         rest = binding(rest, end)?.1;
     }
+    Ok(())
+}
+
+/// Bindings up to the end of the octets.
+#[inline]
+fn bindings(octets: &[u8], end: usize) -> Result<Binds<'_>, WireFault>
+    requires { length octets.now ≤ end }
+    ensures { Gives (λ bs. bs) result (bindings_at end octets.now) }
+{
+    check_bindings(octets, end)?;
     Ok(Binds { content: octets })
 }
 
