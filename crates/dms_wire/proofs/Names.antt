@@ -1,33 +1,14 @@
 -- An object identifier's octets, read one by one: each step, and what the walk gives.
-use Rattle.std.proofs.Common.{◌≡◌, ◌≢◌, ℕ, ◌+◌, ◌*◌, ◌%◌, ◌^◌, ◌<◌, ◌≤◌, ◌⊎◌, inl, inr, Bool, true, false, cond, ◌&&◌, ◌||◌, ltb, leb, eqb, nat_lt, ◌==◌, List, [], ◌∷◌, ◌++◌, map, length, get_or, drop, Option, Some, None, refl, sym, ap, ap₂, subst, ◌∙◌, arith, append_assoc, ltb-true, lt-ltb, le-ltb, eqb-true, eq-eqb, leb-true, leb-false}
+use Rattle.std.proofs.Common.{◌≡◌, ◌≢◌, ℕ, ◌+◌, ◌*◌, ◌%◌, ◌^◌, ◌<◌, ◌≤◌, ◌⊎◌, inl, inr, Bool, true, false, cond, ◌&&◌, ◌||◌, ltb, leb, eqb, List, [], ◌∷◌, ◌++◌, map, length, get_or, Option, Some, None, refl, sym, ap, ap₂, subst, ◌∙◌, arith, append_assoc, ltb-true, lt-ltb, le-ltb, eqb-true, eq-eqb, leb-true, leb-false}
 use Rattle.std.proofs.ByRecursion.{All-append}
 use Rattle.std.proofs.lemmas.Bool.{and_parts, and_from, or_parts, both_ways}
 use Rattle.std.proofs.lemmas.Bool.Decides.{nat_tests}
-use Rattle.std.proofs.lemmas.List.{drop_more, drop_all, map-append}
+use Rattle.std.proofs.lemmas.List.{map-append}
 use Rattle.std.proofs.lemmas.Int.Digits.{number_push, number_after_ge}
 use Rattle.std.specs.Int.Digits.{number_from_digits, number_from_digits_after, AllBelowBase}
 use Rattle.std.specs.Option.{option_map_or}
 use Rattle.dms_wire.specs.ObjectIdentifier.{IsSubIdentifier, AreSubIdentifiers, IsName, numbers_from}
 use Rattle.dms_wire.specs.NameReading.{sub_identifiers_after, numbers_of, part_after, goes_on, is_name}
-
--- the octet at an index, and those behind it
-pub drop_at : (bs : List ℕ) (i : ℕ) → i < length bs → drop i bs ≡ get_or bs i 0 ∷ drop (i + 1) bs
-drop_at bs i h = drop_more bs i 0 h
-
--- one step of the walk
-pub goes_on_at : (count n : ℕ) (bs : List ℕ) (i : ℕ) → i < length bs
-    → goes_on count n (drop i bs) ≡ option_map_or (λ (p : ℕ × ℕ). goes_on p.0 p.1 (drop (i + 1) bs)) (part_after count n (get_or bs i 0)) false
-unfolding goes_on
-goes_on_at count n bs i h = ap (goes_on count n) (drop_at bs i h)
-
--- its end
-pub goes_on_end : (count n : ℕ) (bs : List ℕ) (i : ℕ) → length bs ≤ i
-    → goes_on count n (drop i bs) ≡ ((n == 0) && nat_lt 0 count)
-unfolding goes_on
-goes_on_end count n bs i h = ap (goes_on count n) (drop_all i bs h)
-
--- for a loop over the octets
-pub ruleset steps = (goes_on_at, goes_on_end)
 
 -- n is what came of a sub-identifier, of which the digits high were read
 pub record IsPart (n : ℕ) (high : List ℕ) : Type 0 where

@@ -1,12 +1,12 @@
 //! Object identifiers over their octets.
-ghost use Rattle.std.specs.Prelude.{◌≡◌, ◌↔◌, ℕ, ◌<◌, List, [], ◌∷◌, length, nat_eq, IsTrue, IsSome, IfSome, IfNone, refl};
+ghost use Rattle.std.specs.Prelude.{◌≡◌, ◌↔◌, ℕ, ◌+◌, ◌<◌, ◌==◌, ◌&&◌, List, [], ◌∷◌, length, nat_eq, nat_lt, IsTrue, IsSome, IfSome, IfNone, refl};
 ghost use Rattle.std.specs.Cmp.{partial_equiv_from_equiv};
 ghost use Rattle.std.specs.Cmp.Lexicographic.{pointwise, nat_list_cmp_total, nat_list_eq_equiv, texts_po, texts_ties};
 ghost use Rattle.std.specs.Ordering.{as_partial_cmp};
 ghost use Rattle.std.specs.Iterator.{YieldsFirst, item_count};
 ghost use Rattle.dms_wire.specs.ObjectIdentifier.{IsName, numbers_from};
 ghost use Rattle.dms_wire.specs.Limits.{IsNameInLimits};
-ghost use Rattle.dms_wire.specs.NameReading.{part_after, is_name, numbers_of, sub_identifiers_after};
+ghost use Rattle.dms_wire.specs.NameReading.{goes_on, is_name, numbers_of, sub_identifiers_after};
 ghost use Rattle.dms_wire.specs.NameWalk.{fits_after};
 ghost use Rattle.dms_wire.specs.NameOrder.{numbers_cmp};
 ghost use Rattle.dms_wire.specs.Canonical.{name_octets};
@@ -234,36 +234,65 @@ pub(crate) fn name_of(content: &[u8]) -> Option<Oid<'_>>
 }
 
 /// Whether the octets are an object identifier's content.
-#[tactic(auto, using(crate::proofs::Names::steps))]
+#[tactic(auto, unfolding(crate::specs::NameReading::goes_on))]
 fn is_name(octets: &[u8]) -> bool
     ensures { IsTrue result ↔ IsTrue (is_name octets.now) }
 {
     let mut count = 0;
-    let mut number = 0;
-    for octet in octets {
-        match part(count, number, *octet) {
-            Some(next) => (count, number) = next,
-            None => return false,
-        }
+    let mut rest = octets;
+    while let Some(others) = after_sub_identifier(count, rest) {
+        count += 1;
+        rest = others;
     }
-    number == 0 && 0 < count
+    rest.is_empty() && 0 < count
 }
 
-/// One octet more: how many sub-identifiers came, and what came of the next one.
-fn part(count: usize, number: u32, octet: u8) -> Option<(usize, u32)>
-    ensures { result ≡ part_after count number octet }
+/// What follows the first sub-identifier, before which there were `count`; none where there is no octet, or where it is out of
+/// form, is one too many, is 2^32 or more or lacks its last octet.
+#[inline(always)]
+#[tactic(auto, unfolding(crate::specs::NameReading::goes_on))]
+fn after_sub_identifier(count: usize, octets: &[u8]) -> Option<&[u8]>
+    ensures some { IfSome result (λ rest. goes_on count 0 octets.now ≡ goes_on (count + 1) 0 rest.now) }
+    ensures few { IfSome result (λ _. count < 127) }
+    ensures none { IfNone result (goes_on count 0 octets.now ≡ ((length octets.now == 0) && nat_lt 0 count)) }
+    ensures shorter { IfSome result (λ rest. length rest.now < length octets.now) }
 {
-    if octet < 128 {
-        if number < 1 << 25 && count < MAX_SUB_IDENTIFIERS {
-            Some((count + 1, 0))
-        } else {
-            None
+    match octets {
+        [octet, rest @ ..] if *octet < 128 => {
+            if count < MAX_SUB_IDENTIFIERS {
+                Some(rest)
+            } else {
+                None
+            }
         }
-    } else if 1 << 25 <= number || octet == 128 && number == 0 {
-        None
-    } else {
-        Some((count, number * 128 + u32::from(octet % 128)))
+        _ => after_long_sub_identifier(count, octets),
     }
+}
+
+/// The same, octet by octet, for a sub-identifier of any size.
+#[tactic(auto, unfolding(crate::specs::NameReading::goes_on))]
+fn after_long_sub_identifier(count: usize, octets: &[u8]) -> Option<&[u8]>
+    ensures some { IfSome result (λ rest. goes_on count 0 octets.now ≡ goes_on (count + 1) 0 rest.now) }
+    ensures few { IfSome result (λ _. count < 127) }
+    ensures none { IfNone result (goes_on count 0 octets.now ≡ ((length octets.now == 0) && nat_lt 0 count)) }
+    ensures shorter { IfSome result (λ rest. length rest.now < length octets.now) }
+{
+    let mut number = 0;
+    let mut rest = octets;
+    while let [octet, others @ ..] = rest {
+        if 1 << 25 <= number || *octet == 128 && number == 0 {
+            return None;
+        }
+        if *octet < 128 {
+            if count < MAX_SUB_IDENTIFIERS {
+                return Some(others);
+            }
+            return None;
+        }
+        number = number * 128 + u32::from(*octet % 128);
+        rest = others;
+    }
+    None
 }
 
 /// The first sub-identifier of the octets, and what follows it; none where no octet is below 128.

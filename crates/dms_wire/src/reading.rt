@@ -65,6 +65,16 @@ fn inverted_big_endian(octets: &[u8]) -> u64
     (1 << (8 * octets.len())) - 1 - big_endian(octets)
 }
 
+/// The number that the digits of a long length are. Such lengths are rare: out of line, they cost the others nothing.
+#[cold]
+#[inline(never)]
+fn long_number(digits: &[u8]) -> usize
+    requires { length digits.now ≤ 4 }
+    ensures { result ≡ number_from_digits 256 digits.now }
+{
+    big_endian(digits) as usize
+}
+
 /// A length behind a tag, and the octets after it.
 #[inline]
 #[tactic(auto, unfolding(crate::specs::Reading::length_at))]
@@ -86,6 +96,7 @@ fn length_of(octets: &[u8], end: usize) -> Result<(usize, &[u8]), WireFault>
 }
 
 /// The same for a first octet of 128 or more.
+#[inline]
 #[tactic(auto, unfolding(crate::specs::Reading::length_at))]
 fn long_length(octets: &[u8], end: usize) -> Result<(usize, &[u8]), WireFault>
     requires within { length octets.now ≤ end }
@@ -103,7 +114,7 @@ fn long_length(octets: &[u8], end: usize) -> Result<(usize, &[u8]), WireFault>
         return Err(fault_at(FaultKind::Truncated, end));
     }
     let (digits, rest) = rest.split_at(count);
-    Ok((big_endian(digits) as usize, rest))
+    Ok((long_number(digits), rest))
 }
 
 /// Behind a tag: a content, and the octets after it.
@@ -162,6 +173,7 @@ fn signed(content: &[u8]) -> i64
     ensures { result ≡ signed_value content.now }
 {
     match content {
+        [only] if *only < 128 => i64::from(*only),
         [first, ..] if *first >= 128 => -1 - inverted_big_endian(content) as i64,
         _ => big_endian(content) as i64,
     }
@@ -196,7 +208,7 @@ fn natural_of(content: &[u8]) -> Option<u32>
 }
 
 /// An INTEGER, and the octets after it.
-#[inline]
+#[inline(always)]
 #[tactic(auto, unfolding(crate::specs::Reading::integer_at))]
 fn integer(octets: &[u8], end: usize) -> Result<(i64, &[u8]), WireFault>
     requires { length octets.now ≤ end }
@@ -210,7 +222,7 @@ fn integer(octets: &[u8], end: usize) -> Result<(i64, &[u8]), WireFault>
 }
 
 /// A name, and the octets after it.
-#[inline]
+#[inline(always)]
 #[tactic(auto, unfolding(crate::specs::Reading::name_at))]
 fn name(octets: &[u8], end: usize) -> Result<(Oid<'_>, &[u8]), WireFault>
     requires { length octets.now ≤ end }
@@ -224,7 +236,7 @@ fn name(octets: &[u8], end: usize) -> Result<(Oid<'_>, &[u8]), WireFault>
 }
 
 /// The value that a tag and a content are. `before` is the place of the length, and `place` that of the content.
-#[inline]
+#[inline(always)]
 #[tactic(auto, unfolding(crate::specs::Reading::value_from))]
 fn value_of(tag: u8, before: usize, place: usize, content: &[u8]) -> Result<Value<'_>, WireFault>
     ensures { Gives object_value result (value_from tag before place content.now) }
@@ -254,7 +266,7 @@ fn value_of(tag: u8, before: usize, place: usize, content: &[u8]) -> Result<Valu
 }
 
 /// Behind the tag of a value: the value, and the octets after it.
-#[inline]
+#[inline(always)]
 #[tactic(auto, unfolding(crate::specs::Reading::behind_tag))]
 fn tagged_value(tag: u8, octets: &[u8], end: usize) -> Result<(Value<'_>, &[u8]), WireFault>
     requires { length octets.now ≤ end }
@@ -268,8 +280,8 @@ fn tagged_value(tag: u8, octets: &[u8], end: usize) -> Result<(Value<'_>, &[u8])
 }
 
 /// A value, and the octets after it.
-#[inline]
-#[tactic(auto, unfolding(crate::specs::Reading::value_at))]
+#[inline(always)]
+#[tactic(auto, unfolding(crate::specs::Reading::value_at, crate::specs::Reading::behind_tag, crate::specs::Reading::content_at, crate::specs::Reading::length_at, crate::specs::Reading::value_from))]
 fn value(octets: &[u8], end: usize) -> Result<(Value<'_>, &[u8]), WireFault>
     requires { length octets.now ≤ end }
     ensures exact { Gives (λ x. (object_value x.0, x.1.now)) result (value_at end octets.now) }
@@ -277,6 +289,7 @@ fn value(octets: &[u8], end: usize) -> Result<(Value<'_>, &[u8]), WireFault>
 {
     match octets {
         [] => Err(fault_at(FaultKind::Truncated, end)),
+        [5, 0, rest @ ..] => Ok((Value::Null, rest)),
         [tag @ (2 | 4 | 5 | 6 | 64..=68), rest @ ..] => tagged_value(*tag, rest, end),
         _ => Err(fault_at(FaultKind::BadTag, end - octets.len())),
     }
@@ -296,7 +309,7 @@ fn ended(octets: &[u8], end: usize) -> Result<(), WireFault>
 }
 
 /// A binding's name and value, which are its whole content.
-#[inline]
+#[inline(always)]
 #[tactic(auto, unfolding(crate::specs::Reading::members_at))]
 fn members(octets: &[u8], end: usize) -> Result<Bind<'_>, WireFault>
     requires { length octets.now ≤ end }
@@ -309,7 +322,7 @@ fn members(octets: &[u8], end: usize) -> Result<Bind<'_>, WireFault>
 }
 
 /// A binding, and the octets after it.
-#[inline]
+#[inline(always)]
 #[tactic(auto, unfolding(crate::specs::Reading::binding_at))]
 fn binding(octets: &[u8], end: usize) -> Result<(Bind<'_>, &[u8]), WireFault>
     requires { length octets.now ≤ end }
@@ -332,15 +345,26 @@ pub(crate) fn first_binding(octets: &[u8]) -> Option<(Bind<'_>, &[u8])>
     }
 }
 
-/// Bindings up to the end of the octets, each of which is read once here.
-fn bindings(octets: &[u8], end: usize) -> Result<Binds<'_>, WireFault>
+/// Checks the bindings up to the end of the octets, each of them once.
+#[inline(never)]
+fn check_bindings(octets: &[u8], end: usize) -> Result<(), WireFault>
     requires { length octets.now ≤ end }
-    ensures { Gives (λ bs. bs) result (bindings_at end octets.now) }
+    ensures { Gives (λ _. bindings_of octets.now) result (bindings_at end octets.now) }
 {
     let mut rest = octets;
     while !rest.is_empty() {
         rest = binding(rest, end)?.1;
     }
+    Ok(())
+}
+
+/// Bindings up to the end of the octets.
+#[inline]
+fn bindings(octets: &[u8], end: usize) -> Result<Binds<'_>, WireFault>
+    requires { length octets.now ≤ end }
+    ensures { Gives (λ bs. bs) result (bindings_at end octets.now) }
+{
+    check_bindings(octets, end)?;
     Ok(Binds { content: octets })
 }
 

@@ -1,7 +1,10 @@
-use Rattle.std.proofs.Common.{◌≡◌, drop}
+use Rattle.std.proofs.Common.{◌≡◌, ◌≤◌, length}
 use Rattle.dms_wire.specs.NameReading.{is_name, goes_on}
 use Rattle.dms_wire.proofs.object_identifier.is_name.Given as goal
 
 -- what is left decides
-abbrev pub invariant-loop-octet : goal.invariant-loop-octet
-invariant-loop-octet l = goes_on l.count l.number (drop l.octet-index l.octets) ≡ is_name l.octets
+abbrev pub invariant-loop-others : goal.invariant-loop-others
+invariant-loop-others l = (goes_on l.count 0 l.rest ≡ is_name l.octets) × (l.count ≤ 127)
+
+abbrev pub decreases-loop-others : goal.decreases-loop-others
+decreases-loop-others l = length l.rest

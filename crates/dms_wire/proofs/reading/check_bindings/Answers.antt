@@ -1,6 +1,6 @@
 use Rattle.std.proofs.Common.{arith, rules}
 use Rattle.dms_wire.proofs.Bindings.{rest_more, rest_fault, rest_done}
-use Rattle.dms_wire.proofs.reading.bindings.Goals as goal
+use Rattle.dms_wire.proofs.reading.check_bindings.Goals as goal
 
 pub returns-in_err-rest : goal.returns-in_err-rest
 returns-in_err-rest c =

@@ -1,0 +1,538 @@
+//! The same measures over a reader and a writer that are written by hand in plain Rust: every rule of reading that
+//! dms_wire has, with the same faults and places, each binding checked once.
+
+#![forbid(unsafe_code)]
+
+pub use measures::{read_times, walk_times, write_times};
+
+mod message {
+    pub const MAX_DATAGRAM: usize = 1472;
+
+    #[derive(Clone, Copy, Debug, PartialEq, Eq)]
+    pub enum FaultKind {
+        Truncated,
+        BadTag,
+        BadLength,
+        LengthPast,
+        BadInteger,
+        BadName,
+        BadVersion,
+        TrailingBytes,
+        TooLong,
+    }
+
+    #[derive(Clone, Copy, Debug, PartialEq, Eq)]
+    pub struct Fault {
+        pub kind: FaultKind,
+        pub place: usize,
+    }
+
+    #[derive(Clone, Copy)]
+    pub enum Kind {
+        Get,
+        GetNext,
+        Response,
+        Set,
+    }
+
+    #[derive(Clone, Copy)]
+    pub struct Oid<'a> {
+        pub content: &'a [u8],
+    }
+
+    #[derive(Clone, Copy)]
+    pub enum Value<'a> {
+        Integer(i64),
+        Octets(&'a [u8]),
+        Null,
+        Name(Oid<'a>),
+        Address([u8; 4]),
+        Counter(u32),
+        Gauge(u32),
+        Ticks(u32),
+        Opaque(&'a [u8]),
+    }
+
+    #[derive(Clone, Copy)]
+    pub struct Bind<'a> {
+        pub name: Oid<'a>,
+        pub value: Value<'a>,
+    }
+
+    #[derive(Clone, Copy)]
+    pub struct Binds<'a> {
+        pub content: &'a [u8],
+    }
+
+    pub struct Message<'a> {
+        pub community: &'a [u8],
+        pub kind: Kind,
+        pub request: i64,
+        pub status: i64,
+        pub index: i64,
+        pub binds: Binds<'a>,
+    }
+
+    pub struct MessageParts<'a> {
+        pub community: &'a [u8],
+        pub kind: Kind,
+        pub request: i64,
+        pub status: i64,
+        pub index: i64,
+        pub binds: &'a [Bind<'a>],
+    }
+}
+
+mod reading {
+    use super::message::*;
+
+    /// The octets of an element that are left, and where they begin in the datagram.
+    #[derive(Clone, Copy)]
+    struct Cursor<'a> {
+        octets: &'a [u8],
+        place: usize,
+    }
+
+    fn fault<T>(kind: FaultKind, place: usize) -> Result<T, Fault> {
+        Err(Fault { kind, place })
+    }
+
+    impl<'a> Cursor<'a> {
+        fn end(&self) -> usize {
+            self.place + self.octets.len()
+        }
+
+        #[inline]
+        fn octet(&mut self) -> Result<u8, Fault> {
+            let [first, rest @ ..] = self.octets else {
+                return fault(FaultKind::Truncated, self.place);
+            };
+            self.octets = rest;
+            self.place += 1;
+            Ok(*first)
+        }
+
+        #[inline]
+        fn tag(&mut self, wanted: u8) -> Result<(), Fault> {
+            let place = self.place;
+            if self.octet()? != wanted {
+                return fault(FaultKind::BadTag, place);
+            }
+            Ok(())
+        }
+
+        #[inline]
+        fn length(&mut self) -> Result<usize, Fault> {
+            let place = self.place;
+            let first = self.octet()?;
+            if first < 128 {
+                return Ok(first as usize);
+            }
+            if first == 128 || first > 132 {
+                return fault(FaultKind::BadLength, place);
+            }
+            let count = (first - 128) as usize;
+            if self.octets.len() < count {
+                return fault(FaultKind::Truncated, self.end());
+            }
+            let (digits, rest) = self.octets.split_at(count);
+            self.octets = rest;
+            self.place += count;
+            Ok(digits.iter().fold(0, |number, digit| number << 8 | *digit as usize))
+        }
+
+        #[inline]
+        fn content(&mut self, past: FaultKind) -> Result<Cursor<'a>, Fault> {
+            let before = self.place;
+            let count = self.length()?;
+            if self.octets.len() < count {
+                let place = if past == FaultKind::Truncated { self.end() } else { before };
+                return fault(past, place);
+            }
+            let (octets, rest) = self.octets.split_at(count);
+            let content = Cursor { octets, place: self.place };
+            self.octets = rest;
+            self.place += count;
+            Ok(content)
+        }
+
+        #[inline]
+        fn element(&mut self, tag: u8) -> Result<Cursor<'a>, Fault> {
+            self.tag(tag)?;
+            self.content(FaultKind::LengthPast)
+        }
+
+        #[inline]
+        fn integer(&mut self) -> Result<i64, Fault> {
+            integer_of(self.element(2)?)
+        }
+
+        #[inline]
+        fn ended(&self) -> Result<(), Fault> {
+            if self.octets.is_empty() { Ok(()) } else { fault(FaultKind::TrailingBytes, self.place) }
+        }
+    }
+
+    #[inline]
+    fn integer_of(content: Cursor<'_>) -> Result<i64, Fault> {
+        let octets = content.octets;
+        let shortest = match octets {
+            [] => false,
+            [0, second, ..] => *second >= 128,
+            [255, second, ..] => *second < 128,
+            _ => true,
+        };
+        if !shortest || octets.len() > 5 {
+            return fault(FaultKind::BadInteger, content.place);
+        }
+        let start = if octets[0] >= 128 { -1 } else { 0 };
+        let value = octets.iter().fold(start, |number: i64, octet| number << 8 | i64::from(*octet));
+        if value < -(1 << 31) || value >= 1 << 32 {
+            return fault(FaultKind::BadInteger, content.place);
+        }
+        Ok(value)
+    }
+
+    #[inline]
+    fn natural_of(content: Cursor<'_>) -> Result<u32, Fault> {
+        let value = integer_of(content)?;
+        u32::try_from(value).or(fault(FaultKind::BadInteger, content.place))
+    }
+
+    #[inline]
+    fn name_of(content: Cursor<'_>) -> Result<Oid<'_>, Fault> {
+        let mut count = 0;
+        let mut number: u32 = 0;
+        let bad = fault(FaultKind::BadName, content.place);
+        for &octet in content.octets {
+            if number >= 1 << 25 || number == 0 && octet == 128 {
+                return bad;
+            }
+            if octet < 128 {
+                count += 1;
+                number = 0;
+            } else {
+                number = number << 7 | u32::from(octet & 127);
+            }
+        }
+        if count == 0 || count > 127 || number != 0 {
+            return bad;
+        }
+        Ok(Oid { content: content.octets })
+    }
+
+    #[inline]
+    fn value_of<'a>(cursor: &mut Cursor<'a>) -> Result<Value<'a>, Fault> {
+        let place = cursor.place;
+        let tag = cursor.octet()?;
+        if !matches!(tag, 2 | 4 | 5 | 6 | 64..=68) {
+            return fault(FaultKind::BadTag, place);
+        }
+        let before = cursor.place;
+        let content = cursor.content(FaultKind::LengthPast)?;
+        Ok(match tag {
+            2 => Value::Integer(integer_of(content)?),
+            4 => Value::Octets(content.octets),
+            5 => match content.octets {
+                [] => Value::Null,
+                _ => return fault(FaultKind::BadLength, before),
+            },
+            6 => Value::Name(name_of(content)?),
+            64 => match content.octets {
+                [a, b, c, d] => Value::Address([*a, *b, *c, *d]),
+                _ => return fault(FaultKind::BadLength, before),
+            },
+            65 => Value::Counter(natural_of(content)?),
+            66 => Value::Gauge(natural_of(content)?),
+            67 => Value::Ticks(natural_of(content)?),
+            _ => Value::Opaque(content.octets),
+        })
+    }
+
+    #[inline]
+    fn binding<'a>(cursor: &mut Cursor<'a>) -> Result<Bind<'a>, Fault> {
+        let mut content = cursor.element(48)?;
+        let name = name_of(content.element(6)?)?;
+        let value = value_of(&mut content)?;
+        content.ended()?;
+        Ok(Bind { name, value })
+    }
+
+    impl<'a> Iterator for Binds<'a> {
+        type Item = Bind<'a>;
+
+        fn next(&mut self) -> Option<Bind<'a>> {
+            let mut cursor = Cursor { octets: self.content, place: 0 };
+            let first = binding(&mut cursor).ok()?;
+            self.content = cursor.octets;
+            Some(first)
+        }
+    }
+
+    fn bindings(mut cursor: Cursor<'_>) -> Result<Binds<'_>, Fault> {
+        let content = cursor.octets;
+        while !cursor.octets.is_empty() {
+            binding(&mut cursor)?;
+        }
+        Ok(Binds { content })
+    }
+
+    fn kind_of(tag: u8) -> Option<Kind> {
+        match tag {
+            160 => Some(Kind::Get),
+            161 => Some(Kind::GetNext),
+            162 => Some(Kind::Response),
+            163 => Some(Kind::Set),
+            _ => None,
+        }
+    }
+
+    pub fn read(octets: &[u8]) -> Result<Message<'_>, Fault> {
+        if octets.len() > MAX_DATAGRAM {
+            return fault(FaultKind::TooLong, MAX_DATAGRAM);
+        }
+        let mut datagram = Cursor { octets, place: 0 };
+        datagram.tag(48)?;
+        let mut inside = datagram.content(FaultKind::Truncated)?;
+        let version = inside.element(2)?;
+        if integer_of(version)? != 0 {
+            return fault(FaultKind::BadVersion, version.place);
+        }
+        let community = inside.element(4)?.octets;
+        let place = inside.place;
+        let Some(kind) = kind_of(inside.octet()?) else {
+            return fault(FaultKind::BadTag, place);
+        };
+        let mut pdu = inside.content(FaultKind::LengthPast)?;
+        let request = pdu.integer()?;
+        let status = pdu.integer()?;
+        let index = pdu.integer()?;
+        let binds = bindings(pdu.element(48)?)?;
+        pdu.ended()?;
+        inside.ended()?;
+        datagram.ended()?;
+        Ok(Message { community, kind, request, status, index, binds })
+    }
+}
+
+mod writing {
+    use super::message::*;
+
+    /// A datagram to send.
+    pub struct Out {
+        octets: [u8; MAX_DATAGRAM],
+        len: usize,
+    }
+
+    pub struct TooBig;
+
+    impl Out {
+        pub fn new() -> Out {
+            Out { octets: [0; MAX_DATAGRAM], len: 0 }
+        }
+
+        pub fn as_slice(&self) -> &[u8] {
+            &self.octets[..self.len]
+        }
+
+        #[inline]
+        fn push(&mut self, octet: u8) {
+            self.octets[self.len] = octet;
+            self.len += 1;
+        }
+
+        #[inline]
+        fn extend(&mut self, content: &[u8]) {
+            self.octets[self.len..self.len + content.len()].copy_from_slice(content);
+            self.len += content.len();
+        }
+
+        #[inline]
+        fn head(&mut self, tag: u8, size: usize) {
+            self.push(tag);
+            if size < 128 {
+                self.push(size as u8);
+            } else if size < 256 {
+                self.push(129);
+                self.push(size as u8);
+            } else {
+                self.push(130);
+                self.push((size >> 8) as u8);
+                self.push(size as u8);
+            }
+        }
+
+        #[inline]
+        fn element(&mut self, tag: u8, content: &[u8]) {
+            self.head(tag, content.len());
+            self.extend(content);
+        }
+
+        #[inline]
+        fn number(&mut self, tag: u8, number: i64) {
+            let size = size_of_number(number);
+            self.head(tag, size);
+            for digit in (0..size).rev() {
+                self.push((number >> (8 * digit)) as u8);
+            }
+        }
+
+        #[inline]
+        fn value(&mut self, value: &Value<'_>) {
+            match value {
+                Value::Integer(number) => self.number(2, *number),
+                Value::Octets(octets) => self.element(4, octets),
+                Value::Null => self.head(5, 0),
+                Value::Name(name) => self.element(6, name.content),
+                Value::Address(octets) => self.element(64, octets),
+                Value::Counter(number) => self.number(65, i64::from(*number)),
+                Value::Gauge(number) => self.number(66, i64::from(*number)),
+                Value::Ticks(number) => self.number(67, i64::from(*number)),
+                Value::Opaque(octets) => self.element(68, octets),
+            }
+        }
+    }
+
+    /// How many octets a number takes in two's complement.
+    #[inline]
+    fn size_of_number(number: i64) -> usize {
+        let bits = 64 - (if number < 0 { !number } else { number }).leading_zeros() as usize;
+        bits / 8 + 1
+    }
+
+    /// How many octets an element with a content of `size` octets takes.
+    #[inline]
+    fn size_of_element(size: usize) -> usize {
+        let length = match size {
+            0..128 => 1,
+            128..256 => 2,
+            _ => 3,
+        };
+        1 + length + size
+    }
+
+    #[inline]
+    fn size_of_value(value: &Value<'_>) -> usize {
+        size_of_element(match value {
+            Value::Integer(number) => size_of_number(*number),
+            Value::Octets(octets) | Value::Opaque(octets) => octets.len(),
+            Value::Null => 0,
+            Value::Name(name) => name.content.len(),
+            Value::Address(_) => 4,
+            Value::Counter(number) | Value::Gauge(number) | Value::Ticks(number) => {
+                size_of_number(i64::from(*number))
+            }
+        })
+    }
+
+    #[inline]
+    fn size_of_members(bind: &Bind<'_>) -> usize {
+        size_of_element(bind.name.content.len()) + size_of_value(&bind.value)
+    }
+
+    pub fn write(parts: &MessageParts<'_>, out: &mut Out) -> Result<(), TooBig> {
+        out.len = 0;
+        let mut list = 0;
+        for bind in parts.binds {
+            list += size_of_element(size_of_members(bind));
+            if list > MAX_DATAGRAM {
+                return Err(TooBig);
+            }
+        }
+        let numbers = [parts.request, parts.status, parts.index];
+        let pdu = numbers.iter().map(|number| size_of_element(size_of_number(*number))).sum::<usize>()
+            + size_of_element(list);
+        let inside = 3 + size_of_element(parts.community.len()) + size_of_element(pdu);
+        if size_of_element(inside) > MAX_DATAGRAM {
+            return Err(TooBig);
+        }
+        out.head(48, inside);
+        out.number(2, 0);
+        out.element(4, parts.community);
+        out.head(
+            match parts.kind {
+                Kind::Get => 160,
+                Kind::GetNext => 161,
+                Kind::Response => 162,
+                Kind::Set => 163,
+            },
+            pdu,
+        );
+        for number in numbers {
+            out.number(2, number);
+        }
+        out.head(48, list);
+        for bind in parts.binds {
+            out.head(48, size_of_members(bind));
+            out.element(6, bind.name.content);
+            out.value(&bind.value);
+        }
+        Ok(())
+    }
+}
+
+mod measures {
+    use super::message::*;
+    use super::{reading::read, writing::Out, writing::write};
+    use std::hint::black_box;
+
+    pub fn read_times(datagram: &[u8], times: u32) -> u64 {
+        let mut sum = 0_u64;
+        for _ in 0..times {
+            if let Ok(message) = read(black_box(datagram)) {
+                sum = sum.wrapping_add(message.request.unsigned_abs());
+            }
+        }
+        sum
+    }
+
+    fn weight(value: &Value<'_>) -> u64 {
+        match value {
+            Value::Integer(number) => number.unsigned_abs(),
+            Value::Octets(octets) | Value::Opaque(octets) => octets.len() as u64,
+            Value::Null => 1,
+            Value::Name(name) => name.content.len() as u64,
+            Value::Address(octets) => u64::from(u32::from_be_bytes(*octets)),
+            Value::Counter(number) | Value::Gauge(number) | Value::Ticks(number) => u64::from(*number),
+        }
+    }
+
+    pub fn walk_times(datagram: &[u8], times: u32) -> u64 {
+        let mut sum = 0_u64;
+        for _ in 0..times {
+            if let Ok(message) = read(black_box(datagram)) {
+                for bind in message.binds {
+                    sum = sum.wrapping_add(bind.name.content.len() as u64);
+                    sum = sum.wrapping_add(weight(&bind.value));
+                }
+            }
+        }
+        sum
+    }
+
+    pub fn write_times(datagram: &[u8], times: u32) -> u64 {
+        let Ok(message) = read(datagram) else {
+            return 0;
+        };
+        let binds: Vec<Bind<'_>> = message.binds.collect();
+        let mut parts = MessageParts {
+            community: message.community,
+            kind: message.kind,
+            request: message.request,
+            status: message.status,
+            index: message.index,
+            binds: &binds,
+        };
+        let mut out = Out::new();
+        let mut sum = 0_u64;
+        for time in 0..times {
+            if write(black_box(&parts), &mut out).is_ok() {
+                let written = out.as_slice();
+                let octet = written.get(time as usize % MAX_DATAGRAM).copied().unwrap_or(0);
+                sum = sum.wrapping_add(written.len() as u64 + u64::from(octet));
+            }
+            parts.request = parts.request.wrapping_sub(1);
+        }
+        sum
+    }
+}

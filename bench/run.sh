@@ -1,0 +1,21 @@
+#!/usr/bin/env bash
+# Builds the measures and prints their times, in nanoseconds a call: `bench/run.sh [DATAGRAM.hex ..]`.
+set -eu
+bench=$(cd "$(dirname "$0")" && pwd)
+crate=$bench/../crates/dms_bench
+build=$crate/out
+[ $# -gt 0 ] || set -- "$bench"/datagrams/*.hex
+
+log=$(mktemp)
+trap 'rm -f "$log"' EXIT
+(cd "$crate" && "${RT:-rt}" lib > "$log" 2>&1) || { cat "$log" >&2; exit 1; }
+rustc --edition 2024 -O -L "$build" -o "$build/measure" "$bench/measure.rs"
+"$build/measure" "$@"
+
+if "${CC:-cc}" -O2 -o "$build/netsnmp" "$bench/netsnmp.c" -lnetsnmp 2> /dev/null; then
+    for datagram in "$@"; do
+        printf '%-16s %-24s %10s ns\n' "Net-SNMP's parse" "$(basename "$datagram" .hex)" "$("$build/netsnmp" "$(cat "$datagram")")"
+    done
+else
+    echo "Net-SNMP's parse was not measured: it wants Debian's package libsnmp-dev." >&2
+fi

@@ -1,0 +1,102 @@
+//! Measures of the libraries, for the program of bench/: each export does one thing `times` times over the octets of a
+//! datagram, and returns a sum of what came out, so that nothing of the work can be left away.
+#![tactic(auto)]
+
+ghost use Rattle.std.specs.Prelude.{◌≡◌};
+ghost use Rattle.dms_wire.specs.Message.{SnmpMessage};
+ghost use Rattle.dms_wire.specs.Spelling.{Spells};
+
+use dms_wire::{Bind, MessageParts, Oid, Out, Value, read, write};
+use std::array;
+
+/// The most octets of a datagram.
+const MAX_DATAGRAM: usize = 1472;
+
+/// The most bindings of a datagram.
+const MAX_BINDINGS: usize = 210;
+
+/// Reads the datagram, and sums its request-ids up to their signs.
+#[unsafe(no_mangle)]
+pub extern "C" fn dms_bench_read(datagram: &[u8], times: u32) -> u64
+    ensures { ((m : SnmpMessage) → Spells m datagram.now → ⊥) → result ≡ 0 }
+{
+    let mut sum = 0_u64;
+    for _ in 0..times {
+        if let Ok(message) = read(datagram) {
+            sum = sum.wrapping_add(message.request.unsigned_abs());
+        }
+    }
+    sum
+}
+
+/// A number that depends on all that a value holds.
+fn weight(value: &Value<'_>) -> u64 {
+    match value {
+        Value::Integer(number) => number.unsigned_abs(),
+        Value::Octets(octets) | Value::Opaque(octets) => octets.len() as u64,
+        Value::Null => 1,
+        Value::Name(name) => name.content().len() as u64,
+        Value::Address(octets) => u64::from(u32::from_be_bytes(*octets)),
+        Value::Counter(number) | Value::Gauge(number) | Value::Ticks(number) => u64::from(*number),
+    }
+}
+
+/// Reads the datagram and walks its bindings, and sums the sizes of their names and the weights of their values.
+#[unsafe(no_mangle)]
+pub extern "C" fn dms_bench_walk(datagram: &[u8], times: u32) -> u64
+    ensures { ((m : SnmpMessage) → Spells m datagram.now → ⊥) → result ≡ 0 }
+{
+    let mut sum = 0_u64;
+    for _ in 0..times {
+        if let Ok(message) = read(datagram) {
+            for bind in message.binds {
+                sum = sum.wrapping_add(bind.name.content().len() as u64);
+                sum = sum.wrapping_add(weight(&bind.value));
+            }
+        }
+    }
+    sum
+}
+
+/// Reads the datagram once and writes its message, each time with the request-id before. It sums the sizes, and of each
+/// datagram that was written another octet.
+#[unsafe(no_mangle)]
+pub extern "C" fn dms_bench_write(datagram: &[u8], times: u32) -> u64
+    ensures { ((m : SnmpMessage) → Spells m datagram.now → ⊥) → result ≡ 0 }
+{
+    let Ok(message) = read(datagram) else {
+        return 0;
+    };
+    let Some(blank) = Oid::of(&[0]) else {
+        return 0;
+    };
+    let mut binds: [Bind<'_>; MAX_BINDINGS] = array::from_fn(|_| Bind {
+        name: blank.again(),
+        value: Value::Null,
+    });
+    let mut count = 0;
+    for bind in message.binds {
+        if count < MAX_BINDINGS {
+            binds[count] = bind;
+            count += 1;
+        }
+    }
+    let mut parts = MessageParts {
+        community: message.community,
+        kind: message.kind,
+        request: message.request,
+        status: message.status,
+        index: message.index,
+        binds: &binds[..count],
+    };
+    let mut out = Out::new();
+    let mut sum = 0_u64;
+    for time in 0..times {
+        if write(&parts, &mut out).is_ok() {
+            let octet = out.get(time as usize % MAX_DATAGRAM).copied().unwrap_or(0);
+            sum = sum.wrapping_add(out.len() as u64 + u64::from(octet));
+        }
+        parts.request = parts.request.wrapping_sub(1);
+    }
+    sum
+}
