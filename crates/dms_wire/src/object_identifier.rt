@@ -289,74 +289,42 @@ mod tests {
         assert_eq!(rt; left.next(), None);
     }
 
-    // X.690, 8.19.5, and the ends of the ranges
+    // the example of X.690, 8.19.5, and the ends of the ranges
     #[test]
     fn numbers_of_contents(rt: HostRuntime) {
-        check_numbers(&rt, [0x88, 0x37, 0x03].as_slice(), [2, 999, 3].as_slice());
-        check_numbers(
-            &rt,
-            [0x2b, 0x06, 0x01, 0x02, 0x01].as_slice(),
-            [1, 3, 6, 1, 2, 1].as_slice(),
-        );
-        check_numbers(&rt, [0x00].as_slice(), [0, 0].as_slice());
-        check_numbers(&rt, [0x27].as_slice(), [0, 39].as_slice());
-        check_numbers(&rt, [0x28].as_slice(), [1, 0].as_slice());
-        check_numbers(&rt, [0x50].as_slice(), [2, 0].as_slice());
-        check_numbers(
-            &rt,
-            [0x8f, 0xff, 0xff, 0xff, 0x7f].as_slice(),
-            [2, 4294967215].as_slice(),
-        );
-        check_numbers(
-            &rt,
-            [0x2b, 0x8f, 0xff, 0xff, 0xff, 0x7f].as_slice(),
-            [1, 3, 4294967295].as_slice(),
-        );
+        check_numbers(&rt, b"\x88\x37\x03", &[2, 999, 3]);
+        check_numbers(&rt, b"\x2b\x06\x01\x02\x01", &[1, 3, 6, 1, 2, 1]);
+        check_numbers(&rt, b"\x00", &[0, 0]);
+        check_numbers(&rt, b"\x27", &[0, 39]);
+        check_numbers(&rt, b"\x28", &[1, 0]);
+        check_numbers(&rt, b"\x50", &[2, 0]);
+        check_numbers(&rt, b"\x8f\xff\xff\xff\x7f", &[2, 4294967215]);
+        check_numbers(&rt, b"\x2b\x8f\xff\xff\xff\x7f", &[1, 3, 4294967295]);
     }
 
     #[test]
     fn no_names(rt: HostRuntime) {
-        assert!(rt; Oid::of([].as_slice()).is_none());
-        assert!(rt; Oid::of([0x80, 0x01].as_slice()).is_none());
-        assert!(rt; Oid::of([0x2b, 0x86].as_slice()).is_none());
-        assert!(rt; Oid::of([0x90, 0x80, 0x80, 0x80, 0x00].as_slice()).is_none());
-        assert!(rt; Oid::of([0x2b; 128].as_slice()).is_none());
-        assert!(rt; Oid::of([0x2b; 127].as_slice()).is_some());
+        assert!(rt; Oid::of(b"").is_none());
+        assert!(rt; Oid::of(b"\x80\x01").is_none());
+        assert!(rt; Oid::of(b"\x2b\x86").is_none());
+        assert!(rt; Oid::of(b"\x90\x80\x80\x80\x00").is_none());
+        assert!(rt; Oid::of(&[0x2b; 128]).is_none());
+        assert!(rt; Oid::of(&[0x2b; 127]).is_some());
     }
 
     fn check_order(rt: &impl Abort, a: &[u8], b: &[u8], order: Ordering) {
         let a = Oid::of(a).expect(rt, "an object identifier");
         let b = Oid::of(b).expect(rt, "an object identifier");
         assert_eq!(rt; oid_cmp(&a, &b), order);
-        assert_eq!(rt; a == b, order == Ordering::Equal);
         assert_eq!(rt; oid_cmp(&b, &a), order.reverse());
+        assert_eq!(rt; a == b, order == Ordering::Equal);
     }
 
     #[test]
     fn order(rt: HostRuntime) {
-        check_order(
-            &rt,
-            [0x2b, 0x06].as_slice(),
-            [0x2b, 0x06].as_slice(),
-            Ordering::Equal,
-        );
-        check_order(
-            &rt,
-            [0x2b].as_slice(),
-            [0x2b, 0x00].as_slice(),
-            Ordering::Less,
-        );
-        check_order(
-            &rt,
-            [0x27, 0x05].as_slice(),
-            [0x28].as_slice(),
-            Ordering::Less,
-        );
-        check_order(
-            &rt,
-            [0x2b, 0xff, 0x7f].as_slice(),
-            [0x2b, 0x81, 0x80, 0x00].as_slice(),
-            Ordering::Less,
-        );
+        check_order(&rt, b"\x2b\x06", b"\x2b\x06", Ordering::Equal);
+        check_order(&rt, b"\x2b", b"\x2b\x00", Ordering::Less);
+        check_order(&rt, b"\x27\x05", b"\x28", Ordering::Less);
+        check_order(&rt, b"\x2b\xff\x7f", b"\x2b\x81\x80\x00", Ordering::Less);
     }
 }
