@@ -53,6 +53,15 @@ fn check_spelled(rt: &impl Abort, alloc: Global, cases: &[(&[u8], &[u8])]) -> Re
     Ok(())
 }
 
+/// A datagram of these parts, one after the other.
+fn datagram_of(rt: &impl Abort, parts: &[&[u8]]) -> Out {
+    let mut datagram = Out::new();
+    for part in parts {
+        assert!(rt; datagram.try_extend_from_slice(part).is_ok());
+    }
+    datagram
+}
+
 #[test]
 fn faulty(rt: HostRuntime) {
     check_faulty(&rt, &cases::FAULTY_1);
@@ -68,7 +77,9 @@ fn spelled(rt: HostRuntime) -> Result<(), Fail> {
     check_spelled(&rt, rt.alloc(), &cases::SPELLED_1)?;
     check_spelled(&rt, rt.alloc(), &cases::SPELLED_2)?;
     check_spelled(&rt, rt.alloc(), &cases::SPELLED_3)?;
-    check_spelled(&rt, rt.alloc(), &cases::SPELLED_4)
+    check_spelled(&rt, rt.alloc(), &cases::SPELLED_4)?;
+    let longer = datagram_of(&rt, &[b"\x30\x82\x00\x2e", &GET[2..]]);
+    check_spelled(&rt, rt.alloc(), &[(&longer, &GET)])
 }
 
 #[test]
@@ -91,27 +102,8 @@ fn hostile(rt: HostRuntime) {
         (&[0x30; 1473], FaultKind::TooLong, 1472),
     ];
     check_faulty(&rt, &cases);
-}
-
-/// A datagram of these parts, one after the other.
-fn datagram_of(rt: &impl Abort, parts: &[&[u8]]) -> Out {
-    let mut datagram = Out::new();
-    for part in parts {
-        assert!(rt; datagram.try_extend_from_slice(part).is_ok());
-    }
-    datagram
-}
-
-#[test]
-fn trailing_octet(rt: HostRuntime) {
-    let datagram = datagram_of(&rt, &[&GET, &[0]]);
-    check_fault(&rt, &datagram, FaultKind::TrailingBytes, 48);
-}
-
-#[test]
-fn longer_length(rt: HostRuntime) -> Result<(), Fail> {
-    let datagram = datagram_of(&rt, &[b"\x30\x82\x00\x2e", &GET[2..]]);
-    check_spelled(&rt, rt.alloc(), &[(&datagram, &GET)])
+    let longer = datagram_of(&rt, &[&GET, &[0]]);
+    check_fault(&rt, &longer, FaultKind::TrailingBytes, 48);
 }
 
 /// A name has at most 127 sub-identifiers.
