@@ -4,7 +4,7 @@
 
 Each line of CASES.jsonl is {"octets": HEX, "canonical": HEX} for a datagram that spells a message, or
 {"octets": HEX, "fault": NUMBER, "place": OFFSET} for one that spells none. The short ones are kept, in tables of
-CHUNK rows: the time that a table takes to check grows faster than its length.
+CHUNK rows: the time that a table takes to check grows faster than its length. What it writes is laid out as by rt fmt.
 """
 
 import json
@@ -15,10 +15,31 @@ KINDS = ["", "Truncated", "BadTag", "BadLength", "LengthPast", "BadInteger", "Ba
 LONGEST = 160
 MOST_SPELLED = 80
 CHUNK = 20
+HEAD = """\
+//! Datagrams with the answers of an independent model, made by tools/wire_cases.py: those that
+//! spell no message, with the kind and the place of their fault, and those that do, with the
+//! message's shortest spelling.
+use crate::FaultKind;
+use crate::FaultKind::{
+    BadInteger, BadLength, BadName, BadTag, BadVersion, LengthPast, TrailingBytes, Truncated,
+};"""
+# the width up to which rt fmt keeps a tuple on one line
+ROW_WIDTH = 60
 
 
 def literal(digits):
     return 'b"' + "".join(f"\\x{digits[i:i + 2]}" for i in range(0, len(digits), 2)) + '"'
+
+
+def print_row(row):
+    line = ", ".join(row)
+    if len(line) <= ROW_WIDTH:
+        print(f"    ({line}),")
+        return
+    print("    (")
+    for field in row:
+        print(f"        {field},")
+    print("    ),")
 
 
 def tables(name, row_type, rows):
@@ -27,7 +48,7 @@ def tables(name, row_type, rows):
         print()
         print(f"pub static {name}_{first // CHUNK + 1}: [{row_type}; {len(chunk)}] = [")
         for row in chunk:
-            print(f"    ({', '.join(row)}),")
+            print_row(row)
         print("];")
 
 
@@ -39,10 +60,7 @@ def main():
     # those whose canonical octets differ come first
     spelled = sorted((case for case in kept if "canonical" in case),
                      key=lambda case: case["canonical"] == case["octets"])[:MOST_SPELLED]
-    print("//! Datagrams with the answers of an independent model, made by tools/wire_cases.py: those that spell no message, with the")
-    print("//! kind and the place of their fault, and those that do, with the message's shortest spelling.")
-    print("use crate::FaultKind;")
-    print("use crate::FaultKind::{BadInteger, BadLength, BadName, BadTag, BadVersion, LengthPast, TrailingBytes, Truncated};")
+    print(HEAD)
     tables("FAULTY", "(&[u8], FaultKind, usize)",
            [(literal(case["octets"]), KINDS[int(case["fault"])], str(case["place"])) for case in faulty])
     tables("SPELLED", "(&[u8], &[u8])",

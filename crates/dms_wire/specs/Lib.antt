@@ -15,3 +15,4 @@ pub mod MessageOf
 pub mod Walk
 pub mod View
 pub mod PduView
+pub mod FaultText

@@ -27,6 +27,11 @@ pub enum FaultKind {
 }
 
 impl fmt::Display for FaultKind {
+    ghost use Rattle.std.specs.Prelude.{Some};
+    ghost use Rattle.dms_wire.specs.FaultText.{kind_text};
+
+    ghost output = { λ k. Some (kind_text k) };
+
     fn fmt<W: fmt::Write>(&self, f: &mut fmt::Formatter<W>) -> fmt::Result {
         let text = match self {
             FaultKind::Truncated => "truncated",
@@ -51,6 +56,11 @@ pub struct WireFault {
 }
 
 impl fmt::Display for WireFault {
+    ghost use Rattle.std.specs.Prelude.{Some};
+    ghost use Rattle.dms_wire.specs.FaultText.{fault_text};
+
+    ghost output = { λ f. Some (fault_text f) };
+
     fn fmt<W: fmt::Write>(&self, f: &mut fmt::Formatter<W>) -> fmt::Result {
         write!(f, "{} at octet {}", self.kind, self.place)
     }
@@ -63,6 +73,10 @@ impl Error for WireFault {}
 pub struct TooBig;
 
 impl fmt::Display for TooBig {
+    ghost use Rattle.std.specs.Prelude.{Some, codes};
+
+    ghost output = { λ _. Some (codes "the message has more than 1472 octets") };
+
     fn fmt<W: fmt::Write>(&self, f: &mut fmt::Formatter<W>) -> fmt::Result {
         f.write_str("the message has more than 1472 octets")
     }

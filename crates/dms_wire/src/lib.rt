@@ -6,6 +6,8 @@ pub mod laws;
 pub mod message;
 pub mod object_identifier;
 mod reading;
+#[cfg(test)]
+mod tests;
 mod writing;
 
 pub use fault::{FaultKind, TooBig, WireFault};

@@ -1,0 +1,19 @@
+-- What a fault prints.
+use Rattle.std.specs.Prelude.{ℕ, List, ◌++◌, codes, decimal}
+use Rattle.dms_wire.specs.declared.fault.FaultKind.{FaultKind}
+use Rattle.dms_wire.specs.declared.fault.FaultKind.TheVariants.{Truncated, BadTag, BadLength, LengthPast, BadInteger, BadName, BadVersion, TrailingBytes, TooLong}
+use Rattle.dms_wire.specs.declared.fault.WireFault.{WireFault}
+
+abbrev pub kind_text : FaultKind → List ℕ
+kind_text Truncated = codes "truncated"
+kind_text BadTag = codes "unexpected tag"
+kind_text BadLength = codes "bad length"
+kind_text LengthPast = codes "content passes its element"
+kind_text BadInteger = codes "bad integer"
+kind_text BadName = codes "bad object identifier"
+kind_text BadVersion = codes "version is not 0"
+kind_text TrailingBytes = codes "trailing octets"
+kind_text TooLong = codes "datagram over 1472 octets"
+
+abbrev pub fault_text : WireFault → List ℕ
+fault_text f = kind_text f.kind ++ codes " at octet " ++ decimal f.place
