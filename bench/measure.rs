@@ -24,8 +24,14 @@ const MEASURES: [(&str, Exported, Plain); 3] = [
     ("write", dms_bench_write, peer::write_times),
 ];
 
+#[link(name = "crc", kind = "static")]
+unsafe extern "C" {
+    fn bit_by_bit_crc(text: *const u8, size: usize, times: u32) -> u64;
+}
+
 #[link(name = "dms_bench", kind = "static")]
 unsafe extern "C" {
+    fn dms_bench_crc(text: *const u8, size: usize, times: u32) -> u64;
     fn dms_bench_read(datagram: *const u8, size: usize, times: u32) -> u64;
     fn dms_bench_walk(datagram: *const u8, size: usize, times: u32) -> u64;
     fn dms_bench_write(datagram: *const u8, size: usize, times: u32) -> u64;
@@ -56,7 +62,21 @@ fn datagram_of(file: &str) -> Option<Vec<u8>> {
     (0..digits.len()).step_by(2).map(|at| u8::from_str_radix(digits.get(at..at + 2)?, 16).ok()).collect()
 }
 
+/// The checksum of texts of several sizes, beside the bit-by-bit form in C.
+fn checksums() {
+    println!("{:<16} {:<24} {:>10} {:>12}", "measure", "text", "proved, ns", "by bits, ns");
+    for size in [64, 128, 256, 512] {
+        let text: Vec<u8> = (0..size).map(|at| (at * 7 + 13) as u8).collect();
+        let proved = |times| unsafe { dms_bench_crc(text.as_ptr(), text.len(), times) };
+        let by_bits = |times| unsafe { bit_by_bit_crc(text.as_ptr(), text.len(), times) };
+        assert_eq!(proved(3), by_bits(3), "checksum of {size} octets");
+        let [proved, by_bits] = best([&proved, &by_bits]);
+        println!("{:<16} {:<24} {proved:>10.1} {by_bits:>12.1}", "checksum", format!("{size} octets"));
+    }
+}
+
 fn main() {
+    checksums();
     println!("{:<16} {:<24} {:>10} {:>12}", "measure", "datagram", "proved, ns", "by hand, ns");
     for file in env::args().skip(1) {
         let Some(datagram) = datagram_of(&file) else {

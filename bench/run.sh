@@ -9,6 +9,8 @@ build=$crate/out
 log=$(mktemp)
 trap 'rm -f "$log"' EXIT
 (cd "$crate" && "${RT:-rt}" lib > "$log" 2>&1) || { cat "$log" >&2; exit 1; }
+"${CC:-cc}" -O2 -c -o "$build/crc.o" "$bench/crc.c"
+ar rcs "$build/libcrc.a" "$build/crc.o"
 rustc --edition 2024 -O -L "$build" -o "$build/measure" "$bench/measure.rs"
 "$build/measure" "$@"
 

@@ -6,6 +6,7 @@ ghost use Rattle.std.specs.Prelude.{◌≡◌};
 ghost use Rattle.dms_wire.specs.Message.{SnmpMessage};
 ghost use Rattle.dms_wire.specs.Spelling.{Spells};
 
+use dms_table::crc;
 use dms_wire::{Bind, MessageParts, Oid, Out, Value, read, write};
 use std::array;
 
@@ -97,6 +98,16 @@ pub extern "C" fn dms_bench_write(datagram: &[u8], times: u32) -> u64
             sum = sum.wrapping_add(out.len() as u64 + u64::from(octet));
         }
         parts.request = parts.request.wrapping_sub(1);
+    }
+    sum
+}
+
+/// Takes the checksum of the text, with a beacon that changes from time to time, and sums the checksums.
+#[unsafe(no_mangle)]
+pub extern "C" fn dms_bench_crc(text: &[u8], times: u32) -> u64 {
+    let mut sum = 0_u64;
+    for time in 0..times {
+        sum = sum.wrapping_add(u64::from(crc(text, (time % 2) as u8, 0)));
     }
     sum
 }

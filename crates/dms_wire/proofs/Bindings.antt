@@ -123,20 +123,12 @@ abbrev pub with_front : List VarBind → Result (List VarBind) WireFault → Res
 with_front front (Ok bs) = Ok (front ++ bs)
 with_front front (Err f) = Err f
 
-nothing_before : (read : Result (List VarBind) WireFault) → with_front [] read ≡ read
-nothing_before (Ok bs) = refl
-nothing_before (Err f) = refl
-
 -- rest is what is left of the content behind some of its bindings
 pub record IsRest (end : ℕ) (content rest : List ℕ) : Type 0 where
   pub turns : ℕ
   pub front : List VarBind
   pub enough : length rest ≤ turns
   pub same : with_front front (bindings_up_to turns end rest) ≡ bindings_at end content
-
-pub rest_first : (end : ℕ) (content : List ℕ) → IsRest end content content
-rest_first end content =
-    record { turns = length content; front = []; enough = omega arith; same = nothing_before (bindings_at end content) }
 
 regroup : (front : List VarBind) (b : VarBind) (read : Result (List VarBind) WireFault)
     → with_front front (read >>= λ bs. Ok (b ∷ bs)) ≡ with_front (front ++ b ∷ []) read

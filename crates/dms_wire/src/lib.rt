@@ -6,6 +6,7 @@ pub mod laws;
 pub mod message;
 pub mod object_identifier;
 mod reading;
+mod tag;
 #[cfg(test)]
 mod tests;
 mod writing;

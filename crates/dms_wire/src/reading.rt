@@ -8,7 +8,7 @@ ghost use Rattle.std.specs.Int.Digits.{number_from_digits};
 ghost use Rattle.dms_wire.specs.Integer.{is_shortest, inverted, signed_value};
 ghost use Rattle.dms_wire.specs.Message.{SnmpMessage};
 ghost use Rattle.dms_wire.specs.Spelling.{Spells};
-ghost use Rattle.dms_wire.specs.Reading.{Gives, fault, length_at, content_at, element_at, integer_value, natural_value, integer_at, name_at, value_from, behind_tag, value_at, ended, members_at, binding_at, bindings_at, version_at, list_at, pdu_at, tagged_pdu_at, kind_of, inside_at, outer_content, outer_at, datagram_at, message_at};
+ghost use Rattle.dms_wire.specs.Reading.{Gives, fault, length_at, content_at, element_at, integer_value, natural_value, integer_at, name_at, value_from, behind_tag, is_value_tag, value_at, ended, members_at, binding_at, bindings_at, version_at, list_at, pdu_at, tagged_pdu_at, kind_of, inside_at, outer_content, outer_at, datagram_at, message_at};
 ghost use Rattle.dms_wire.specs.Walk.{bindings_of};
 ghost use Rattle.dms_wire.specs.View.{object_value, var_bind, snmp_message};
 ghost use Rattle.dms_wire.specs.PduView.{numbered};
@@ -16,6 +16,7 @@ ghost use Rattle.dms_wire.specs.PduView.{numbered};
 use crate::fault::{FaultKind, WireFault};
 use crate::message::{Bind, Binds, Kind, MAX_DATAGRAM, Message, Value};
 use crate::object_identifier::{Oid, name_of};
+use crate::tag;
 
 /// The most octets of an integer in range.
 const MAX_INTEGER_OCTETS: usize = 5;
@@ -215,7 +216,7 @@ fn integer(octets: &[u8], end: usize) -> Result<(i64, &[u8]), WireFault>
     ensures exact { Gives (λ x. (x.0, x.1.now)) result (integer_at end octets.now) }
     ensures rest { IfOk result (λ x. length x.1.now < length octets.now) }
 {
-    let (content, rest) = element(2, octets, end)?;
+    let (content, rest) = element(tag::INTEGER, octets, end)?;
     let place = end - rest.len() - content.len();
     let value = integer_of(content).ok_or(fault_at(FaultKind::BadInteger, place))?;
     Ok((value, rest))
@@ -229,7 +230,7 @@ fn name(octets: &[u8], end: usize) -> Result<(Oid<'_>, &[u8]), WireFault>
     ensures exact { Gives (λ x. (x.0, x.1.now)) result (name_at end octets.now) }
     ensures rest { IfOk result (λ x. length x.1.now < length octets.now) }
 {
-    let (content, rest) = element(6, octets, end)?;
+    let (content, rest) = element(tag::OBJECT_IDENTIFIER, octets, end)?;
     let place = end - rest.len() - content.len();
     let name = name_of(content).ok_or(fault_at(FaultKind::BadName, place))?;
     Ok((name, rest))
@@ -244,23 +245,23 @@ fn value_of(tag: u8, before: usize, place: usize, content: &[u8]) -> Result<Valu
     let bad_integer = fault_at(FaultKind::BadInteger, place);
     let bad_length = fault_at(FaultKind::BadLength, before);
     match tag {
-        2 => Ok(Value::Integer(integer_of(content).ok_or(bad_integer)?)),
-        4 => Ok(Value::Octets(content)),
-        5 => match content {
+        tag::INTEGER => Ok(Value::Integer(integer_of(content).ok_or(bad_integer)?)),
+        tag::OCTET_STRING => Ok(Value::Octets(content)),
+        tag::NULL => match content {
             [] => Ok(Value::Null),
             _ => Err(bad_length),
         },
-        6 => match name_of(content) {
+        tag::OBJECT_IDENTIFIER => match name_of(content) {
             Some(name) => Ok(Value::Name(name)),
             None => Err(fault_at(FaultKind::BadName, place)),
         },
-        64 => match content {
+        tag::IP_ADDRESS => match content {
             [a, b, c, d] => Ok(Value::Address([*a, *b, *c, *d])),
             _ => Err(bad_length),
         },
-        65 => Ok(Value::Counter(natural_of(content).ok_or(bad_integer)?)),
-        66 => Ok(Value::Gauge(natural_of(content).ok_or(bad_integer)?)),
-        67 => Ok(Value::Ticks(natural_of(content).ok_or(bad_integer)?)),
+        tag::COUNTER => Ok(Value::Counter(natural_of(content).ok_or(bad_integer)?)),
+        tag::GAUGE => Ok(Value::Gauge(natural_of(content).ok_or(bad_integer)?)),
+        tag::TIME_TICKS => Ok(Value::Ticks(natural_of(content).ok_or(bad_integer)?)),
         _ => Ok(Value::Opaque(content)),
     }
 }
@@ -279,6 +280,21 @@ fn tagged_value(tag: u8, octets: &[u8], end: usize) -> Result<(Value<'_>, &[u8])
     Ok((value, rest))
 }
 
+/// Whether the tag is one of a value.
+#[inline]
+fn is_value_tag(tag: u8) -> bool
+    ensures { result ≡ is_value_tag tag }
+{
+    matches!(
+        tag,
+        tag::INTEGER
+            | tag::OCTET_STRING
+            | tag::NULL
+            | tag::OBJECT_IDENTIFIER
+            | tag::IP_ADDRESS..=tag::OPAQUE
+    )
+}
+
 /// A value, and the octets after it.
 #[inline(always)]
 #[tactic(auto, unfolding(crate::specs::Reading::value_at, crate::specs::Reading::behind_tag, crate::specs::Reading::content_at, crate::specs::Reading::length_at, crate::specs::Reading::value_from))]
@@ -289,8 +305,8 @@ fn value(octets: &[u8], end: usize) -> Result<(Value<'_>, &[u8]), WireFault>
 {
     match octets {
         [] => Err(fault_at(FaultKind::Truncated, end)),
-        [5, 0, rest @ ..] => Ok((Value::Null, rest)),
-        [tag @ (2 | 4 | 5 | 6 | 64..=68), rest @ ..] => tagged_value(*tag, rest, end),
+        [tag::NULL, 0, rest @ ..] => Ok((Value::Null, rest)),
+        [tag, rest @ ..] if is_value_tag(*tag) => tagged_value(*tag, rest, end),
         _ => Err(fault_at(FaultKind::BadTag, end - octets.len())),
     }
 }
@@ -329,7 +345,7 @@ fn binding(octets: &[u8], end: usize) -> Result<(Bind<'_>, &[u8]), WireFault>
     ensures exact { Gives (λ x. (var_bind x.0, x.1.now)) result (binding_at end octets.now) }
     ensures rest { IfOk result (λ x. length x.1.now < length octets.now) }
 {
-    let (content, rest) = element(48, octets, end)?;
+    let (content, rest) = element(tag::SEQUENCE, octets, end)?;
     let bind = members(content, end - rest.len())?;
     Ok((bind, rest))
 }
@@ -375,7 +391,7 @@ fn after_version(octets: &[u8], end: usize) -> Result<&[u8], WireFault>
     ensures exact { Gives (λ rest. (tt, rest.now)) result (version_at end octets.now) }
     ensures rest { IfOk result (λ rest. length rest.now < length octets.now) }
 {
-    let (content, rest) = element(2, octets, end)?;
+    let (content, rest) = element(tag::INTEGER, octets, end)?;
     let place = end - rest.len() - content.len();
     match integer_of(content) {
         None => Err(fault_at(FaultKind::BadInteger, place)),
@@ -391,7 +407,7 @@ fn list(octets: &[u8], end: usize) -> Result<(Binds<'_>, &[u8]), WireFault>
     ensures exact { Gives (λ x. (x.0, x.1.now)) result (list_at end octets.now) }
     ensures rest { IfOk result (λ x. length x.1.now < length octets.now) }
 {
-    let (content, rest) = element(48, octets, end)?;
+    let (content, rest) = element(tag::SEQUENCE, octets, end)?;
     let binds = bindings(content, end - rest.len())?;
     Ok((binds, rest))
 }
@@ -445,10 +461,10 @@ fn kind_of(tag: u8) -> Option<Kind>
     ensures { result ≡ kind_of tag }
 {
     match tag {
-        160 => Some(Kind::Get),
-        161 => Some(Kind::GetNext),
-        162 => Some(Kind::Response),
-        163 => Some(Kind::Set),
+        tag::GET => Some(Kind::Get),
+        tag::GET_NEXT => Some(Kind::GetNext),
+        tag::RESPONSE => Some(Kind::Response),
+        tag::SET => Some(Kind::Set),
         _ => None,
     }
 }
@@ -460,7 +476,7 @@ fn inside(octets: &[u8], end: usize) -> Result<Message<'_>, WireFault>
     ensures { Gives snmp_message result (inside_at end octets.now) }
 {
     let rest = after_version(octets, end)?;
-    let (community, rest) = element(4, rest, end)?;
+    let (community, rest) = element(tag::OCTET_STRING, rest, end)?;
     let ((kind, fields), rest) = tagged_pdu(rest, end)?;
     ended(rest, end)?;
     let PduFields {
@@ -501,7 +517,7 @@ fn outer(octets: &[u8]) -> Result<(&[u8], &[u8]), WireFault>
 {
     match octets {
         [] => Err(fault_at(FaultKind::Truncated, 0)),
-        [48, rest @ ..] => outer_content(rest, octets.len()),
+        [tag::SEQUENCE, rest @ ..] => outer_content(rest, octets.len()),
         _ => Err(fault_at(FaultKind::BadTag, 0)),
     }
 }

@@ -10,27 +10,7 @@ ghost use Rattle.dms_wire.specs.Canonical.{short_length, element, positive_octet
 
 use crate::fault::TooBig;
 use crate::message::{Bind, Kind, MAX_DATAGRAM, MessageParts, Out, Value};
-
-// The tags (X.690, 8.2 to 8.19; RFC 1155, 3.2.3).
-const INTEGER: u8 = 2;
-
-const OCTET_STRING: u8 = 4;
-
-const NULL: u8 = 5;
-
-const OBJECT_IDENTIFIER: u8 = 6;
-
-const SEQUENCE: u8 = 48;
-
-const IP_ADDRESS: u8 = 64;
-
-const COUNTER: u8 = 65;
-
-const GAUGE: u8 = 66;
-
-const TIME_TICKS: u8 = 67;
-
-const OPAQUE: u8 = 68;
+use crate::tag;
 
 /// How many octets a number not below 0 takes.
 #[inline]
@@ -207,7 +187,7 @@ fn put_integer(out: &mut Out, number: &i64)
     requires { array_vec_len out.old + length (element 2 (integer_octets number.now)) ≤ 1472 }
     ensures { out.new.items ≡ out.old.items ++ element 2 (integer_octets number.now) }
 {
-    put_head(out, INTEGER, size_of_integer_content(number));
+    put_head(out, tag::INTEGER, size_of_integer_content(number));
     put_integer_content(out, number);
 }
 
@@ -258,14 +238,14 @@ fn put_value(out: &mut Out, value: &Value<'_>)
 {
     match value {
         Value::Integer(number) => put_integer(out, number),
-        Value::Octets(octets) => put_octets(out, OCTET_STRING, octets),
-        Value::Null => put_octets(out, NULL, &[]),
-        Value::Name(name) => put_octets(out, OBJECT_IDENTIFIER, name.content()),
-        Value::Address(octets) => put_octets(out, IP_ADDRESS, octets),
-        Value::Counter(number) => put_unsigned(out, COUNTER, *number),
-        Value::Gauge(number) => put_unsigned(out, GAUGE, *number),
-        Value::Ticks(number) => put_unsigned(out, TIME_TICKS, *number),
-        Value::Opaque(octets) => put_octets(out, OPAQUE, octets),
+        Value::Octets(octets) => put_octets(out, tag::OCTET_STRING, octets),
+        Value::Null => put_octets(out, tag::NULL, &[]),
+        Value::Name(name) => put_octets(out, tag::OBJECT_IDENTIFIER, name.content()),
+        Value::Address(octets) => put_octets(out, tag::IP_ADDRESS, octets),
+        Value::Counter(number) => put_unsigned(out, tag::COUNTER, *number),
+        Value::Gauge(number) => put_unsigned(out, tag::GAUGE, *number),
+        Value::Ticks(number) => put_unsigned(out, tag::TIME_TICKS, *number),
+        Value::Opaque(octets) => put_octets(out, tag::OPAQUE, octets),
     }
 }
 
@@ -292,7 +272,7 @@ fn put_binding_content(out: &mut Out, binding: &Bind<'_>)
     requires { array_vec_len out.old + length (element 6 (name_octets binding.now.name) ++ value_octets (object_value binding.now.value)) ≤ 1472 }
     ensures { out.new.items ≡ out.old.items ++ (element 6 (name_octets binding.now.name) ++ value_octets (object_value binding.now.value)) }
 {
-    put_octets(out, OBJECT_IDENTIFIER, binding.name.content());
+    put_octets(out, tag::OBJECT_IDENTIFIER, binding.name.content());
     put_value(out, &binding.value);
 }
 
@@ -303,7 +283,7 @@ fn put_binding(out: &mut Out, binding: &Bind<'_>)
     ensures { out.new.items ≡ out.old.items ++ binding_octets (var_bind binding.now) }
 {
     let size = size_of_octets(binding.name.content()) + size_of_value(&binding.value);
-    put_head(out, SEQUENCE, size);
+    put_head(out, tag::SEQUENCE, size);
     put_binding_content(out, binding);
 }
 
@@ -342,7 +322,7 @@ fn put_binding_list(out: &mut Out, bindings: &[Bind<'_>], size: usize)
     requires room { array_vec_len out.old + length (element 48 (flat_map binding_octets (map var_bind bindings.now))) ≤ 1472 }
     ensures { out.new.items ≡ out.old.items ++ element 48 (flat_map binding_octets (map var_bind bindings.now)) }
 {
-    put_head(out, SEQUENCE, size);
+    put_head(out, tag::SEQUENCE, size);
     put_bindings(out, bindings);
 }
 
@@ -352,10 +332,10 @@ fn tag_of_pdu(kind: Kind) -> u8
     ensures { result ≡ tag_of kind }
 {
     match kind {
-        Kind::Get => 160,
-        Kind::GetNext => 161,
-        Kind::Response => 162,
-        Kind::Set => 163,
+        Kind::Get => tag::GET,
+        Kind::GetNext => tag::GET_NEXT,
+        Kind::Response => tag::RESPONSE,
+        Kind::Set => tag::SET,
     }
 }
 
@@ -440,8 +420,8 @@ fn put_opening(out: &mut Out, community: &[u8])
     requires { array_vec_len out.old + length (element 2 (0 ∷ []) ++ element 4 community.now) ≤ 1472 }
     ensures { out.new.items ≡ out.old.items ++ (element 2 (0 ∷ []) ++ element 4 community.now) }
 {
-    put_octets(out, INTEGER, &[0]);
-    put_octets(out, OCTET_STRING, community);
+    put_octets(out, tag::INTEGER, &[0]);
+    put_octets(out, tag::OCTET_STRING, community);
 }
 
 /// Writes the content of the message, of which the bindings take `size` octets.
@@ -466,7 +446,7 @@ fn put_message(out: &mut Out, parts: &MessageParts<'_>, size: usize)
     requires room { array_vec_len out.old + length (canonical (snmp_message_of_parts parts.now)) ≤ 1472 }
     ensures { out.new.items ≡ out.old.items ++ canonical (snmp_message_of_parts parts.now) }
 {
-    put_head(out, SEQUENCE, size_of_message_content(parts, size));
+    put_head(out, tag::SEQUENCE, size_of_message_content(parts, size));
     put_message_content(out, parts, size);
 }
 
