@@ -1,0 +1,11 @@
+pub mod Bodies
+pub mod Digits
+pub mod CanonicalLaws
+pub mod Cuts
+pub mod ItemLaws
+pub mod Numbers
+pub mod ReadLaws
+pub mod Readings
+pub mod Tags
+pub mod Values
+pub mod Walk

@@ -1,0 +1,222 @@
+-- What reading a value finds is spelled so, and what is spelled so is found.
+use Rattle.std.proofs.Common.{◌≡◌, ℕ, ◌<◌, ◌≤◌, Bool, true, false, cond, leb, eqb, List, [], ◌∷◌, ◌++◌, length, Option, Some, None, option_map, refl, sym, ap, ◌∙◌, inl, inr, ◌⊎◌, arith, subst, append-nil, length-append}
+use Rattle.std.specs.Prelude.{option_and_then}
+use Rattle.std.specs.Char.{to_ascii_lowercase, is_digit, digit_value}
+use Rattle.std.specs.List.{list_all}
+use Rattle.std.specs.Str.Parse.{AllDigits}
+use Rattle.std.proofs.lemmas.Bool.{eqb-true, eq-eqb, lt-ltb, le-leb, ltb-true, leb-true, and_from, and_parts, ne_eqb}
+use Rattle.std.proofs.lemmas.Bool.Decides.{nat_tests}
+use Rattle.dms_multi.specs.Reading.{cut, number_of, within, decimal_of, value_of, version_of}
+use Rattle.dms_multi.specs.TagReading.{time_pair, times_in, times_of, font_pair, font_in, font_of}
+use Rattle.dms_multi.specs.Grammar.{Digits, Number, Value, Times, FontValue, Word}
+use Rattle.dms_multi.specs.declared.value.TwoTimes.{TwoTimes}
+use Rattle.dms_multi.proofs.Cuts.{IsFree, IsCut, cut_again, cut_free, cut_found}
+
+-- which way a choice went
+pub chosen : {A : Type 0} {x y z : A} (b : Bool) → cond b x y ≡ z → ((b ≡ true) × (x ≡ z)) ⊎ ((b ≡ false) × (y ≡ z))
+chosen true e = inl (refl, e)
+chosen false e = inr (refl, e)
+
+chosen_some : {A : Type 0} {x z : A} (b : Bool) → cond b (Some x) None ≡ Some z → (b ≡ true) × (x ≡ z)
+chosen_some true e = (refl, cc)
+chosen_some false e = absurd cc
+
+-- ---- digits
+
+digits_each : (base : ℕ) (text : List ℕ) → list_all (λ c. is_digit c base) text ≡ true → AllDigits base text
+digits_each base [] e = tt
+digits_each base (c ∷ cs) e = let both = and_parts _ _ e in (ltb-true _ _ both.0, digits_each base cs both.1)
+
+digits_test : (base : ℕ) (text : List ℕ) → AllDigits base text → list_all (λ c. is_digit c base) text ≡ true
+digits_test base [] all = refl
+digits_test base (c ∷ cs) all = and_from _ _ (lt-ltb _ _ all.0) (digits_test base cs all.1)
+
+pub number_found : (base most n : ℕ) (text : List ℕ) → number_of base most text ≡ Some n → Digits base most n text
+unfolding number_of
+number_found base most n text e =
+    let found = chosen_some _ e in
+    let tests = and_parts _ _ found.0 in
+    let others = and_parts _ _ tests.1 in
+    record {
+      numeral = (ltb-true _ _ tests.0, digits_each base text others.1);
+      few = leb-true _ _ others.0;
+      value = sym found.1;
+    }
+
+pub number_again : (base most n : ℕ) (text : List ℕ) → Digits base most n text → number_of base most text ≡ Some n
+unfolding number_of
+number_again base most n text d =
+    let tests = and_from _ _ (lt-ltb _ _ d.numeral.0) (and_from _ _ (le-leb _ _ d.few) (digits_test base text d.numeral.1)) in
+    rw tests (ap Some (sym d.value))
+
+decimal_in : (low high n : ℕ) (text : List ℕ) (o : Option ℕ) → ((m : ℕ) → o ≡ Some m → Digits 10 5 m text) → option_and_then (within low high) o ≡ Some n → Number low high n text
+decimal_in low high n text None digits e = absurd cc
+decimal_in low high n text (Some m) digits e =
+    let found = chosen_some _ e in
+    let tests = and_parts (leb low m) (leb m high) found.0 in
+    record {
+      digits = subst (λ (k : ℕ). Digits 10 5 k text) found.1 (digits m refl);
+      least = omega (arith, leb-true low m tests.0, found.1);
+      greatest = omega (arith, leb-true m high tests.1, found.1);
+    }
+
+pub decimal_found : (low high n : ℕ) (text : List ℕ) → decimal_of low high text ≡ Some n → Number low high n text
+unfolding decimal_of
+decimal_found low high n text e = decimal_in low high n text (number_of 10 5 text) (λ m. number_found 10 5 m text) e
+
+pub decimal_again : (low high n : ℕ) (text : List ℕ) → Number low high n text → decimal_of low high text ≡ Some n
+unfolding decimal_of
+decimal_again low high n text d =
+    let tests = and_from _ _ (le-leb _ _ d.least) (le-leb _ _ d.greatest) in
+    ap (option_and_then (within low high)) (number_again 10 5 n text d.digits) ∙ rw tests refl
+
+-- ---- values
+
+pub mapped_some : {A B : Type 0} (f : A → B) (o : Option A) (y : B) → option_map f o ≡ Some y → (x : A) × (o ≡ Some x) × (f x ≡ y)
+mapped_some f None y e = absurd cc
+mapped_some f (Some x) y e = (x, refl, cc)
+
+value_some : (low high : ℕ) (v : Option ℕ) (n : ℕ) (text : List ℕ) → Number low high n text → Some n ≡ v → Value low high v text
+value_some low high v n text number e = subst (λ (w : Option ℕ). Value low high w text) e number
+
+pub value_found : (low high : ℕ) (v : Option ℕ) (text : List ℕ) → value_of low high text ≡ Some v → Value low high v text
+unfolding value_of
+value_found low high v [] e = let none : None ≡ v = cc in subst (λ (w : Option ℕ). Value low high w []) none refl
+value_found low high v (c ∷ cs) e =
+    let found = mapped_some Some _ v e in
+    value_some low high v found.0 (c ∷ cs) (decimal_found low high found.0 (c ∷ cs) found.1) found.2
+
+pub value_again : (low high : ℕ) (v : Option ℕ) (text : List ℕ) → Value low high v text → value_of low high text ≡ Some v
+unfolding value_of
+value_again low high None text nothing = ap (value_of low high) nothing
+value_again low high (Some n) [] number = absurd (omega (arith, number.digits.numeral.0))
+value_again low high (Some n) (c ∷ cs) number = ap (option_map Some) (decimal_again low high n (c ∷ cs) number)
+
+-- ---- letters
+
+pub digit_value_lower : (c : ℕ) → digit_value (to_ascii_lowercase c) ≡ digit_value c
+digit_value_lower c = grind (arith, nat_tests)
+
+-- a change of case makes letters alone
+pub lower_other : (c k : ℕ) → to_ascii_lowercase c ≡ k → k < 97 → c ≡ k
+lower_other c k e small = grind (arith, nat_tests)
+
+-- digits do not hold a letter that is none
+pub free_digits : (base letter : ℕ) (text : List ℕ) → base ≤ digit_value letter → AllDigits base text → IsFree letter text
+free_digits base letter [] large all = tt
+free_digits base letter (c ∷ cs) large all =
+    let differs : to_ascii_lowercase c ≡ letter → ⊥ = λ e. absurd (let same : digit_value letter ≡ digit_value c = sym (ap digit_value e) ∙ digit_value_lower c in omega (arith, all.0, same)) in
+    (ne_eqb _ _ differs, free_digits base letter cs large all.1)
+
+pub free_value : (letter low high : ℕ) (v : Option ℕ) (text : List ℕ) → 10 ≤ digit_value letter → Value low high v text → IsFree letter text
+free_value letter low high None text large nothing = subst (IsFree letter) (sym nothing) tt
+free_value letter low high (Some n) text large number = free_digits 10 letter text large number.digits.numeral.1
+
+-- ---- two times
+
+paired_some : (a b : Option (Option ℕ)) (t : TwoTimes) → time_pair a b ≡ Some t → (a ≡ Some t.first) × (b ≡ Some t.second)
+paired_some None b t e = absurd cc
+paired_some (Some x) None t e = absurd cc
+paired_some (Some x) (Some y) t e =
+    let same : record { first = x; second = y } ≡ t = cc in
+    (ap (λ (u : TwoTimes). Some u.first) same, ap (λ (u : TwoTimes). Some u.second) same)
+
+times_found_in : (letter high : ℕ) (text : List ℕ) (o : Option (List ℕ × List ℕ)) (t : TwoTimes) → ((front back : List ℕ) → o ≡ Some (front, back) → IsCut letter text front back) → times_in high text o ≡ Some t → Times (letter ∷ []) high t.first t.second text
+times_found_in letter high text None t pieces e =
+    let both = paired_some _ _ t e in
+    let none : t.second ≡ None = cc in
+    record { front = text; back = []; first = value_found 0 high t.first text both.0; second = inr (none, refl); parts = sym (append-nil text) }
+times_found_in letter high text (Some (front, back)) t pieces e =
+    let both = paired_some _ _ t e in
+    let there = pieces front back refl in
+    record {
+      front = front;
+      back = there.octet ∷ back;
+      first = value_found 0 high t.first front both.0;
+      second = inl (record { front = there.octet ∷ []; back = back; first = ap (λ c. c ∷ []) there.is; second = value_found 0 high t.second back both.1; parts = refl });
+      parts = there.parts;
+    }
+
+pub times_found : (letter high : ℕ) (text : List ℕ) (t : TwoTimes) → times_of letter high text ≡ Some t → Times (letter ∷ []) high t.first t.second text
+unfolding times_of
+times_found letter high text t e = times_found_in letter high text (cut letter text) t (λ front back. cut_found letter text front back) e
+
+-- a word of one letter
+pub one_letter : (letter : ℕ) (text : List ℕ) → Word (letter ∷ []) text → (c : ℕ) × (text ≡ c ∷ []) × (to_ascii_lowercase c ≡ letter)
+one_letter letter [] word = absurd cc
+one_letter letter (c ∷ []) word = let same : to_ascii_lowercase c ≡ letter = cc in (c, refl, same)
+one_letter letter (c ∷ d ∷ cs) word = absurd cc
+
+pub times_again : (letter high : ℕ) (first second : Option ℕ) (text : List ℕ) → 10 ≤ digit_value letter → Times (letter ∷ []) high first second text → times_of letter high text ≡ Some (record { first = first; second = second })
+unfolding times_of
+times_again letter high first second text large times =
+    elim times.second [
+      | inl later ↦ (
+          let octet = one_letter letter later.front later.first in
+          let whole : text ≡ times.front ++ octet.0 ∷ later.back = times.parts ∙ ap (λ t. times.front ++ t) (later.parts ∙ ap (λ t. t ++ later.back) octet.1) in
+          let there : cut letter text ≡ Some (times.front, later.back) = ap (cut letter) whole ∙ cut_again letter octet.0 times.front later.back (free_value letter 0 high first times.front large times.first) octet.2 in
+          rw (there, value_again 0 high first times.front times.first, value_again 0 high second later.back later.second) refl)
+      | inr nothing ↦ (
+          let whole : text ≡ times.front = times.parts ∙ ap (λ t. times.front ++ t) nothing.1 ∙ append-nil times.front in
+          let first_alone : Value 0 high first text = subst (Value 0 high first) (sym whole) times.first in
+          rw (cut_free letter text (free_value letter 0 high first text large first_alone), value_again 0 high first text first_alone, nothing.0) refl)
+    ]
+
+-- ---- fonts
+
+version_found : (v : ℕ) (text : List ℕ) → version_of text ≡ Some v → Digits 16 4 v text × (length text ≡ 4)
+unfolding version_of
+version_found v text e = elim (chosen (eqb (length text) 4) e) [
+  | inl four ↦ (number_found 16 4 v text four.1, eqb-true _ _ four.0)
+  | inr other ↦ absurd (let never : None ≡ Some v = other.1 in cc)
+]
+
+version_again : (v : ℕ) (text : List ℕ) → Digits 16 4 v text → length text ≡ 4 → version_of text ≡ Some v
+unfolding version_of
+version_again v text digits four = rw (eq-eqb _ _ four) (number_again 16 4 v text digits)
+
+versioned_some : (a b : Option ℕ) (v : Option (ℕ × Option ℕ)) → font_pair a b ≡ Some v → (n version : ℕ) × (a ≡ Some n) × (b ≡ Some version) × (Some (n, Some version) ≡ v)
+versioned_some None b v e = absurd cc
+versioned_some (Some n) None v e = absurd cc
+versioned_some (Some n) (Some version) v e = (n, version, refl, refl, cc)
+
+font_found_in : (text : List ℕ) (o : Option (List ℕ × List ℕ)) (v : Option (ℕ × Option ℕ)) → ((front back : List ℕ) → o ≡ Some (front, back) → IsCut 44 text front back) → font_in text o ≡ Some v → FontValue v text
+font_found_in text None v pieces e =
+    let found = mapped_some _ _ v e in
+    subst (λ (w : Option (ℕ × Option ℕ)). FontValue w text) found.2 (decimal_found 1 255 found.0 text found.1)
+font_found_in text (Some (front, back)) v pieces e =
+    let small : 44 < 97 = omega arith in
+    let found = versioned_some _ _ v e in
+    let there = pieces front back refl in
+    let version = version_found found.1 back found.3 in
+    let comma : there.octet ∷ [] ≡ 44 ∷ [] = ap (λ c. c ∷ []) (lower_other there.octet 44 there.is small) in
+    let spelled : FontValue (Some (found.0, Some found.1)) text = record {
+      front = front;
+      back = there.octet ∷ back;
+      first = decimal_found 1 255 found.0 front found.2;
+      second = record { front = there.octet ∷ []; back = back; first = comma; second = version; parts = refl };
+      parts = there.parts;
+    } in
+    subst (λ (w : Option (ℕ × Option ℕ)). FontValue w text) found.4 spelled
+
+pub font_found : (v : Option (ℕ × Option ℕ)) (text : List ℕ) → font_of text ≡ Some v → FontValue v text
+unfolding font_of
+font_found v [] e = let none : None ≡ v = cc in subst (λ (w : Option (ℕ × Option ℕ)). FontValue w []) none refl
+font_found v (c ∷ cs) e = font_found_in (c ∷ cs) (cut 44 (c ∷ cs)) v (λ front back. cut_found 44 (c ∷ cs) front back) e
+
+font_some : (text : List ℕ) → 0 < length text → font_of text ≡ font_in text (cut 44 text)
+unfolding font_of
+font_some [] some = absurd (omega arith)
+font_some (c ∷ cs) some = refl
+
+pub font_again : (v : Option (ℕ × Option ℕ)) (text : List ℕ) → FontValue v text → font_of text ≡ Some v
+font_again None text nothing = ap font_of nothing ∙ (unfold font_of in refl)
+font_again (Some (n, None)) text number =
+    font_some text number.digits.numeral.0 ∙ rw (cut_free 44 text (free_digits 10 44 text (omega arith) number.digits.numeral.1), decimal_again 1 255 n text number) refl
+font_again (Some (n, Some version)) text parts =
+    let number = parts.first in
+    let tail = parts.second in
+    let whole : text ≡ parts.front ++ 44 ∷ tail.back = parts.parts ∙ ap (λ t. parts.front ++ t) (tail.parts ∙ ap (λ t. t ++ tail.back) tail.first) in
+    let some : 0 < length text = rw whole (rw length-append (omega (arith, number.digits.numeral.0))) in
+    let there : cut 44 text ≡ Some (parts.front, tail.back) = ap (cut 44) whole ∙ cut_again 44 44 parts.front tail.back (free_digits 10 44 parts.front (omega arith) number.digits.numeral.1) refl in
+    font_some text some ∙ rw (there, decimal_again 1 255 n parts.front number, version_again version tail.back tail.second.0 tail.second.1) refl

@@ -1,0 +1,279 @@
+//! Writing items as their canonical text.
+ghost use Rattle.std.specs.Prelude.{◌≡◌, ◌↔◌, ℕ, ◌+◌, ◌<◌, ◌≤◌, ◌++◌, [], true, All, IsOk, OnErr, OnOk, length, codes, decimal};
+ghost use Rattle.std.specs.Fmt.{digits, digit_glyph};
+ghost use Rattle.dms_multi.specs.Item.{IsInRange};
+ghost use Rattle.dms_multi.specs.Grammar.{plain};
+ghost use Rattle.dms_multi.specs.Canonical.{value_text, later_time_text, hexadecimal_text, leading_zeros, font_text, flash_text, body_text, tag_text, item_text, text_of};
+
+use crate::fault::TooLong;
+use crate::item::{Item, Lead};
+use arrayvec::ArrayVec;
+use itoa::Buffer;
+
+type Text = ArrayVec<u8, 512>;
+
+/// Appends the octets.
+fn put(text: &mut Text, octets: &[u8]) -> Result<(), TooLong>
+    requires { length text.old.items ≤ 512 }
+    ensures ok { OnOk result (text.new.items ≡ text.old.items ++ octets.now) }
+    ensures err { OnErr result (512 < length text.old.items + length octets.now) }
+    ensures room { OnOk result (length text.new.items ≤ 512) }
+{
+    match text.try_extend_from_slice(octets) {
+        Ok(()) => Ok(()),
+        Err(_) => Err(TooLong),
+    }
+}
+
+/// Appends a number in decimal digits.
+fn put_number(text: &mut Text, number: u8) -> Result<(), TooLong>
+    requires { length text.old.items ≤ 512 }
+    ensures ok { OnOk result (text.new.items ≡ text.old.items ++ decimal number) }
+    ensures err { OnErr result (512 < length text.old.items + length (decimal number)) }
+    ensures room { OnOk result (length text.new.items ≤ 512) }
+{
+    put(text, Buffer::new().format(number).as_bytes())
+}
+
+/// Appends a value, if it is there.
+fn put_value(text: &mut Text, value: Option<u8>) -> Result<(), TooLong>
+    requires { length text.old.items ≤ 512 }
+    ensures ok { OnOk result (text.new.items ≡ text.old.items ++ value_text value) }
+    ensures err { OnErr result (512 < length text.old.items + length (value_text value)) }
+    ensures room { OnOk result (length text.new.items ≤ 512) }
+{
+    match value {
+        Some(number) => put_number(text, number),
+        None => Ok(()),
+    }
+}
+
+/// Appends a letter and the time behind it, if there is one.
+fn put_later_time(text: &mut Text, letter: &[u8], time: Option<u8>) -> Result<(), TooLong>
+    requires { length text.old.items ≤ 512 }
+    ensures ok { OnOk result (text.new.items ≡ text.old.items ++ later_time_text letter.now time) }
+    ensures err { OnErr result (512 < length text.old.items + length (later_time_text letter.now time)) }
+    ensures room { OnOk result (length text.new.items ≤ 512) }
+{
+    match time {
+        Some(number) => {
+            put(text, letter)?;
+            put_number(text, number)
+        }
+        None => Ok(()),
+    }
+}
+
+/// The hexadecimal digit of a number below 16, from `A` or from `a` on above 9.
+fn digit(number: u16, upper: bool) -> u8
+    requires { number < 16 }
+    ensures { result ≡ digit_glyph upper number }
+{
+    let number = number as u8;
+    if number < 10 {
+        b'0' + number
+    } else if upper {
+        b'A' - 10 + number
+    } else {
+        b'a' - 10 + number
+    }
+}
+
+/// The four hexadecimal digits of a number.
+fn four_digits(number: u16, upper: bool) -> [u8; 4]
+    ensures { result ≡ hexadecimal_text upper number }
+{
+    [
+        digit(number / 4096, upper),
+        digit(number / 256 % 16, upper),
+        digit(number / 16 % 16, upper),
+        digit(number % 16, upper),
+    ]
+}
+
+/// Appends a font's number and version.
+fn put_font(text: &mut Text, font: Option<(u8, Option<u16>)>) -> Result<(), TooLong>
+    requires { length text.old.items ≤ 512 }
+    ensures ok { OnOk result (text.new.items ≡ text.old.items ++ font_text font) }
+    ensures err { OnErr result (512 < length text.old.items + length (font_text font)) }
+    ensures room { OnOk result (length text.new.items ≤ 512) }
+{
+    match font {
+        Some((number, Some(version))) => {
+            put_number(text, number)?;
+            put(text, b",")?;
+            put(text, &four_digits(version, false))
+        }
+        Some((number, None)) => put_number(text, number),
+        None => Ok(()),
+    }
+}
+
+/// Appends two times, each behind its letter.
+fn put_times(
+    text: &mut Text,
+    first: Option<u8>,
+    letter: &[u8],
+    second: Option<u8>,
+) -> Result<(), TooLong>
+    requires { length text.old.items ≤ 512 }
+    ensures ok { OnOk result (text.new.items ≡ text.old.items ++ (value_text first ++ later_time_text letter.now second)) }
+    ensures err { OnErr result (512 < length text.old.items + length (value_text first ++ later_time_text letter.now second)) }
+    ensures room { OnOk result (length text.new.items ≤ 512) }
+{
+    put_value(text, first)?;
+    put_later_time(text, letter, second)
+}
+
+/// Appends the times of a flash.
+fn put_flash(text: &mut Text, first: Lead, lit: Option<u8>, dark: Option<u8>) -> Result<(), TooLong>
+    requires { length text.old.items ≤ 512 }
+    ensures ok { OnOk result (text.new.items ≡ text.old.items ++ flash_text first lit dark) }
+    ensures err { OnErr result (512 < length text.old.items + length (flash_text first lit dark)) }
+    ensures room { OnOk result (length text.new.items ≤ 512) }
+{
+    match first {
+        Lead::Lit => {
+            if lit.is_none() && dark.is_none() {
+                return Ok(());
+            }
+            put(text, b"t")?;
+            put_times(text, lit, b"o", dark)
+        }
+        Lead::Dark => {
+            put(text, b"o")?;
+            put_times(text, dark, b"t", lit)
+        }
+    }
+}
+
+/// How many of a number's four hexadecimal digits are leading zeros; the last one is none.
+fn leading_zeros(number: u16) -> usize
+    ensures { result ≡ leading_zeros number }
+{
+    if number < 16 {
+        3
+    } else if number < 256 {
+        2
+    } else if number < 4096 {
+        1
+    } else {
+        0
+    }
+}
+
+/// Appends a character's number in capital hexadecimal digits.
+#[tactic(auto, using(crate::proofs::Digits::digits_dropped))]
+fn put_character(text: &mut Text, character: u16) -> Result<(), TooLong>
+    requires { length text.old.items ≤ 512 }
+    ensures ok { OnOk result (text.new.items ≡ text.old.items ++ digits 16 true character) }
+    ensures err { OnErr result (512 < length text.old.items + length (digits 16 true character)) }
+    ensures room { OnOk result (length text.new.items ≤ 512) }
+{
+    put(
+        text,
+        &four_digits(character, true)[leading_zeros(character)..],
+    )
+}
+
+/// Appends a tag's name and its value, if it is there.
+fn put_named(text: &mut Text, name: &[u8], value: Option<u8>) -> Result<(), TooLong>
+    requires { length text.old.items ≤ 512 }
+    ensures ok { OnOk result (text.new.items ≡ text.old.items ++ (name.now ++ value_text value)) }
+    ensures err { OnErr result (512 < length text.old.items + length (name.now ++ value_text value)) }
+    ensures room { OnOk result (length text.new.items ≤ 512) }
+{
+    put(text, name)?;
+    put_value(text, value)
+}
+
+/// Appends what stands between the brackets of the item's tag.
+fn put_body(text: &mut Text, item: Item) -> Result<(), TooLong>
+    requires { length text.old.items ≤ 512 }
+    ensures ok { OnOk result (text.new.items ≡ text.old.items ++ body_text item) }
+    ensures err { OnErr result (512 < length text.old.items + length (body_text item)) }
+    ensures room { OnOk result (length text.new.items ≤ 512) }
+{
+    match item {
+        Item::Char(character) => {
+            put(text, b"hc")?;
+            put_character(text, character)
+        }
+        Item::Background(colour) => put_named(text, b"pb", colour),
+        Item::Foreground(colour) => put_named(text, b"cf", colour),
+        Item::Font(font) => {
+            put(text, b"fo")?;
+            put_font(text, font)
+        }
+        Item::FlashOn { first, lit, dark } => {
+            put(text, b"fl")?;
+            put_flash(text, first, lit, dark)
+        }
+        Item::FlashEnd => put(text, b"/fl"),
+        Item::JustLine(place) => put_named(text, b"jl", place),
+        Item::JustPage(place) => put_named(text, b"jp", place),
+        Item::NewLine(gap) => put_named(text, b"nl", gap),
+        Item::NewPage => put(text, b"np"),
+        Item::PageTime { lit, dark } => {
+            put(text, b"pt")?;
+            put_times(text, lit, b"o", dark)
+        }
+    }
+}
+
+/// Appends the item's tag.
+fn put_tag(text: &mut Text, item: Item) -> Result<(), TooLong>
+    requires { length text.old.items ≤ 512 }
+    ensures ok { OnOk result (text.new.items ≡ text.old.items ++ tag_text item) }
+    ensures err { OnErr result (512 < length text.old.items + length (tag_text item)) }
+    ensures room { OnOk result (length text.new.items ≤ 512) }
+{
+    put(text, b"[")?;
+    put_body(text, item)?;
+    put(text, b"]")
+}
+
+/// Appends a character as itself, a bracket twice.
+fn put_plain(text: &mut Text, octet: u8) -> Result<(), TooLong>
+    requires { length text.old.items ≤ 512 }
+    ensures ok { OnOk result (text.new.items ≡ text.old.items ++ plain octet) }
+    ensures err { OnErr result (512 < length text.old.items + length (plain octet)) }
+    ensures room { OnOk result (length text.new.items ≤ 512) }
+{
+    if octet == b'[' || octet == b']' {
+        put(text, &[octet, octet])
+    } else {
+        put(text, &[octet])
+    }
+}
+
+/// Appends an item.
+#[tactic(auto, unfolding(crate::specs::Canonical::item_text))]
+fn put_item(text: &mut Text, item: Item) -> Result<(), TooLong>
+    requires { length text.old.items ≤ 512 }
+    ensures ok { OnOk result (text.new.items ≡ text.old.items ++ item_text item) }
+    ensures err { OnErr result (512 < length text.old.items + length (item_text item)) }
+    ensures room { OnOk result (length text.new.items ≤ 512) }
+{
+    match item {
+        Item::Char(character) if character < 256 => put_plain(text, character as u8),
+        _ => put_tag(text, item),
+    }
+}
+
+/// Writes the canonical text of the items, or nothing where it has more than 512 octets.
+pub fn render(items: &[Item], text: &mut ArrayVec<u8, 512>) -> Result<(), TooLong>
+    requires { All IsInRange items.now }
+    ensures fits { IsOk result ↔ (length (text_of items.now) ≤ 512) }
+    ensures ok { OnOk result (text.new.items ≡ text_of items.now) }
+    ensures err { OnErr result (text.new.items ≡ []) }
+{
+    text.clear();
+    for item in items {
+        if let Err(too_long) = put_item(text, *item) {
+            text.clear();
+            return Err(too_long);
+        }
+    }
+    Ok(())
+}

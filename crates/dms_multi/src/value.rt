@@ -1,0 +1,132 @@
+//! The values of tags: numbers, times and fonts.
+ghost use Rattle.std.specs.Prelude.{◌≡◌, ◌≤◌, ◌<◌, ◌^◌, IfSome, option_map, position};
+ghost use Rattle.dms_multi.specs.Reading.{number_of, decimal_of, value_of, is_letter, cut, halves, version_of};
+ghost use Rattle.dms_multi.specs.TagReading.{time_pair, times_of, font_pair, font_of};
+
+/// Two times, either of which may be missing.
+#[derive(Clone, Copy)]
+pub(crate) struct TwoTimes {
+    pub first: Option<u8>,
+    pub second: Option<u8>,
+}
+
+/// The number that one to `most` digits of the base spell.
+#[tactic(auto, unfolding(crate::specs::Reading::number_of))]
+pub(crate) fn number(digits: &[u8], base: u32, most: usize) -> Option<u32>
+    requires least_base { 2 ≤ base }
+    requires greatest_base { base ≤ 16 }
+    requires short { most ≤ 5 }
+    ensures exact { result ≡ number_of base most digits.now }
+    ensures below { IfSome result (λ value. value < 16 ^ most) }
+{
+    if digits.is_empty() || digits.len() > most {
+        return None;
+    }
+    let mut value = 0;
+    for octet in digits {
+        let Some(digit) = char::from(*octet).to_digit(base) else {
+            return None;
+        };
+        value = value * base + digit;
+    }
+    Some(value)
+}
+
+/// The number from `low` to `high` that one to five decimal digits spell.
+#[tactic(auto, unfolding(crate::specs::Reading::decimal_of))]
+fn decimal(digits: &[u8], low: u8, high: u8) -> Option<u8>
+    ensures { result ≡ decimal_of low high digits.now }
+{
+    match number(digits, 10, 5) {
+        Some(value) if u32::from(low) <= value && value <= u32::from(high) => Some(value as u8),
+        _ => None,
+    }
+}
+
+/// A number from `low` to `high`, or none where nothing stands.
+#[tactic(auto, unfolding(crate::specs::Reading::value_of))]
+pub(crate) fn value(digits: &[u8], low: u8, high: u8) -> Option<Option<u8>>
+    ensures { result ≡ value_of low high digits.now }
+{
+    if digits.is_empty() {
+        return Some(None);
+    }
+    decimal(digits, low, high).map(Some)
+}
+
+/// What stands before and behind the first octet that is `letter` in either case.
+#[tactic(auto, unfolding(crate::specs::Reading::cut))]
+pub(crate) fn cut(text: &[u8], letter: u8) -> Option<(&[u8], &[u8])>
+    ensures { option_map halves result ≡ cut letter text.now }
+{
+    let place = place_of(text, letter)?;
+    Some((&text[..place], &text[place + 1..]))
+}
+
+fn place_of(text: &[u8], letter: u8) -> Option<usize>
+    ensures { result ≡ position (is_letter letter) text.now }
+{
+    text.iter()
+        .position(|octet| octet.to_ascii_lowercase() == letter)
+}
+
+fn time_pair(first: Option<Option<u8>>, second: Option<Option<u8>>) -> Option<TwoTimes>
+    ensures { result ≡ time_pair first second }
+{
+    match (first, second) {
+        (Some(first), Some(second)) => Some(TwoTimes { first, second }),
+        _ => None,
+    }
+}
+
+/// A time up to `high`, and perhaps another behind the letter.
+#[tactic(auto, unfolding(crate::specs::TagReading::times_of))]
+pub(crate) fn times(text: &[u8], letter: u8, high: u8) -> Option<TwoTimes>
+    ensures { result ≡ times_of letter high text.now }
+{
+    match cut(text, letter) {
+        Some((front, back)) => time_pair(value(front, 0, high), value(back, 0, high)),
+        None => time_pair(value(text, 0, high), Some(None)),
+    }
+}
+
+/// The number that one to four hexadecimal digits spell.
+pub(crate) fn hexadecimal(digits: &[u8]) -> Option<u16>
+    ensures { result ≡ number_of 16 4 digits.now }
+{
+    number(digits, 16, 4).map(|value| value as u16)
+}
+
+#[tactic(auto, unfolding(crate::specs::Reading::version_of))]
+fn version(digits: &[u8]) -> Option<u16>
+    ensures { result ≡ version_of digits.now }
+{
+    if digits.len() == 4 {
+        hexadecimal(digits)
+    } else {
+        None
+    }
+}
+
+/// A font's number and version, or neither.
+#[tactic(auto, unfolding(crate::specs::TagReading::font_of))]
+pub(crate) fn font(text: &[u8]) -> Option<Option<(u8, Option<u16>)>>
+    ensures { result ≡ font_of text.now }
+{
+    if text.is_empty() {
+        return Some(None);
+    }
+    match cut(text, b',') {
+        Some((front, back)) => font_pair(decimal(front, 1, 255), version(back)),
+        None => decimal(text, 1, 255).map(|number| Some((number, None))),
+    }
+}
+
+fn font_pair(number: Option<u8>, version: Option<u16>) -> Option<Option<(u8, Option<u16>)>>
+    ensures { result ≡ font_pair number version }
+{
+    match (number, version) {
+        (Some(number), Some(version)) => Some(Some((number, Some(version)))),
+        _ => None,
+    }
+}
