@@ -1,0 +1,41 @@
+-- What one more block at the end of a row changes.
+use Rattle.std.proofs.Common.{◌≡◌, ℕ, ◌+◌, true, false, List, [], ◌∷◌, ◌++◌, refl, ap, sym, ◌∙◌, arith, unwrap_or}
+use Rattle.dms_face.specs.declared.room.Block.{Block}
+use Rattle.dms_face.specs.declared.room.Run.{Run}
+use Rattle.dms_face.specs.Layout.{is_blank}
+use Rattle.dms_face.specs.Room.{average, extent}
+use Rattle.dms_face.specs.Totals.{last_spacing, Sums}
+
+pub is_blank_push : {A : Type 0} → (xs : List A) (x : A) → is_blank (xs ++ x ∷ []) ≡ false
+is_blank_push [] x = refl
+is_blank_push (y ∷ ys) x = refl
+
+pub last_spacing_push : (blocks : List Block) (block : Block) → last_spacing (blocks ++ block ∷ []) ≡ block.spacing
+last_spacing_push [] block = refl
+last_spacing_push (a ∷ []) block = refl
+last_spacing_push (a ∷ b ∷ rest) block = last_spacing_push (b ∷ rest) block
+
+pub extent_push : (blocks : List Block) (block : Block) → is_blank blocks ≡ false
+    → extent (blocks ++ block ∷ []) ≡ extent blocks + unwrap_or block.gap (average (last_spacing blocks) block.spacing) + block.size
+extent_push [] block some = cc
+extent_push (a ∷ []) block some = refl
+extent_push (a ∷ b ∷ rest) block some = let more : extent ((b ∷ rest) ++ block ∷ []) ≡ extent (b ∷ rest) + unwrap_or block.gap (average (last_spacing (b ∷ rest)) block.spacing) + block.size = extent_push (b ∷ rest) block refl in omega arith
+
+-- the first block of a row
+pub sums_first : (run : Run) (blocks : List Block) (block : Block) → Sums run blocks → run.any ≡ false
+    → Sums (record { any = true; size = block.size; spacing = block.spacing }) (blocks ++ block ∷ [])
+sums_first run [] block sums none = record { any = refl; size = refl; spacing = refl }
+sums_first run (a ∷ rest) block sums none = let wrong : true ≡ false = sym sums.any ∙ none in cc
+
+-- a later block of a row
+pub sums_more : (total : ℕ) (run : Run) (blocks : List Block) (block : Block) → Sums run blocks → run.any ≡ true
+    → total ≡ run.size + unwrap_or block.gap (average run.spacing block.spacing) + block.size
+    → Sums (record { any = true; size = total; spacing = block.spacing }) (blocks ++ block ∷ [])
+sums_more total run [] block sums some is = let wrong : false ≡ true = sym sums.any ∙ some in cc
+sums_more total run (a ∷ rest) block sums some is = record {
+  any = refl;
+  size = is ∙ ap (λ n. n + unwrap_or block.gap (average run.spacing block.spacing) + block.size) sums.size
+      ∙ ap (λ n. extent (a ∷ rest) + unwrap_or block.gap (average n block.spacing) + block.size) sums.spacing
+      ∙ sym (extent_push (a ∷ rest) block refl);
+  spacing = sym (last_spacing_push (a ∷ rest) block);
+}

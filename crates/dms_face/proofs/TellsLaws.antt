@@ -1,0 +1,56 @@
+-- What running sums tell of a layout, once a page or a part is closed.
+use Rattle.std.proofs.Common.{◌≡◌, ℕ, ◌+◌, Bool, true, false, cond, ◌||◌, eqb, List, [], ◌∷◌, Option, Some, None, refl, ap, sym, ◌∙◌, subst, length-append}
+use Rattle.std.specs.Borrow.{Bor}
+use Rattle.std.specs.Option.{option_copied, IsSome}
+use Rattle.dms_face.specs.declared.totals.Totals.{Totals}
+use Rattle.dms_face.specs.Font.{FontModel}
+use Rattle.dms_face.specs.Face.{font_in, has_font}
+use Rattle.dms_face.specs.Layout.{Layout, closed, with_page, with_part}
+use Rattle.dms_face.specs.Totals.{Tells}
+
+-- the open page is closed
+pub tells_page : (totals : Totals) (layout : Layout) → Tells totals (record layout { lines = []; characters = []; gap = None })
+    → Tells (record totals { pages = totals.pages + 1 }) (with_page layout)
+tells_page totals layout tells = record {
+  pages = ap (λ n. n + 1) tells.pages ∙ sym (length-append layout.pages _);
+  lines = tells.lines;
+  characters = tells.characters;
+  height = tells.height;
+  spacing = tells.spacing;
+  gap = tells.gap;
+  side = tells.side;
+  part = tells.part;
+  font = tells.font;
+}
+
+-- the part changes
+pub tells_part : (totals : Totals) (layout : Layout) (part : ℕ) → eqb part layout.style.part ≡ false
+    → Tells totals (record layout { lines = closed layout; characters = []; gap = None })
+    → Tells (record totals { part = part }) (with_part layout (record layout.style { part = part }))
+tells_part totals layout part other tells =
+    let P : Layout → Type 0 = λ l. Tells (record totals { part = part }) l in
+    let there : Layout = record { pages = layout.pages; lines = closed layout; characters = []; gap = None; style = record layout.style { part = part } } in
+    let same : with_part layout (record layout.style { part = part }) ≡ there = ap (λ b. cond b layout there) other in
+    subst P (sym same) (record {
+      pages = tells.pages;
+      lines = tells.lines;
+      characters = tells.characters;
+      height = tells.height;
+      spacing = tells.spacing;
+      gap = tells.gap;
+      side = tells.side;
+      part = refl;
+      font = tells.font;
+    })
+
+-- a font that is among these is found
+pub font_found : (fonts : List FontModel) (number : ℕ) → has_font fonts number ≡ true → (font : FontModel) × (font_in fonts number ≡ Some font)
+font_found [] number some = absurd (let wrong : false ≡ true = some in cc)
+font_found (font ∷ fonts) number some =
+    let M : Bool → Type 0 = λ b. (b || has_font fonts number) ≡ true → (found : FontModel) × (cond b (Some font) (font_in fonts number) ≡ Some found) in
+    let go : (b : Bool) → M b = λ b. elim b as M [ true ↦ λ h. (font, refl) | false ↦ λ h. font_found fonts number h ] in
+    go (eqb font.number number) some
+
+pub some_copied : {A : Type 0} (o : Option (Bor A)) (x : A) → option_copied o ≡ Some x → IsSome o
+some_copied (Some r) x is = refl
+some_copied None x is = absurd (let wrong : None ≡ Some x = is in cc)

@@ -1,0 +1,70 @@
+//! Whether a text can be shown on a face.
+
+ghost use Rattle.std.specs.Prelude.{◌≡◌, IsTrue, ◌↔◌, All};
+ghost use Rattle.std.specs.Result.{is_ok};
+ghost use Rattle.dms_face.specs.Face.{fit};
+ghost use Rattle.dms_face.specs.Layout.{under, blank_layout};
+ghost use Rattle.dms_multi.specs.Outcomes.{items_in};
+ghost use Rattle.dms_face.specs.Fit.{IsGood, checked_text};
+ghost use Rattle.dms_face.specs.OnePass.{walked};
+ghost use Rattle.dms_face.specs.Totals.{IsJustified};
+
+use crate::defaults::Defaults;
+use crate::face::Face;
+use crate::multi_fault::{MultiFault, MultiFaultCode};
+use crate::totals::Totals;
+use dms_multi::laws::one_list;
+use dms_multi::{Spots, items};
+
+/// The most octets of a text.
+pub const MAX_TEXT: usize = 512;
+
+/// The number of the text's pages, or why it can not be shown under the face's own defaults.
+pub fn check(face: &Face, text: &[u8]) -> Result<usize, MultiFault>
+    ensures exact { result ≡ checked_text face.now text.now }
+    ensures good { IsTrue (is_ok result) ↔ IsGood face.now text.now }
+{
+    check_with(face, &face.defaults(), text)
+}
+
+/// The number of the text's pages, or why it can not be shown under these defaults.
+pub fn check_with(face: &Face, defaults: &Defaults, text: &[u8]) -> Result<usize, MultiFault>
+    requires { IsTrue (fit face.now.fonts defaults.now) }
+    ensures exact { result ≡ checked_text (under face.now defaults.now) text.now }
+    ensures good { IsTrue (is_ok result) ↔ IsGood (under face.now defaults.now) text.now }
+{
+    if text.len() > MAX_TEXT {
+        return Err(MultiFault {
+            code: MultiFaultCode::TextTooBig,
+            place: MAX_TEXT,
+        });
+    }
+    one_list();
+    walk(face, defaults, items(text), text.len())
+}
+
+/// What is answered for a text that ends at this offset, by one walk over its items.
+fn walk(face: &Face, defaults: &Defaults, spots: Spots<'_>, end: usize) -> Result<usize, MultiFault>
+    requires fit { IsTrue (fit face.now.fonts defaults.now) }
+    requires justified { All IsJustified (items_in spots) }
+    ensures { result ≡ walked (under face.now defaults.now) end (blank_layout (under face.now defaults.now)) spots.entry }
+{
+    let mut totals = Totals::new(face, defaults);
+    for outcome in spots {
+        match outcome {
+            Ok(spot) => {
+                if let Some(code) = totals.take(face, defaults, spot.item) {
+                    return Err(MultiFault {
+                        code,
+                        place: spot.first,
+                    });
+                }
+            }
+            Err(fault) => return Err(MultiFault::of_syntax(fault)),
+        }
+    }
+    match totals.end_fault(face) {
+        None => Ok(totals.pages + 1),
+        Some(code) => Err(MultiFault { code, place: end }),
+    }
+}

@@ -1,0 +1,150 @@
+//! The face of a sign: its matrix, its fonts and its defaults.
+
+ghost use Rattle.std.specs.Prelude.{◌≡◌, ℕ, ◌==◌, ◌≤◌, length, IsTrue, ◌↔◌};
+ghost use Rattle.std.specs.Option.{option_copied};
+ghost use Rattle.dms_face.specs.Face.{font_in, font_of, has_font, have_own_numbers, is_within, is_matrix, are_fonts, fit, checked};
+
+use crate::defaults::Defaults;
+use crate::fault::FaceFault;
+use crate::font::Font;
+use std::marker::Model;
+
+/// What a sign is made with.
+#[derive(Drop)]
+pub struct Face {
+    width: u16,
+    height: u16,
+    fonts: Vec<Font>,
+    defaults: Defaults,
+}
+
+impl Model for Face {
+    ghost use Rattle.std.specs.Prelude.{IsTrue};
+    ghost use Rattle.dms_face.specs.Face.{FaceModel, is_face};
+
+    ghost Value = { FaceModel };
+
+    ghost view = { λ f. record { width = f.width; height = f.height; fonts = f.fonts.items; defaults = f.defaults } };
+
+    ghost invariant = { λ f. IsTrue (is_face
+        (record { width = f.width; height = f.height; fonts = f.fonts.items; defaults = f.defaults })) };
+}
+
+impl Face {
+    /// The face of a matrix of these columns and rows, or the first thing that is wrong with it: its size, its fonts, its
+    /// defaults.
+    pub fn new(
+        width: u16,
+        height: u16,
+        fonts: Vec<Font>,
+        defaults: Defaults,
+    ) -> Result<Face, FaceFault>
+        ensures { result
+            ≡ checked (record { width = width; height = height; fonts = fonts.items; defaults = defaults }) }
+    {
+        if !is_matrix(width, height) {
+            return Err(FaceFault::Size);
+        }
+        if !are_fonts(fonts.as_slice()) {
+            return Err(FaceFault::Fonts);
+        }
+        if !defaults.fit(fonts.as_slice()) {
+            return Err(FaceFault::Default);
+        }
+        Ok(Face {
+            width,
+            height,
+            fonts,
+            defaults,
+        })
+    }
+
+    /// The columns of the matrix.
+    pub fn width(&self) -> u16
+        ensures value { result ≡ self.now.width }
+        ensures most { result ≤ 256 }
+    {
+        self.width
+    }
+
+    /// The rows of the matrix.
+    pub fn height(&self) -> u16
+        ensures value { result ≡ self.now.height }
+        ensures most { result ≤ 64 }
+    {
+        self.height
+    }
+
+    /// The defaults of the face, which fit it.
+    pub fn defaults(&self) -> Defaults
+        ensures value { result ≡ self.now.defaults }
+        ensures fit { IsTrue (fit self.now.fonts result) }
+    {
+        self.defaults
+    }
+
+    /// The font of a number, where the face has it.
+    pub fn font(&self, number: u8) -> Option<&Font>
+        ensures { option_copied result ≡ font_of self.now number }
+    {
+        find_font(self.fonts.as_slice(), number)
+    }
+}
+
+impl Defaults {
+    /// Whether each default is in its range, and the default font one of the face's.
+    pub fn fits(&self, face: &Face) -> bool
+        ensures { IsTrue result ↔ IsTrue (fit face.now.fonts self.now) }
+    {
+        self.fit(face.fonts.as_slice())
+    }
+
+    fn fit(&self, fonts: &[Font]) -> bool
+        ensures { result ≡ fit fonts.now self.now }
+    {
+        self.background <= 9
+            && self.foreground <= 9
+            && is_within(2, 4, self.line)
+            && is_within(2, 4, self.page)
+            && has_font(fonts, self.font)
+    }
+}
+
+fn is_within(low: u8, high: u8, number: u8) -> bool
+    ensures { result ≡ is_within low high number }
+{
+    low <= number && number <= high
+}
+
+fn is_matrix(width: u16, height: u16) -> bool
+    ensures { result ≡ is_matrix width height }
+{
+    1 <= width && width <= 256 && 1 <= height && height <= 64
+}
+
+fn has_font(fonts: &[Font], number: u8) -> bool
+    ensures { result ≡ has_font fonts.now number }
+{
+    fonts.iter().any(|font| font.number() == number)
+}
+
+fn find_font(fonts: &[Font], number: u8) -> Option<&Font>
+    ensures { option_copied result ≡ font_in fonts.now number }
+{
+    fonts.iter().find(|font| font.number() == number)
+}
+
+fn are_fonts(fonts: &[Font]) -> bool
+    ensures { result ≡ are_fonts fonts.now }
+{
+    1 <= fonts.len() && fonts.len() <= 4 && have_own_numbers(fonts)
+}
+
+fn have_own_numbers(fonts: &[Font]) -> bool
+    ensures { result ≡ have_own_numbers fonts.now }
+{
+    match fonts.split_first() {
+        None => true,
+        Some((font, others)) => !has_font(others, font.number()) && have_own_numbers(others),
+    }
+}

@@ -1,0 +1,20 @@
+//! Laws of texts and where they stand, each the contract of a function that does nothing.
+
+ghost use Rattle.std.specs.Prelude.{◌≡◌, if◌then◌else◌, List, [], ◌∷◌, ◌++◌, Some, None};
+ghost use Rattle.dms_face.specs.Face.{FaceModel};
+ghost use Rattle.dms_face.specs.Layout.{Turn, layout_of};
+ghost use Rattle.dms_face.specs.Fit.{fits, Fits, code_of, IsGood};
+ghost use Rattle.dms_face.specs.OnePass.{local_fault};
+
+/// Behind a front that fits, the open line and the open page alone tell whether one turn more fits, and its fault.
+///
+/// What is closed has room and keeps it: a turn changes the open line and its part of the open page alone.
+pub fn a_turn_changes_the_open_line_and_page_alone()
+    ensures { (face : FaceModel) (front : List Turn) (turn : Turn) → Fits face front
+        → local_fault face (layout_of face front) turn ≡ (if fits face (front ++ turn ∷ []) then None else Some (code_of face (layout_of face front) turn)) }
+{}
+
+/// The empty text is good on every face, whatever its defaults.
+pub fn empty_text_is_good()
+    ensures { (face : FaceModel) → IsGood face [] }
+{}

@@ -1,0 +1,31 @@
+//! The fonts and the face of a sign: fonts as text, and what a sign is made with.
+#![tactic(auto)]
+
+pub mod cell;
+#[cfg(test)]
+mod check_tests;
+pub mod checking;
+pub mod defaults;
+pub mod face;
+pub mod fault;
+pub mod font;
+mod font_text;
+pub mod glyph;
+pub mod laws;
+pub mod lines;
+pub mod multi_fault;
+mod parts;
+mod room;
+#[cfg(test)]
+mod tests;
+mod totals;
+pub mod words;
+
+pub use cell::{Cell, Flash};
+pub use checking::{check, check_with};
+pub use defaults::Defaults;
+pub use face::Face;
+pub use fault::{FaceFault, FontFault, FontFaultKind};
+pub use font::Font;
+pub use glyph::Glyph;
+pub use multi_fault::{MultiFault, MultiFaultCode};

@@ -1,0 +1,360 @@
+//! What is known of a text while its items are walked: running sums of the open line and the open page.
+
+ghost use Rattle.std.specs.Prelude.{◌≡◌, ℕ, ◌+◌, ◌<◌, ◌≤◌, List, [], ◌∷◌, ◌++◌, map, Option, Some, None, IsTrue, IfNone};
+ghost use Rattle.dms_multi.specs.declared.item.Item.TheVariants.{JustLine};
+ghost use Rattle.dms_face.specs.Glyph.{GlyphModel};
+ghost use Rattle.dms_face.specs.Face.{fit};
+ghost use Rattle.dms_face.specs.Layout.{Layout, Line, under, open_line, standing, closed, has_line_in, with_character, with_line, with_page, with_part, with_item, blank_layout};
+ghost use Rattle.dms_face.specs.Room.{character_block, line_block, lines_fit, characters_fit};
+ghost use Rattle.dms_face.specs.Fit.{misuse};
+ghost use Rattle.dms_face.specs.OnePass.{room_fault, open_fits, page_fault, part_fault, local_fault};
+ghost use Rattle.dms_face.specs.Totals.{TellsBlocks, AreWithin, Tells, AreSmall, IsJustified};
+
+use crate::defaults::Defaults;
+use crate::face::Face;
+use crate::font::Font;
+use crate::glyph::Glyph;
+use crate::multi_fault::MultiFaultCode;
+use crate::room::{Block, Places};
+use dms_multi::Item;
+
+/// The most pages of a text.
+pub const MAX_PAGES: usize = 6;
+
+/// The pages that are closed, the lines of the open page, the characters of the open line with the greatest height and
+/// spacing of their fonts, the gap above that line, and what holds for the next character: its side, its part and its font.
+#[derive(Clone, Copy)]
+pub(crate) struct Totals<'a> {
+    pub pages: usize,
+    pub lines: Places,
+    pub characters: Places,
+    pub height: u8,
+    pub spacing: u8,
+    pub gap: Option<u8>,
+    pub side: u8,
+    pub part: u8,
+    pub font: &'a Font,
+}
+
+impl<'a> Totals<'a> {
+    /// The open line, as it is where it is closed.
+    fn line_block(&self) -> Block
+        ensures block { (layout : Layout) → Tells self.now layout → result ≡ line_block (open_line layout) }
+        ensures place { result.place ≡ self.now.part }
+    {
+        let (height, spacing) = if self.characters.any {
+            (self.height, self.spacing)
+        } else {
+            (self.font.height(), self.font.line_spacing())
+        };
+        Block {
+            place: self.part,
+            size: height,
+            spacing,
+            gap: self.gap,
+        }
+    }
+
+    /// The open page's lines with the open line closed.
+    fn lines_with_open(&self) -> Places
+        requires within { AreWithin 256 self.now.lines }
+        requires low { 2 ≤ self.now.part }
+        requires high { self.now.part ≤ 4 }
+        ensures tells { (layout : Layout) → Tells self.now layout → TellsBlocks result (map line_block (layout.lines ++ open_line layout ∷ [])) }
+        ensures within { AreWithin 766 result }
+    {
+        self.lines.with(self.line_block())
+    }
+
+    /// The open page's lines while the open line is open.
+    fn standing(&self) -> Places
+        requires within { AreWithin 256 self.now.lines }
+        requires low { 2 ≤ self.now.part }
+        requires high { self.now.part ≤ 4 }
+        ensures tells { (layout : Layout) → Tells self.now layout → TellsBlocks result (map line_block (standing layout)) }
+        ensures within { AreWithin 766 result }
+    {
+        if !self.characters.any {
+            return self.lines;
+        }
+        self.lines_with_open()
+    }
+
+    /// Whether the open page has a line in the part of the open line.
+    #[tactic(auto, using(crate::proofs::PartLaws::has_line))]
+    fn holds_line(&self) -> bool
+        requires within { AreWithin 256 self.now.lines }
+        requires low { 2 ≤ self.now.part }
+        requires high { self.now.part ≤ 4 }
+        ensures { (layout : Layout) → Tells self.now layout → result ≡ has_line_in layout.style.part layout.lines }
+    {
+        self.lines.runs[usize::from(self.part - 2)].any
+    }
+
+    /// The open page's lines with the open line and its part closed.
+    fn closed(&self) -> Places
+        requires within { AreWithin 256 self.now.lines }
+        requires low { 2 ≤ self.now.part }
+        requires high { self.now.part ≤ 4 }
+        ensures tells { (layout : Layout) → Tells self.now layout → TellsBlocks result (map line_block (closed layout)) }
+        ensures within { AreWithin 766 result }
+    {
+        if self.characters.any || self.holds_line() {
+            self.lines_with_open()
+        } else {
+            self.lines
+        }
+    }
+
+    /// These are the closed lines of the open page, and behind them a line opens, with this gap above it.
+    fn open_line(&mut self, lines: Places, gap: Option<u8>)
+        ensures tells { (layout : Layout) (closed_lines : List Line) → Tells self.old layout → TellsBlocks lines (map line_block closed_lines)
+            → Tells self.new (record layout { lines = closed_lines; characters = []; gap = gap }) }
+        ensures small { AreSmall self.old → AreWithin 256 lines → AreSmall self.new }
+        ensures pages { self.new.pages ≡ self.old.pages }
+    {
+        self.lines = lines;
+        self.characters = Places::empty();
+        self.height = 0;
+        self.spacing = 0;
+        self.gap = gap;
+    }
+
+    /// A character joins the open line.
+    fn add_character(&mut self, glyph: &Glyph)
+        requires small { AreSmall self.old }
+        ensures tells { (layout : Layout) → Tells self.old layout → Tells self.new (with_character layout (Some glyph.now)) }
+        ensures within { AreWithin 766 self.new.characters }
+        ensures small { AreWithin 256 self.new.characters → AreSmall self.new }
+        ensures lines { AreWithin 256 self.new.lines }
+        ensures part { self.new.part ≡ self.old.part }
+    {
+        self.characters = self.characters.with(Block {
+            place: self.side,
+            size: glyph.width(),
+            spacing: self.font.character_spacing(),
+            gap: None,
+        });
+        self.height = self.height.max(self.font.height());
+        self.spacing = self.spacing.max(self.font.line_spacing());
+    }
+
+    /// Whether the open line and the open page have room.
+    fn open_fits(&self, face: &Face) -> bool
+        requires within { AreWithin 256 self.now.lines }
+        requires characters { AreWithin 766 self.now.characters }
+        requires low { 2 ≤ self.now.part }
+        requires high { self.now.part ≤ 4 }
+        ensures fit { (layout : Layout) → Tells self.now layout → result ≡ open_fits face.now layout }
+        ensures within { IsTrue result → AreWithin 256 self.now.characters }
+    {
+        self.characters.fit(u32::from(face.width()))
+            && self.standing().fit(u32::from(face.height()))
+    }
+
+    /// A character joins the open line, or does not fit.
+    fn take_character(&mut self, face: &Face, glyph: &Glyph) -> Option<MultiFaultCode>
+        requires small { AreSmall self.old }
+        ensures fault { (layout : Layout) → Tells self.old layout → result ≡ room_fault (open_fits face.now (with_character layout (Some glyph.now))) }
+        ensures tells { (layout : Layout) → Tells self.old layout → IfNone result (Tells self.new (with_character layout (Some glyph.now))) }
+        ensures small { IfNone result (AreSmall self.new) }
+    {
+        self.add_character(glyph);
+        if self.open_fits(face) {
+            None
+        } else {
+            Some(MultiFaultCode::TextTooBig)
+        }
+    }
+
+    /// The open line is closed and the next one opens, or it does not fit.
+    fn take_line(&mut self, face: &Face, gap: Option<u8>) -> Option<MultiFaultCode>
+        requires small { AreSmall self.old }
+        ensures fault { (layout : Layout) → Tells self.old layout → result ≡ room_fault (lines_fit face.now (layout.lines ++ open_line layout ∷ [])) }
+        ensures tells { (layout : Layout) → Tells self.old layout → IfNone result (Tells self.new (with_line layout gap)) }
+        ensures small { IfNone result (AreSmall self.new) }
+    {
+        let lines = self.lines_with_open();
+        if !lines.fit(u32::from(face.height())) {
+            return Some(MultiFaultCode::TextTooBig);
+        }
+        self.open_line(lines, gap);
+        None
+    }
+
+    /// Whether the open page has room for its lines once it is closed.
+    fn closed_fits(&self, face: &Face) -> bool
+        requires small { AreSmall self.now }
+        ensures { (layout : Layout) → Tells self.now layout → result ≡ lines_fit face.now (closed layout) }
+    {
+        self.closed().fit(u32::from(face.height()))
+    }
+
+    /// The open page is closed and the next one opens, or it does not fit, or there are pages enough.
+    fn take_page(&mut self, face: &Face) -> Option<MultiFaultCode>
+        requires small { AreSmall self.old }
+        ensures fault { (layout : Layout) → Tells self.old layout → result ≡ page_fault face.now layout }
+        ensures tells { (layout : Layout) → Tells self.old layout → IfNone result (Tells self.new (with_page layout)) }
+        ensures small { IfNone result (AreSmall self.new) }
+    {
+        if !self.closed_fits(face) {
+            return Some(MultiFaultCode::TextTooBig);
+        }
+        if self.pages + 1 >= MAX_PAGES {
+            return Some(MultiFaultCode::TooManyPages);
+        }
+        self.open_line(Places::empty(), None);
+        self.pages += 1;
+        None
+    }
+
+    /// A line opens in another part of the page, or may not, or what is closed does not fit.
+    fn take_part(&mut self, face: &Face, part: u8) -> Option<MultiFaultCode>
+        requires small { AreSmall self.old }
+        requires low { 2 ≤ part }
+        requires high { part ≤ 4 }
+        ensures fault { (layout : Layout) → Tells self.old layout → result ≡ part_fault face.now layout part }
+        ensures tells { (layout : Layout) → Tells self.old layout → IfNone result (Tells self.new (with_part layout (record layout.style { part = part }))) }
+        ensures small { IfNone result (AreSmall self.new) }
+    {
+        if part == self.part {
+            return None;
+        }
+        let lines = self.closed();
+        if part <= lines.last {
+            return Some(MultiFaultCode::TagConflict);
+        }
+        if !lines.fit(u32::from(face.height())) {
+            return Some(MultiFaultCode::TextTooBig);
+        }
+        self.open_line(lines, None);
+        self.part = part;
+        None
+    }
+
+    /// The next characters stand on another side of the line, or may not.
+    fn take_side(
+        &mut self,
+        face: &Face,
+        defaults: &Defaults,
+        side: Option<u8>,
+    ) -> Option<MultiFaultCode>
+        requires small { AreSmall self.old }
+        requires fit { IsTrue (fit face.now.fonts defaults.now) }
+        requires justified { IsJustified (JustLine side) }
+        ensures fault { (layout : Layout) → Tells self.old layout → result ≡ misuse (under face.now defaults.now) layout (Some (JustLine side)) }
+        ensures tells { (layout : Layout) → Tells self.old layout → IfNone result (Tells self.new (with_item (under face.now defaults.now) layout (JustLine side))) }
+        ensures small { IfNone result (AreSmall self.new) }
+    {
+        let side = side.unwrap_or(defaults.line);
+        if side < self.characters.last {
+            return Some(MultiFaultCode::TagConflict);
+        }
+        self.side = side;
+        None
+    }
+
+    /// The next characters are of another font, or may not be.
+    fn take_font(
+        &mut self,
+        face: &'a Face,
+        number: u8,
+        version: Option<u16>,
+    ) -> Option<MultiFaultCode>
+        requires small { AreSmall self.old }
+        ensures fault { (layout : Layout) → Tells self.old layout → result ≡ misuse face.now layout (Some (Item.Font (Some (number, version)))) }
+        ensures tells { (layout : Layout) → Tells self.old layout → IfNone result (Tells self.new (with_item face.now layout (Item.Font (Some (number, version))))) }
+        ensures small { IfNone result (AreSmall self.new) }
+    {
+        let Some(font) = face.font(number) else {
+            return Some(MultiFaultCode::FontNotDefined);
+        };
+        match version {
+            Some(version) if version != font.version() => {
+                return Some(MultiFaultCode::FontVersionId);
+            }
+            _ => {}
+        }
+        self.font = font;
+        None
+    }
+
+    /// The next characters are of the default font.
+    fn take_default_font(&mut self, face: &'a Face, defaults: &Defaults)
+        requires small { AreSmall self.old }
+        requires fit { IsTrue (fit face.now.fonts defaults.now) }
+        ensures tells { (layout : Layout) → Tells self.old layout → Tells self.new (with_item (under face.now defaults.now) layout (Item.Font None)) }
+        ensures small { AreSmall self.new }
+    {
+        if let Some(font) = face.font(defaults.font) {
+            self.font = font;
+        }
+    }
+
+    /// An item is taken, or it has a fault where it stands.
+    pub(crate) fn take(
+        &mut self,
+        face: &'a Face,
+        defaults: &Defaults,
+        item: Item,
+    ) -> Option<MultiFaultCode>
+        requires small { AreSmall self.old }
+        requires fit { IsTrue (fit face.now.fonts defaults.now) }
+        requires justified { IsJustified item }
+        ensures fault { (layout : Layout) → Tells self.old layout → result ≡ local_fault (under face.now defaults.now) layout (Some item) }
+        ensures tells { (layout : Layout) → Tells self.old layout → IfNone result (Tells self.new (with_item (under face.now defaults.now) layout item)) }
+        ensures small { IfNone result (AreSmall self.new) }
+    {
+        match item {
+            Item::Char(character) => match self.font.glyph(character) {
+                Some(glyph) => self.take_character(face, glyph),
+                None => Some(MultiFaultCode::CharacterNotDefined),
+            },
+            Item::NewLine(gap) => self.take_line(face, gap),
+            Item::NewPage => self.take_page(face),
+            Item::JustPage(part) => self.take_part(face, part.unwrap_or(defaults.page)),
+            Item::JustLine(side) => self.take_side(face, defaults, side),
+            Item::Font(Some((number, version))) => self.take_font(face, number, version),
+            Item::Font(None) => {
+                self.take_default_font(face, defaults);
+                None
+            }
+            Item::Background(_)
+            | Item::Foreground(_)
+            | Item::FlashOn { .. }
+            | Item::FlashEnd
+            | Item::PageTime { .. } => None,
+        }
+    }
+
+    /// The fault of the text's end, if it has one.
+    pub(crate) fn end_fault(&self, face: &Face) -> Option<MultiFaultCode>
+        requires small { AreSmall self.now }
+        ensures { (layout : Layout) → Tells self.now layout → result ≡ room_fault (lines_fit face.now (closed layout)) }
+    {
+        if self.closed_fits(face) {
+            None
+        } else {
+            Some(MultiFaultCode::TextTooBig)
+        }
+    }
+
+    /// What is known before the first item.
+    pub(crate) fn new(face: &'a Face, defaults: &Defaults) -> Totals<'a>
+        requires { IsTrue (fit face.now.fonts defaults.now) }
+        ensures tells { Tells result (blank_layout (under face.now defaults.now)) }
+        ensures small { AreSmall result }
+    {
+        Totals {
+            pages: 0,
+            lines: Places::empty(),
+            characters: Places::empty(),
+            height: 0,
+            spacing: 0,
+            gap: None,
+            side: defaults.line,
+            part: defaults.page,
+            font: face.font(defaults.font).unwrap(),
+        }
+    }
+}
