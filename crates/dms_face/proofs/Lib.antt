@@ -17,3 +17,7 @@ pub mod WalkLaws
 pub mod GoodLaws
 pub mod WalkState
 pub mod ReadingLaws
+pub mod DrawingLaws
+pub mod PlacingLaws
+pub mod DrawnLaws
+pub mod LayingLaws

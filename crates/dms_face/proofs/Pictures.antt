@@ -1,5 +1,5 @@
 -- The bits of a picture, and the octets that hold them.
-use Rattle.std.proofs.Common.{◌≡◌, ℕ, zero, suc, ◌+◌, ◌-◌, ◌*◌, ◌/◌, ◌%◌, ◌^◌, ◌==◌, ◌<◌, ◌≤◌, Bool, false, List, [], ◌∷◌, ◌++◌, length, take, drop, get_or, refl, sym, ap, ◌∙◌, arith, length-take, ◌⊎◌, inl, inr}
+use Rattle.std.proofs.Common.{true, ◌≡◌, ℕ, zero, suc, ◌+◌, ◌-◌, ◌*◌, ◌/◌, ◌%◌, ◌^◌, ◌==◌, ◌<◌, ◌≤◌, Bool, false, List, [], ◌∷◌, ◌++◌, length, take, drop, get_or, refl, sym, ap, ◌∙◌, arith, length-take, ◌⊎◌, inl, inr}
 use Rattle.std.specs.Prelude.{bit_and}
 use Rattle.std.proofs.lemmas.Bool.{cases_lt}
 use Rattle.std.proofs.lemmas.Nat.{mul-add-lt}
@@ -83,4 +83,16 @@ dark_outside character width height octets column row (inl past) =
     elim (cases_lt row height) [
       | inl below ↦ sym (dark_beside width height (bits_of octets) column row past below)
       | inr under ↦ sym (dark_below width height (bits_of octets) column row under)
+    ]
+
+-- where there is a bit
+pub lit_within : (character width height : ℕ) (octets : List ℕ) (column row : ℕ) → lit_at (glyph_from character width height octets) column row ≡ true → column < width × row < height
+lit_within character width height octets column row on =
+    elim (cases_lt column width) [
+      | inl inside ↦
+          elim (cases_lt row height) [
+            | inl below ↦ (inside, below)
+            | inr under ↦ absurd (let wrong : false ≡ true = dark_outside character width height octets column row (inr under) ∙ on in cc)
+          ]
+      | inr beside ↦ absurd (let wrong : false ≡ true = dark_outside character width height octets column row (inl beside) ∙ on in cc)
     ]

@@ -16,3 +16,7 @@ pub mod Cells
 pub mod Fault
 pub mod Totals
 pub mod OnePass
+pub mod StylingView
+pub mod Drawn
+pub mod Drawing
+pub mod DrawnView

@@ -1,6 +1,6 @@
 //! A character's picture.
 
-ghost use Rattle.std.specs.Prelude.{◌≡◌, ◌*◌, ◌≤◌, length};
+ghost use Rattle.std.specs.Prelude.{◌≡◌, ℕ, ◌*◌, ◌<◌, ◌≤◌, true, length};
 ghost use Rattle.dms_face.specs.Glyph.{lit_at, glyph_from};
 
 use std::marker::Model;
@@ -50,6 +50,14 @@ impl Glyph {
         ensures { result ≡ self.now.width }
     {
         self.width
+    }
+
+    /// The rows of the picture.
+    pub fn height(&self) -> u8
+        ensures rows { result ≡ length self.now.rows }
+        ensures inside { (column row : ℕ) → lit_at self.now column row ≡ true → column < self.now.width × row < result }
+    {
+        self.height
     }
 
     /// Whether the picture has a bit in this column and row, from 0: there is none outside of it.

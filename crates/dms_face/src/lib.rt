@@ -6,6 +6,7 @@ pub mod cell;
 mod check_tests;
 pub mod checking;
 pub mod defaults;
+mod drawing;
 pub mod face;
 pub mod fault;
 pub mod font;
@@ -14,10 +15,13 @@ pub mod glyph;
 pub mod laws;
 pub mod lines;
 pub mod multi_fault;
+pub mod page;
 mod parts;
 mod room;
 #[cfg(test)]
 mod tests;
+mod text_layout;
+pub mod text_pages;
 mod totals;
 pub mod words;
 
@@ -29,3 +33,5 @@ pub use fault::{FaceFault, FontFault, FontFaultKind};
 pub use font::Font;
 pub use glyph::Glyph;
 pub use multi_fault::{MultiFault, MultiFaultCode};
+pub use page::Page;
+pub use text_pages::{PagesFault, pages, pages_with};

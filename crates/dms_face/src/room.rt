@@ -30,14 +30,14 @@ fn average(a: u8, b: u8) -> u8
 }
 
 impl Run {
-    const EMPTY: Run = Run {
+    pub(crate) const EMPTY: Run = Run {
         any: false,
         size: 0,
         spacing: 0,
     };
 
     /// The row with one more block at its end.
-    fn with(self, block: Block) -> Run
+    pub(crate) fn with(self, block: Block) -> Run
         requires { self.size ≤ 256 }
         ensures sums { (blocks : List Block) → Sums self blocks → Sums result (blocks ++ block ∷ []) }
         ensures within { result.size ≤ 766 }
