@@ -16,6 +16,8 @@ pub mod laws;
 pub mod lines;
 pub mod multi_fault;
 pub mod page;
+#[cfg(test)]
+mod page_tests;
 mod parts;
 mod room;
 #[cfg(test)]

@@ -1,12 +1,17 @@
 //! A call, carried out.
 
+ghost use Rattle.std.specs.Prelude.{◌<◌};
+
 use crate::address::address;
+use crate::bench_sign::bench_face;
 use crate::command_line::{Call, CodeWords};
 use crate::sign::{Receipt, Sign};
+use dms_face::{MultiFault, Page, PagesFault, check, pages};
 use dms_table::{Activation, MessageId, Order, crc};
 use dms_wire::Out;
 use hex::FromHexError;
 use std::alloc::Global;
+use std::io;
 use std::io::{Read, Write};
 
 /// Carries out the call over the program's standard input and output, and gives the exit status: 0 where it was done, 1
@@ -19,6 +24,8 @@ pub fn act<R: Read, W: Write>(
 ) -> u8 {
     match call {
         Call::Answer { hex } => answer(alloc, hex, writer),
+        Call::Check { text } => check_text(alloc, text, writer),
+        Call::Pages { text } => print_pages(alloc, text, writer),
         Call::Code(words) => code(alloc, words, writer),
     }
 }
@@ -37,6 +44,17 @@ fn answer<W: Write>(alloc: Global, digits: &str, writer: &mut W) -> u8 {
             Ok(text) => tell(writer, text.as_str(), 0),
             Err(_) => tell(writer, "memory", 1),
         },
+    }
+}
+
+/// Prints the number of a text's pages on the bench sign, or its fault.
+fn check_text<W: Write>(alloc: Global, text: &str, writer: &mut W) -> u8 {
+    let Some(face) = bench_face(alloc) else {
+        return tell(writer, "memory", 1);
+    };
+    match check(&face, text.as_bytes()) {
+        Ok(pages) => tell_done(writer, pages),
+        Err(fault) => tell_fault(writer, fault),
     }
 }
 
@@ -78,6 +96,67 @@ fn code<W: Write>(alloc: Global, words: &CodeWords<'_>, writer: &mut W) -> u8 {
         },
         Err(_) => tell(writer, "memory", 1),
     }
+}
+
+/// Prints the pages of a text on the bench sign, or its fault.
+fn print_pages<W: Write>(alloc: Global, text: &str, writer: &mut W) -> u8 {
+    let Some(face) = bench_face(alloc) else {
+        return tell(writer, "memory", 1);
+    };
+    match pages(alloc, &face, text.as_bytes()) {
+        Ok(pages) => match write_pages(pages.as_slice(), writer) {
+            Ok(()) => 0,
+            Err(_) => 1,
+        },
+        Err(PagesFault::Multi(fault)) => tell_fault(writer, fault),
+        Err(PagesFault::Memory) => tell(writer, "memory", 1),
+    }
+}
+
+/// Writes each page: a line that tells its times and its background, and a line for each row of the matrix.
+fn write_pages<W: Write>(pages: &[Page], writer: &mut W) -> io::Result<()> {
+    for (index, page) in pages.iter().enumerate() {
+        writeln!(
+            writer,
+            "page {} on {} off {} back {}",
+            index + 1,
+            page.on(),
+            page.off(),
+            page.back()
+        )?;
+        for y in 0..page.height() {
+            write_row(page, y, writer)?;
+        }
+    }
+    Ok(())
+}
+
+/// Writes a row of a page: a dot for each cell that is unlit, else the digit of its colour.
+fn write_row<W: Write>(page: &Page, y: u16, writer: &mut W) -> io::Result<()>
+    requires { y < page.now.height }
+{
+    for x in 0..page.width() {
+        let cell = page.cell(x, y);
+        if cell.lit {
+            write!(writer, "{}", cell.colour)?;
+        } else {
+            write!(writer, ".")?;
+        }
+    }
+    writeln!(writer)
+}
+
+fn tell_done<W: Write>(writer: &mut W, pages: usize) -> u8 {
+    match writeln!(writer, "ok pages {pages}") {
+        Ok(()) => 0,
+        Err(_) => 1,
+    }
+}
+
+/// Prints the fault of a text, which is refused.
+fn tell_fault<W: Write>(writer: &mut W, fault: MultiFault) -> u8 {
+    let _ = writeln!(writer, "fault {} at {}", fault.code.number(), fault.place);
+    1
 }
 
 /// Prints a line, and gives the status, or 1 where the line was not written.

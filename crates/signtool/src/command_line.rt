@@ -12,6 +12,10 @@ use std::fmt;
 pub enum Call<'a> {
     /// The sign's reply to a datagram in hexadecimal digits.
     Answer { hex: &'a str },
+    /// The number of a text's pages, or its fault.
+    Check { text: &'a str },
+    /// The pages of a text, cell by cell, or its fault.
+    Pages { text: &'a str },
     /// The checksum of a message, and the code that puts it up.
     Code(CodeWords<'a>),
 }
@@ -69,6 +73,14 @@ pub fn asked<S: AsStr>(alloc: Global, words: &[S]) -> Result<Call<'_>, Usage> {
             let hex = answer.get_str("HEX").ok_or(Usage::NoCall)?;
             Ok(Call::Answer { hex })
         }
+        Some(("check", check)) => {
+            let text = check.get_str("TEXT").ok_or(Usage::NoCall)?;
+            Ok(Call::Check { text })
+        }
+        Some(("pages", pages)) => {
+            let text = pages.get_str("TEXT").ok_or(Usage::NoCall)?;
+            Ok(Call::Pages { text })
+        }
         Some(("code", code)) => code_words(code).map(Call::Code).ok_or(Usage::NoCall),
         _ => Err(Usage::NoCall),
     }
@@ -100,6 +112,8 @@ fn command<'a>(alloc: Global) -> Result<Command<'a>, AllocError> {
         .about("A dynamic message sign's controller on the command line")
         .subcommand_required(true)
         .subcommand(answer_command(alloc)?)?
+        .subcommand(check_command(alloc)?)?
+        .subcommand(pages_command(alloc)?)?
         .subcommand(code_command(alloc)?)
 }
 
@@ -112,6 +126,25 @@ fn answer_command<'a>(alloc: Global) -> Result<Command<'a>, AllocError> {
         .arg(hex)
 }
 
+fn check_command<'a>(alloc: Global) -> Result<Command<'a>, AllocError> {
+    Command::new(alloc, "check")
+        .about("Prints the number of a text's pages on the sign, or the text's fault")
+        .arg(text(alloc))
+}
+
+fn pages_command<'a>(alloc: Global) -> Result<Command<'a>, AllocError> {
+    Command::new(alloc, "pages")
+        .about("Prints the pages of a text on the sign, cell by cell, or the text's fault")
+        .arg(text(alloc))
+}
+
+/// A message's text, as a word.
+fn text<'a>(alloc: Global) -> Arg<'a> {
+    Arg::new(alloc, "TEXT")
+        .required(true)
+        .help("the message's text")
+}
+
 fn code_command<'a>(alloc: Global) -> Result<Command<'a>, AllocError> {
     let memory = Arg::new(alloc, "TYPE")
         .required(true)
@@ -121,14 +154,11 @@ fn code_command<'a>(alloc: Global) -> Result<Command<'a>, AllocError> {
         .required(true)
         .value_parser(value_parser!(u16).range(1..))
         .help("the message's number");
-    let text = Arg::new(alloc, "TEXT")
-        .required(true)
-        .help("the message's text");
     let command = Command::new(alloc, "code")
         .about("Prints a message's checksum and the code that puts it up")
         .arg(memory)?
         .arg(number)?
-        .arg(text)?;
+        .arg(text(alloc))?;
     code_options(alloc, command)
 }
 

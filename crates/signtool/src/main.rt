@@ -3,6 +3,7 @@
 
 pub mod act;
 pub mod address;
+pub mod bench_sign;
 pub mod command_line;
 pub mod sign;
 

@@ -79,8 +79,19 @@ fn answers(rt: HostRuntime) -> Result<(), Fail> {
     Ok(())
 }
 
-/// Command lines of `code`, and what it prints with which exit status.
-const CODES: [(&[&str], &str, u8); 9] = [
+/// Command lines, and what they print with which exit status.
+const CALLS: [(&[&str], &str, u8); 16] = [
+    (&["signtool", "check", "AAAA"], "ok pages 1\n", 0),
+    (&["signtool", "check", ""], "ok pages 1\n", 0),
+    (&["signtool", "check", "A[np]A"], "ok pages 2\n", 0),
+    (&["signtool", "check", "[NL03]"], "fault 5 at 6\n", 1),
+    (&["signtool", "check", "[tr1,1,5,5]"], "fault 3 at 0\n", 1),
+    (&["signtool", "pages", "[jl3]A[jl2]A"], "fault 11 at 6\n", 1),
+    (
+        &["signtool", "pages", "A"],
+        "page 1 on 30 off 0 back 0\n..........999..........\n.........9...9.........\n.........9...9.........\n.........99999.........\n.........9...9.........\n.........9...9.........\n.........9...9.........\n.......................\n.......................\n.......................\n.......................\n.......................\n.......................\n.......................\n",
+        0,
+    ),
     (
         &["signtool", "code", "3", "1", "A", "--address", "192.0.2.1"],
         "crc 9a66\ncode ffffff0300019a66c0000201\n",
@@ -149,8 +160,8 @@ const CODES: [(&[&str], &str, u8); 9] = [
 ];
 
 #[test]
-fn codes(rt: HostRuntime) -> Result<(), Fail> {
-    for (words, printed, status) in CODES {
+fn calls(rt: HostRuntime) -> Result<(), Fail> {
+    for (words, printed, status) in CALLS {
         let Ok(call) = asked(rt.alloc(), words) else {
             return Err(Fail::from("no call"));
         };
