@@ -1,3 +1,10 @@
 pub mod Checksum
 pub mod Codes
 pub mod Register
+pub mod Status
+pub mod Rows
+pub mod RowsView
+pub mod Settling
+pub mod Validating
+pub mod Stocking
+pub mod Deciding

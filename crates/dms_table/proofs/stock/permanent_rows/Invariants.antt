@@ -1,0 +1,6 @@
+use Rattle.std.proofs.Common.{◌≡◌, map, take}
+use Rattle.dms_table.specs.Stocking.{permanent_row}
+use Rattle.dms_table.proofs.stock.permanent_rows.Given as goal
+
+abbrev pub invariant-loop-message : goal.invariant-loop-message
+invariant-loop-message l = l.rows.items ≡ map permanent_row (take l.message-index l.messages)

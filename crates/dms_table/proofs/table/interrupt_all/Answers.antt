@@ -1,0 +1,11 @@
+use Rattle.std.proofs.Common.{◌∙◌, arith}
+use Rattle.dms_table.specs.Rows.{interrupted}
+use Rattle.dms_table.proofs.Loops.{mapped_more, mapped_all}
+use Rattle.dms_table.proofs.table.interrupt_all.Goals as goal
+
+pub loop-row-preserved : goal.loop-row-preserved
+loop-row-preserved c =
+    mapped_more interrupted c.loop-row.row-index c.args.rows.now c.loop-row.rows c.row-item.result c.interrupt.new.self c.loop-row.invariant c.interrupt.ensures
+
+pub returns : goal.returns
+returns c = c.loop-row.invariant ∙ mapped_all interrupted c.loop-row.row-index c.args.rows.now (omega arith)

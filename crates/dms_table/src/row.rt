@@ -1,0 +1,303 @@
+//! Rows of the table.
+
+ghost use Rattle.std.specs.Prelude.{◌≡◌, ◌≤◌, [], Some, None, OnOk, OnErr, IfSome, IsTrue, length, option_map};
+ghost use Rattle.arrayvec.specs.ArrayVec.{array_vec_len};
+ghost use Rattle.dms_table.specs.Rows.{unused, interrupted, is_in_range, with_field, with_status, asked_row, written_row, blank_at, blank_reading, reading, row_checksum, row_is_validating};
+ghost use Rattle.dms_table.specs.Status.{is_valid, is_not_used};
+ghost use Rattle.dms_face.specs.Face.{fit};
+ghost use Rattle.dms_table.specs.Validating.{settled_by, verdict_if, IsJudged};
+ghost use Rattle.dms_table.specs.Stocking.{permanent_row, has_ranges};
+ghost use Rattle.dms_table.specs.RowsView.{field_of, reading_of, IsShort};
+
+use crate::checksum::crc;
+use crate::status::{Ask, Status};
+use crate::stock::Permanent;
+use crate::verdict::{Validator, Verdict};
+use arrayvec::ArrayVec;
+use std::error::Error;
+use std::fmt;
+use std::marker::Model;
+
+/// The most octets of a text.
+pub const MAX_TEXT: usize = 512;
+
+/// The most octets of an owner.
+pub const MAX_OWNER: usize = 127;
+
+/// Names a row by its type of memory and its number in it, from 1.
+#[derive(Clone, Copy, Debug, PartialEq, Eq)]
+pub struct RowId {
+    pub memory: u8,
+    pub number: u16,
+}
+
+/// What a sign has.
+#[derive(Clone, Copy, Debug, PartialEq, Eq)]
+pub struct Services {
+    pub beacon: bool,
+    pub pixel: bool,
+}
+
+/// A value for a field of a row.
+#[derive(Clone, Copy, Debug, PartialEq, Eq)]
+pub enum Field<'a> {
+    Text(&'a [u8]),
+    Owner(&'a [u8]),
+    Beacon(u8),
+    Pixel(u8),
+    Priority(u8),
+}
+
+/// A row as it is read. Its checksum reads 0 where the row is not valid, or is a blank message.
+#[derive(Clone, Copy, Debug, PartialEq, Eq)]
+pub struct RowView<'a> {
+    pub text: &'a [u8],
+    pub owner: &'a [u8],
+    pub beacon: u8,
+    pub pixel: u8,
+    pub priority: u8,
+    pub status: Status,
+    pub checksum: u16,
+}
+
+/// A row does not take this now; nothing changed.
+#[derive(Clone, Copy, Debug, PartialEq, Eq)]
+pub struct Refused;
+
+impl fmt::Display for Refused {
+    fn fmt<W: fmt::Write>(&self, f: &mut fmt::Formatter<W>) -> fmt::Result {
+        f.write_str("the row does not take this now")
+    }
+}
+
+impl Error for Refused {}
+
+/// A row of the table, with room for the longest text and owner.
+#[derive(Drop)]
+pub(crate) struct Row {
+    text: ArrayVec<u8, MAX_TEXT>,
+    owner: ArrayVec<u8, MAX_OWNER>,
+    beacon: u8,
+    pixel: u8,
+    priority: u8,
+    status: Status,
+}
+
+impl Model for Row {
+    ghost use Rattle.dms_table.specs.Rows.{RowModel};
+
+    ghost Value = { RowModel };
+
+    ghost view = { λ r. record { text = r.text.items; owner = r.owner.items; beacon = r.beacon; pixel = r.pixel; priority = r.priority; status = r.status } };
+}
+
+impl Row {
+    /// A row that is not used.
+    pub(crate) fn unused() -> Row
+        ensures { result ≡ unused }
+    {
+        Row {
+            text: ArrayVec::new(),
+            owner: ArrayVec::new(),
+            beacon: 0,
+            pixel: 0,
+            priority: 1,
+            status: Status::NotUsed,
+        }
+    }
+
+    /// A row that the sign is made with.
+    pub(crate) fn permanent(message: &Permanent<'_>) -> Row
+        requires { IsTrue (has_ranges (permanent_row message.now)) }
+        ensures { result ≡ permanent_row message.now }
+    {
+        Row {
+            text: copy_of(message.text),
+            owner: copy_of(message.owner),
+            beacon: message.beacon,
+            pixel: message.pixel,
+            priority: message.priority,
+            status: Status::Valid,
+        }
+    }
+
+    pub(crate) fn is_valid(&self) -> bool
+        ensures { result ≡ is_valid self.now.status }
+    {
+        self.status == Status::Valid
+    }
+
+    pub(crate) fn is_not_used(&self) -> bool
+        ensures { result ≡ is_not_used self.now.status }
+    {
+        self.status == Status::NotUsed
+    }
+
+    pub(crate) fn is_validating(&self) -> bool
+        ensures { result ≡ row_is_validating self.now }
+    {
+        self.status == Status::Validating
+    }
+
+    /// The row as it is read.
+    pub(crate) fn view(&self) -> RowView<'_>
+        ensures read { reading_of result ≡ reading self.now }
+        ensures short { IsShort result }
+    {
+        RowView {
+            text: self.text.as_slice(),
+            owner: self.owner.as_slice(),
+            beacon: self.beacon,
+            pixel: self.pixel,
+            priority: self.priority,
+            status: self.status,
+            checksum: self.checksum(),
+        }
+    }
+
+    fn checksum(&self) -> u16
+        ensures { result ≡ (reading self.now).checksum }
+    {
+        if self.status == Status::Valid {
+            crc(self.text.as_slice(), self.beacon, self.pixel)
+        } else {
+            0
+        }
+    }
+
+    /// Asks the row.
+    pub(crate) fn ask(&mut self, ask: Ask) -> Result<(), Refused>
+        ensures ok { OnOk result (asked_row ask self.old ≡ Some self.new) }
+        ensures refused { OnErr result (asked_row ask self.old ≡ None) }
+        ensures unchanged { OnErr result (self.new ≡ self.old) }
+    {
+        match self.status.next(ask) {
+            Some(status) => {
+                self.enter(status);
+                Ok(())
+            }
+            None => Err(Refused),
+        }
+    }
+
+    /// Gives the row another status; one that becomes not used is emptied.
+    pub(crate) fn enter(&mut self, status: Status)
+        ensures { self.new ≡ with_status self.old status }
+    {
+        if status == Status::NotUsed {
+            self.release();
+        } else {
+            self.status = status;
+        }
+    }
+
+    /// Empties the row.
+    pub(crate) fn release(&mut self)
+        ensures { self.new ≡ unused }
+    {
+        self.text.clear();
+        self.owner.clear();
+        self.beacon = 0;
+        self.pixel = 0;
+        self.priority = 1;
+        self.status = Status::NotUsed;
+    }
+
+    /// Ends a validation without a verdict.
+    pub(crate) fn interrupt(&mut self)
+        ensures { self.new ≡ interrupted self.old }
+    {
+        if self.status == Status::Validating {
+            self.status = Status::Modifying;
+        }
+    }
+
+    /// Ends a validation; the verdict is that on a row that is being validated.
+    pub(crate) fn settle(&mut self, validator: &Validator<'_>) -> Option<Verdict>
+        requires { IsTrue (fit validator.now.face.now.fonts validator.now.defaults.now) }
+        ensures row { self.new ≡ settled_by validator.now self.old }
+        ensures verdict { result ≡ verdict_if validator.now self.old }
+        ensures judged { IsJudged validator.now self.old }
+    {
+        if self.status != Status::Validating {
+            return None;
+        }
+        let verdict = validator.verdict(self.text.as_slice(), self.beacon, self.pixel);
+        self.status = if verdict.passes() {
+            Status::Valid
+        } else {
+            Status::Error
+        };
+        Some(verdict)
+    }
+
+    /// Writes a field of the row.
+    pub(crate) fn write(&mut self, field: Field<'_>) -> Result<(), Refused>
+        ensures ok { OnOk result (written_row (field_of field.entry) self.old ≡ Some self.new) }
+        ensures refused { OnErr result (written_row (field_of field.entry) self.old ≡ None) }
+        ensures unchanged { OnErr result (self.new ≡ self.old) }
+    {
+        if self.status != Status::Modifying || !field.is_in_range() {
+            return Err(Refused);
+        }
+        self.set(field);
+        Ok(())
+    }
+
+    fn set(&mut self, field: Field<'_>)
+        requires { IsTrue (is_in_range (field_of field)) }
+        ensures { self.new ≡ with_field self.old (field_of field.entry) }
+    {
+        match field {
+            Field::Text(octets) => self.text = copy_of(octets),
+            Field::Owner(octets) => self.owner = copy_of(octets),
+            Field::Beacon(on) => self.beacon = on,
+            Field::Pixel(on) => self.pixel = on,
+            Field::Priority(priority) => self.priority = priority,
+        }
+    }
+}
+
+impl<'a> RowView<'a> {
+    /// The blank message of a number, from 1 to 255.
+    pub(crate) fn blank(number: u16) -> Option<RowView<'a>>
+        ensures read { option_map reading_of result ≡ option_map blank_reading (blank_at number) }
+        ensures short { IfSome result (λ view. IsShort view) }
+    {
+        match u8::try_from(number) {
+            Ok(priority) if priority >= 1 => Some(RowView {
+                text: &[],
+                owner: &[],
+                beacon: 0,
+                pixel: 0,
+                priority,
+                status: Status::Valid,
+                checksum: 0,
+            }),
+            _ => None,
+        }
+    }
+}
+
+impl<'a> Field<'a> {
+    fn is_in_range(&self) -> bool
+        ensures { result ≡ is_in_range (field_of self.now) }
+    {
+        match self {
+            Field::Text(octets) => octets.len() <= MAX_TEXT,
+            Field::Owner(octets) => octets.len() <= MAX_OWNER,
+            Field::Beacon(on) | Field::Pixel(on) => *on <= 1,
+            Field::Priority(priority) => *priority >= 1,
+        }
+    }
+}
+
+/// A copy of these octets.
+pub(crate) fn copy_of<const N: usize>(octets: &[u8]) -> ArrayVec<u8, N>
+    requires { length octets.now ≤ N }
+    ensures { result.items ≡ octets.now }
+{
+    let mut copy = ArrayVec::new();
+    let _ = copy.try_extend_from_slice(octets);
+    copy
+}

@@ -1,0 +1,104 @@
+//! What a sign shows.
+
+ghost use Rattle.std.specs.Prelude.{◌≡◌, ◌≤◌, length};
+ghost use Rattle.dms_table.specs.RowsView.{reading_of, IsShort};
+ghost use Rattle.dms_table.specs.Deciding.{shown_reading, seconds_of, put_up};
+
+use crate::checksum::crc;
+use crate::codes::{Activation, MessageId};
+use crate::memory;
+use crate::row::{MAX_OWNER, MAX_TEXT, RowView, copy_of};
+use crate::status::Status;
+use arrayvec::ArrayVec;
+use dms_face::Defaults;
+use std::marker::Model;
+
+/// The mode of a message that a code put up (dmsMsgSourceMode).
+pub const CENTRAL: u8 = 8;
+
+/// What is shown: a copy of a row, so that later changes of the row do not show.
+#[derive(Debug, Drop)]
+pub struct Shown {
+    pub text: ArrayVec<u8, MAX_TEXT>,
+    pub owner: ArrayVec<u8, MAX_OWNER>,
+    pub beacon: u8,
+    pub pixel: u8,
+    pub priority: u8,
+    /// The row, as the code that put it up named it.
+    pub source: MessageId,
+    /// How it came up (dmsMsgSourceMode).
+    pub mode: u8,
+    /// The network address of the one who put it up.
+    pub address: [u8; 4],
+    /// The seconds until it ends; none without an end.
+    pub remaining: Option<u32>,
+    /// The defaults when it came up.
+    pub defaults: Defaults,
+}
+
+impl Model for Shown {
+    ghost use Rattle.dms_table.specs.Deciding.{ShownModel};
+
+    ghost Value = { ShownModel };
+
+    ghost view = { λ s. record { text = s.text.items; owner = s.owner.items; beacon = s.beacon; pixel = s.pixel; priority = s.priority; source = s.source; mode = s.mode; address = s.address; remaining = s.remaining; defaults = s.defaults } };
+}
+
+impl Shown {
+    /// What is shown, as a row of the current buffer.
+    pub fn view(&self) -> RowView<'_>
+        ensures read { reading_of result ≡ shown_reading self.now }
+        ensures short { IsShort result }
+    {
+        RowView {
+            text: self.text.as_slice(),
+            owner: self.owner.as_slice(),
+            beacon: self.beacon,
+            pixel: self.pixel,
+            priority: self.priority,
+            status: Status::Valid,
+            checksum: self.checksum(),
+        }
+    }
+
+    fn checksum(&self) -> u16
+        ensures { result ≡ (shown_reading self.now).checksum }
+    {
+        if self.source.memory == memory::BLANK {
+            0
+        } else {
+            crc(self.text.as_slice(), self.beacon, self.pixel)
+        }
+    }
+
+    /// What is shown once a code has put up this row.
+    pub(crate) fn after(&self, code: &Activation, row: &RowView<'_>, defaults: &Defaults) -> Shown
+        requires { IsShort row.now }
+        ensures { result ≡ put_up defaults.now self.now code.now (reading_of row.now) }
+    {
+        let is_kept = code.id.memory == memory::CURRENT_BUFFER;
+        Shown {
+            text: copy_of(row.text),
+            owner: copy_of(row.owner),
+            beacon: row.beacon,
+            pixel: row.pixel,
+            priority: row.priority,
+            source: if is_kept { self.source } else { code.id },
+            mode: CENTRAL,
+            address: code.address,
+            remaining: seconds(code.minutes),
+            defaults: if is_kept { self.defaults } else { *defaults },
+        }
+    }
+}
+
+/// The seconds of a number of minutes; 65535 minutes have no end.
+fn seconds(minutes: u16) -> Option<u32>
+    ensures { result ≡ seconds_of minutes }
+{
+    if minutes == u16::MAX {
+        None
+    } else {
+        Some(u32::from(minutes) * 60)
+    }
+}

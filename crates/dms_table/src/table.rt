@@ -1,0 +1,364 @@
+//! The message table.
+
+ghost use Rattle.std.specs.Prelude.{◌≡◌, ◌≤◌, ℕ, map, find, All, IsTrue, IfOk, IfErr, OnOk, OnErr, Some, None, IfSome, option_map, length};
+ghost use Rattle.std.specs.Option.{option_copied};
+ghost use Rattle.std.specs.List.{list_any};
+ghost use Rattle.dms_table.specs.Rows.{row_is_validating, rows_of, numbered, row_read, valid_count, unused_count, row_count, may_ask, changed_in, asked_row, asked, written_row, written, interrupted, released, after_power, IsTable};
+ghost use Rattle.dms_table.specs.RowsView.{field_of, reading_of, IsShort};
+ghost use Rattle.dms_face.specs.Face.{fit};
+ghost use Rattle.dms_face.specs.Layout.{under};
+ghost use Rattle.dms_table.specs.Settling.{settled, verdict, ValidRowsAreGood};
+ghost use Rattle.dms_table.specs.Validating.{settled_by, verdict_by, IsJudged};
+ghost use Rattle.dms_table.specs.Stocking.{permanent_row, has_ranges, stock_fault, table_of, IsFirstFault, PermanentRowsAreGood};
+ghost use Rattle.dms_table.specs.Deciding.{is_memory, named, activation_error, unless_refused, decided};
+
+use crate::cause::Cause;
+use crate::codes::{Activation, MessageId, Order};
+use crate::memory;
+use crate::row::{Field, Refused, Row, RowId, RowView, Services};
+use crate::shown::Shown;
+use crate::status::{Ask, Status};
+use crate::stock::{Stock, TableFault, permanent_rows, unused_rows};
+use crate::verdict::{Validator, Verdict};
+use dms_face::{Defaults, Face, check_with};
+use std::alloc::{AllocError, Global};
+use std::marker::Model;
+
+/// The rows of a sign.
+#[derive(Drop)]
+pub struct Table {
+    permanent: Vec<Row>,
+    changeable: Vec<Row>,
+    volatile: Vec<Row>,
+    services: Services,
+    order: Order,
+}
+
+impl Model for Table {
+    ghost use Rattle.dms_table.specs.Rows.{TableModel, IsTable};
+
+    ghost Value = { TableModel };
+
+    ghost view = { λ t. record { permanent = t.permanent.items; changeable = t.changeable.items; volatile = t.volatile.items; services = t.services; order = t.order } };
+
+    ghost invariant = { λ t. IsTable (record { permanent = t.permanent.items; changeable = t.changeable.items; volatile = t.volatile.items; services = t.services; order = t.order }) };
+}
+
+impl Table {
+    /// The table of a stock, or the first thing that is wrong with the stock; memory is wanting only where nothing is.
+    pub fn new(alloc: Global, stock: Stock<'_>, face: &Face) -> Result<Table, TableFault>
+        ensures made { IfOk result (λ table. table ≡ table_of stock.entry) }
+        ensures faultless { OnOk result (stock_fault face.now stock.entry ≡ None) }
+        ensures good { IfOk result (λ table. PermanentRowsAreGood face.now table) }
+        ensures fault { IfErr result (λ fault. IsFirstFault (stock_fault face.now stock.entry) fault) }
+    {
+        if let Some(fault) = stock.fault(face) {
+            return Err(fault);
+        }
+        match Table::of_stock(alloc, &stock) {
+            Ok(table) => Ok(table),
+            Err(_) => Err(TableFault::Memory),
+        }
+    }
+
+    fn of_stock(alloc: Global, stock: &Stock<'_>) -> Result<Table, AllocError>
+        requires { All (λ message. IsTrue (has_ranges (permanent_row message))) stock.now.permanent.now }
+        ensures { IfOk result (λ table. table ≡ table_of stock.now) }
+    {
+        Ok(Table {
+            permanent: permanent_rows(alloc, stock.permanent)?,
+            changeable: unused_rows(alloc, stock.changeable)?,
+            volatile: unused_rows(alloc, stock.volatile)?,
+            services: stock.services(),
+            order: stock.order,
+        })
+    }
+
+    /// The order of the octets of a checksum in the codes of the sign.
+    pub fn order(&self) -> Order
+        ensures { result ≡ self.now.order }
+    {
+        self.order
+    }
+
+    /// What the sign has.
+    pub fn services(&self) -> Services
+        ensures { result ≡ self.now.services }
+    {
+        self.services
+    }
+
+    /// At most one row is being validated.
+    pub fn one_row_is_validated(&self)
+        ensures { IsTable self.now }
+    {
+        let _ = &self.changeable;
+    }
+
+    /// A row as it is read; blank messages are rows too.
+    pub fn row(&self, id: RowId) -> Option<RowView<'_>>
+        ensures read { option_map reading_of result ≡ row_read self.now id }
+        ensures short { IfSome result (λ view. IsShort view) }
+    {
+        if id.memory == memory::BLANK {
+            return RowView::blank(id.number);
+        }
+        let row = numbered(self.rows(id.memory), id.number)?;
+        Some(row.view())
+    }
+
+    /// How many rows of a type of memory are valid.
+    pub fn valid_count(&self, kind: u8) -> usize
+        ensures { result ≡ valid_count self.now kind }
+    {
+        self.rows(kind).iter().filter(|row| row.is_valid()).count()
+    }
+
+    /// How many rows of a type of memory are not used.
+    pub fn unused_count(&self, kind: u8) -> usize
+        ensures { result ≡ unused_count self.now kind }
+    {
+        self.rows(kind)
+            .iter()
+            .filter(|row| row.is_not_used())
+            .count()
+    }
+
+    /// How many rows a type of memory has.
+    pub fn row_count(&self, kind: u8) -> usize
+        ensures { result ≡ row_count self.now kind }
+    {
+        self.rows(kind).len()
+    }
+
+    fn rows(&self, kind: u8) -> &[Row]
+        ensures { result.now ≡ rows_of self.now kind }
+    {
+        match kind {
+            memory::PERMANENT => self.permanent.as_slice(),
+            memory::CHANGEABLE => self.changeable.as_slice(),
+            memory::VOLATILE => self.volatile.as_slice(),
+            _ => &[],
+        }
+    }
+
+    /// One row is validated at a time.
+    fn may_ask(&self, ask: Ask) -> bool
+        ensures { result ≡ may_ask self.now ask }
+    {
+        ask != Ask::Validate
+            || !is_any_validating(self.changeable.as_slice())
+                && !is_any_validating(self.volatile.as_slice())
+    }
+
+    /// Asks a row for another status.
+    pub fn ask(&mut self, id: RowId, ask: Ask) -> Result<(), Refused>
+        ensures ok { OnOk result (asked self.old id ask ≡ Some self.new) }
+        ensures refused { OnErr result (asked self.old id ask ≡ None) }
+        ensures unchanged { OnErr result (self.new ≡ self.old) }
+    {
+        if !self.may_ask(ask) {
+            return Err(Refused);
+        }
+        match id.memory {
+            memory::CHANGEABLE => ask_in(self.changeable.as_mut_slice(), id.number, ask),
+            memory::VOLATILE => ask_in(self.volatile.as_mut_slice(), id.number, ask),
+            _ => Err(Refused),
+        }
+    }
+
+    /// Writes a field of a row that is being modified.
+    pub fn write(&mut self, id: RowId, field: Field<'_>) -> Result<(), Refused>
+        ensures ok { OnOk result (written self.old id (field_of field.entry) ≡ Some self.new) }
+        ensures refused { OnErr result (written self.old id (field_of field.entry) ≡ None) }
+        ensures unchanged { OnErr result (self.new ≡ self.old) }
+    {
+        match id.memory {
+            memory::CHANGEABLE => write_in(self.changeable.as_mut_slice(), id.number, field),
+            memory::VOLATILE => write_in(self.volatile.as_mut_slice(), id.number, field),
+            _ => Err(Refused),
+        }
+    }
+
+    /// Ends the validation of the row that is being validated: it becomes valid, or an error. There is a verdict where there was
+    /// such a row.
+    pub fn settle(&mut self, face: &Face, defaults: &Defaults) -> Option<Verdict>
+        requires { IsTrue (fit face.now.fonts defaults.now) }
+        ensures rows { self.new ≡ settled (under face.now defaults.now) self.old }
+        ensures verdict { result ≡ verdict (under face.now defaults.now) self.old }
+        ensures good { ValidRowsAreGood (under face.now defaults.now) self.old self.new }
+    {
+        let validator = Validator {
+            services: self.services,
+            face,
+            defaults,
+        };
+        let changeable = settle_all(self.changeable.as_mut_slice(), &validator);
+        let volatile = settle_all(self.volatile.as_mut_slice(), &validator);
+        changeable.or(volatile)
+    }
+
+    /// What a loss of power leaves: volatile rows are not used, and a validation has to be asked for again.
+    pub fn after_power(&mut self)
+        ensures { self.new ≡ after_power self.old }
+    {
+        interrupt_all(self.changeable.as_mut_slice());
+        release_all(self.volatile.as_mut_slice());
+    }
+}
+
+impl Table {
+    /// What a code puts up, or why it is refused. Nothing changes.
+    pub fn decide(
+        &self,
+        face: &Face,
+        defaults: &Defaults,
+        code: &Activation,
+        shown: &Shown,
+    ) -> Result<Shown, Cause>
+        requires { IsTrue (fit face.now.fonts defaults.now) }
+        ensures { result ≡ decided face.now defaults.now self.now shown.now code.now }
+    {
+        if !is_memory(code.id.memory) {
+            return Err(Cause::MemoryType);
+        }
+        match self.named(shown, &code.id) {
+            None => Err(Cause::Number),
+            Some(row) => {
+                judge(face, defaults, code, shown, &row)?;
+                Ok(shown.after(code, &row, defaults))
+            }
+        }
+    }
+
+    /// The row that a code names; that of the current buffer is what is shown.
+    fn named<'a>(&'a self, shown: &'a Shown, id: &MessageId) -> Option<RowView<'a>>
+        ensures read { option_map reading_of result ≡ named self.now shown.now id.now }
+        ensures short { IfSome result (λ view. IsShort view) }
+    {
+        if id.memory != memory::CURRENT_BUFFER {
+            return self.row(RowId {
+                memory: id.memory,
+                number: id.number,
+            });
+        }
+        if id.number == 1 {
+            Some(shown.view())
+        } else {
+            None
+        }
+    }
+}
+
+fn is_memory(kind: u8) -> bool
+    ensures { result ≡ is_memory kind }
+{
+    matches!(
+        kind,
+        memory::PERMANENT
+            | memory::CHANGEABLE
+            | memory::VOLATILE
+            | memory::CURRENT_BUFFER
+            | memory::BLANK
+    )
+}
+
+/// Refuses a code of this row for the first cause that there is.
+fn judge(
+    face: &Face,
+    defaults: &Defaults,
+    code: &Activation,
+    shown: &Shown,
+    row: &RowView<'_>,
+) -> Result<(), Cause>
+    requires { IsTrue (fit face.now.fonts defaults.now) }
+    ensures { result ≡ unless_refused tt (activation_error (under face.now defaults.now) shown.now code.now (reading_of row.now)) }
+{
+    if row.status != Status::Valid {
+        return Err(Cause::Status);
+    }
+    if code.id.memory != memory::BLANK && code.id.crc != row.checksum {
+        return Err(Cause::Checksum);
+    }
+    if code.priority < shown.priority {
+        return Err(Cause::Priority);
+    }
+    if code.id.memory == memory::CURRENT_BUFFER {
+        return Ok(());
+    }
+    match check_with(face, defaults, row.text) {
+        Ok(_) => Ok(()),
+        Err(fault) => Err(Cause::Syntax(fault)),
+    }
+}
+
+/// The row of a number, from 1.
+fn numbered(rows: &[Row], number: u16) -> Option<&Row>
+    ensures { option_copied result ≡ numbered rows.now number }
+{
+    let place = usize::from(number).checked_sub(1)?;
+    rows.get(place)
+}
+
+fn is_any_validating(rows: &[Row]) -> bool
+    ensures { result ≡ list_any row_is_validating rows.now }
+{
+    rows.iter().any(|row| row.is_validating())
+}
+
+fn ask_in(rows: &mut [Row], number: u16, ask: Ask) -> Result<(), Refused>
+    ensures ok { OnOk result (changed_in rows.old number (asked_row ask) ≡ Some rows.new) }
+    ensures refused { OnErr result (changed_in rows.old number (asked_row ask) ≡ None) }
+    ensures unchanged { OnErr result (rows.new ≡ rows.old) }
+{
+    let place = usize::from(number);
+    if place == 0 || place > rows.len() {
+        return Err(Refused);
+    }
+    let row = &mut rows[place - 1];
+    row.ask(ask)
+}
+
+fn write_in(rows: &mut [Row], number: u16, field: Field<'_>) -> Result<(), Refused>
+    ensures ok { OnOk result (changed_in rows.old number (written_row (field_of field.entry)) ≡ Some rows.new) }
+    ensures refused { OnErr result (changed_in rows.old number (written_row (field_of field.entry)) ≡ None) }
+    ensures unchanged { OnErr result (rows.new ≡ rows.old) }
+{
+    let place = usize::from(number);
+    if place == 0 || place > rows.len() {
+        return Err(Refused);
+    }
+    let row = &mut rows[place - 1];
+    row.write(field)
+}
+
+fn interrupt_all(rows: &mut [Row])
+    ensures { rows.new ≡ map interrupted rows.old }
+{
+    for row in rows.iter_mut() {
+        row.interrupt();
+    }
+}
+
+fn release_all(rows: &mut [Row])
+    ensures { rows.new ≡ map released rows.old }
+{
+    for row in rows.iter_mut() {
+        row.release();
+    }
+}
+
+/// Ends the validation of each of these rows; the verdict is that on the first.
+fn settle_all(rows: &mut [Row], validator: &Validator<'_>) -> Option<Verdict>
+    requires { IsTrue (fit validator.now.face.now.fonts validator.now.defaults.now) }
+    ensures rows { rows.new ≡ map (settled_by validator.now) rows.old }
+    ensures verdict { result ≡ option_map (verdict_by validator.now) (find row_is_validating rows.old) }
+    ensures judged { All (IsJudged validator.now) rows.old }
+{
+    let mut verdict = None;
+    for row in rows.iter_mut() {
+        let next = row.settle(validator);
+        verdict = verdict.or(next);
+    }
+    verdict
+}
