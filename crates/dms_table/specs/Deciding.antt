@@ -43,11 +43,15 @@ is_memory memory = memory == permanent_memory || memory == changeable_memory || 
 abbrev pub row_id : MessageId → RowId
 row_id id = record { memory = id.memory; number = id.number }
 
--- the row that a code names; the only number of the current buffer is 1
+-- what is read of a row; the only number of the current buffer is 1
+abbrev pub message_at : TableModel → ShownModel → RowId → Option RowReading
+message_at table shown row =
+    if row.memory == current_buffer then (if row.number == 1 then Some (shown_reading shown) else None)
+    else row_read table row
+
+-- the row that a code names
 abbrev pub named : TableModel → ShownModel → MessageId → Option RowReading
-named table shown id =
-    if id.memory == current_buffer then (if id.number == 1 then Some (shown_reading shown) else None)
-    else row_read table (row_id id)
+named table shown id = message_at table shown (row_id id)
 
 -- ---- the causes, in their order
 

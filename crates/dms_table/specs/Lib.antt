@@ -1,5 +1,6 @@
 pub mod Checksum
 pub mod Codes
+pub mod Names
 pub mod Register
 pub mod Status
 pub mod Rows
