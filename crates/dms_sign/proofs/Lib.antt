@@ -4,3 +4,6 @@ pub mod WorkedAnswers
 pub mod WorkedTable
 pub mod WorkedActivations
 pub mod WorkedPower
+pub mod WorkedSilence
+pub mod WorkedDefaults
+pub mod WorkedSizes
