@@ -32,16 +32,18 @@ lettered = record lettered_sign {
   reports = record lettered_sign.reports { accepted_code = octets_of five_minutes };
 }
 
--- the first is accepted: nothing else changes
+-- the first puts "A" up, and nothing else changes
 first_puts_up : after_set lettered_sign (code five_minutes ∷ []) ≡ lettered
 unfolding answer
 first_puts_up = refl
 
+-- it is accepted with what it says
 first_is_accepted : (answer lettered_sign Set (code five_minutes ∷ [])).accepted
     ≡ Some (record { minutes = 5; priority = 10; id = record { memory = 3; number = 1; crc = 39526 }; address = 192 ∷ 0 ∷ 2 ∷ 1 ∷ [] })
 unfolding answer
 first_is_accepted = refl
 
+-- and answered with noError
 first_is_told : told lettered_sign (code five_minutes ∷ []) ≡ (0, 0)
 unfolding answer
 first_is_told = refl
@@ -51,6 +53,7 @@ second_is_told : told lettered (code five_minutes ∷ []) ≡ (5, 1)
 unfolding answer
 second_is_told = refl
 
+-- it is not among what was accepted
 second_is_not_accepted : (answer lettered Set (code five_minutes ∷ [])).accepted ≡ None
 unfolding answer
 second_is_not_accepted = refl
@@ -82,14 +85,16 @@ end_of_the_duration : seen (later 300 lettered) ≡ blank_one 14
 unfolding answer later
 end_of_the_duration = refl
 
--- a duration of 0 reads 0
+-- a duration of 0
 abbrev no_minutes : SignState
 no_minutes = after_set lettered_sign (code (codes "0000ff0300019a6600000000") ∷ [])
 
+-- the message is up with no second left
 no_minutes_are_up : seen no_minutes ≡ letter_a 8 (Some 0)
 unfolding answer
 no_minutes_are_up = refl
 
+-- dmsMessageTimeRemaining reads 0
 no_minutes_read : reads no_minutes (The MessageTimeRemaining) ≡ Some (integer (pos 0))
 unfolding answer reads
 no_minutes_read = refl
@@ -104,15 +109,17 @@ ended_at_once : told lettered (number (The MessageTimeRemaining) 0 ∷ []) ≡ (
 unfolding answer
 ended_at_once = refl
 
+-- its mode is endDuration
 blank_at_once : seen (after_set lettered (number (The MessageTimeRemaining) 0 ∷ [])) ≡ blank_one 14
 unfolding answer
 blank_at_once = refl
 
--- two minutes are to remain, or no end
+-- two minutes are to remain
 two_minutes : seen (after_set lettered (number (The MessageTimeRemaining) 2 ∷ [])) ≡ letter_a 8 (Some 120)
 unfolding answer
 two_minutes = refl
 
+-- 65535 is without an end
 no_end : seen (after_set lettered (number (The MessageTimeRemaining) 65535 ∷ [])) ≡ letter_a 8 None
 unfolding answer
 no_end = refl
@@ -121,10 +128,12 @@ no_end = refl
 abbrev staying_at_its_end : SignState
 staying_at_its_end = after_set lettered (octets (The EndDurationMessage) (octets_of (codes "0500010000")) ∷ [])
 
+-- at the end of the duration
 stays_at_its_end : seen (later 300 staying_at_its_end) ≡ letter_a 14 None
 unfolding answer later
 stays_at_its_end = refl
 
+-- and where no time is to remain
 stays_at_once : seen (after_set staying_at_its_end (number (The MessageTimeRemaining) 0 ∷ [])) ≡ letter_a 14 None
 unfolding answer
 stays_at_once = refl
@@ -175,6 +184,7 @@ blank_is_up : seen (after_set lettered (code (codes "ffffc80700ff123400000000") 
 unfolding answer
 blank_is_up = refl
 
+-- the run-time priority of a blank is its number
 blank_has_its_priority : (after_set lettered (code (codes "ffffc80700ff123400000000") ∷ [])).shown.priority ≡ 255
 unfolding answer
 blank_has_its_priority = refl
@@ -184,6 +194,7 @@ refused_code_is_kept : reads (after_set lettered (code (codes "ffffff0300039a660
 unfolding answer reads
 refused_code_is_kept = refl
 
+-- the code that was accepted before it is still told
 accepted_code_is_kept : reads (after_set lettered (code (codes "ffffff0300039a6600000000") ∷ [])) (The ActivateMessage) ≡ Some (octet_string (octets_of five_minutes))
 unfolding answer reads
 accepted_code_is_kept = refl

@@ -19,6 +19,7 @@ volatile_sign =
     after_set (after_set (record bench_sign { table = record bench_table { volatile = valid_row (codes "A") 200 ∷ [] } }) (code (codes "ffffff0400019a6600000000") ∷ []))
     (number (The ShortPowerLossTime) 10 ∷ octets (The ShortPowerRecoveryMessage) (octets_of (codes "0400019a66")) ∷ [])
 
+-- it is up without an end
 volatile_is_up : seen volatile_sign ≡ record { text = codes "A"; source = octets_of (codes "0400019a66"); mode = 8; remaining = None }
 unfolding answer
 volatile_is_up = refl

@@ -54,10 +54,12 @@ filled_and_released = refl
 abbrev changed_row : SignState
 changed_row = after_set (after_set (after_set lettered_sign (code (codes "ffffff0300019a66c0000201") ∷ [])) (number (cell Status 3 1) 6 ∷ [])) (octets (cell MultiString 3 1) (codes "B") ∷ [])
 
+-- the row reads "B"
 row_is_changed : reads changed_row (cell MultiString 3 1) ≡ Some (octet_string (codes "B"))
 unfolding answer reads
 row_is_changed = refl
 
+-- "A" is still up
 message_is_not_changed : seen changed_row ≡ letter_a 8 None
 unfolding answer
 message_is_not_changed = refl
@@ -73,6 +75,7 @@ current_buffer_is_not_changed = refl
 abbrev pub validating_sign : SignState
 validating_sign = after_set (with_changeable_rows (open_row (codes "A") ∷ open_row (codes "A") ∷ [])) (number (cell Status 3 1) 7 ∷ [])
 
+-- its status is validating
 is_validating : reads validating_sign (cell Status 3 1) ≡ Some (integer (pos 3))
 unfolding answer reads
 is_validating = refl
