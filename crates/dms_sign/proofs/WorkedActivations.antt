@@ -180,7 +180,8 @@ unfolding answer
 blank_is_accepted = refl
 
 -- its source is as it came
-blank_is_up : seen (after_set lettered (code (codes "ffffc80700ff123400000000") ∷ [])) ≡ record { text = []; source = octets_of (codes "0700ff1234"); mode = 8; remaining = None }
+blank_is_up : seen (after_set lettered (code (codes "ffffc80700ff123400000000") ∷ []))
+    ≡ record { text = []; source = octets_of (codes "0700ff1234"); mode = 8; remaining = None }
 unfolding answer
 blank_is_up = refl
 
@@ -190,12 +191,14 @@ unfolding answer
 blank_has_its_priority = refl
 
 -- a code that was judged and refused is kept, beside the one last accepted
-refused_code_is_kept : reads (after_set lettered (code (codes "ffffff0300039a6600000000") ∷ [])) (The ActivateErrorMsgCode) ≡ Some (octet_string (octets_of (codes "ffffff0300039a6600000000")))
+refused_code_is_kept : reads (after_set lettered (code (codes "ffffff0300039a6600000000") ∷ [])) (The ActivateErrorMsgCode)
+    ≡ Some (octet_string (octets_of (codes "ffffff0300039a6600000000")))
 unfolding answer reads
 refused_code_is_kept = refl
 
 -- the code that was accepted before it is still told
-accepted_code_is_kept : reads (after_set lettered (code (codes "ffffff0300039a6600000000") ∷ [])) (The ActivateMessage) ≡ Some (octet_string (octets_of five_minutes))
+accepted_code_is_kept : reads (after_set lettered (code (codes "ffffff0300039a6600000000") ∷ [])) (The ActivateMessage)
+    ≡ Some (octet_string (octets_of five_minutes))
 unfolding answer reads
 accepted_code_is_kept = refl
 

@@ -1,5 +1,5 @@
 -- What the bench sign's matrix shows of a message that keeps its defaults, computed.
-use Rattle.std.proofs.Common.{◌≡◌, ℕ, List, [], ◌∷◌, map, ◌+◌, if◌then◌else◌, refl}
+use Rattle.std.proofs.Common.{◌≡◌, ℕ, List, [], ◌∷◌, map, ◌+◌, if◌then◌else◌, refl, replicate}
 use Rattle.std.specs.Prelude.{codes, slice_index_or}
 use Rattle.dms_multi.specs.Outcomes.{outcomes_within}
 use Rattle.dms_multi.specs.TagReading.{item_at, item_after_opening, item_after_closing, tag_at, body_item, name_at, letters_name, end_name, item_of, flash_of, font_of, times_of, page_time_of}
@@ -32,18 +32,30 @@ drawn s =
     let page = slice_index_or (pages_of face s.shown.text) 0 no_page in
     map (λ y. map (λ x. digit (cell_of face page x y)) columns) rows
 
+-- a row of the matrix where nothing is lit
+abbrev dark : List ℕ
+dark = codes "......................."
+
 -- "A" was put up before defaultFont was set to 2
 letter_of_font_one : drawn copied_sign ≡
-    codes "..........999.........." ∷ codes ".........9...9........." ∷ codes ".........9...9........." ∷ codes ".........99999........." ∷ codes ".........9...9........."
-    ∷ codes ".........9...9........." ∷ codes ".........9...9........." ∷ codes "......................." ∷ codes "......................." ∷ codes "......................."
-    ∷ codes "......................." ∷ codes "......................." ∷ codes "......................." ∷ codes "......................." ∷ []
+    codes "..........999.........."
+    ∷ codes ".........9...9........."
+    ∷ codes ".........9...9........."
+    ∷ codes ".........99999........."
+    ∷ codes ".........9...9........."
+    ∷ codes ".........9...9........."
+    ∷ codes ".........9...9........."
+    ∷ replicate 7 dark
 unfolding datagram answer drawn
 letter_of_font_one = refl
 
 -- it is put up again
 letter_of_font_two : drawn (after_set copied_sign (code changeable_one ∷ [])) ≡
-    codes "...........9..........." ∷ codes "..........9.9.........." ∷ codes "..........999.........." ∷ codes "..........9.9.........." ∷ codes "..........9.9.........."
-    ∷ codes "......................." ∷ codes "......................." ∷ codes "......................." ∷ codes "......................." ∷ codes "......................."
-    ∷ codes "......................." ∷ codes "......................." ∷ codes "......................." ∷ codes "......................." ∷ []
+    codes "...........9..........."
+    ∷ codes "..........9.9.........."
+    ∷ codes "..........999.........."
+    ∷ codes "..........9.9.........."
+    ∷ codes "..........9.9.........."
+    ∷ replicate 9 dark
 unfolding datagram answer drawn
 letter_of_font_two = refl

@@ -11,7 +11,8 @@ use Rattle.dms_sign.specs.Reply.{dropped}
 use Rattle.dms_sign.proofs.BenchSign.{octets_of, bench_sign, lettered_sign, number, octets, code, datagram, answer, after_set, later, without_power, with_power, seen, letter_a, blank_one}
 
 -- after dmsShortPowerLossTime.0 comes dmsCommunicationsLossMessage.0
-after_short_power_loss_time : (answer bench_sign GetNext (bound (The ShortPowerLossTime) null ∷ [])).bindings ≡ octets (The CommunicationsLossMessage) blank_code ∷ []
+after_short_power_loss_time : (answer bench_sign GetNext (bound (The ShortPowerLossTime) null ∷ [])).bindings
+    ≡ octets (The CommunicationsLossMessage) blank_code ∷ []
 unfolding answer
 after_short_power_loss_time = refl
 
@@ -85,7 +86,8 @@ unfolding datagram later
 minute_after_the_answer = refl
 
 -- a SET that is refused is answered too
-refusal_is_an_answer : (datagram half_a_minute (codes "302c02010004067075626c6963a31f02010102010002010030143012060d2b060104018936040203060a00020105")).after.silent ≡ 0
+refusal_is_an_answer : (datagram half_a_minute (codes "302c02010004067075626c6963a31f02010102010002010030143012060d2b060104018936040203060a00020105")).after.silent
+    ≡ 0
 unfolding datagram
 refusal_is_an_answer = refl
 
@@ -104,7 +106,9 @@ power_was_there = refl
 -- "A" is up for five minutes, and its code for a loss of communications is that of the current buffer
 abbrev staying_sign : SignState
 staying_sign =
-    after_set (after_set lettered_sign (octets (The CommunicationsLossMessage) (octets_of (codes "0500010000")) ∷ number (The TimeCommLoss) 1 ∷ [])) (code (codes "00050a0300019a66c0000201") ∷ [])
+    after_set
+    (after_set lettered_sign (octets (The CommunicationsLossMessage) (octets_of (codes "0500010000")) ∷ number (The TimeCommLoss) 1 ∷ []))
+    (code (codes "00050a0300019a66c0000201") ∷ [])
 
 -- "A" stays, without an end
 message_stays : seen (later 60 staying_sign) ≡ letter_a 12 None
@@ -130,7 +134,8 @@ abbrev end_stays : SignState
 end_stays =
     after_set
     (after_set lettered_sign
-    (number (The TimeCommLoss) 1 ∷ octets (The CommunicationsLossMessage) (octets_of (codes "0500010000")) ∷ octets (The EndDurationMessage) (octets_of (codes "0700090000")) ∷ []))
+    (number (The TimeCommLoss) 1 ∷ octets (The CommunicationsLossMessage) (octets_of (codes "0500010000"))
+    ∷ octets (The EndDurationMessage) (octets_of (codes "0700090000")) ∷ []))
     (code (codes "00010a0300019a66c0000201") ∷ [])
 
 -- it has the mode of the silence

@@ -67,7 +67,8 @@ numbers_size m request status index first second third =
     λ z n size. element_length 2 (integer_octets z) ∙ ap element_size size in
     length-append (element 2 (integer_octets m.request) ++ element 2 (integer_octets m.status)) (element 2 (integer_octets m.index))
     ∙ ap₂ (λ a b. a + b)
-    (length-append (element 2 (integer_octets m.request)) (element 2 (integer_octets m.status)) ∙ ap₂ (λ a b. a + b) (sized m.request request first) (sized m.status status second))
+    (length-append (element 2 (integer_octets m.request)) (element 2 (integer_octets m.status))
+    ∙ ap₂ (λ a b. a + b) (sized m.request request first) (sized m.status status second))
     (sized m.index index third)
 
 -- four octets spell a number up to 2147483647
@@ -88,16 +89,22 @@ size_of : (m : SnmpMessage) (numbers bindings : ℕ) → length (numbers_octets 
 unfolding canonical pdu_octets
 size_of m numbers bindings these those =
     let head = element 2 (0 ∷ []) ++ element 4 m.community in
-    let list : length (element 48 (flat_map binding_octets m.bindings)) ≡ element_size bindings = element_length 48 (flat_map binding_octets m.bindings) ∙ ap element_size those in
-    let pdu : length (pdu_octets m) ≡ numbers + element_size bindings = length-append (numbers_octets m) (element 48 (flat_map binding_octets m.bindings)) ∙ ap₂ (λ a b. a + b) these list in
-    let tagged : length (element (tag_of m.kind) (pdu_octets m)) ≡ element_size (numbers + element_size bindings) = element_length (tag_of m.kind) (pdu_octets m) ∙ ap element_size pdu in
+    let list : length (element 48 (flat_map binding_octets m.bindings)) ≡ element_size bindings =
+    element_length 48 (flat_map binding_octets m.bindings) ∙ ap element_size those in
+    let pdu : length (pdu_octets m) ≡ numbers + element_size bindings =
+    length-append (numbers_octets m) (element 48 (flat_map binding_octets m.bindings)) ∙ ap₂ (λ a b. a + b) these list in
+    let tagged : length (element (tag_of m.kind) (pdu_octets m)) ≡ element_size (numbers + element_size bindings) =
+    element_length (tag_of m.kind) (pdu_octets m) ∙ ap element_size pdu in
     let whole : length (head ++ element (tag_of m.kind) (pdu_octets m)) ≡ length head + element_size (numbers + element_size bindings) =
     length-append head (element (tag_of m.kind) (pdu_octets m)) ∙ ap (λ n. length head + n) tagged in
     element_length 48 (head ++ element (tag_of m.kind) (pdu_octets m)) ∙ ap element_size whole
 
+abbrev named : List ℕ → VarBind
+named name = record { name = name; value = null }
+
 -- the name 1.3 203 times, 1.3.6.1 once, and 2.5
 abbrev many_names : List VarBind
-many_names = replicate 203 (record { name = 1 ∷ 3 ∷ []; value = null }) ++ record { name = 1 ∷ 3 ∷ 6 ∷ 1 ∷ []; value = null } ∷ record { name = 2 ∷ 5 ∷ []; value = null } ∷ []
+many_names = replicate 203 (named (1 ∷ 3 ∷ [])) ++ named (1 ∷ 3 ∷ 6 ∷ 1 ∷ []) ∷ named (2 ∷ 5 ∷ []) ∷ []
 
 abbrev many : SnmpMessage
 many = record { community = codes "public"; kind = GetNext; request = pos 2147483647; status = pos 0; index = pos 0; bindings = many_names }
@@ -105,7 +112,7 @@ many = record { community = codes "public"; kind = GetNext; request = pos 214748
 -- the size of their list
 many_octets : length (flat_map binding_octets many_names) ≡ 1437
 unfolding element name_octets binding_octets
-many_octets = equal_bindings 203 (record { name = 1 ∷ 3 ∷ []; value = null }) (record { name = 1 ∷ 3 ∷ 6 ∷ 1 ∷ []; value = null } ∷ record { name = 2 ∷ 5 ∷ []; value = null } ∷ [])
+many_octets = equal_bindings 203 (named (1 ∷ 3 ∷ [])) (named (1 ∷ 3 ∷ 6 ∷ 1 ∷ []) ∷ named (2 ∷ 5 ∷ []) ∷ [])
 
 -- the request has 1,472 octets
 request_size : length (canonical many) ≡ 1472
@@ -136,4 +143,6 @@ many_names_are_too_big = ap Some (ap (reply_to many) nothing_after_the_last ∙ 
 -- which has 1,472 octets
 reply_size : length (canonical (response_to many too_big 0)) ≡ 1472
 unfolding element integer_octets
-reply_size = size_of (response_to many too_big 0) 12 1437 (numbers_size (response_to many too_big 0) 4 1 1 (four_octets 2147483647 (omega arith) (omega arith)) refl refl) many_octets
+reply_size =
+    size_of (response_to many too_big 0) 12 1437
+    (numbers_size (response_to many too_big 0) 4 1 1 (four_octets 2147483647 (omega arith) (omega arith)) refl refl) many_octets

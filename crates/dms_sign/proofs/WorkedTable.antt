@@ -12,6 +12,10 @@ use Rattle.dms_sign.proofs.BenchSign.{bench_sign, with_changeable_rows, lettered
 abbrev open_row : List ℕ → RowModel
 open_row text = record (valid_row text 200) { status = Modifying }
 
+-- changeable row 1 has no text, and is being modified
+abbrev opened_sign : SignState
+opened_sign = with_changeable_rows (open_row [] ∷ unused ∷ [])
+
 -- ---- filling
 
 -- modifyReq and a text in one SET: the row was not being modified before it, genErr, index 2
@@ -25,13 +29,13 @@ unfolding answer
 opened_and_filled_sets_nothing = refl
 
 -- the text "B" and validateReq on a row that is being modified: noError
-filled_and_validated : told (with_changeable_rows (open_row [] ∷ unused ∷ [])) (octets (cell MultiString 3 1) (codes "B") ∷ number (cell Status 3 1) 7 ∷ []) ≡ (0, 0)
+filled_and_validated : told opened_sign (octets (cell MultiString 3 1) (codes "B") ∷ number (cell Status 3 1) 7 ∷ []) ≡ (0, 0)
 unfolding answer
 filled_and_validated = refl
 
 -- a second after it
 abbrev filled_sign : SignState
-filled_sign = later 1 (after_set (with_changeable_rows (open_row [] ∷ unused ∷ [])) (octets (cell MultiString 3 1) (codes "B") ∷ number (cell Status 3 1) 7 ∷ []))
+filled_sign = later 1 (after_set opened_sign (octets (cell MultiString 3 1) (codes "B") ∷ number (cell Status 3 1) 7 ∷ []))
 
 -- the row is valid
 valid_a_second_later : reads filled_sign (cell Status 3 1) ≡ Some (integer (pos 4))
@@ -44,7 +48,7 @@ unfolding answer reads later
 checksum_a_second_later = refl
 
 -- a text and notUsedReq in one SET: the row is empty after it
-filled_and_released : after_set (with_changeable_rows (open_row [] ∷ unused ∷ [])) (octets (cell MultiString 3 1) (codes "B") ∷ number (cell Status 3 1) 8 ∷ []) ≡ bench_sign
+filled_and_released : after_set opened_sign (octets (cell MultiString 3 1) (codes "B") ∷ number (cell Status 3 1) 8 ∷ []) ≡ bench_sign
 unfolding answer
 filled_and_released = refl
 
@@ -52,7 +56,9 @@ filled_and_released = refl
 
 -- "A" is up, then its row is set to modifyReq and to the text "B"
 abbrev changed_row : SignState
-changed_row = after_set (after_set (after_set lettered_sign (code (codes "ffffff0300019a66c0000201") ∷ [])) (number (cell Status 3 1) 6 ∷ [])) (octets (cell MultiString 3 1) (codes "B") ∷ [])
+changed_row =
+    after_set (after_set (after_set lettered_sign (code (codes "ffffff0300019a66c0000201") ∷ [])) (number (cell Status 3 1) 6 ∷ []))
+    (octets (cell MultiString 3 1) (codes "B") ∷ [])
 
 -- the row reads "B"
 row_is_changed : reads changed_row (cell MultiString 3 1) ≡ Some (octet_string (codes "B"))
