@@ -66,7 +66,12 @@ another_community_is_dropped : datagram half_a_minute (codes "301902010004077072
 unfolding datagram
 another_community_is_dropped = refl
 
--- thirty seconds after it the minute is over
+-- 29 seconds after it nothing has happened
+silence_is_not_over : seen (later 29 (datagram half_a_minute (codes "3000")).after) ≡ blank_one 10
+unfolding datagram later
+silence_is_not_over = refl
+
+-- a second later the minute is over
 silence_goes_on : seen (later 30 (datagram half_a_minute (codes "3000")).after) ≡ blank_one 12
 unfolding datagram later
 silence_goes_on = refl

@@ -1,10 +1,12 @@
 -- The message table of the bench sign: rows that are opened, filled and validated, computed.
-use Rattle.std.proofs.Common.{◌≡◌, ℕ, List, [], ◌∷◌, Some, None, refl}
+use Rattle.std.proofs.Common.{◌≡◌, ℕ, List, [], ◌∷◌, map, Option, Some, None, refl}
 use Rattle.std.specs.Prelude.{pos, codes}
-use Rattle.dms_wire.specs.Message.{integer, octet_string}
+use Rattle.dms_wire.specs.Message.{ObjectValue, integer, octet_string}
 use Rattle.dms_table.specs.declared.status.Status.TheVariants.{Modifying}
 use Rattle.dms_table.specs.declared.names.Column.TheVariants.{MultiString, Crc, Status}
 use Rattle.dms_table.specs.Rows.{RowModel, unused}
+use Rattle.dms_sign.specs.declared.object.Scalar.TheVariants.{ValidateMessageError, MultiSyntaxError, MultiSyntaxErrorPosition}
+use Rattle.dms_sign.specs.declared.object.Instance.TheVariants.{The}
 use Rattle.dms_sign.specs.State.{SignState}
 use Rattle.dms_sign.proofs.BenchSign.{bench_sign, with_changeable_rows, lettered_sign, valid_row, cell, number, octets, code, answer, told, after_set, reads, later, seen, letter_a}
 
@@ -90,3 +92,29 @@ is_validating = refl
 one_at_a_time : told validating_sign (number (cell Status 3 2) 7 ∷ []) ≡ (5, 1)
 unfolding answer
 one_at_a_time = refl
+
+-- ---- verdicts
+
+-- what is told of a row a second after validateReq: its status, dmsValidateMessageError, dmsMultiSyntaxError and its position
+abbrev told_of : RowModel → List (Option ObjectValue)
+told_of row =
+    let s = later 1 (after_set (with_changeable_rows (row ∷ unused ∷ [])) (number (cell Status 3 1) 7 ∷ [])) in
+    reads s (cell Status 3 1) ∷ reads s (The ValidateMessageError) ∷ reads s (The MultiSyntaxError) ∷ reads s (The MultiSyntaxErrorPosition) ∷ []
+
+abbrev numbers : List ℕ → List (Option ObjectValue)
+numbers these = map (λ n. Some (integer (pos n))) these
+
+-- nothing is wrong, and the sign has beacons
+beacon_is_there : told_of (record (open_row (codes "A")) { beacon = 1 }) ≡ numbers (4 ∷ 2 ∷ 2 ∷ 0 ∷ [])
+unfolding answer reads later
+beacon_is_there = refl
+
+-- a tag without an end: syntaxMULTI, unsupportedTag at 0
+tag_without_an_end : told_of (open_row (codes "[nl")) ≡ numbers (5 ∷ 5 ∷ 3 ∷ 0 ∷ [])
+unfolding answer reads later
+tag_without_an_end = refl
+
+-- a pixel service that the sign has not is told first, and the text is not looked at
+no_pixel_service : told_of (record (open_row (codes "[nl")) { pixel = 1 }) ≡ numbers (5 ∷ 4 ∷ 2 ∷ 0 ∷ [])
+unfolding answer reads later
+no_pixel_service = refl
