@@ -37,9 +37,9 @@ unfolding later
 sixty_seconds = refl
 
 -- it acts once: the count stays
-acts_once : (later 70 one_minute).silent ≡ 60
+once : (later 70 one_minute).silent ≡ 60
 unfolding later
-acts_once = refl
+once = refl
 
 -- ---- what ends the silence
 
@@ -52,9 +52,9 @@ unfolding later
 thirty_seconds = refl
 
 -- a datagram that is dropped does not: octets that spell no message
-junk_is_dropped : datagram half_a_minute (codes "3000") ≡ dropped half_a_minute
+junk : datagram half_a_minute (codes "3000") ≡ dropped half_a_minute
 unfolding datagram
-junk_is_dropped = refl
+junk = refl
 
 -- a Response
 response_is_dropped : datagram half_a_minute (codes "3017020100040561646d696ea20b0201010201000201003000") ≡ dropped half_a_minute
