@@ -26,4 +26,4 @@ pub record SpellsScript (octets : List ℕ) (sign : Description) (events : List 
   pub event_lines : List (List ℕ)
   pub lines_are : kept_lines octets ≡ sign_lines ++ event_lines
   pub names : NamesSign sign_lines sign
-  pub spelled : SpellsEvents sign.order events event_lines
+  pub spelled : SpellsEvents sign.table.order events event_lines
