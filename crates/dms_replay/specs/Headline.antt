@@ -1,8 +1,8 @@
 -- What holds of a sign and its centre after every list of commands, ticks, losses of power, restarts and deliveries, with datagrams lost,
 -- repeated, reordered and forged.
-use Rattle.std.specs.Prelude.{◌≡◌, ℕ, Bool, true, false, List}
+use Rattle.std.specs.Prelude.{◌≡◌, Bool, true, false, List}
 use Rattle.dms_centre.specs.Commands.{CommandModel, IsCommand}
-use Rattle.dms_replay.specs.Event.{EventModel, command, sign_tick, centre_tick, to_sign, to_centre, power_lost, power_back, centre_restart, forge_sign, forge_centre}
+use Rattle.dms_replay.specs.Event.{EventModel, command, forge_sign, forge_centre}
 use Rattle.dms_replay.specs.World.{WorldModel, IsFresh}
 use Rattle.dms_replay.specs.Backed.{Has, IsBacked, CopiedDefaults}
 use Rattle.dms_replay.specs.GoodRows.{ValidRowsWereGood, OneRowIsValidating, DefaultsFit}

@@ -9,8 +9,7 @@ use Rattle.dms_table.specs.Codes.{octets_of_activation}
 use Rattle.dms_table.specs.Rows.{current_buffer, blank_memory}
 use Rattle.dms_table.specs.Deciding.{ShownModel}
 use Rattle.dms_sign.specs.Answering.{primary}
-use Rattle.dms_centre.specs.declared.outcome.Outcome.{Outcome}
-use Rattle.dms_centre.specs.declared.outcome.Outcome.TheVariants.{Waiting, Accepted, Refused, NoReply, Unknown}
+use Rattle.dms_centre.specs.declared.outcome.Outcome.TheVariants.{Accepted, Refused}
 use Rattle.dms_centre.specs.State.{Entry}
 use Rattle.dms_centre.specs.Steps.{code_of}
 use Rattle.dms_centre.specs.Commands.{CommandModel, job_of, refusal_of}

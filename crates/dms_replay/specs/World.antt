@@ -100,5 +100,5 @@ pub record IsFresh (world : WorldModel) : Type 0 where
   pub is_beginning : world ≡ beginning (sign.start config table) (centre.start settings first)
 
 -- the world in which a script's events happen: the centre has the sign's writing community and its order
-abbrev pub world_of : Description → WorldModel
-world_of it = beginning (sign.start it.config it.table) (centre.start (record { community = it.config.writer; order = it.table.order }) it.first)
+abbrev pub beginning_of : Description → WorldModel
+beginning_of it = beginning (sign.start it.config it.table) (centre.start (record { community = it.config.writer; order = it.table.order }) it.first)
