@@ -13,7 +13,7 @@ use Rattle.dms_table.specs.Names.{below_dms, column_number}
 use Rattle.dms_table.specs.Rows.{TableModel}
 use Rattle.dms_sign.specs.declared.object.Instance.{Instance}
 use Rattle.dms_sign.specs.declared.object.Instance.TheVariants.{The, Cell}
-use Rattle.dms_sign.specs.Objects.{name_of, before_table, after_table, columns, memories, rows_in, row_ids, cells, instances, is_before, instance_named, next_instance, IsInstance, FirstAfter}
+use Rattle.dms_sign.specs.Objects.{name_of, before_table, after_table, columns, memories, rows_in, row_ids, cells, instances, is_before, has_name, comes_after, instance_named, next_instance, IsInstance, FirstAfter}
 
 -- ---- the order of names
 
@@ -166,9 +166,6 @@ above low (x ∷ xs) high r (suc k) j h =
 some_is : {X : Type 0} (x y : X) → Some x ≡ Some y → x ≡ y
 some_is x y h = cc
 
-abbrev comes_after : List ℕ → Instance → Bool
-comes_after name i = is_before name (name_of i)
-
 found : (test : Instance → Bool) (xs : List Instance) (i : Instance) → find test xs ≡ Some i → (k : ℕ) × (slice_get xs k ≡ Some i) × (test i ≡ true)
 found test [] i h = absurd (cc)
 found test (x ∷ xs) i h =
@@ -179,7 +176,7 @@ found test (x ∷ xs) i h =
 
 least : (name low : List ℕ) (xs : List Instance) (high : List ℕ) → rises name_of low xs high ≡ true → (i : Instance)
     → find (comes_after name) xs ≡ Some i → (k : ℕ) (j : Instance) → slice_get xs k ≡ Some j → comes_after name j ≡ true
-    → (i ≡ j) ⊎ (is_before (name_of i) (name_of j) ≡ true)
+    → (i ≡ j) ⊎ (comes_after (name_of i) j ≡ true)
 least name low [] high r i h k j g t = absurd (cc)
 least name low (x ∷ xs) high r i h zero j g t =
     let is : x ≡ j = some_is x j g in
@@ -209,16 +206,16 @@ none_after name (x ∷ xs) h (suc k) j g =
     ]
 
 named_found : (low : List ℕ) (xs : List Instance) (high : List ℕ) → rises name_of low xs high ≡ true → (k : ℕ) (i : Instance) → slice_get xs k ≡ Some i
-    → find (λ j. pointwise nat_eq (name_of j) (name_of i)) xs ≡ Some i
+    → find (has_name (name_of i)) xs ≡ Some i
 named_found low [] high r k i h = absurd (cc)
 named_found low (x ∷ xs) high r zero i h =
     let is : x ≡ i = some_is x i h in
     let same = (bytes_decides (name_of x) (name_of i)).1 (ap name_of is) in
-    cond-true (pointwise nat_eq (name_of x) (name_of i)) (Some x) (find (λ j. pointwise nat_eq (name_of j) (name_of i)) xs) same ∙ h
+    cond-true (has_name (name_of i) x) (Some x) (find (has_name (name_of i)) xs) same ∙ h
 named_found low (x ∷ xs) high r (suc k) i h =
     let parts = and_parts (is_before low (name_of x)) (rises name_of (name_of x) xs high) r in
     let other = before_differs (name_of x) (name_of i) (above (name_of x) xs high parts.1 k i h) in
-    cond-false (pointwise nat_eq (name_of x) (name_of i)) (Some x) (find (λ j. pointwise nat_eq (name_of j) (name_of i)) xs) other
+    cond-false (has_name (name_of i) x) (Some x) (find (has_name (name_of i)) xs) other
     ∙ named_found (name_of x) xs high parts.1 k i h
 
 -- ---- the walk
@@ -239,5 +236,5 @@ named_back table i there = named_found [] (instances table) (2 ∷ []) (instance
 -- an instance that is found has the name that was asked
 pub named_is : (table : TableModel) (name : List ℕ) (i : Instance) → instance_named table name ≡ Some i → (name_of i ≡ name) × IsInstance table i
 named_is table name i h =
-    let at = found (λ j. pointwise nat_eq (name_of j) name) (instances table) i h in
+    let at = found (has_name name) (instances table) i h in
     ((bytes_decides (name_of i) name).0 at.2, (at.0, at.1))

@@ -18,10 +18,11 @@ pub fn names_are_shared()
     ensures cell { (column : Column) (row : RowId) → name_of (Cell column row) ≡ cell_name column row }
 {}
 
-/// The instances stand in the strict order of their names: what comes next after a name is the least of those that come after
-/// it, and an instance, and no other, is found by its name.
+/// The instances stand in the strict order of their names: the one that comes next after a name is the least of those that come
+/// after it, and an instance is found by its name, and by no other.
 pub fn objects_in_order()
     ensures next { (table : TableModel) (name : List ℕ) → FirstAfter table name (next_instance table name) }
     ensures named { (table : TableModel) (i : Instance) → IsInstance table i → instance_named table (name_of i) ≡ Some i }
-    ensures found { (table : TableModel) (name : List ℕ) (i : Instance) → instance_named table name ≡ Some i → (name_of i ≡ name) × IsInstance table i }
+    ensures found { (table : TableModel) (name : List ℕ) (i : Instance) → instance_named table name ≡ Some i
+        → (name_of i ≡ name) × IsInstance table i }
 {}
