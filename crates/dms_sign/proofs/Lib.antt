@@ -1,1 +1,2 @@
 pub mod ObjectRows
+pub mod Replies

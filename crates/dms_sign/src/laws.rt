@@ -1,12 +1,21 @@
 //! Laws over the definitions of specs/ alone, stated as functions with nothing to run.
 
-ghost use Rattle.std.specs.Prelude.{◌≡◌};
+ghost use Rattle.std.specs.Prelude.{◌≡◌, ℕ, List, length, Some};
+ghost use Rattle.dms_wire.specs.declared.message.Kind.TheVariants.{Set};
+ghost use Rattle.dms_wire.specs.Message.{SnmpMessage};
+ghost use Rattle.dms_wire.specs.MessageOf.{message_of};
+ghost use Rattle.dms_wire.specs.Canonical.{canonical};
+ghost use Rattle.dms_wire.specs.Response.{response_to};
 ghost use Rattle.dms_table.specs.declared.names.Column.{Column};
 ghost use Rattle.dms_table.specs.declared.row.RowId.{RowId};
 ghost use Rattle.dms_table.specs.Names.{activate_message, activate_message_error, cell_name};
 ghost use Rattle.dms_sign.specs.declared.object.Scalar.TheVariants.{ActivateMessage, ActivateMsgError};
 ghost use Rattle.dms_sign.specs.declared.object.Instance.TheVariants.{The, Cell};
 ghost use Rattle.dms_sign.specs.Objects.{name_of};
+ghost use Rattle.dms_sign.specs.State.{SignState};
+ghost use Rattle.dms_sign.specs.Answering.{primary};
+ghost use Rattle.dms_sign.specs.Reply.{reply_to, received};
+ghost use Rattle.dms_sign.specs.Promises.{IsReplyTo};
 
 /// The names that the central system uses are those of these objects.
 #[tactic(auto, unfolding(crate::specs::Objects::name_of))]
@@ -14,4 +23,22 @@ pub fn names_are_shared()
     ensures activate { name_of (The ActivateMessage) ≡ activate_message }
     ensures error { name_of (The ActivateMsgError) ≡ activate_message_error }
     ensures cell { (column : Column) (row : RowId) → name_of (Cell column row) ≡ cell_name column row }
+{}
+
+/// What is sent is a Response to a request that came, with its community and its request-id.
+pub fn replies_name_their_request()
+    ensures { (s : SignState) (datagram : List ℕ) (reply : List ℕ) → (received s datagram).reply ≡ Some reply → IsReplyTo datagram reply }
+{}
+
+/// A SET of one binding is never answered by tooBig: its reply has the status and the index of what is answered, and repeats the
+/// binding.
+pub fn one_binding_set_is_never_too_big()
+    ensures { (s : SignState) (m : SnmpMessage) (datagram : List ℕ) → message_of datagram ≡ Some m → m.kind ≡ Set → length m.bindings ≡ 1
+        → reply_to m (primary s m) ≡ canonical (response_to m (primary s m).status (primary s m).index) }
+{}
+
+/// Nor is a SET that succeeds.
+pub fn no_success_is_replaced()
+    ensures { (s : SignState) (m : SnmpMessage) (datagram : List ℕ) → message_of datagram ≡ Some m → m.kind ≡ Set → (primary s m).status ≡ 0
+        → reply_to m (primary s m) ≡ canonical (response_to m (primary s m).status (primary s m).index) }
 {}
