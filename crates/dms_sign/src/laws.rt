@@ -9,9 +9,11 @@ ghost use Rattle.dms_wire.specs.Response.{response_to};
 ghost use Rattle.dms_table.specs.declared.names.Column.{Column};
 ghost use Rattle.dms_table.specs.declared.row.RowId.{RowId};
 ghost use Rattle.dms_table.specs.Names.{activate_message, activate_message_error, cell_name};
+ghost use Rattle.dms_table.specs.Rows.{TableModel};
+ghost use Rattle.dms_sign.specs.declared.object.Instance.{Instance};
 ghost use Rattle.dms_sign.specs.declared.object.Scalar.TheVariants.{ActivateMessage, ActivateMsgError};
 ghost use Rattle.dms_sign.specs.declared.object.Instance.TheVariants.{The, Cell};
-ghost use Rattle.dms_sign.specs.Objects.{name_of};
+ghost use Rattle.dms_sign.specs.Objects.{name_of, instance_named, next_instance, IsInstance, FirstAfter};
 ghost use Rattle.dms_sign.specs.State.{SignState};
 ghost use Rattle.dms_sign.specs.Answering.{primary};
 ghost use Rattle.dms_sign.specs.Reply.{reply_to, received};
@@ -23,6 +25,15 @@ pub fn names_are_shared()
     ensures activate { name_of (The ActivateMessage) ≡ activate_message }
     ensures error { name_of (The ActivateMsgError) ≡ activate_message_error }
     ensures cell { (column : Column) (row : RowId) → name_of (Cell column row) ≡ cell_name column row }
+{}
+
+/// The instances stand in the strict order of their names: the one that comes next after a name is the least of those that come
+/// after it, and an instance is found by its name, and by no other.
+pub fn objects_in_order()
+    ensures next { (table : TableModel) (name : List ℕ) → FirstAfter table name (next_instance table name) }
+    ensures named { (table : TableModel) (i : Instance) → IsInstance table i → instance_named table (name_of i) ≡ Some i }
+    ensures found { (table : TableModel) (name : List ℕ) (i : Instance) → instance_named table name ≡ Some i
+        → (name_of i ≡ name) × IsInstance table i }
 {}
 
 /// What is sent is a Response to a request that came, with its community and its request-id.
