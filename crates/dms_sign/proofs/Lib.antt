@@ -1,3 +1,4 @@
 pub mod InOrder
 pub mod ObjectRows
 pub mod Replies
+pub mod Accepted

@@ -138,7 +138,7 @@ are_causes_behind s writing before (binding ∷ more) most within =
     (are_causes_at s writing before binding most (omega arith))
     (are_causes_behind s writing (before ++ binding ∷ []) more most (omega (arith, length-append before (binding ∷ []))))
 
-are_causes : (s : SignState) (writing : Bool) (bindings : List VarBind) → AllByRecursion (IsCause (length bindings)) (causes s writing bindings)
+pub are_causes : (s : SignState) (writing : Bool) (bindings : List VarBind) → AllByRecursion (IsCause (length bindings)) (causes s writing bindings)
 unfolding causes
 are_causes s writing bindings = are_causes_behind s writing [] bindings (length bindings) (omega arith)
 

@@ -1,9 +1,14 @@
--- What holds of every reply.
-use Rattle.std.specs.Prelude.{◌≡◌, ℕ, IsTrue, List, Some}
+-- What holds of every reply, and of every activation that is accepted.
+use Rattle.std.specs.Prelude.{◌≡◌, ℕ, IsTrue, List, length, Some}
+use Rattle.std.specs.List.{Contains}
 use Rattle.dms_wire.specs.declared.message.Kind.TheVariants.{Response}
-use Rattle.dms_wire.specs.Message.{SnmpMessage}
+use Rattle.dms_wire.specs.Message.{octet_string, VarBind, SnmpMessage}
 use Rattle.dms_wire.specs.MessageOf.{message_of}
 use Rattle.dms_wire.specs.Canonical.{canonical}
+use Rattle.dms_table.specs.declared.codes.Activation.{Activation}
+use Rattle.dms_table.specs.Names.{activate_message}
+use Rattle.dms_table.specs.Codes.{activation_of}
+use Rattle.dms_sign.specs.State.{SignState}
 use Rattle.dms_sign.specs.Reply.{is_request}
 
 -- octets are those of a Response with the request's community and request-id (RFC 1157, 4.1)
@@ -20,3 +25,14 @@ pub record IsReplyTo (datagram reply : List ℕ) : Type 0 where
   pub spelled : message_of datagram ≡ Some request
   pub asks : IsTrue (is_request request.kind)
   pub responds : IsResponseTo request reply
+
+-- a binding that sets dmsActivateMessage
+abbrev pub activates : List ℕ → VarBind
+activates octets = record { name = activate_message; value = octet_string octets }
+
+-- a binding of the message sets dmsActivateMessage to the twelve octets of this activation
+pub record AsksFor (s : SignState) (m : SnmpMessage) (activation : Activation) : Type 0 where
+  pub octets : List ℕ
+  pub size : length octets ≡ 12
+  pub binding : Contains m.bindings (activates octets)
+  pub is : activation ≡ activation_of s.table.order octets

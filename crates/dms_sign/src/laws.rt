@@ -1,6 +1,6 @@
 //! Laws over the definitions of specs/ alone, stated as functions with nothing to run.
 
-ghost use Rattle.std.specs.Prelude.{◌≡◌, ℕ, List, length, Some};
+ghost use Rattle.std.specs.Prelude.{◌≡◌, ◌↔◌, ℕ, List, [], ◌∷◌, length, Some};
 ghost use Rattle.dms_wire.specs.declared.message.Kind.TheVariants.{Set};
 ghost use Rattle.dms_wire.specs.Message.{SnmpMessage};
 ghost use Rattle.dms_wire.specs.MessageOf.{message_of};
@@ -9,6 +9,8 @@ ghost use Rattle.dms_wire.specs.Response.{response_to};
 ghost use Rattle.dms_table.specs.declared.names.Column.{Column};
 ghost use Rattle.dms_table.specs.declared.row.RowId.{RowId};
 ghost use Rattle.dms_table.specs.Names.{activate_message, activate_message_error, cell_name};
+ghost use Rattle.dms_table.specs.declared.codes.Activation.{Activation};
+ghost use Rattle.dms_table.specs.Codes.{activation_of};
 ghost use Rattle.dms_table.specs.Rows.{TableModel};
 ghost use Rattle.dms_sign.specs.declared.object.Instance.{Instance};
 ghost use Rattle.dms_sign.specs.declared.object.Scalar.TheVariants.{ActivateMessage, ActivateMsgError};
@@ -17,7 +19,7 @@ ghost use Rattle.dms_sign.specs.Objects.{name_of, instance_named, next_instance,
 ghost use Rattle.dms_sign.specs.State.{SignState};
 ghost use Rattle.dms_sign.specs.Answering.{primary};
 ghost use Rattle.dms_sign.specs.Reply.{reply_to, received};
-ghost use Rattle.dms_sign.specs.Promises.{IsReplyTo};
+ghost use Rattle.dms_sign.specs.Promises.{IsReplyTo, AsksFor, activates};
 
 /// The names that the central system uses are those of these objects.
 #[tactic(auto, unfolding(crate::specs::Objects::name_of))]
@@ -52,4 +54,13 @@ pub fn one_binding_set_is_never_too_big()
 pub fn no_success_is_replaced()
     ensures { (s : SignState) (m : SnmpMessage) (datagram : List ℕ) → message_of datagram ≡ Some m → m.kind ≡ Set → (primary s m).status ≡ 0
         → reply_to m (primary s m) ≡ canonical (response_to m (primary s m).status (primary s m).index) }
+{}
+
+/// A SET of dmsActivateMessage alone is answered by no error where its activation was accepted, and there alone; and an activation is
+/// accepted where a binding of a SET asks for it, and no error is answered.
+pub fn accepted_where_no_error()
+    ensures one { (s : SignState) (m : SnmpMessage) (octets : List ℕ) → m.kind ≡ Set → m.bindings ≡ activates octets ∷ []
+        → ((primary s m).status ≡ 0) ↔ ((primary s m).accepted ≡ Some (activation_of s.table.order octets)) }
+    ensures only { (s : SignState) (m : SnmpMessage) (activation : Activation) → (primary s m).accepted ≡ Some activation
+        → ((primary s m).status ≡ 0) × AsksFor s m activation }
 {}
