@@ -11,14 +11,17 @@ ghost use Rattle.dms_table.specs.declared.row.RowId.{RowId};
 ghost use Rattle.dms_table.specs.Names.{activate_message, activate_message_error, cell_name};
 ghost use Rattle.dms_table.specs.declared.codes.Activation.{Activation};
 ghost use Rattle.dms_table.specs.Codes.{activation_of};
-ghost use Rattle.dms_table.specs.Rows.{TableModel};
+ghost use Rattle.dms_table.specs.Rows.{TableModel, IsTable};
+ghost use Rattle.dms_table.specs.declared.stock.Stock.{Stock};
+ghost use Rattle.dms_table.specs.Stocking.{table_of};
 ghost use Rattle.dms_sign.specs.declared.object.Instance.{Instance};
 ghost use Rattle.dms_sign.specs.declared.object.Scalar.TheVariants.{ActivateMessage, ActivateMsgError};
 ghost use Rattle.dms_sign.specs.declared.object.Instance.TheVariants.{The, Cell};
 ghost use Rattle.dms_sign.specs.Objects.{name_of, instance_named, next_instance, IsInstance, FirstAfter};
-ghost use Rattle.dms_sign.specs.State.{SignState};
+ghost use Rattle.dms_sign.specs.State.{ConfigModel, SignState, start};
 ghost use Rattle.dms_sign.specs.Answering.{primary};
 ghost use Rattle.dms_sign.specs.Reply.{reply_to, received};
+ghost use Rattle.dms_sign.specs.Events.{after_tick, after_power_loss, after_power_return};
 ghost use Rattle.dms_sign.specs.Promises.{IsReplyTo, AsksFor, activates};
 
 /// The names that the central system uses are those of these objects.
@@ -63,4 +66,13 @@ pub fn accepted_where_no_error()
         → ((primary s m).status ≡ 0) ↔ ((primary s m).accepted ≡ Some (activation_of s.table.order octets)) }
     ensures only { (s : SignState) (m : SnmpMessage) (activation : Activation) → (primary s m).accepted ≡ Some activation
         → ((primary s m).status ≡ 0) × AsksFor s m activation }
+{}
+
+/// At most one row is being validated: as the sign is made, and after whatever comes.
+pub fn at_most_one_row_validates()
+    ensures start { (config : ConfigModel) (stock : Stock) → IsTable (start config (table_of stock)).table }
+    ensures datagram { (s : SignState) (datagram : List ℕ) → IsTable s.table → IsTable (received s datagram).after.table }
+    ensures tick { (s : SignState) → IsTable s.table → IsTable (after_tick s).table }
+    ensures power_loss { (s : SignState) → IsTable s.table → IsTable (after_power_loss s).table }
+    ensures power_return { (s : SignState) (seconds : ℕ) → IsTable s.table → IsTable (after_power_return s seconds).table }
 {}
