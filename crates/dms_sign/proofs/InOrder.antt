@@ -14,6 +14,7 @@ use Rattle.dms_table.specs.Rows.{TableModel}
 use Rattle.dms_sign.specs.declared.object.Instance.{Instance}
 use Rattle.dms_sign.specs.declared.object.Instance.TheVariants.{The, Cell}
 use Rattle.dms_sign.specs.Objects.{name_of, before_table, after_table, columns, memories, rows_in, row_ids, cells, instances, is_before, has_name, comes_after, instance_named, next_instance, IsInstance, FirstAfter}
+use Rattle.dms_sign.proofs.Members.{some_is}
 
 -- ---- the order of names
 
@@ -56,7 +57,8 @@ from_below name lower low (x ∷ xs) high h r =
     let parts = and_parts (is_before low (name x)) (rises name (name x) xs high) r in
     and_from (is_before lower (name x)) (rises name (name x) xs high) (before_trans lower low (name x) h parts.0) parts.1
 
-joined : {X : Type 0} (name : X → List ℕ) (low : List ℕ) (xs : List X) (middle : List ℕ) (ys : List X) (high : List ℕ) → rises name low xs middle ≡ true
+joined : {X : Type 0} (name : X → List ℕ) (low : List ℕ) (xs : List X) (middle : List ℕ) (ys : List X) (high : List ℕ)
+    → rises name low xs middle ≡ true
     → rises name middle ys high ≡ true → rises name low (xs ++ ys) high ≡ true
 joined name low [] middle ys high h r = from_below name low middle ys high h r
 joined name low (x ∷ xs) middle ys high h r =
@@ -124,7 +126,8 @@ all_rows_rise table = pieces index rows_in (λ memory. memory.0 ∷ []) past row
 abbrev entry : List ℕ → List ℕ
 entry numbers = below_dms (5 ∷ 8 ∷ 1 ∷ numbers)
 
-cells_rise : (table : TableModel) (c : Column) → rises name_of (entry (column_number c ∷ [])) (cells table c) (entry (column_number c ∷ 8 ∷ [])) ≡ true
+cells_rise : (table : TableModel) (c : Column)
+    → rises name_of (entry (column_number c ∷ [])) (cells table c) (entry (column_number c ∷ 8 ∷ [])) ≡ true
 unfolding name_of
 cells_rise table c =
     mapped name_of (Cell c) (entry (column_number c ∷ [])) (row_ids table) (entry (column_number c ∷ 8 ∷ []))
@@ -162,9 +165,6 @@ above low (x ∷ xs) high r zero j h =
 above low (x ∷ xs) high r (suc k) j h =
     let parts = and_parts (is_before low (name_of x)) (rises name_of (name_of x) xs high) r in
     before_trans low (name_of x) (name_of j) parts.0 (above (name_of x) xs high parts.1 k j h)
-
-some_is : {X : Type 0} (x y : X) → Some x ≡ Some y → x ≡ y
-some_is x y h = cc
 
 found : (test : Instance → Bool) (xs : List Instance) (i : Instance) → find test xs ≡ Some i → (k : ℕ) × (slice_get xs k ≡ Some i) × (test i ≡ true)
 found test [] i h = absurd (cc)
@@ -205,7 +205,8 @@ none_after name (x ∷ xs) h (suc k) j g =
       | inr later ↦ none_after name xs later.1 k j g
     ]
 
-named_found : (low : List ℕ) (xs : List Instance) (high : List ℕ) → rises name_of low xs high ≡ true → (k : ℕ) (i : Instance) → slice_get xs k ≡ Some i
+named_found : (low : List ℕ) (xs : List Instance) (high : List ℕ) → rises name_of low xs high ≡ true → (k : ℕ) (i : Instance)
+    → slice_get xs k ≡ Some i
     → find (has_name (name_of i)) xs ≡ Some i
 named_found low [] high r k i h = absurd (cc)
 named_found low (x ∷ xs) high r zero i h =

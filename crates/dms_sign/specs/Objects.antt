@@ -55,6 +55,7 @@ scalar_number MultiSyntaxError = (6, 18)
 scalar_number MultiSyntaxErrorPosition = (6, 19)
 scalar_number ActivateErrorMsgCode = (6, 24)
 
+-- an object has the instance 0; a column's instances are named by the rows
 unfoldable pub name_of : Instance → List ℕ
 name_of (The object) = object_name (scalar_number object).0 (scalar_number object).1
 name_of (Cell column row) = cell_name column row

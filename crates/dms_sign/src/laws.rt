@@ -1,6 +1,6 @@
 //! Laws over the definitions of specs/ alone, stated as functions with nothing to run.
 
-ghost use Rattle.std.specs.Prelude.{◌≡◌, ◌↔◌, ℕ, List, [], ◌∷◌, length, Some};
+ghost use Rattle.std.specs.Prelude.{◌≡◌, ◌↔◌, ℕ, List, [], ◌∷◌, length, Some, IsSome};
 ghost use Rattle.dms_wire.specs.declared.message.Kind.TheVariants.{Set};
 ghost use Rattle.dms_wire.specs.Message.{SnmpMessage};
 ghost use Rattle.dms_wire.specs.MessageOf.{message_of};
@@ -14,7 +14,9 @@ ghost use Rattle.dms_table.specs.Codes.{activation_of};
 ghost use Rattle.dms_table.specs.Rows.{TableModel, IsTable};
 ghost use Rattle.dms_table.specs.declared.stock.Stock.{Stock};
 ghost use Rattle.dms_table.specs.Stocking.{table_of};
+ghost use Rattle.dms_table.specs.Deciding.{ShownModel, message_at};
 ghost use Rattle.dms_sign.specs.declared.object.Instance.{Instance};
+ghost use Rattle.dms_sign.specs.declared.object.Scalar.{Scalar};
 ghost use Rattle.dms_sign.specs.declared.object.Scalar.TheVariants.{ActivateMessage, ActivateMsgError};
 ghost use Rattle.dms_sign.specs.declared.object.Instance.TheVariants.{The, Cell};
 ghost use Rattle.dms_sign.specs.Objects.{name_of, instance_named, next_instance, IsInstance, FirstAfter};
@@ -30,6 +32,13 @@ pub fn names_are_shared()
     ensures activate { name_of (The ActivateMessage) ≡ activate_message }
     ensures error { name_of (The ActivateMsgError) ≡ activate_message_error }
     ensures cell { (column : Column) (row : RowId) → name_of (Cell column row) ≡ cell_name column row }
+{}
+
+/// Each object has its instance, and each column one for each row that can be read, and for no other row.
+pub fn each_has_its_instances()
+    ensures object { (table : TableModel) (object : Scalar) → IsInstance table (The object) }
+    ensures cell { (table : TableModel) (shown : ShownModel) (column : Column) (row : RowId)
+        → IsInstance table (Cell column row) ↔ IsSome (message_at table shown row) }
 {}
 
 /// The instances stand in the strict order of their names: the one that comes next after a name is the least of those that come
