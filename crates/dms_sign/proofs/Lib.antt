@@ -2,3 +2,6 @@ pub mod Members
 pub mod InOrder
 pub mod WhichInstances
 pub mod ObjectRows
+pub mod Replies
+pub mod Accepted
+pub mod OneValidating
