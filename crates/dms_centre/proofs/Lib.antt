@@ -1,1 +1,4 @@
-mod Worked
+pub mod Checksums
+pub mod Lengths
+pub mod Requests
+pub mod Worked

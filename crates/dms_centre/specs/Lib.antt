@@ -5,3 +5,4 @@ pub mod Replies
 pub mod Commands
 pub mod Inputs
 pub mod History
+pub mod Requests
