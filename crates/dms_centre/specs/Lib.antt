@@ -6,3 +6,5 @@ pub mod Commands
 pub mod Inputs
 pub mod History
 pub mod Requests
+pub mod Numbers
+pub mod Numbered
