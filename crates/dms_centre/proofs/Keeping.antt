@@ -58,7 +58,7 @@ keeps_rest state phase sent n work out = record {
 }
 
 -- no datagram that was sent has the next number
-none_is_next : (settings : SettingsModel) (next : ℕ) (phase : Phase) (sent : List (List ℕ)) → IsNumbered settings next phase sent
+pub none_is_next : (settings : SettingsModel) (next : ℕ) (phase : Phase) (sent : List (List ℕ)) → IsNumbered settings next phase sent
     → (k : ℕ) (octets : List ℕ) → slice_get sent k ≡ Some octets → HasNumber next octets → ⊥
 none_is_next settings next phase sent n k octets e has = absurd (omega (arith, below_next settings next next k sent octets n.requests e has))
 
@@ -259,12 +259,14 @@ keeps_begun : (state : CentreState) (sent : List (List ℕ)) (job : Job) (o : Op
 keeps_begun state sent job None n work = keeps_sends state state.phase sent job n (work refl)
 keeps_begun state sent job (Some fault) n work = keeps_still state sent n
 
+pub is_begun : (state : CentreState) (command : CommandModel) → IsCommand command → refusal_of state command ≡ None → IsWork (job_of command).work
+is_begun state command is none =
+    is_job command is (is_taken (is_busy state.phase) (nat_lt last_number state.next) (is_good command) faults.Busy faults.NumbersUsedUp faults.BadCommand none)
+
 pub keeps_commanded : (state : CentreState) (sent : List (List ℕ)) (command : CommandModel) → IsNumbered state.settings state.next state.phase sent → IsCommand command
     → KeepsAt state sent (commanded state command)
 unfolding commanded
-keeps_commanded state sent command n is =
-    keeps_begun state sent (job_of command) (refusal_of state command) n (λ none. is_job command is
-    (is_taken (is_busy state.phase) (nat_lt last_number state.next) (is_good command) faults.Busy faults.NumbersUsedUp faults.BadCommand none))
+keeps_commanded state sent command n is = keeps_begun state sent (job_of command) (refusal_of state command) n (is_begun state command is)
 
 -- ---- a tick
 

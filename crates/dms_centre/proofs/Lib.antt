@@ -5,4 +5,6 @@ pub mod Lists
 pub mod Numbers
 pub mod Keeping
 pub mod NumberLaws
+pub mod LedgerKeeping
+pub mod LedgerLaws
 pub mod Worked

@@ -14,11 +14,11 @@ settings_stay (input ∷ inputs) history n are =
     let k = keeps_input history input n are.0 in
     settings_stay inputs (after_input history input) k.numbered are.1 ∙ k.settings_stay
 
-numbered : (settings : SettingsModel) (first : ℕ) (inputs : List Input) → AreSettings settings → AllByRecursion IsInput inputs
+pub numbered : (settings : SettingsModel) (first : ℕ) (inputs : List Input) → AreSettings settings → AllByRecursion IsInput inputs
     → HistoryIsNumbered (after_inputs (made settings first) inputs)
 numbered settings first inputs fine are = numbered_after inputs (made settings first) (numbered_made settings first fine) are
 
-settings_are : (settings : SettingsModel) (first : ℕ) (inputs : List Input) → AreSettings settings → AllByRecursion IsInput inputs
+pub settings_are : (settings : SettingsModel) (first : ℕ) (inputs : List Input) → AreSettings settings → AllByRecursion IsInput inputs
     → (after_inputs (made settings first) inputs).state.settings ≡ settings
 settings_are settings first inputs fine are = settings_stay inputs (made settings first) (numbered_made settings first fine) are
 

@@ -8,3 +8,4 @@ pub mod History
 pub mod Requests
 pub mod Numbers
 pub mod Numbered
+pub mod Ledger
