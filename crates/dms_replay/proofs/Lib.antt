@@ -1,0 +1,2 @@
+mod BenchWorld
+mod Worked
