@@ -1,8 +1,9 @@
 -- The bench sign as a value, and events on it that can be computed.
 use Rattle.std.proofs.Common.{ℕ, true, false, List, [], ◌∷◌, length}
-use Rattle.std.specs.Prelude.{codes}
+use Rattle.std.specs.Prelude.{codes, unwrap_or, replicate}
 use Rattle.std.specs.Fmt.{digits}
-use Rattle.hex.specs.Hex.{encode_with}
+use Rattle.std.specs.Result.{result_ok}
+use Rattle.hex.specs.Hex.{encode_with, decode_pairs, decode_of}
 use Rattle.dms_wire.specs.Canonical.{element, integer_octets, name_octets, binding_octets, numbers_octets, pdu_octets, canonical}
 use Rattle.dms_wire.specs.MessageOf.{message_of}
 use Rattle.dms_multi.specs.Outcomes.{outcomes_within}
@@ -15,6 +16,7 @@ use Rattle.dms_face.specs.Fit.{fault_of}
 use Rattle.dms_table.specs.declared.codes.Order.TheVariants.{High}
 use Rattle.dms_table.specs.declared.status.Status.TheVariants.{Valid}
 use Rattle.dms_table.specs.Checksum.{octet_bits}
+use Rattle.dms_table.specs.Codes.{activation_of}
 use Rattle.dms_table.specs.Rows.{unused}
 use Rattle.dms_sign.specs.Objects.{name_of, instances}
 use Rattle.dms_sign.specs.Values.{scalar_value, value_at, value_after}
@@ -28,9 +30,9 @@ use Rattle.dms_sign.specs.PuttingUp.{put_up_code}
 use Rattle.dms_sign.specs.Events.{after_settling, after_duration, after_silence, after_tick, after_power_loss, after_power_return}
 use Rattle.dms_centre.specs.Steps.{request_of}
 use Rattle.dms_centre.specs.Sending.{sends}
-use Rattle.dms_centre.specs.Commands.{commanded}
+use Rattle.dms_centre.specs.Commands.{commanded, Publish, Activate}
 use Rattle.dms_centre.specs.Inputs.{received, ticked, restarted}
-use Rattle.dms_replay.specs.Event.{EventModel}
+use Rattle.dms_replay.specs.Event.{EventModel, command, sign_tick, to_sign, to_centre}
 use Rattle.dms_replay.specs.Description.{Description}
 use Rattle.dms_replay.specs.World.{WorldModel, world_after, beginning_of}
 use Rattle.dms_replay.specs.Report.{report_of}
@@ -84,3 +86,36 @@ then world events = world_after world events
 unfoldable pub report : List EventModel → List ℕ
 unfolding then digits encode_with
 report events = report_of (then bench events) (length events)
+
+-- ---- events
+
+-- the octets of these digits
+unfoldable pub hex : List ℕ → List ℕ
+unfolding decode_pairs
+hex digits = unwrap_or (result_ok (decode_of digits)) []
+
+-- a text is published in the first changeable row, with the run-time priority 200, without an end
+abbrev pub publish : (text : List ℕ) (priority : ℕ) (address : List ℕ) → EventModel
+publish text priority address = command (Publish (record {
+  memory = 3;
+  number = 1;
+  text = text;
+  owner = [];
+  beacon = 0;
+  pixel = 0;
+  run_priority = 200;
+  minutes = 65535;
+  priority = priority;
+  address = address;
+}))
+
+-- the code of these digits is sent
+abbrev pub activate : List ℕ → EventModel
+activate digits = command (Activate (activation_of High (hex digits)))
+
+-- a request is handed to the sign, and its reply to the centre
+abbrev pub both : ℕ → List EventModel
+both place = to_sign place ∷ to_centre place ∷ []
+
+abbrev pub seconds : ℕ → List EventModel
+seconds count = replicate count sign_tick

@@ -1,33 +1,71 @@
--- Runs on the bench sign, computed.
+-- Runs on the bench sign, computed to the octets of their reports.
 use Rattle.std.proofs.Common.{◌≡◌, ℕ, List, [], ◌∷◌, ◌++◌, refl}
-use Rattle.std.specs.Prelude.{codes}
-use Rattle.dms_centre.specs.Commands.{Publish, Activate}
-use Rattle.dms_replay.specs.Event.{EventModel, command, sign_tick, centre_tick, to_sign, to_centre, forge_sign, forge_centre}
-use Rattle.dms_replay.proofs.BenchWorld.{report}
+use Rattle.std.specs.Prelude.{ℤ, pos, codes}
+use Rattle.dms_centre.specs.declared.ended.Ended.{Ended}
+use Rattle.dms_centre.specs.declared.ended.Ended.TheVariants.{Failed}
+use Rattle.dms_centre.specs.declared.ended.Why.TheVariants.{OtherChecksum, Cause}
+use Rattle.dms_replay.specs.Event.{EventModel, sign_tick, centre_tick, to_sign, to_centre, forge_centre}
+use Rattle.dms_replay.proofs.BenchWorld.{bench, then, report, hex, publish, activate, both}
 
-abbrev publish : List ℕ → List ℕ → EventModel
-publish text address = command (Publish (record {
-  memory = 3;
-  number = 1;
-  text = text;
-  owner = [];
-  beacon = 0;
-  pixel = 0;
-  run_priority = 200;
-  minutes = 65535;
-  priority = 255;
-  address = address;
-}))
+-- ---- a message is published: seven requests, and seven replies
 
--- a request and its reply
-abbrev both : ℕ → List EventModel
-both place = to_sign place ∷ to_centre place ∷ []
+abbrev nobody : List ℕ
+nobody = 0 ∷ 0 ∷ 0 ∷ 0 ∷ []
 
-abbrev published : List EventModel
-published =
-    publish (codes "A") (192 ∷ 0 ∷ 2 ∷ 1 ∷ []) ∷ both 0 ++ both 1 ++ both 2 ++ both 3 ++ sign_tick ∷ both 4 ++ both 5 ++ centre_tick ∷ both 6
+abbrev office : List ℕ
+office = 192 ∷ 0 ∷ 2 ∷ 1 ∷ []
 
--- A message is published: seven requests, and seven replies.
-publishing : report published ≡ codes "events 17\nsent 7 7\nshown 3 1 9a66 mode 8 priority 200 remaining 65535 text 41\naccepted 16 ffffff0300019a66c0000201\nledger 7 ffffff0300019a66c0000201 accepted\n"
-unfolding report
+-- what follows on the command, up to the acceptance
+abbrev up_to_acceptance : List EventModel
+up_to_acceptance = both 0 ++ both 1 ++ both 2 ++ both 3 ++ sign_tick ∷ both 4 ++ both 5 ++ centre_tick ∷ both 6
+
+publishing : report (publish (codes "A") 255 office ∷ up_to_acceptance)
+    ≡ codes "events 17\nsent 7 7\nshown 3 1 9a66 mode 8 priority 200 remaining 65535 text 41\naccepted 16 ffffff0300019a66c0000201\nledger 7 ffffff0300019a66c0000201 accepted\n"
+unfolding report hex
 publishing = refl
+
+-- ---- an old datagram comes between: the row is validated with its old text, and the centre sees the other checksum
+
+abbrev then_another : List EventModel
+then_another =
+    publish (codes "A") 255 office ∷ both 7 ++ both 8 ++ to_sign 9 ∷ to_sign 2 ∷ to_centre 9 ∷ to_sign 10 ∷ to_centre 11 ∷ sign_tick
+    ∷ to_sign 11 ∷ to_centre 12 ∷ to_sign 12 ∷ to_centre 13 ∷ []
+
+abbrev overtaken : List EventModel
+overtaken = publish (codes "B") 255 office ∷ up_to_acceptance ++ then_another
+
+sees_the_old_text : (then bench overtaken).centre.last ≡ Failed 6 OtherChecksum
+unfolding then
+sees_the_old_text = refl
+
+-- its own code is refused then
+abbrev insisted : List EventModel
+insisted = overtaken ++ activate (codes "ffffff0300019a66c0000201") ∷ to_sign 13 ∷ to_centre 14 ∷ to_sign 14 ∷ to_centre 15 ∷ []
+
+is_refused : report insisted
+    ≡ codes "events 37\nsent 15 16\nshown 3 1 7502 mode 8 priority 200 remaining 65535 text 42\naccepted 16 ffffff0300017502c0000201\nledger 7 ffffff0300017502c0000201 accepted\nledger 14 ffffff0300019a66c0000201 refused 5\n"
+unfolding report hex
+is_refused = refl
+
+for_its_checksum : (then bench insisted).sign.reports.activate_error ≡ 7
+unfolding then hex
+for_its_checksum = refl
+
+as_the_centre_is_told : (then bench insisted).centre.last ≡ Failed 7 (Cause (pos 7))
+unfolding then hex
+as_the_centre_is_told = refl
+
+-- ---- an activation that comes twice is accepted once, and the reply that comes first is recorded
+
+twice : report (publish (codes "A") 0 nobody ∷ up_to_acceptance ++ both 7
+        ++ activate (codes "00050a0300019a66c0000201") ∷ to_sign 8 ∷ to_sign 8 ∷ to_centre 9 ∷ to_centre 8 ∷ [])
+    ≡ codes "events 24\nsent 10 10\nshown 3 1 9a66 mode 8 priority 200 remaining 5 text 41\naccepted 21 00050a0300019a66c0000201\nledger 7 ffff000300019a6600000000 refused 5\nledger 9 00050a0300019a66c0000201 refused 5\n"
+unfolding report hex
+twice = refl
+
+-- ---- a forged reply makes the centre record what never was: so the ledger is true only where nothing is forged
+
+forged : report (activate (codes "ffffff0300019a6600000000") ∷ forge_centre (hex (codes "3017020100040561646d696ea20b0201010201000201003000")) ∷ [])
+    ≡ codes "events 2\nsent 1 0\nshown 7 1 0000 mode 10 priority 1 remaining 65535 text -\nledger 1 ffffff0300019a6600000000 accepted\n"
+unfolding report hex
+forged = refl
