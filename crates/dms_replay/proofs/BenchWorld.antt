@@ -1,11 +1,15 @@
 -- The bench sign as a value, and events on it that can be computed.
 use Rattle.std.proofs.Common.{ℕ, true, false, List, [], ◌∷◌, length}
-use Rattle.std.specs.Prelude.{codes, unwrap_or, replicate}
+use Rattle.std.specs.Prelude.{pos, codes, unwrap_or, replicate}
 use Rattle.std.specs.Fmt.{digits}
 use Rattle.std.specs.Result.{result_ok}
 use Rattle.hex.specs.Hex.{encode_with, decode_pairs, decode_of}
 use Rattle.dms_wire.specs.Canonical.{element, integer_octets, name_octets, binding_octets, numbers_octets, pdu_octets, canonical}
 use Rattle.dms_wire.specs.MessageOf.{message_of}
+use Rattle.dms_wire.specs.declared.message.Kind.{Kind}
+use Rattle.dms_wire.specs.declared.message.Kind.TheVariants.{Set}
+use Rattle.dms_wire.specs.Message.{integer, octet_string, VarBind}
+use Rattle.dms_table.specs.Names.{object_name}
 use Rattle.dms_multi.specs.Outcomes.{outcomes_within}
 use Rattle.dms_multi.specs.TagReading.{item_at, item_after_opening, item_after_closing, tag_at, body_item, name_at, letters_name, end_name, item_of, flash_of, font_of, times_of, page_time_of}
 use Rattle.dms_multi.specs.Reading.{number_of, decimal_of, value_of, cut, version_of}
@@ -19,7 +23,7 @@ use Rattle.dms_table.specs.Checksum.{octet_bits}
 use Rattle.dms_table.specs.Codes.{activation_of}
 use Rattle.dms_table.specs.Rows.{unused}
 use Rattle.dms_sign.specs.Objects.{name_of, instances}
-use Rattle.dms_sign.specs.Values.{scalar_value, value_at, value_after}
+use Rattle.dms_sign.specs.Values.{scalar_value, value_at, value_after, minutes_left}
 use Rattle.dms_sign.specs.Values as values
 use Rattle.dms_sign.specs.Writing.{is_settable_object, object_write, cell_write, write_of}
 use Rattle.dms_sign.specs.Setting.{settable_instance, write_at, causes, assigned}
@@ -32,7 +36,7 @@ use Rattle.dms_centre.specs.Steps.{request_of}
 use Rattle.dms_centre.specs.Sending.{sends}
 use Rattle.dms_centre.specs.Commands.{commanded, Publish, Activate}
 use Rattle.dms_centre.specs.Inputs.{received, ticked, restarted}
-use Rattle.dms_replay.specs.Event.{EventModel, command, sign_tick, to_sign, to_centre}
+use Rattle.dms_replay.specs.Event.{EventModel, command, sign_tick, to_sign, to_centre, forge_sign}
 use Rattle.dms_replay.specs.Description.{Description}
 use Rattle.dms_replay.specs.World.{WorldModel, world_after, beginning_of}
 use Rattle.dms_replay.specs.Report.{report_of}
@@ -119,3 +123,36 @@ both place = to_sign place ∷ to_centre place ∷ []
 
 abbrev pub seconds : ℕ → List EventModel
 seconds count = replicate count sign_tick
+
+-- a forged request with the community that may write
+unfoldable pub request : Kind → List VarBind → EventModel
+unfolding element integer_octets name_octets binding_octets numbers_octets pdu_octets canonical
+request kind bindings = forge_sign (canonical (record { community = codes "admin"; kind = kind; request = pos 9; status = pos 0; index = pos 0; bindings = bindings }))
+
+abbrev pub set_number : (group number value : ℕ) → VarBind
+set_number group number value = record { name = object_name group number; value = integer (pos value) }
+
+abbrev pub set_code : (group number : ℕ) → List ℕ → VarBind
+set_code group number digits = record { name = object_name group number; value = octet_string (hex digits) }
+
+abbrev pub sets : VarBind → EventModel
+sets binding = request Set (binding ∷ [])
+
+-- ---- what is seen
+
+-- what is up: the memory and number of its source, its text and mode, and the minutes that are left
+pub record Seen : Type 0 where
+  pub memory : ℕ
+  pub number : ℕ
+  pub text : List ℕ
+  pub mode : ℕ
+  pub minutes : ℕ
+
+abbrev pub seen : WorldModel → Seen
+seen world = record {
+  memory = world.sign.shown.source.memory;
+  number = world.sign.shown.source.number;
+  text = world.sign.shown.text;
+  mode = world.sign.shown.mode;
+  minutes = minutes_left world.sign.shown.remaining;
+}

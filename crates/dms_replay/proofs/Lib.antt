@@ -1,2 +1,3 @@
 mod BenchWorld
+mod Silence
 mod Worked
