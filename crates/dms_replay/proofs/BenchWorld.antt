@@ -1,6 +1,6 @@
 -- The bench sign as a value, and events on it that can be computed.
 use Rattle.std.proofs.Common.{ℕ, true, false, List, [], ◌∷◌, length}
-use Rattle.std.specs.Prelude.{pos, codes, unwrap_or, replicate}
+use Rattle.std.specs.Prelude.{pos, map, codes, unwrap_or, replicate}
 use Rattle.std.specs.Fmt.{digits}
 use Rattle.std.specs.Result.{result_ok}
 use Rattle.hex.specs.Hex.{encode_with, decode_pairs, decode_of}
@@ -8,8 +8,11 @@ use Rattle.dms_wire.specs.Canonical.{element, integer_octets, name_octets, bindi
 use Rattle.dms_wire.specs.MessageOf.{message_of}
 use Rattle.dms_wire.specs.declared.message.Kind.{Kind}
 use Rattle.dms_wire.specs.declared.message.Kind.TheVariants.{Set}
-use Rattle.dms_wire.specs.Message.{integer, octet_string, VarBind}
-use Rattle.dms_table.specs.Names.{object_name}
+use Rattle.dms_wire.specs.Message.{ObjectValue, integer, octet_string, VarBind}
+use Rattle.dms_table.specs.declared.names.Column.{Column}
+use Rattle.dms_table.specs.declared.names.Column.TheVariants.{MultiString, RunTimePriority, Status}
+use Rattle.dms_table.specs.Names.{object_name, cell_name}
+use Rattle.dms_table.specs.Status.{status_number}
 use Rattle.dms_multi.specs.Outcomes.{outcomes_within}
 use Rattle.dms_multi.specs.TagReading.{item_at, item_after_opening, item_after_closing, tag_at, body_item, name_at, letters_name, end_name, item_of, flash_of, font_of, times_of, page_time_of}
 use Rattle.dms_multi.specs.Reading.{number_of, decimal_of, value_of, cut, version_of}
@@ -27,7 +30,7 @@ use Rattle.dms_sign.specs.Values.{scalar_value, value_at, value_after, minutes_l
 use Rattle.dms_sign.specs.Values as values
 use Rattle.dms_sign.specs.Writing.{is_settable_object, object_write, cell_write, write_of}
 use Rattle.dms_sign.specs.Setting.{settable_instance, write_at, causes, assigned}
-use Rattle.dms_sign.specs.Answering.{primary}
+use Rattle.dms_sign.specs.Answering.{primary, set}
 use Rattle.dms_sign.specs.Reply.{reply_to}
 use Rattle.dms_sign.specs.Reply as sign
 use Rattle.dms_sign.specs.PuttingUp.{put_up_code}
@@ -82,14 +85,14 @@ abbrev pub bench : WorldModel
 bench = beginning_of bench_sign
 
 -- Who unfolds it unfolds both ends, so that the events compute.
-unfoldable pub then : WorldModel → List EventModel → WorldModel
+unfoldable pub after : WorldModel → List EventModel → WorldModel
 unfolding element integer_octets name_octets binding_octets numbers_octets pdu_octets canonical message_of fault_of outcomes_within item_at item_after_opening item_after_closing tag_at body_item name_at letters_name end_name item_of flash_of font_of times_of page_time_of number_of decimal_of value_of cut version_of octet_bits name_of instances scalar_value value_at values.value_of value_after is_settable_object object_write cell_write write_of settable_instance write_at causes assigned primary reply_to sign.received put_up_code after_settling after_duration after_silence after_tick after_power_loss after_power_return request_of sends commanded received ticked restarted
-then world events = world_after world events
+after world events = world_after world events
 
 -- The report of the events on the bench sign.
 unfoldable pub report : List EventModel → List ℕ
-unfolding then digits encode_with
-report events = report_of (then bench events) (length events)
+unfolding after digits encode_with
+report events = report_of (after bench events) (length events)
 
 -- ---- events
 
@@ -156,3 +159,30 @@ seen world = record {
   mode = world.sign.shown.mode;
   minutes = minutes_left world.sign.shown.remaining;
 }
+
+-- what a SET by the community that may write is answered: its status and index
+unfoldable pub told : WorldModel → List VarBind → ℕ × ℕ
+unfolding after
+told world bindings = ((set world.sign true bindings).status, (set world.sign true bindings).index)
+
+-- what is told of activations and texts: dmsActivateMsgError, dmsMultiSyntaxError and its position
+abbrev pub errors : WorldModel → List ℕ
+errors world = world.sign.reports.activate_error ∷ world.sign.reports.syntax_error ∷ world.sign.reports.syntax_error_position ∷ []
+
+-- the statuses of the changeable rows
+abbrev pub statuses : WorldModel → List ℕ
+statuses world = map (λ row. status_number row.status) world.sign.table.changeable
+
+abbrev pub set_cell : Column → (memory number : ℕ) → ObjectValue → VarBind
+set_cell column memory number value = record { name = cell_name column (record { memory = memory; number = number }); value = value }
+
+-- a row is opened, filled with a text and asked to be validated
+abbrev pub fills : (memory number : ℕ) → List ℕ → List EventModel
+fills memory number text =
+    sets (set_cell Status memory number (integer (pos 6)))
+    ∷ request Set (set_cell MultiString memory number (octet_string text) ∷ set_cell RunTimePriority memory number (integer (pos 200)) ∷ [])
+    ∷ sets (set_cell Status memory number (integer (pos 7))) ∷ []
+
+-- the message that the twelve octets of these digits name is put up, by a forged request
+abbrev pub puts_up : List ℕ → EventModel
+puts_up digits = sets (set_code 6 3 digits)

@@ -1,3 +1,4 @@
 mod BenchWorld
 mod Silence
+mod Altered
 mod Worked

@@ -8,7 +8,7 @@ use Rattle.dms_wire.specs.Canonical.{canonical}
 use Rattle.dms_table.specs.Names.{object_name}
 use Rattle.dms_replay.specs.Event.{EventModel, sign_tick, power_lost, power_back, forge_sign}
 use Rattle.dms_replay.specs.World.{WorldModel}
-use Rattle.dms_replay.proofs.BenchWorld.{bench, then, report, hex, publish, activate, both, seconds, request, set_number, set_code, sets, seen}
+use Rattle.dms_replay.proofs.BenchWorld.{bench, after, report, hex, publish, activate, both, seconds, request, set_number, set_code, sets, seen}
 
 -- the only seconds of silence that are a loss: one minute
 abbrev one_minute : EventModel
@@ -45,17 +45,17 @@ dropped_after = refl
 abbrev asks : EventModel
 asks = request Get (record { name = object_name 6 7; value = null } ∷ [])
 
-answered_before : seen (then bench (one_minute ∷ seconds 59 ++ asks ∷ seconds 59)) ≡ record { memory = 7; number = 1; text = []; mode = 10; minutes = 65535 }
-unfolding then hex request
+answered_before : seen (after bench (one_minute ∷ seconds 59 ++ asks ∷ seconds 59)) ≡ record { memory = 7; number = 1; text = []; mode = 10; minutes = 65535 }
+unfolding after hex request
 answered_before = refl
 
-answered_after : seen (then bench (one_minute ∷ seconds 59 ++ asks ∷ seconds 60)) ≡ record { memory = 7; number = 1; text = []; mode = 12; minutes = 65535 }
-unfolding then hex request
+answered_after : seen (after bench (one_minute ∷ seconds 59 ++ asks ∷ seconds 60)) ≡ record { memory = 7; number = 1; text = []; mode = 12; minutes = 65535 }
+unfolding after hex request
 answered_after = refl
 
 -- a request that is refused too
-refused_before : seen (then bench (one_minute ∷ seconds 59 ++ sets (set_number 6 7 1) ∷ seconds 59)) ≡ record { memory = 7; number = 1; text = []; mode = 10; minutes = 65535 }
-unfolding then hex request
+refused_before : seen (after bench (one_minute ∷ seconds 59 ++ sets (set_number 6 7 1) ∷ seconds 59)) ≡ record { memory = 7; number = 1; text = []; mode = 10; minutes = 65535 }
+unfolding after hex request
 refused_before = refl
 
 -- ---- what comes up
@@ -65,9 +65,9 @@ abbrev permanent_for_five : EventModel
 permanent_for_five = sets (set_code 6 3 (codes "0005640200017502c0000201"))
 
 -- a code of what is shown keeps it, without an end
-kept : seen (then bench (permanent_for_five ∷ one_minute ∷ sets (set_code 6 12 (codes "0500010000")) ∷ seconds 60))
+kept : seen (after bench (permanent_for_five ∷ one_minute ∷ sets (set_code 6 12 (codes "0500010000")) ∷ seconds 60))
     ≡ record { memory = 2; number = 1; text = codes "B"; mode = 12; minutes = 65535 }
-unfolding then hex request
+unfolding after hex request
 kept = refl
 
 -- the permanent message, for one minute
@@ -75,30 +75,36 @@ abbrev permanent_for_one : EventModel
 permanent_for_one = sets (set_code 6 3 (codes "0001640200017502c0000201"))
 
 -- where the duration ends in the same second, the silence comes after it
-both_at_once : seen (then bench (one_minute ∷ permanent_for_one ∷ seconds 60)) ≡ record { memory = 7; number = 1; text = []; mode = 12; minutes = 65535 }
-unfolding then hex request
+both_at_once : seen (after bench (one_minute ∷ permanent_for_one ∷ seconds 60)) ≡ record { memory = 7; number = 1; text = []; mode = 12; minutes = 65535 }
+unfolding after hex request
 both_at_once = refl
 
 -- It acts once: what is put up then stays.
-acts_once : (then bench (one_minute ∷ seconds 70)).sign.silent ≡ 60
-unfolding then hex
+acts_once : (after bench (one_minute ∷ seconds 70)).sign.silent ≡ 60
+unfolding after hex
 acts_once = refl
 
 -- ---- the return of the power begins the silence anew, where the power was off
 
-power_breaks_it : seen (then bench (one_minute ∷ seconds 59 ++ power_lost ∷ power_back 1 ∷ seconds 59)) ≡ record { memory = 7; number = 1; text = []; mode = 10; minutes = 65535 }
-unfolding then hex
+power_breaks_it : seen (after bench (one_minute ∷ seconds 59 ++ power_lost ∷ power_back 1 ∷ seconds 59)) ≡ record { memory = 7; number = 1; text = []; mode = 10; minutes = 65535 }
+unfolding after hex
 power_breaks_it = refl
 
-power_that_was_on : seen (then bench (one_minute ∷ seconds 59 ++ power_back 1 ∷ seconds 1)) ≡ record { memory = 7; number = 1; text = []; mode = 12; minutes = 65535 }
-unfolding then hex
+power_that_was_on : seen (after bench (one_minute ∷ seconds 59 ++ power_back 1 ∷ seconds 1)) ≡ record { memory = 7; number = 1; text = []; mode = 12; minutes = 65535 }
+unfolding after hex
 power_that_was_on = refl
 
 -- ---- its objects
 
 -- after dmsShortPowerLossTime.0 comes dmsCommunicationsLossMessage.0
-walks_on : (then bench (request GetNext (record { name = object_name 6 10; value = null } ∷ []) ∷ [])).to_centre
-    ≡ (canonical (record { community = codes "admin"; kind = Response; request = pos 9; status = pos 0; index = pos 0;
-        bindings = record { name = object_name 6 12; value = octet_string (hex (codes "0700010000")) } ∷ [] })) ∷ []
-unfolding then request hex
+walks_on : (after bench (request GetNext (record { name = object_name 6 10; value = null } ∷ []) ∷ [])).to_centre
+    ≡ (canonical (record {
+      community = codes "admin";
+      kind = Response;
+      request = pos 9;
+      status = pos 0;
+      index = pos 0;
+      bindings = record { name = object_name 6 12; value = octet_string (hex (codes "0700010000")) } ∷ [];
+    })) ∷ []
+unfolding after request hex
 walks_on = refl

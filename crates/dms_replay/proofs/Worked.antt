@@ -5,7 +5,7 @@ use Rattle.dms_centre.specs.declared.ended.Ended.{Ended}
 use Rattle.dms_centre.specs.declared.ended.Ended.TheVariants.{Failed}
 use Rattle.dms_centre.specs.declared.ended.Why.TheVariants.{OtherChecksum, Cause}
 use Rattle.dms_replay.specs.Event.{EventModel, sign_tick, centre_tick, to_sign, to_centre, forge_centre}
-use Rattle.dms_replay.proofs.BenchWorld.{bench, then, report, hex, publish, activate, both}
+use Rattle.dms_replay.proofs.BenchWorld.{bench, after, report, hex, publish, activate, both}
 
 -- ---- a message is published: seven requests, and seven replies
 
@@ -34,8 +34,8 @@ then_another =
 abbrev overtaken : List EventModel
 overtaken = publish (codes "B") 255 office ∷ up_to_acceptance ++ then_another
 
-sees_the_old_text : (then bench overtaken).centre.last ≡ Failed 6 OtherChecksum
-unfolding then
+sees_the_old_text : (after bench overtaken).centre.last ≡ Failed 6 OtherChecksum
+unfolding after
 sees_the_old_text = refl
 
 -- its own code is refused then
@@ -47,18 +47,18 @@ is_refused : report insisted
 unfolding report hex
 is_refused = refl
 
-for_its_checksum : (then bench insisted).sign.reports.activate_error ≡ 7
-unfolding then hex
+for_its_checksum : (after bench insisted).sign.reports.activate_error ≡ 7
+unfolding after hex
 for_its_checksum = refl
 
-as_the_centre_is_told : (then bench insisted).centre.last ≡ Failed 7 (Cause (pos 7))
-unfolding then hex
+as_the_centre_is_told : (after bench insisted).centre.last ≡ Failed 7 (Cause (pos 7))
+unfolding after hex
 as_the_centre_is_told = refl
 
 -- ---- an activation that comes twice is accepted once, and the reply that comes first is recorded
 
 twice : report (publish (codes "A") 0 nobody ∷ up_to_acceptance ++ both 7
-        ++ activate (codes "00050a0300019a66c0000201") ∷ to_sign 8 ∷ to_sign 8 ∷ to_centre 9 ∷ to_centre 8 ∷ [])
+    ++ activate (codes "00050a0300019a66c0000201") ∷ to_sign 8 ∷ to_sign 8 ∷ to_centre 9 ∷ to_centre 8 ∷ [])
     ≡ codes "events 24\nsent 10 10\nshown 3 1 9a66 mode 8 priority 200 remaining 5 text 41\naccepted 21 00050a0300019a66c0000201\nledger 7 ffff000300019a6600000000 refused 5\nledger 9 00050a0300019a66c0000201 refused 5\n"
 unfolding report hex
 twice = refl
