@@ -1,5 +1,6 @@
 -- Signs as text, a line for each part (this profile).
-use Rattle.std.specs.Prelude.{◌≡◌, ◌≢◌, ℕ, ◌&&◌, ◌≤◌, IsTrue, Bool, List, [], ◌∷◌, ◌++◌, length, codes, All, replicate}
+use Rattle.std.specs.Prelude.{◌≡◌, ◌≢◌, ℕ, ◌&&◌, ◌≤◌, IsTrue, Bool, List, [], ◌∷◌, ◌++◌, length, codes, replicate}
+use Rattle.std.specs.List.{list_all}
 use Rattle.dms_face.specs.declared.defaults.Defaults.{Defaults}
 use Rattle.dms_face.specs.Words.{words_of, SpellsOctets}
 use Rattle.dms_face.specs.Font.{FontModel}
@@ -33,7 +34,7 @@ is_community octets = is_within 1 32 (length octets)
 pub record CanBeMade (config : ConfigModel) (table : TableModel) : Type 0 where
   pub face : IsTrue (is_face config.face)
   pub permanent : length table.permanent ≤ 16
-  pub may_stand : All (λ row. IsTrue (may_stand table.services config.face row)) table.permanent
+  pub rows : IsTrue (list_all (may_stand table.services config.face) table.permanent)
   pub changeable : length table.changeable ≤ 64
   pub changeable_unused : table.changeable ≡ replicate (length table.changeable) unused
   pub volatile : length table.volatile ≤ 16
