@@ -1,5 +1,5 @@
 -- Defaults that are written while messages are up, on the bench sign, computed.
-use Rattle.std.proofs.Common.{◌≡◌, ℕ, List, [], ◌∷◌, ◌++◌, Some, refl, if◌then◌else◌, ◌+◌, map}
+use Rattle.std.proofs.Common.{◌≡◌, ℕ, List, [], ◌∷◌, ◌++◌, refl, if◌then◌else◌, ◌+◌, map}
 use Rattle.std.specs.Prelude.{pos, codes, slice_index_or}
 use Rattle.dms_wire.specs.declared.message.Kind.TheVariants.{Set}
 use Rattle.dms_face.specs.declared.cell.Cell.{Cell}
@@ -9,7 +9,7 @@ use Rattle.dms_centre.specs.declared.ended.Ended.TheVariants.{Failed}
 use Rattle.dms_centre.specs.declared.ended.Why.TheVariants.{Cause}
 use Rattle.dms_replay.specs.Event.{EventModel, sign_tick, to_sign, to_centre, power_lost, power_back, forge_sign}
 use Rattle.dms_replay.specs.World.{WorldModel}
-use Rattle.dms_replay.proofs.BenchWorld.{bench, after, report, hex, activate, request, set_number, set_code, sets, seen, told, errors, statuses, fills, puts_up}
+use Rattle.dms_replay.proofs.BenchWorld.{bench, after, report, hex, activate, request, set_number, set_code, sets, told, errors, statuses, fills, puts_up}
 
 -- defaultFont becomes 2
 abbrev font_two : EventModel
@@ -21,7 +21,10 @@ abbrev not_in_font : List EventModel
 not_in_font = font_two ∷ activate (codes "ffffff020001750200000000") ∷ to_sign 0 ∷ to_centre 1 ∷ to_sign 1 ∷ to_centre 2 ∷ []
 
 is_refused : report not_in_font
-    ≡ codes "events 6\nsent 2 3\nshown 7 1 0000 mode 10 priority 1 remaining 65535 text -\nledger 1 ffffff020001750200000000 refused 5\n"
+    ≡ codes "events 6\n"
+    ++ codes "sent 2 3\n"
+    ++ codes "shown 7 1 0000 mode 10 priority 1 remaining 65535 text -\n"
+    ++ codes "ledger 1 ffffff020001750200000000 refused 5\n"
 unfolding report hex
 is_refused = refl
 
@@ -57,7 +60,10 @@ unfolding after request hex
 font_of_what_is_shown = refl
 
 -- what is lost with the power keeps it too, where a code of what is shown brings it back
-font_over_power : (after bench (letter ++ font_two ∷ sets (set_code 6 9 (codes "0500010000")) ∷ power_lost ∷ power_back 1 ∷ [])).sign.shown.defaults.font ≡ 1
+abbrev recovers : List EventModel
+recovers = sets (set_code 6 9 (codes "0500010000")) ∷ power_lost ∷ power_back 1 ∷ []
+
+font_over_power : (after bench (letter ++ font_two ∷ recovers)).sign.shown.defaults.font ≡ 1
 unfolding after request hex
 font_over_power = refl
 

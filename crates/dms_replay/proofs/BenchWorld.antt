@@ -58,7 +58,14 @@ tall_font = record {
 }
 
 abbrev pub small_font : FontModel
-small_font = record { number = 2; height = 5; character_spacing = 1; line_spacing = 1; version = 2; glyphs = glyph_from 65 3 5 (0x57 ∷ 0xda ∷ []) ∷ [] }
+small_font = record {
+  number = 2;
+  height = 5;
+  character_spacing = 1;
+  line_spacing = 1;
+  version = 2;
+  glyphs = glyph_from 65 3 5 (0x57 ∷ 0xda ∷ []) ∷ [];
+}
 
 abbrev pub face : FaceModel
 face = record {
@@ -130,7 +137,8 @@ seconds count = replicate count sign_tick
 -- a forged request with the community that may write
 unfoldable pub request : Kind → List VarBind → EventModel
 unfolding element integer_octets name_octets binding_octets numbers_octets pdu_octets canonical
-request kind bindings = forge_sign (canonical (record { community = codes "admin"; kind = kind; request = pos 9; status = pos 0; index = pos 0; bindings = bindings }))
+request kind bindings =
+    forge_sign (canonical (record { community = codes "admin"; kind = kind; request = pos 9; status = pos 0; index = pos 0; bindings = bindings }))
 
 abbrev pub set_number : (group number value : ℕ) → VarBind
 set_number group number value = record { name = object_name group number; value = integer (pos value) }

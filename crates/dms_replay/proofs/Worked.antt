@@ -1,7 +1,6 @@
 -- Runs on the bench sign, computed to the octets of their reports.
 use Rattle.std.proofs.Common.{◌≡◌, ℕ, List, [], ◌∷◌, ◌++◌, refl}
-use Rattle.std.specs.Prelude.{ℤ, pos, codes}
-use Rattle.dms_centre.specs.declared.ended.Ended.{Ended}
+use Rattle.std.specs.Prelude.{pos, codes}
 use Rattle.dms_centre.specs.declared.ended.Ended.TheVariants.{Failed}
 use Rattle.dms_centre.specs.declared.ended.Why.TheVariants.{OtherChecksum, Cause}
 use Rattle.dms_replay.specs.Event.{EventModel, sign_tick, centre_tick, to_sign, to_centre, forge_centre}
@@ -20,7 +19,11 @@ abbrev up_to_acceptance : List EventModel
 up_to_acceptance = both 0 ++ both 1 ++ both 2 ++ both 3 ++ sign_tick ∷ both 4 ++ both 5 ++ centre_tick ∷ both 6
 
 publishing : report (publish (codes "A") 255 office ∷ up_to_acceptance)
-    ≡ codes "events 17\nsent 7 7\nshown 3 1 9a66 mode 8 priority 200 remaining 65535 text 41\naccepted 16 ffffff0300019a66c0000201\nledger 7 ffffff0300019a66c0000201 accepted\n"
+    ≡ codes "events 17\n"
+    ++ codes "sent 7 7\n"
+    ++ codes "shown 3 1 9a66 mode 8 priority 200 remaining 65535 text 41\n"
+    ++ codes "accepted 16 ffffff0300019a66c0000201\n"
+    ++ codes "ledger 7 ffffff0300019a66c0000201 accepted\n"
 unfolding report hex
 publishing = refl
 
@@ -43,7 +46,12 @@ abbrev insisted : List EventModel
 insisted = overtaken ++ activate (codes "ffffff0300019a66c0000201") ∷ to_sign 13 ∷ to_centre 14 ∷ to_sign 14 ∷ to_centre 15 ∷ []
 
 is_refused : report insisted
-    ≡ codes "events 37\nsent 15 16\nshown 3 1 7502 mode 8 priority 200 remaining 65535 text 42\naccepted 16 ffffff0300017502c0000201\nledger 7 ffffff0300017502c0000201 accepted\nledger 14 ffffff0300019a66c0000201 refused 5\n"
+    ≡ codes "events 37\n"
+    ++ codes "sent 15 16\n"
+    ++ codes "shown 3 1 7502 mode 8 priority 200 remaining 65535 text 42\n"
+    ++ codes "accepted 16 ffffff0300017502c0000201\n"
+    ++ codes "ledger 7 ffffff0300017502c0000201 accepted\n"
+    ++ codes "ledger 14 ffffff0300019a66c0000201 refused 5\n"
 unfolding report hex
 is_refused = refl
 
@@ -59,13 +67,21 @@ as_the_centre_is_told = refl
 
 twice : report (publish (codes "A") 0 nobody ∷ up_to_acceptance ++ both 7
     ++ activate (codes "00050a0300019a66c0000201") ∷ to_sign 8 ∷ to_sign 8 ∷ to_centre 9 ∷ to_centre 8 ∷ [])
-    ≡ codes "events 24\nsent 10 10\nshown 3 1 9a66 mode 8 priority 200 remaining 5 text 41\naccepted 21 00050a0300019a66c0000201\nledger 7 ffff000300019a6600000000 refused 5\nledger 9 00050a0300019a66c0000201 refused 5\n"
+    ≡ codes "events 24\n"
+    ++ codes "sent 10 10\n"
+    ++ codes "shown 3 1 9a66 mode 8 priority 200 remaining 5 text 41\n"
+    ++ codes "accepted 21 00050a0300019a66c0000201\n"
+    ++ codes "ledger 7 ffff000300019a6600000000 refused 5\n"
+    ++ codes "ledger 9 00050a0300019a66c0000201 refused 5\n"
 unfolding report hex
 twice = refl
 
 -- ---- a forged reply makes the centre record what never was: so the ledger is true only where nothing is forged
 
 forged : report (activate (codes "ffffff0300019a6600000000") ∷ forge_centre (hex (codes "3017020100040561646d696ea20b0201010201000201003000")) ∷ [])
-    ≡ codes "events 2\nsent 1 0\nshown 7 1 0000 mode 10 priority 1 remaining 65535 text -\nledger 1 ffffff0300019a6600000000 accepted\n"
+    ≡ codes "events 2\n"
+    ++ codes "sent 1 0\n"
+    ++ codes "shown 7 1 0000 mode 10 priority 1 remaining 65535 text -\n"
+    ++ codes "ledger 1 ffffff0300019a6600000000 accepted\n"
 unfolding report hex
 forged = refl
