@@ -1,0 +1,5 @@
+mod BenchWorld
+mod BenchText
+mod Silence
+mod Altered
+mod Worked

@@ -31,16 +31,19 @@ pub record IsBlank (shown : ShownModel) : Type 0 where
 -- the code stands in one of the objects that hold a sign's own codes
 abbrev pub Stands : Order → FallbacksModel → MessageId → Type 0
 Stands order fallbacks id =
-    (id ≡ id_of order fallbacks.short_power_recovery) ⊎ (id ≡ id_of order fallbacks.long_power_recovery) ⊎ (id ≡ id_of order fallbacks.power_loss)
-    ⊎ (id ≡ id_of order fallbacks.end_duration) ⊎ (id ≡ id_of order fallbacks.communications_loss)
+    (id ≡ id_of order fallbacks.short_power_recovery) ⊎ (id ≡ id_of order fallbacks.long_power_recovery)
+    ⊎ (id ≡ id_of order fallbacks.power_loss) ⊎ (id ≡ id_of order fallbacks.end_duration)
+    ⊎ (id ≡ id_of order fallbacks.communications_loss)
 
 -- after the first events, so many of them, an activation with this code had been accepted
 abbrev pub WasPutUp : WorldModel → List EventModel → ℕ → MessageId → Type 0
-WasPutUp world events count id = (number : ℕ) × (code : Activation) × Has (world_at world events count).accepted (number, code) × (code.id ≡ id)
+WasPutUp world events count id =
+    (number : ℕ) × (code : Activation) × Has (world_at world events count).accepted (number, code) × (code.id ≡ id)
 
 -- by then the code had stood among the sign's own
 abbrev pub WasTheSigns : WorldModel → List EventModel → ℕ → MessageId → Type 0
-WasTheSigns world events count id = (front : ℕ) × (front ≤ count) × Stands world.sign.table.order (world_at world events front).sign.fallbacks id
+WasTheSigns world events count id =
+    (front : ℕ) × (front ≤ count) × Stands world.sign.table.order (world_at world events front).sign.fallbacks id
 
 -- ---- the row that the code names
 
@@ -67,7 +70,8 @@ WasHeld world events count shown =
 
 -- by then the sign had had these defaults
 abbrev pub WereDefaults : WorldModel → List EventModel → ℕ → Defaults → Type 0
-WereDefaults world events count defaults = (front : ℕ) × (front ≤ count) × ((world_at world events front).sign.defaults ≡ defaults)
+WereDefaults world events count defaults =
+    (front : ℕ) × (front ≤ count) × ((world_at world events front).sign.defaults ≡ defaults)
 
 -- ---- what is shown
 

@@ -1,7 +1,7 @@
 -- The bench sign, on which scripts run that name no other (this profile).
 use Rattle.std.specs.Prelude.{ℕ, List, ◌++◌, codes}
 
-pub bench_text : List ℕ
+unfoldable pub bench_text : List ℕ
 bench_text =
     codes "size 23 14\n"
     ++ codes "communities public admin\n"

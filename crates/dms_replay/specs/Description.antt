@@ -1,5 +1,6 @@
 -- Signs as text, a line for each part (this profile).
-use Rattle.std.specs.Prelude.{◌≡◌, ◌≢◌, ℕ, ◌&&◌, ◌≤◌, IsTrue, Bool, List, [], ◌∷◌, ◌++◌, length, codes, All, replicate}
+use Rattle.std.specs.Prelude.{◌≡◌, ◌≢◌, ℕ, ◌&&◌, ◌≤◌, IsTrue, Bool, List, [], ◌∷◌, ◌++◌, length, codes, replicate}
+use Rattle.std.specs.List.{list_all}
 use Rattle.dms_face.specs.declared.defaults.Defaults.{Defaults}
 use Rattle.dms_face.specs.Words.{words_of, SpellsOctets}
 use Rattle.dms_face.specs.Font.{FontModel}
@@ -11,7 +12,7 @@ use Rattle.dms_table.specs.Rows.{RowModel, TableModel, unused}
 use Rattle.dms_table.specs.Settling.{verdict_of, passes}
 use Rattle.dms_table.specs.Stocking.{has_ranges}
 use Rattle.dms_sign.specs.State.{ConfigModel}
-use Rattle.dms_replay.specs.Fields.{SpellsOctet, SpellsTwoOctets, SpellsFourOctets, SpellsFlag, SpellsOrder}
+use Rattle.dms_replay.specs.Fields.{SpellsEach, SpellsOctet, SpellsTwoOctets, SpellsFourOctets, SpellsFlag, SpellsOrder}
 
 -- what a sign is made with, and the number of the first request of its centre
 pub record Description : Type 0 where
@@ -33,7 +34,7 @@ is_community octets = is_within 1 32 (length octets)
 pub record CanBeMade (config : ConfigModel) (table : TableModel) : Type 0 where
   pub face : IsTrue (is_face config.face)
   pub permanent : length table.permanent ≤ 16
-  pub may_stand : All (λ row. IsTrue (may_stand table.services config.face row)) table.permanent
+  pub rows : IsTrue (list_all (may_stand table.services config.face) table.permanent)
   pub changeable : length table.changeable ≤ 64
   pub changeable_unused : table.changeable ≡ replicate (length table.changeable) unused
   pub volatile : length table.volatile ≤ 16
@@ -82,16 +83,11 @@ pub record SpellsServices (services : Services) (words : List (List ℕ)) : Type
 abbrev pub numbers_of : Defaults → List ℕ
 numbers_of d = d.background ∷ d.foreground ∷ d.flash_on ∷ d.flash_off ∷ d.font ∷ d.line ∷ d.page ∷ d.on ∷ d.off ∷ []
 
-abbrev pub SpellsNumbers : List ℕ → List (List ℕ) → Type 0
-SpellsNumbers [] words = words ≡ []
-SpellsNumbers (number ∷ numbers) [] = ⊥
-SpellsNumbers (number ∷ numbers) (word ∷ words) = SpellsOctet number word × SpellsNumbers numbers words
-
 -- `defaults` and nine numbers
 pub record SpellsDefaults (defaults : Defaults) (words : List (List ℕ)) : Type 0 where
   pub number_words : List (List ℕ)
   pub words_are : words ≡ codes "defaults" ∷ number_words
-  pub numbers : SpellsNumbers (numbers_of defaults) number_words
+  pub numbers : SpellsEach SpellsOctet (numbers_of defaults) number_words
 
 -- `first NUMBER`
 pub record SpellsFirst (first : ℕ) (words : List (List ℕ)) : Type 0 where
@@ -114,11 +110,8 @@ pub record SpellsPermanent (row : RowModel) (words : List (List ℕ)) : Type 0 w
   pub priority : SpellsOctet row.priority priority_word
   pub status : row.status ≡ Valid
 
--- a line for each permanent row
-abbrev pub SpellsPermanents : List RowModel → List (List ℕ) → Type 0
-SpellsPermanents [] lines = lines ≡ []
-SpellsPermanents (row ∷ rows) [] = ⊥
-SpellsPermanents (row ∷ rows) (line ∷ lines) = SpellsPermanent row (words_of line) × SpellsPermanents rows lines
+abbrev pub SpellsPermanentLine : RowModel → List ℕ → Type 0
+SpellsPermanentLine row line = SpellsPermanent row (words_of line)
 
 -- the lines of each font, one font behind another
 pub data SpellsFonts : List FontModel → List (List ℕ) → Type 0 where
@@ -146,6 +139,6 @@ pub record SpellsSign (lines : List (List ℕ)) (sign : Description) : Type 0 wh
   pub services : SpellsServices sign.table.services (words_of has_line)
   pub defaults : SpellsDefaults sign.config.face.defaults (words_of defaults_line)
   pub first : SpellsFirst sign.first (words_of first_line)
-  pub permanent : SpellsPermanents sign.table.permanent permanent_lines
+  pub permanent : SpellsEach SpellsPermanentLine sign.table.permanent permanent_lines
   pub fonts : SpellsFonts sign.config.face.fonts font_lines
   pub can_be_made : CanBeMade sign.config sign.table

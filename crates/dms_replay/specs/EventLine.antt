@@ -19,8 +19,8 @@ pub record SpellsPublication (publication : PublicationModel) (words : List (Lis
   pub minutes_word : List ℕ
   pub priority_word : List ℕ
   pub address_word : List ℕ
-  pub words_are : words ≡ codes "publish" ∷ memory_word ∷ number_word ∷ text_word ∷ owner_word ∷ beacon_word ∷ pixel_word ∷ run_word ∷ minutes_word
-      ∷ priority_word ∷ address_word ∷ []
+  pub words_are : words ≡ codes "publish" ∷ memory_word ∷ number_word ∷ text_word ∷ owner_word ∷ beacon_word ∷ pixel_word ∷ run_word
+      ∷ minutes_word ∷ priority_word ∷ address_word ∷ []
   pub memory : SpellsOctet publication.memory memory_word
   pub number : SpellsTwoOctets publication.number number_word
   pub text : SpellsOctets publication.text text_word
@@ -70,9 +70,3 @@ SpellsEventWords order (forge_centre datagram) words = SpellsOne (codes "forge-c
 -- the line of an event; codes are in the order of the sign
 abbrev pub SpellsEvent : Order → EventModel → List ℕ → Type 0
 SpellsEvent order event line = SpellsEventWords order event (words_of line)
-
--- a line for each event, in order
-abbrev pub SpellsEvents : Order → List EventModel → List (List ℕ) → Type 0
-SpellsEvents order [] lines = lines ≡ []
-SpellsEvents order (event ∷ events) [] = ⊥
-SpellsEvents order (event ∷ events) (line ∷ lines) = SpellsEvent order event line × SpellsEvents order events lines

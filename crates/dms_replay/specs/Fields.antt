@@ -1,5 +1,5 @@
 -- What single words of a sign's description and of a script spell (this profile).
-use Rattle.std.specs.Prelude.{◌≡◌, ℕ, ◌==◌, ◌<◌, ◌≤◌, ◌^◌, Bool, true, false, List, [], ◌∷◌, codes, Ok}
+use Rattle.std.specs.Prelude.{◌≡◌, ℕ, ◌==◌, ◌<◌, ◌≤◌, ◌^◌, Bool, true, false, List, [], ◌∷◌, length, codes, Ok}
 use Rattle.std.specs.List.{slice_split}
 use Rattle.hex.specs.Hex.{decode_of}
 use Rattle.dms_face.specs.Words.{SpellsNumber, SpellsDecimal}
@@ -7,6 +7,12 @@ use Rattle.dms_table.specs.declared.codes.Order.{Order}
 use Rattle.dms_table.specs.declared.codes.Order.TheVariants.{High, Swapped}
 use Rattle.dms_table.specs.declared.codes.Activation.{Activation}
 use Rattle.dms_table.specs.Codes.{octets_of_activation, IsActivation}
+
+-- each of these is spelled by one of those, in order
+abbrev pub SpellsEach : {A : Type 0} → (A → List ℕ → Type 0) → List A → List (List ℕ) → Type 0
+SpellsEach Spelled [] words = words ≡ []
+SpellsEach Spelled (value ∷ values) [] = ⊥
+SpellsEach Spelled (value ∷ values) (word ∷ words) = Spelled value word × SpellsEach Spelled values words
 
 -- a number of one octet, and of two
 abbrev pub SpellsOctet : ℕ → List ℕ → Type 0
@@ -30,7 +36,7 @@ SpellsOrder High word = word ≡ codes "high"
 SpellsOrder Swapped word = word ≡ codes "swapped"
 
 -- one number of an address: one to three decimal digits, at most 255
-pub record SpellsPart (number : ℕ) (word : List ℕ) : Type 0 where
+pub record SpellsAddressPart (number : ℕ) (word : List ℕ) : Type 0 where
   pub spelled : SpellsNumber 10 3 number word
   pub small : number ≤ 255
 
@@ -38,13 +44,10 @@ pub record SpellsPart (number : ℕ) (word : List ℕ) : Type 0 where
 abbrev pub parts_of : List ℕ → List (List ℕ)
 parts_of word = slice_split (λ octet. octet == 46) word
 
-abbrev pub SpellsParts : List ℕ → List (List ℕ) → Type 0
-SpellsParts (a ∷ b ∷ c ∷ d ∷ []) (a_word ∷ b_word ∷ c_word ∷ d_word ∷ []) = SpellsPart a a_word × SpellsPart b b_word × SpellsPart c c_word × SpellsPart d d_word
-SpellsParts address parts = ⊥
-
 -- four numbers parted by dots
-abbrev pub SpellsAddress : List ℕ → List ℕ → Type 0
-SpellsAddress address word = SpellsParts address (parts_of word)
+pub record SpellsAddress (address : List ℕ) (word : List ℕ) : Type 0 where
+  pub four : length address ≡ 4
+  pub parts : SpellsEach SpellsAddressPart address (parts_of word)
 
 -- the twelve octets of a code, as pairs of hexadecimal digits
 pub record SpellsCode (order : Order) (code : Activation) (word : List ℕ) : Type 0 where

@@ -85,7 +85,8 @@ pub record WasAccepted (world : WorldModel) (events : List EventModel) (entry : 
   pub listed : Has (world_after world events).accepted (suc before, code)
   pub same : octets_of_activation world.sign.table.order code ≡ octets_of_activation world.centre.settings.order entry.code
   pub carries : Carries delivered.message (octets_of_activation world.centre.settings.order entry.code)
-  pub put_up : entry.code.id.memory ≢ current_buffer → entry.code.id.memory ≢ blank_memory → world.sign.table.order ≡ world.centre.settings.order
+  pub put_up : entry.code.id.memory ≢ current_buffer → entry.code.id.memory ≢ blank_memory
+      → world.sign.table.order ≡ world.centre.settings.order
       → shown_checksum (world_at world events (suc before)).sign.shown ≡ entry.code.id.crc
 
 -- the sign answered the entry's request with this status
@@ -102,7 +103,8 @@ AcceptedWasAccepted world events =
 -- each entry that is refused
 abbrev pub RefusedWasRefused : WorldModel → List EventModel → Type 0
 RefusedWasRefused world events =
-    (entry : Entry) (status : ℤ) → Has (world_after world events).centre.ledger entry → entry.outcome ≡ Refused status → WasRefused world events entry status
+    (entry : Entry) (status : ℤ) → Has (world_after world events).centre.ledger entry → entry.outcome ≡ Refused status
+    → WasRefused world events entry status
 
 -- ---- whose codes the ledger has
 

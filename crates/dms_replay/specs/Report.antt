@@ -46,7 +46,8 @@ sent_line world = ended (codes "sent " ++ decimal (length world.to_sign) ++ code
 -- its source with the checksum as a number of four digits, its mode, its priority, the minutes that are left, and its text
 abbrev pub shown_line : ShownModel → List ℕ
 shown_line shown = ended (
-    codes "shown " ++ decimal shown.source.memory ++ codes " " ++ decimal shown.source.number ++ codes " " ++ encode_lower (two_octets shown.source.crc)
+    codes "shown " ++ decimal shown.source.memory ++ codes " " ++ decimal shown.source.number
+    ++ codes " " ++ encode_lower (two_octets shown.source.crc)
     ++ codes " mode " ++ decimal shown.mode ++ codes " priority " ++ decimal shown.priority
     ++ codes " remaining " ++ decimal (minutes_left shown.remaining) ++ codes " text " ++ octets_text shown.text)
 

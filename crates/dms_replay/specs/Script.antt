@@ -2,7 +2,8 @@
 use Rattle.std.specs.Prelude.{◌≡◌, ℕ, ◌≤◌, List, [], ◌∷◌, ◌++◌, length, codes}
 use Rattle.dms_face.specs.Lines.{kept_lines}
 use Rattle.dms_replay.specs.Event.{EventModel}
-use Rattle.dms_replay.specs.EventLine.{SpellsEvents}
+use Rattle.dms_replay.specs.Fields.{SpellsEach}
+use Rattle.dms_replay.specs.EventLine.{SpellsEvent}
 use Rattle.dms_replay.specs.Description.{Description, SpellsSign}
 use Rattle.dms_replay.specs.BenchSign.{bench_text}
 
@@ -26,4 +27,4 @@ pub record SpellsScript (octets : List ℕ) (sign : Description) (events : List 
   pub event_lines : List (List ℕ)
   pub lines_are : kept_lines octets ≡ sign_lines ++ event_lines
   pub names : NamesSign sign_lines sign
-  pub spelled : SpellsEvents sign.table.order events event_lines
+  pub spelled : SpellsEach (SpellsEvent sign.table.order) events event_lines
