@@ -1,9 +1,9 @@
 //! Fonts as text: a line `font N height H space C line L version V`, then a line `glyph CHARACTER WIDTH BITS` for each
 //! character.
 
-ghost use Rattle.std.specs.Prelude.{◌≡◌, ℕ, ◌*◌, ◌<◌, ◌≤◌, ◌⊎◌, length, option_map, IfOk, IfErr, OnOk, OnErr};
+ghost use Rattle.std.specs.Prelude.{◌≡◌, ◌*◌, ◌<◌, ◌≤◌, ◌⊎◌, length, option_map, IfOk, IfErr, OnOk, OnErr};
 ghost use Rattle.dms_face.specs.Lines.{lines_left};
-ghost use Rattle.dms_face.specs.Words.{words_of, version_of};
+ghost use Rattle.dms_face.specs.Words.{words_of};
 ghost use Rattle.dms_face.specs.Glyph.{GlyphModel};
 ghost use Rattle.dms_face.specs.Font.{FontModel};
 ghost use Rattle.dms_face.specs.FontText.{SpellsFont};

@@ -1,7 +1,7 @@
 //! A text as lines: each ends at a newline, before which one carriage return is dropped; the last may want its newline.
 //! Empty lines, and lines that begin with `#`, are skipped.
 
-ghost use Rattle.std.specs.Prelude.{◌≡◌, ◌+◌, ◌^◌, ◌<◌, ◌≤◌, ◌∷◌, [], List, length, IfSome, IfNone};
+ghost use Rattle.std.specs.Prelude.{◌≡◌, ◌+◌, ◌^◌, ◌<◌, ◌∷◌, [], length, IfSome, IfNone};
 ghost use Rattle.std.specs.Str.Lines.{lines, strip_carriage_return};
 ghost use Rattle.dms_face.specs.Lines.{is_skipped, numbered, lines_left, number_behind};
 ghost use Rattle.dms_face.specs.LinesView.{numbered_line};
