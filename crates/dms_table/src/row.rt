@@ -64,6 +64,11 @@ pub struct RowView<'a> {
 pub struct Refused;
 
 impl fmt::Display for Refused {
+    ghost use Rattle.std.specs.Prelude.{Some};
+    ghost use Rattle.dms_table.specs.FaultTexts.{refused_text};
+
+    ghost output = { λ _. Some refused_text };
+
     fn fmt<W: fmt::Write>(&self, f: &mut fmt::Formatter<W>) -> fmt::Result {
         f.write_str("the row does not take this now")
     }

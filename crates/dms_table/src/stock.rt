@@ -162,6 +162,11 @@ impl TableFault {
 }
 
 impl fmt::Display for TableFault {
+    ghost use Rattle.std.specs.Prelude.{Some};
+    ghost use Rattle.dms_table.specs.FaultTexts.{table_fault_text};
+
+    ghost output = { λ fault. Some (table_fault_text fault) };
+
     fn fmt<W: fmt::Write>(&self, f: &mut fmt::Formatter<W>) -> fmt::Result {
         match self {
             TableFault::Counts => f.write_str("too many rows"),
