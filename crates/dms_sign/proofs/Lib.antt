@@ -1,1 +1,3 @@
 pub mod ObjectRows
+pub mod InRangeLists
+pub mod InRangeValues
