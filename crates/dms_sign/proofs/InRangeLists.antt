@@ -1,8 +1,8 @@
 -- What holds of each element of a list, or of the value that there may be.
-use Rattle.std.proofs.Common.{◌≡◌, ℕ, zero, suc, ◌+◌, ◌*◌, ◌-◌, ◌<◌, ◌≤◌, ◌==◌, ◌&&◌, Bool, true, false, cond, List, [], ◌∷◌, ◌++◌, length, map, flat_map, find, Option, Some, None, slice_get, refl, arith}
-use Rattle.std.specs.Prelude.{option_map, option_and_then, unwrap_or}
+use Rattle.std.proofs.Common.{ℕ, zero, suc, ◌+◌, ◌<◌, Bool, true, false, cond, List, [], ◌∷◌, ◌++◌, length, map, flat_map, find, Option, Some, None, slice_get, arith}
+use Rattle.std.specs.Prelude.{option_map, option_and_then, unwrap_or, filter_map}
 use Rattle.std.specs.Option.{IfSome}
-use Rattle.std.specs.List.{AllByRecursion, position_from}
+use Rattle.std.specs.List.{AllByRecursion, position_from, cons_option}
 
 -- ---- options
 
@@ -36,6 +36,15 @@ pub all_flat : {X Y : Type 0} (P : X → Type 0) (Q : Y → Type 0) (f : X → L
     → AllByRecursion Q (flat_map f xs)
 all_flat P Q f [] each all = tt
 all_flat P Q f (x ∷ xs) each all = all_append Q (f x) (flat_map f xs) (each x all.0) (all_flat P Q f xs each all.1)
+
+all_option : {X : Type 0} (P : X → Type 0) (o : Option X) (xs : List X) → IfSome o P → AllByRecursion P xs → AllByRecursion P (cons_option o xs)
+all_option P None xs some all = all
+all_option P (Some x) xs some all = (some, all)
+
+pub all_filtered : {X Y : Type 0} (P : X → Type 0) (Q : Y → Type 0) (f : X → Option Y) (xs : List X) → ((x : X) → P x → IfSome (f x) Q) → AllByRecursion P xs
+    → AllByRecursion Q (filter_map f xs)
+all_filtered P Q f [] each all = tt
+all_filtered P Q f (x ∷ xs) each all = all_option Q (f x) (filter_map f xs) (each x all.0) (all_filtered P Q f xs each all.1)
 
 pub all_any : {X : Type 0} (P : X → Type 0) (xs : List X) → ((x : X) → P x) → AllByRecursion P xs
 all_any P [] each = tt

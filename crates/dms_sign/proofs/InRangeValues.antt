@@ -1,13 +1,13 @@
 -- What a sign in range reads is within the limits of a message: its values, and the names of its instances.
-use Rattle.std.proofs.Common.{◌≡◌, ℕ, zero, suc, pos, ◌+◌, ◌*◌, ◌/◌, ◌%◌, ◌-◌, ◌^◌, ◌<◌, ◌≤◌, ◌==◌, ◌&&◌, Bool, true, false, not, cond, List, [], ◌∷◌, ◌++◌, length, map, flat_map, find, Option, Some, None, slice_get, refl, ap, subst, sym, ◌∙◌, arith, lt-ltb, length-append, leb, leb-true}
-use Rattle.std.specs.Prelude.{option_map, option_and_then, unwrap_or, nat_le, count_by, ⊤}
+use Rattle.std.proofs.Common.{◌≡◌, ℕ, zero, suc, ◌+◌, ◌*◌, ◌/◌, ◌-◌, ◌^◌, ◌<◌, ◌≤◌, ◌==◌, ◌&&◌, Bool, true, false, not, cond, List, [], ◌∷◌, ◌++◌, length, map, flat_map, Option, Some, None, slice_get, refl, ap, subst, ◌∙◌, arith, lt-ltb, length-append, leb, leb-true}
+use Rattle.std.specs.Prelude.{nat_le, count_by, ⊤}
 use Rattle.std.specs.Option.{IfSome}
 use Rattle.std.specs.List.{AllByRecursion, range_with_len}
 use Rattle.std.specs.Int.Digits.{AllBelowBase}
 use Rattle.std.proofs.Math.Nat.{pow-suc}
 use Rattle.std.proofs.lemmas.Bool.{and_parts}
 use Rattle.std.proofs.lemmas.List.Sums.{count_by-le-length}
-use Rattle.dms_wire.specs.Message.{ObjectValue, integer, octet_string, ip_address, VarBind}
+use Rattle.dms_wire.specs.Message.{VarBind}
 use Rattle.dms_wire.specs.Limits.{IsNameInLimits, IsValueInLimits}
 use Rattle.dms_table.specs.declared.codes.Order.{Order}
 use Rattle.dms_table.specs.declared.codes.Order.TheVariants.{High, Swapped}
@@ -17,11 +17,11 @@ use Rattle.dms_table.specs.declared.names.Column.TheVariants as columns_of
 use Rattle.dms_table.specs.declared.row.RowId.{RowId}
 use Rattle.dms_table.specs.declared.status.Status.{Status}
 use Rattle.dms_table.specs.declared.status.Status.TheVariants as statuses
-use Rattle.dms_table.specs.Checksum.{number, checksum, message_checksum, divided, remainder, first_sixteen_inverted, sixteen_zeros, octet_bits}
+use Rattle.dms_table.specs.Checksum.{number, checksum, remainder, first_sixteen_inverted, sixteen_zeros, octet_bits}
 use Rattle.dms_table.specs.Status.{status_number, is_valid, is_not_used}
 use Rattle.dms_table.specs.Codes.{two_octets, octets_of_checksum, octets_of_id, in_order, IsMessageId}
 use Rattle.dms_table.specs.Names.{below_dms, object_name, cell_name, column_number}
-use Rattle.dms_table.specs.Rows.{RowModel, TableModel, RowReading, reading, blank_reading, blank, blank_at, numbered, rows_of, row_read, row_checksum, valid_count, unused_count, row_count, longest_text, permanent_memory, changeable_memory, volatile_memory, current_buffer, blank_memory}
+use Rattle.dms_table.specs.Rows.{RowModel, TableModel, RowReading, reading, blank_reading, blank, blank_at, numbered, rows_of, row_read, row_checksum, longest_text, permanent_memory, changeable_memory, volatile_memory, current_buffer, blank_memory}
 use Rattle.dms_table.specs.Deciding.{ShownModel, shown_row, shown_reading, message_at}
 use Rattle.dms_table.proofs.Division.{length-divided}
 use Rattle.dms_sign.specs.declared.object.Scalar.{Scalar}
@@ -31,8 +31,8 @@ use Rattle.dms_sign.specs.declared.object.Instance.TheVariants.{The, Cell}
 use Rattle.dms_sign.specs.Objects.{scalar_number, name_of, before_table, after_table, columns, numbers_to, memories, rows_in, row_ids, cells, instances, instance_named, next_instance}
 use Rattle.dms_sign.specs.State.{SignState}
 use Rattle.dms_sign.specs.Values.{number_value, minutes_left, scalar_value, cell_value, value_at, value_of, bound, binding_at, value_after}
-use Rattle.dms_sign.specs.InRange.{AreOctets, AreOctetsUpTo, IsRowInRange, IsTableInRange, IsTimeInRange, IsShownInRange, IsSignInRange}
-use Rattle.dms_sign.proofs.InRangeLists.{if_either, if_mapped, if_then, if_or, all_append, all_mapped, all_flat, all_any, if_found, if_at}
+use Rattle.dms_sign.specs.InRange.{IsRowInRange, IsTableInRange, IsTimeInRange, IsShownInRange, IsSignInRange}
+use Rattle.dms_sign.proofs.InRangeLists.{if_either, if_mapped, if_then, all_append, all_mapped, all_flat, all_any, if_found, if_at}
 
 -- ---- checksums
 
@@ -329,7 +329,7 @@ IsPart n = n < 2 ^ 32
 below_dms_within : (numbers : List ℕ) → AllByRecursion IsPart numbers → length numbers ≤ 118 → IsNameInLimits (below_dms numbers)
 below_dms_within numbers small few =
     let front : AllByRecursion IsPart (6 ∷ 1 ∷ 4 ∷ 1 ∷ 1206 ∷ 4 ∷ 2 ∷ 3 ∷ []) =
-        (omega arith, (omega arith, (omega arith, (omega arith, (omega arith, (omega arith, (omega arith, (omega arith, tt)))))))) in
+    (omega arith, (omega arith, (omega arith, (omega arith, (omega arith, (omega arith, (omega arith, (omega arith, tt)))))))) in
     (omega arith, λ h. omega arith, omega arith, all_append IsPart (6 ∷ 1 ∷ 4 ∷ 1 ∷ 1206 ∷ 4 ∷ 2 ∷ 3 ∷ []) numbers front small, omega arith)
 
 object_name_within : (group place : ℕ) → group < 256 → place < 256 → IsNameInLimits (object_name group place)

@@ -1,3 +1,4 @@
 pub mod ObjectRows
 pub mod InRangeLists
 pub mod InRangeValues
+pub mod InRangeReplies
