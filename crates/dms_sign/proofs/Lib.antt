@@ -5,3 +5,9 @@ pub mod ObjectRows
 pub mod Replies
 pub mod Accepted
 pub mod OneValidating
+pub mod InRangeLists
+pub mod InRangeValues
+pub mod InRangeReplies
+pub mod InRangeFaults
+pub mod InRangeShown
+pub mod InRangeEvents

@@ -8,3 +8,4 @@ pub mod Answering
 pub mod Reply
 pub mod Events
 pub mod Promises
+pub mod InRange

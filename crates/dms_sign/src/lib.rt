@@ -3,5 +3,6 @@
 
 pub mod laws;
 pub mod object;
+pub mod range_laws;
 
 pub use object::{Instance, Scalar};
