@@ -16,8 +16,8 @@ use Rattle.dms_table.specs.Status.{status_number}
 use Rattle.dms_multi.specs.Outcomes.{outcomes_within}
 use Rattle.dms_multi.specs.TagReading.{item_at, item_after_opening, item_after_closing, tag_at, body_item, name_at, letters_name, end_name, item_of, flash_of, font_of, times_of, page_time_of}
 use Rattle.dms_multi.specs.Reading.{number_of, decimal_of, value_of, cut, version_of}
-use Rattle.dms_face.specs.Glyph.{glyph_from}
-use Rattle.dms_face.specs.Font.{FontModel}
+use Rattle.dms_font.specs.Glyph.{glyph_from}
+use Rattle.dms_font.specs.Font.{FontModel}
 use Rattle.dms_face.specs.Face.{FaceModel}
 use Rattle.dms_face.specs.Fit.{fault_of}
 use Rattle.dms_table.specs.declared.codes.Order.TheVariants.{High}
