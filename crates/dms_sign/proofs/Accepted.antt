@@ -303,7 +303,7 @@ one_succeeds : (s : SignState) (writing : Bool) (octets : List ℕ) (found : Lis
 one_succeeds s writing octets (cause ∷ more) are each e = absurd (omega (arith, each.0.fails))
 one_succeeds s writing octets [] are each e =
     let written : write_at s (activates octets) ≡ Some (Activate octets) =
-        what_is_written s octets (write_at s (activates octets)) refl (writes_without_cause s writing (activates octets) are) in
+    what_is_written s octets (write_at s (activates octets)) refl (writes_without_cause s writing (activates octets) are) in
     if_succeeds s (assigned s (writes_of s (activates octets ∷ []))) (activates octets ∷ []) _ octets (find is_command (writes_of s (activates octets ∷ [])))
     (ap (λ o. find is_command (cons_option o [])) written) e
 

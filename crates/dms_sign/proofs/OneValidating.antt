@@ -45,7 +45,7 @@ one_changed : (table new : TableModel) (id : RowId) (change : RowModel → Optio
     → ((rows : List RowModel) → changed_in table.changeable id.number change ≡ Some rows → count rows + count table.volatile ≤ 1)
     → ((rows : List RowModel) → changed_in table.volatile id.number change ≡ Some rows → count table.changeable + count rows ≤ 1)
     → cond is_changeable (option_map (with_changeable table) (changed_in table.changeable id.number change))
-        (cond is_volatile (option_map (with_volatile table) (changed_in table.volatile id.number change)) None) ≡ Some new
+    (cond is_volatile (option_map (with_volatile table) (changed_in table.volatile id.number change)) None) ≡ Some new
     → IsTable new
 one_changed table new id change true is_volatile first second e = one_changeable table new (changed_in table.changeable id.number change) first e
 one_changed table new id change false true first second e = one_volatile table new (changed_in table.volatile id.number change) second e

@@ -185,7 +185,7 @@ not_replaced : (m : SnmpMessage) (datagram : List ℕ) (a : Answer) → Spells m
     → reply_to m a ≡ canonical (response_to m a.status a.index)
 not_replaced m datagram a spells is small =
     let shorter : length (canonical (response_to m a.status a.index)) ≤ length datagram =
-        response_no_longer m datagram a.status a.index spells (omega (arith, is.status)) small in
+    response_no_longer m datagram a.status a.index spells (omega (arith, is.status)) small in
     let same : canonical (response_of m a) ≡ canonical (response_to m a.status a.index) = ap canonical (echoes m a is.echo) in
     reply_if m a (omega (arith, spells.size, ap length same)) ∙ same
 
