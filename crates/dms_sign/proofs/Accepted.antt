@@ -30,17 +30,20 @@ use Rattle.dms_sign.proofs.Replies.{IsCause, are_causes}
 -- ---- what writes an activation
 
 -- a value that is read as something of another kind writes no activation
-no_activation : {A : Type 0} (f : A → Write) (o : Option A) (octets : List ℕ) → ((x : A) → f x ≡ Activate octets → ⊥) → option_map f o ≡ Some (Activate octets) → ⊥
+no_activation : {A : Type 0} (f : A → Write) (o : Option A) (octets : List ℕ) → ((x : A) → f x ≡ Activate octets → ⊥)
+    → option_map f o ≡ Some (Activate octets) → ⊥
 no_activation f None octets other e = cc
 no_activation f (Some x) octets other e = other x (cc)
 
-octets_if : (b : Bool) (given octets : List ℕ) → (b ≡ true → length given ≡ 12) → option_map Activate (cond b (Some given) None) ≡ Some (Activate octets) → (given ≡ octets) × (length octets ≡ 12)
+octets_if : (b : Bool) (given octets : List ℕ) → (b ≡ true → length given ≡ 12)
+    → option_map Activate (cond b (Some given) None) ≡ Some (Activate octets) → (given ≡ octets) × (length octets ≡ 12)
 octets_if false given octets size e = absurd (cc)
 octets_if true given octets size e = let same : given ≡ octets = cc in (same, ap length (sym same) ∙ size refl)
 
 is_twelve : (octets : List ℕ) → (nat_le 12 (length octets) && nat_le (length octets) 12) ≡ true → length octets ≡ 12
 is_twelve octets h =
-    let parts = and_parts (nat_le 12 (length octets)) (nat_le (length octets) 12) h in omega (arith, leb-true 12 (length octets) parts.0, leb-true (length octets) 12 parts.1)
+    let parts = and_parts (nat_le 12 (length octets)) (nat_le (length octets) 12) h in
+    omega (arith, leb-true 12 (length octets) parts.0, leb-true (length octets) 12 parts.1)
 
 -- a value that is the twelve octets of an activation
 pub record IsActivating (i : Instance) (value : ObjectValue) (octets : List ℕ) : Type 0 where
@@ -48,12 +51,14 @@ pub record IsActivating (i : Instance) (value : ObjectValue) (octets : List ℕ)
   pub value_is : value ≡ octet_string octets
   pub size : length octets ≡ 12
 
-twelve : (value : ObjectValue) (octets : List ℕ) → option_map Activate (octets_in 12 12 value) ≡ Some (Activate octets) → (value ≡ octet_string octets) × (length octets ≡ 12)
+twelve : (value : ObjectValue) (octets : List ℕ) → option_map Activate (octets_in 12 12 value) ≡ Some (Activate octets)
+    → (value ≡ octet_string octets) × (length octets ≡ 12)
 twelve (octet_string given) octets e =
     let both = octets_if (nat_le 12 (length given) && nat_le (length given) 12) given octets (is_twelve given) e in (ap octet_string both.0, both.1)
 twelve _ octets e = absurd (cc)
 
-activating : (face : FaceModel) (i : Instance) (value : ObjectValue) (octets : List ℕ) → write_of face i value ≡ Some (Activate octets) → IsActivating i value octets
+activating : (face : FaceModel) (i : Instance) (value : ObjectValue) (octets : List ℕ) → write_of face i value ≡ Some (Activate octets)
+    → IsActivating i value octets
 unfolding write_of object_write cell_write
 activating face (The ActivateMessage) value octets e = let both = twelve value octets e in record { object = refl; value_is = both.0; size = both.1 }
 activating face (The MessageTimeRemaining) value octets e = absurd (no_activation _ _ octets (λ x h. cc) e)
@@ -114,14 +119,16 @@ activate_name : name_of (The ActivateMessage) ≡ activate_message
 unfolding name_of
 activate_name = refl
 
-same_binding : (binding : VarBind) (octets : List ℕ) → binding.name ≡ activate_message → binding.value ≡ octet_string octets → binding ≡ activates octets
+same_binding : (binding : VarBind) (octets : List ℕ) → binding.name ≡ activate_message → binding.value ≡ octet_string octets
+    → binding ≡ activates octets
 same_binding binding octets name value =
     let named : binding ≡ record { name = activate_message; value = binding.value } = ap (λ n. record { name = n; value = binding.value }) name in
     let valued : record { name = activate_message; value = binding.value } ≡ activates octets = ap (λ v. record { name = activate_message; value = v }) value in
     named ∙ valued
 
 -- a binding that writes an activation sets dmsActivateMessage to it
-activates_at : (s : SignState) (binding : VarBind) (octets : List ℕ) → write_at s binding ≡ Some (Activate octets) → (binding ≡ activates octets) × (length octets ≡ 12)
+activates_at : (s : SignState) (binding : VarBind) (octets : List ℕ) → write_at s binding ≡ Some (Activate octets)
+    → (binding ≡ activates octets) × (length octets ≡ 12)
 activates_at s binding octets e =
     let by = writes_at s binding (Activate octets) e in
     let is = activating s.config.face by.instance binding.value octets by.writes in
@@ -135,11 +142,13 @@ record IsAccepting (s : SignState) (activation : Activation) (write : Write) : T
   is : activation ≡ activation_of s.table.order octets
 
 decided_accepts : (old new : SignState) (bindings : List VarBind) (index : ℕ) (octets : List ℕ) (r : Result ShownModel Cause) (a : Activation)
-    → (as_decided old new bindings index octets r).accepted ≡ Some a → ((as_decided old new bindings index octets r).status ≡ 0) × IsAccepting old a (Activate octets)
+    → (as_decided old new bindings index octets r).accepted ≡ Some a
+    → ((as_decided old new bindings index octets r).status ≡ 0) × IsAccepting old a (Activate octets)
 decided_accepts old new bindings index octets (Ok shown) a e = (refl, record { octets = octets; write_is = refl; is = cc })
 decided_accepts old new bindings index octets (Err cause) a e = absurd (cc)
 
-asked_accepts : (old new : SignState) (bindings : List VarBind) (index : ℕ) (o : Option TableModel) (a : Activation) → (as_asked old new bindings index o).accepted ≡ Some a → ⊥
+asked_accepts : (old new : SignState) (bindings : List VarBind) (index : ℕ) (o : Option TableModel) (a : Activation)
+    → (as_asked old new bindings index o).accepted ≡ Some a → ⊥
 asked_accepts old new bindings index None a e = cc
 asked_accepts old new bindings index (Some table) a e = cc
 
@@ -166,7 +175,8 @@ if_accepts old new bindings index (Some write) a e =
     let done = commanded_accepts old new bindings index write a e in (done.0, record { write = write; command = refl; accepting = done.1 })
 
 set_accepts : (s : SignState) (bindings : List VarBind) (found : List SetCause) (a : Activation)
-    → (set_unless s bindings found).accepted ≡ Some a → ((set_unless s bindings found).status ≡ 0) × AcceptedBy s a (find is_command (writes_of s bindings))
+    → (set_unless s bindings found).accepted ≡ Some a
+    → ((set_unless s bindings found).status ≡ 0) × AcceptedBy s a (find is_command (writes_of s bindings))
 set_accepts s bindings [] a e = if_accepts s (assigned s (writes_of s bindings)) bindings _ (find is_command (writes_of s bindings)) a e
 set_accepts s bindings (cause ∷ more) a e = absurd (cc)
 
@@ -176,10 +186,12 @@ record ComesFrom (s : SignState) (bindings : List VarBind) (write : Write) : Typ
   there : Contains bindings binding
   writes : write_at s binding ≡ Some write
 
-comes_later : (s : SignState) (first : VarBind) (bindings : List VarBind) (write : Write) → ComesFrom s bindings write → ComesFrom s (first ∷ bindings) write
+comes_later : (s : SignState) (first : VarBind) (bindings : List VarBind) (write : Write) → ComesFrom s bindings write
+    → ComesFrom s (first ∷ bindings) write
 comes_later s first bindings write c = record { binding = c.binding; there = (suc c.there.0, omega (arith, c.there.1), c.there.2); writes = c.writes }
 
-comes_if : (s : SignState) (first : VarBind) (bindings : List VarBind) (write other : Write) (b : Bool) (o : Option Write) → write_at s first ≡ Some other
+comes_if : (s : SignState) (first : VarBind) (bindings : List VarBind) (write other : Write) (b : Bool) (o : Option Write)
+    → write_at s first ≡ Some other
     → (o ≡ Some write → ComesFrom s bindings write) → cond b (Some other) o ≡ Some write → ComesFrom s (first ∷ bindings) write
 comes_if s first bindings write other true o is later e = record { binding = first; there = (zero, omega arith, refl); writes = is ∙ e }
 comes_if s first bindings write other false o is later e = comes_later s first bindings write (later e)
@@ -188,9 +200,11 @@ comes_by : (s : SignState) (first : VarBind) (bindings : List VarBind) (write : 
     → (find is_command (writes_of s bindings) ≡ Some write → ComesFrom s bindings write)
     → find is_command (cons_option o (writes_of s bindings)) ≡ Some write → ComesFrom s (first ∷ bindings) write
 comes_by s first bindings write None is later e = comes_later s first bindings write (later e)
-comes_by s first bindings write (Some other) is later e = comes_if s first bindings write other (is_command other) (find is_command (writes_of s bindings)) is later e
+comes_by s first bindings write (Some other) is later e =
+    comes_if s first bindings write other (is_command other) (find is_command (writes_of s bindings)) is later e
 
-comes_from : (s : SignState) (bindings : List VarBind) (write : Write) → find is_command (writes_of s bindings) ≡ Some write → ComesFrom s bindings write
+comes_from : (s : SignState) (bindings : List VarBind) (write : Write) → find is_command (writes_of s bindings) ≡ Some write
+    → ComesFrom s bindings write
 comes_from s [] write e = absurd (cc)
 comes_from s (first ∷ bindings) write e = comes_by s first bindings write (write_at s first) refl (comes_from s bindings write) e
 
@@ -201,17 +215,20 @@ asks_for s m a by =
     let set = activates_at s from.binding octets (from.writes ∙ ap Some by.accepting.write_is) in
     record { octets = octets; size = set.1; binding = subst (Contains m.bindings) set.0 from.there; is = by.accepting.is }
 
-found_accepts : (s : SignState) (bindings found : List VarBind) (o : Option ℕ) (a : Activation) → (found_unless s bindings found o).accepted ≡ Some a → ⊥
+found_accepts : (s : SignState) (bindings found : List VarBind) (o : Option ℕ) (a : Activation)
+    → (found_unless s bindings found o).accepted ≡ Some a → ⊥
 found_accepts s bindings found None a e = cc
 found_accepts s bindings found (Some index) a e = cc
 
-answer_accepts : (s : SignState) (m : SnmpMessage) (kind : Kind) (a : Activation) → (answer_by s m kind).accepted ≡ Some a → ((answer_by s m kind).status ≡ 0) × AsksFor s m a
+answer_accepts : (s : SignState) (m : SnmpMessage) (kind : Kind) (a : Activation) → (answer_by s m kind).accepted ≡ Some a
+    → ((answer_by s m kind).status ≡ 0) × AsksFor s m a
 answer_accepts s m Get a e = absurd (found_accepts s m.bindings _ _ a e)
 answer_accepts s m GetNext a e = absurd (found_accepts s m.bindings _ _ a e)
 answer_accepts s m Response a e = absurd (cc)
 answer_accepts s m Set a e = let done = set_accepts s m.bindings (causes s (may_write s m) m.bindings) a e in (done.0, asks_for s m a done.1)
 
-pub accepted_was_asked_for : (s : SignState) (m : SnmpMessage) (a : Activation) → (primary s m).accepted ≡ Some a → ((primary s m).status ≡ 0) × AsksFor s m a
+pub accepted_was_asked_for : (s : SignState) (m : SnmpMessage) (a : Activation) → (primary s m).accepted ≡ Some a
+    → ((primary s m).status ≡ 0) × AsksFor s m a
 unfolding primary
 accepted_was_asked_for s m a e = answer_accepts s m m.kind a e
 
@@ -233,18 +250,21 @@ writes_twelve : (b : Bool) (octets : List ℕ) (write : Write) → option_map Ac
 writes_twelve true octets write e = cc
 writes_twelve false octets write e = absurd (cc)
 
-activate_writes : (face : FaceModel) (octets : List ℕ) (write : Write) → write_of face (The ActivateMessage) (octet_string octets) ≡ Some write → write ≡ Activate octets
+activate_writes : (face : FaceModel) (octets : List ℕ) (write : Write)
+    → write_of face (The ActivateMessage) (octet_string octets) ≡ Some write → write ≡ Activate octets
 unfolding write_of object_write
 activate_writes face octets write e = writes_twelve (nat_le 12 (length octets) && nat_le (length octets) 12) octets write e
 
-what_is_written : (s : SignState) (octets : List ℕ) (o : Option Write) → write_at s (activates octets) ≡ o → is_none o ≡ false → o ≡ Some (Activate octets)
+what_is_written : (s : SignState) (octets : List ℕ) (o : Option Write) → write_at s (activates octets) ≡ o → is_none o ≡ false
+    → o ≡ Some (Activate octets)
 what_is_written s octets None is some = absurd (cc)
 what_is_written s octets (Some write) is some =
     let at = writes_at s (activates octets) write is in
     let object : at.instance ≡ The ActivateMessage = only_activate at.instance at.named in
     ap Some (activate_writes s.config.face octets write (rw object at at.writes))
 
-second_passes : (one two : Bool) (m n index : ℕ) (tests : List (Bool × ℕ)) (more : List SetCause) → filter_map (cause_if index) ((one, m) ∷ (two, n) ∷ tests) ++ more ≡ [] → two ≡ false
+second_passes : (one two : Bool) (m n index : ℕ) (tests : List (Bool × ℕ)) (more : List SetCause)
+    → filter_map (cause_if index) ((one, m) ∷ (two, n) ∷ tests) ++ more ≡ [] → two ≡ false
 second_passes true two m n index tests more e = absurd (cc)
 second_passes false true m n index tests more e = absurd (cc)
 second_passes false false m n index tests more e = refl
@@ -255,28 +275,35 @@ later_tests s binding =
     (is_among binding.name [], general_error) ∷ (is_command_at s binding && list_any (is_command_at s) [], general_error)
     ∷ (unwrap_or (option_map (is_refused_field s.table) (write_at s binding)) false, general_error) ∷ []
 
-writes_without_cause : (s : SignState) (writing : Bool) (binding : VarBind) → causes s writing (binding ∷ []) ≡ [] → is_none (write_at s binding) ≡ false
+writes_without_cause : (s : SignState) (writing : Bool) (binding : VarBind) → causes s writing (binding ∷ []) ≡ []
+    → is_none (write_at s binding) ≡ false
 unfolding causes
-writes_without_cause s writing binding e = second_passes (not writing || is_none (settable_instance s binding.name)) (is_none (write_at s binding)) no_such_name bad_value 1 (later_tests s binding) [] e
+writes_without_cause s writing binding e =
+    second_passes (not writing || is_none (settable_instance s binding.name)) (is_none (write_at s binding)) no_such_name bad_value 1 (later_tests s binding) [] e
 
 decided_succeeds : (old new : SignState) (bindings : List VarBind) (index : ℕ) (octets : List ℕ) (r : Result ShownModel Cause)
-    → (as_decided old new bindings index octets r).status ≡ 0 → (as_decided old new bindings index octets r).accepted ≡ Some (activation_of old.table.order octets)
+    → (as_decided old new bindings index octets r).status ≡ 0
+    → (as_decided old new bindings index octets r).accepted ≡ Some (activation_of old.table.order octets)
 decided_succeeds old new bindings index octets (Ok shown) e = refl
 decided_succeeds old new bindings index octets (Err cause) e = absurd (omega arith)
 
 if_succeeds : (old new : SignState) (bindings : List VarBind) (index : ℕ) (octets : List ℕ) (o : Option Write) → o ≡ Some (Activate octets)
-    → (commanded_if old new bindings index o).status ≡ 0 → (commanded_if old new bindings index o).accepted ≡ Some (activation_of old.table.order octets)
+    → (commanded_if old new bindings index o).status ≡ 0
+    → (commanded_if old new bindings index o).accepted ≡ Some (activation_of old.table.order octets)
 if_succeeds old new bindings index octets o is =
     subst
     (λ x. (commanded_if old new bindings index x).status ≡ 0 → (commanded_if old new bindings index x).accepted ≡ Some (activation_of old.table.order octets))
     (sym is)
     (decided_succeeds old new bindings index octets (decided new.config.face new.defaults new.table new.shown (activation_of old.table.order octets)))
 
-one_succeeds : (s : SignState) (writing : Bool) (octets : List ℕ) (found : List SetCause) → causes s writing (activates octets ∷ []) ≡ found → AllByRecursion (IsCause 1) found
-    → (set_unless s (activates octets ∷ []) found).status ≡ 0 → (set_unless s (activates octets ∷ []) found).accepted ≡ Some (activation_of s.table.order octets)
+one_succeeds : (s : SignState) (writing : Bool) (octets : List ℕ) (found : List SetCause)
+    → causes s writing (activates octets ∷ []) ≡ found → AllByRecursion (IsCause 1) found
+    → (set_unless s (activates octets ∷ []) found).status ≡ 0
+    → (set_unless s (activates octets ∷ []) found).accepted ≡ Some (activation_of s.table.order octets)
 one_succeeds s writing octets (cause ∷ more) are each e = absurd (omega (arith, each.0.fails))
 one_succeeds s writing octets [] are each e =
-    let written : write_at s (activates octets) ≡ Some (Activate octets) = what_is_written s octets (write_at s (activates octets)) refl (writes_without_cause s writing (activates octets) are) in
+    let written : write_at s (activates octets) ≡ Some (Activate octets) =
+    what_is_written s octets (write_at s (activates octets)) refl (writes_without_cause s writing (activates octets) are) in
     if_succeeds s (assigned s (writes_of s (activates octets ∷ []))) (activates octets ∷ []) _ octets (find is_command (writes_of s (activates octets ∷ [])))
     (ap (λ o. find is_command (cons_option o [])) written) e
 

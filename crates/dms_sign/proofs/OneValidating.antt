@@ -28,12 +28,14 @@ use Rattle.dms_sign.specs.Events.{after_settling, counted_down, after_duration, 
 
 -- ---- tables
 
-one_changeable : (table new : TableModel) (o : Option (List RowModel)) → ((rows : List RowModel) → o ≡ Some rows → count rows + count table.volatile ≤ 1)
+one_changeable : (table new : TableModel) (o : Option (List RowModel))
+    → ((rows : List RowModel) → o ≡ Some rows → count rows + count table.volatile ≤ 1)
     → option_map (with_changeable table) o ≡ Some new → IsTable new
 one_changeable table new None each e = absurd (cc)
 one_changeable table new (Some rows) each e = let same : with_changeable table rows ≡ new = cc in subst IsTable same (record { one = each rows refl })
 
-one_volatile : (table new : TableModel) (o : Option (List RowModel)) → ((rows : List RowModel) → o ≡ Some rows → count table.changeable + count rows ≤ 1)
+one_volatile : (table new : TableModel) (o : Option (List RowModel))
+    → ((rows : List RowModel) → o ≡ Some rows → count table.changeable + count rows ≤ 1)
     → option_map (with_volatile table) o ≡ Some new → IsTable new
 one_volatile table new None each e = absurd (cc)
 one_volatile table new (Some rows) each e = let same : with_volatile table rows ≡ new = cc in subst IsTable same (record { one = each rows refl })
@@ -42,13 +44,15 @@ one_volatile table new (Some rows) each e = let same : with_volatile table rows 
 one_changed : (table new : TableModel) (id : RowId) (change : RowModel → Option RowModel) (is_changeable is_volatile : Bool)
     → ((rows : List RowModel) → changed_in table.changeable id.number change ≡ Some rows → count rows + count table.volatile ≤ 1)
     → ((rows : List RowModel) → changed_in table.volatile id.number change ≡ Some rows → count table.changeable + count rows ≤ 1)
-    → cond is_changeable (option_map (with_changeable table) (changed_in table.changeable id.number change)) (cond is_volatile (option_map (with_volatile table) (changed_in table.volatile id.number change)) None) ≡ Some new
+    → cond is_changeable (option_map (with_changeable table) (changed_in table.changeable id.number change))
+    (cond is_volatile (option_map (with_volatile table) (changed_in table.volatile id.number change)) None) ≡ Some new
     → IsTable new
 one_changed table new id change true is_volatile first second e = one_changeable table new (changed_in table.changeable id.number change) first e
 one_changed table new id change false true first second e = one_volatile table new (changed_in table.volatile id.number change) second e
 one_changed table new id change false false first second e = absurd (cc)
 
-one_asked_if : (b : Bool) (table new : TableModel) (id : RowId) (ask : Ask) → IsTable table → b ≡ may_ask table ask → cond b (changed table id (asked_row ask)) None ≡ Some new → IsTable new
+one_asked_if : (b : Bool) (table new : TableModel) (id : RowId) (ask : Ask) → IsTable table → b ≡ may_ask table ask
+    → cond b (changed table id (asked_row ask)) None ≡ Some new → IsTable new
 one_asked_if false table new id ask is may e = absurd (cc)
 one_asked_if true table new id ask is may e =
     one_changed
@@ -78,7 +82,8 @@ one_written table new id field is e =
     (λ rows done. omega (arith, is.one, none_more_written field table.volatile rows id.number (Ok tt) done tt))
     e
 
-one_or_old : (table : TableModel) (o : Option TableModel) → IsTable table → ((new : TableModel) → o ≡ Some new → IsTable new) → IsTable (unwrap_or o table)
+one_or_old : (table : TableModel) (o : Option TableModel) → IsTable table → ((new : TableModel) → o ≡ Some new → IsTable new)
+    → IsTable (unwrap_or o table)
 one_or_old table None is each = is
 one_or_old table (Some new) is each = each new refl
 
@@ -95,7 +100,8 @@ one_with_writes table [] is = is
 one_with_writes table (write ∷ writes) is = one_with_writes (with_write table write) writes (one_with_write table write is)
 
 one_settled : (face : FaceModel) (table : TableModel) → IsTable (settled face table)
-one_settled face table = record { one = omega (arith, none_settled table.services face table.changeable, none_settled table.services face table.volatile) }
+one_settled face table =
+    record { one = omega (arith, none_settled table.services face table.changeable, none_settled table.services face table.volatile) }
 
 one_after_power : (table : TableModel) → IsTable (after_power table)
 one_after_power table = record { one = omega (arith, none_interrupted table.changeable, none_released table.volatile) }
@@ -118,7 +124,9 @@ keeps_code_if s other mode false keeps = keeps
 
 keeps_code : (s : SignState) (octets : List ℕ) (mode : ℕ) → Keeps s (put_up_code s octets mode)
 unfolding put_up_code
-keeps_code s octets mode = keeps_code_if s _ mode _ (keeps_put_up s (id_of s.table.order octets) mode (decided s.config.face s.defaults s.table s.shown (own_activation (id_of s.table.order octets))))
+keeps_code s octets mode =
+    let id = id_of s.table.order octets in
+    keeps_code_if s _ mode _ (keeps_put_up s id mode (decided s.config.face s.defaults s.table s.shown (own_activation id)))
 
 one_kept : (old new : SignState) → Keeps old new → IsTable old.table → IsTable new.table
 one_kept old new keeps is = subst IsTable (sym keeps) is
@@ -132,17 +140,20 @@ one_assigned : (s : SignState) (writes : List Write) → IsTable s.table → IsT
 unfolding assigned
 one_assigned s writes is = one_with_writes s.table writes is
 
-one_decided : (old new : SignState) (bindings : List VarBind) (index : ℕ) (octets : List ℕ) (r : Result ShownModel Cause) → IsTable old.table → IsTable new.table
+one_decided : (old new : SignState) (bindings : List VarBind) (index : ℕ) (octets : List ℕ) (r : Result ShownModel Cause)
+    → IsTable old.table → IsTable new.table
     → IsTable (as_decided old new bindings index octets r).after.table
 one_decided old new bindings index octets (Ok shown) is is_new = is_new
 one_decided old new bindings index octets (Err cause) is is_new = is
 
-one_as_asked : (old new : SignState) (bindings : List VarBind) (index : ℕ) (o : Option TableModel) → IsTable old.table → ((table : TableModel) → o ≡ Some table → IsTable table)
+one_as_asked : (old new : SignState) (bindings : List VarBind) (index : ℕ) (o : Option TableModel) → IsTable old.table
+    → ((table : TableModel) → o ≡ Some table → IsTable table)
     → IsTable (as_asked old new bindings index o).after.table
 one_as_asked old new bindings index None is each = is
 one_as_asked old new bindings index (Some table) is each = each table refl
 
-one_remaining_if : (b : Bool) (s other : SignState) (octets : List ℕ) (mode : ℕ) → Keeps s other → IsTable s.table → IsTable (cond b (put_up_code s octets mode) other).table
+one_remaining_if : (b : Bool) (s other : SignState) (octets : List ℕ) (mode : ℕ) → Keeps s other → IsTable s.table
+    → IsTable (cond b (put_up_code s octets mode) other).table
 one_remaining_if true s other octets mode keeps is = one_code s octets mode is
 one_remaining_if false s other octets mode keeps is = one_kept s other keeps is
 
@@ -151,7 +162,8 @@ one_remaining s minutes is = one_remaining_if (minutes == 0) s _ s.fallbacks.end
 
 one_commanded : (old new : SignState) (bindings : List VarBind) (index : ℕ) (write : Write) → IsTable old.table → IsTable new.table
     → IsTable (commanded old new bindings index write).after.table
-one_commanded old new bindings index (AskRow id ask) is is_new = one_as_asked old new bindings index (asked new.table id ask) is (λ table e. one_asked new.table table id ask is_new e)
+one_commanded old new bindings index (AskRow id ask) is is_new =
+    one_as_asked old new bindings index (asked new.table id ask) is (λ table e. one_asked new.table table id ask is_new e)
 one_commanded old new bindings index (Activate octets) is is_new =
     one_decided old new bindings index octets (decided new.config.face new.defaults new.table new.shown (activation_of old.table.order octets)) is is_new
 one_commanded old new bindings index (SetRemaining minutes) is is_new = one_remaining new minutes is_new
@@ -209,14 +221,16 @@ one_after_duration : (s : SignState) → IsTable s.table → IsTable (after_dura
 unfolding after_duration
 one_after_duration s is = one_counted_down s s.shown.remaining is
 
-one_silence_if : (s : SignState) (counts ends : Bool) (octets : List ℕ) (mode : ℕ) → IsTable s.table → IsTable (cond counts (cond ends (put_up_code (quieter s) octets mode) (quieter s)) s).table
+one_silence_if : (s : SignState) (counts ends : Bool) (octets : List ℕ) (mode : ℕ) → IsTable s.table
+    → IsTable (cond counts (cond ends (put_up_code (quieter s) octets mode) (quieter s)) s).table
 one_silence_if s true true octets mode is = one_code (quieter s) octets mode is
 one_silence_if s true false octets mode is = is
 one_silence_if s false ends octets mode is = is
 
 one_after_silence : (s : SignState) → IsTable s.table → IsTable (after_silence s).table
 unfolding after_silence
-one_after_silence s is = one_silence_if s (nat_lt s.silent (longest_silence s)) (s.silent + 1 == longest_silence s) s.fallbacks.communications_loss _ is
+one_after_silence s is =
+    one_silence_if s (nat_lt s.silent (longest_silence s)) (s.silent + 1 == longest_silence s) s.fallbacks.communications_loss _ is
 
 one_if : (b : Bool) (x y : SignState) → IsTable x.table → IsTable y.table → IsTable (cond b x y).table
 one_if true x y is_x is_y = is_x

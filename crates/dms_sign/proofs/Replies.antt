@@ -26,7 +26,8 @@ use Rattle.dms_sign.specs.Promises.{IsResponseTo, IsReplyTo}
 
 -- ---- a reply names its request
 
-response_either : (m : SnmpMessage) (a : Answer) (b : Bool) → IsResponseTo m (cond b (canonical (response_of m a)) (canonical (response_to m too_big 0)))
+response_either : (m : SnmpMessage) (a : Answer) (b : Bool)
+    → IsResponseTo m (cond b (canonical (response_of m a)) (canonical (response_to m too_big 0)))
 response_either m a true = record { response = response_of m a; kind = refl; community = refl; number = refl; written = refl }
 response_either m a false = record { response = response_to m too_big 0; kind = refl; community = refl; number = refl; written = refl }
 
@@ -44,7 +45,8 @@ heard_reply s datagram reply m true spelled is e =
     let same : reply_to m (primary s m) ≡ reply = cc in
     record { request = m; spelled = spelled; asks = asks_by s.powered _ _ is; responds = subst (IsResponseTo m) same (responds m (primary s m)) }
 
-message_reply : (s : SignState) (datagram reply : List ℕ) (o : Option SnmpMessage) → message_of datagram ≡ o → (on_message_if s o).reply ≡ Some reply → IsReplyTo datagram reply
+message_reply : (s : SignState) (datagram reply : List ℕ) (o : Option SnmpMessage) → message_of datagram ≡ o
+    → (on_message_if s o).reply ≡ Some reply → IsReplyTo datagram reply
 message_reply s datagram reply None spelled e = absurd (cc)
 message_reply s datagram reply (Some m) spelled e = heard_reply s datagram reply m (is_heard s m) spelled refl e
 
@@ -66,7 +68,8 @@ pub record IsCause (most : ℕ) (cause : SetCause) : Type 0 where
   pub status : cause.status ≤ 5
   pub index : cause.index ≤ most
 
-refused_is : (s : SignState) (bindings : List VarBind) (status index : ℕ) → 0 < status → status ≤ 5 → index ≤ length bindings → IsSetAnswer bindings (refused s bindings status index)
+refused_is : (s : SignState) (bindings : List VarBind) (status index : ℕ) → 0 < status → status ≤ 5 → index ≤ length bindings
+    → IsSetAnswer bindings (refused s bindings status index)
 refused_is s bindings status index fails small within = record { echo = refl; status = small; index = within; success = λ none. absurd (omega arith) }
 
 granted_is : (s : SignState) (bindings : List VarBind) → IsSetAnswer bindings (granted s bindings)
@@ -75,13 +78,16 @@ granted_is s bindings = record { echo = refl; status = omega arith; index = omeg
 decided_is : (old new : SignState) (bindings : List VarBind) (index : ℕ) (octets : List ℕ) (r : Result ShownModel Cause) → index ≤ length bindings
     → IsSetAnswer bindings (as_decided old new bindings index octets r)
 decided_is old new bindings index octets (Ok shown) within = record { echo = refl; status = omega arith; index = omega arith; success = λ none. refl }
-decided_is old new bindings index octets (Err cause) within = record { echo = refl; status = omega arith; index = within; success = λ none. absurd (omega arith) }
+decided_is old new bindings index octets (Err cause) within =
+    record { echo = refl; status = omega arith; index = within; success = λ none. absurd (omega arith) }
 
-asked_is : (old new : SignState) (bindings : List VarBind) (index : ℕ) (o : Option TableModel) → index ≤ length bindings → IsSetAnswer bindings (as_asked old new bindings index o)
+asked_is : (old new : SignState) (bindings : List VarBind) (index : ℕ) (o : Option TableModel) → index ≤ length bindings
+    → IsSetAnswer bindings (as_asked old new bindings index o)
 asked_is old new bindings index None within = refused_is old bindings general_error index (omega arith) (omega arith) within
 asked_is old new bindings index (Some table) within = granted_is (record new { table = table }) bindings
 
-commanded_is : (old new : SignState) (bindings : List VarBind) (index : ℕ) (write : Write) → index ≤ length bindings → IsSetAnswer bindings (commanded old new bindings index write)
+commanded_is : (old new : SignState) (bindings : List VarBind) (index : ℕ) (write : Write) → index ≤ length bindings
+    → IsSetAnswer bindings (commanded old new bindings index write)
 commanded_is old new bindings index (AskRow id ask) within = asked_is old new bindings index (asked new.table id ask) within
 commanded_is old new bindings index (Activate octets) within =
     decided_is old new bindings index octets (decided new.config.face new.defaults new.table new.shown (activation_of old.table.order octets)) within
@@ -90,7 +96,8 @@ commanded_is old new bindings index (SetNumber object number) within = granted_i
 commanded_is old new bindings index (SetCode object octets) within = granted_is new bindings
 commanded_is old new bindings index (SetField id field) within = granted_is new bindings
 
-commanded_if_is : (old new : SignState) (bindings : List VarBind) (index : ℕ) (o : Option Write) → index ≤ length bindings → IsSetAnswer bindings (commanded_if old new bindings index o)
+commanded_if_is : (old new : SignState) (bindings : List VarBind) (index : ℕ) (o : Option Write) → index ≤ length bindings
+    → IsSetAnswer bindings (commanded_if old new bindings index o)
 commanded_if_is old new bindings index None within = granted_is new bindings
 commanded_if_is old new bindings index (Some write) within = commanded_is old new bindings index write within
 
@@ -113,11 +120,13 @@ abbrev IsTest : Bool × ℕ → Type 0
 IsTest test = (0 < test.1) × (test.1 ≤ 5)
 
 held_if : (most index : ℕ) (b : Bool) (status : ℕ) (tests : List (Bool × ℕ)) → index ≤ most → 0 < status → status ≤ 5
-    → AllByRecursion (IsCause most) (filter_map (cause_if index) tests) → AllByRecursion (IsCause most) (filter_map (cause_if index) ((b, status) ∷ tests))
+    → AllByRecursion (IsCause most) (filter_map (cause_if index) tests)
+    → AllByRecursion (IsCause most) (filter_map (cause_if index) ((b, status) ∷ tests))
 held_if most index true status tests within fails small rest = (record { fails = fails; status = small; index = within }, rest)
 held_if most index false status tests within fails small rest = rest
 
-held : (most index : ℕ) (tests : List (Bool × ℕ)) → index ≤ most → AllByRecursion IsTest tests → AllByRecursion (IsCause most) (filter_map (cause_if index) tests)
+held : (most index : ℕ) (tests : List (Bool × ℕ)) → index ≤ most → AllByRecursion IsTest tests
+    → AllByRecursion (IsCause most) (filter_map (cause_if index) tests)
 held most index [] within each = tt
 held most index (test ∷ tests) within each = held_if most index test.0 test.1 tests within each.0.0 each.0.1 (held most index tests within each.1)
 
@@ -144,14 +153,19 @@ are_causes s writing bindings = are_causes_behind s writing [] bindings (length 
 
 -- ---- the answer to a SET
 
-set_unless_is : (s : SignState) (bindings : List VarBind) (found : List SetCause) → AllByRecursion (IsCause (length bindings)) found → IsSetAnswer bindings (set_unless s bindings found)
+set_unless_is : (s : SignState) (bindings : List VarBind) (found : List SetCause) → AllByRecursion (IsCause (length bindings)) found
+    → IsSetAnswer bindings (set_unless s bindings found)
 set_unless_is s bindings [] each =
     let place : command_index s bindings ≤ 0 + length bindings = position_within (is_command_at s) 0 bindings in
     commanded_if_is s (assigned s (writes_of s bindings)) bindings (command_index s bindings) (find is_command (writes_of s bindings)) (omega arith)
 set_unless_is s bindings (cause ∷ more) each = refused_is s bindings cause.status cause.index each.0.fails each.0.status each.0.index
 
 answer_by_is : (s : SignState) (m : SnmpMessage) (kind : Kind) → kind ≡ Set → IsSetAnswer m.bindings (answer_by s m kind)
-answer_by_is s m kind is = subst (λ k. IsSetAnswer m.bindings (answer_by s m k)) (sym is) (set_unless_is s m.bindings (causes s (may_write s m) m.bindings) (are_causes s (may_write s m) m.bindings))
+answer_by_is s m kind is =
+    subst
+    (λ k. IsSetAnswer m.bindings (answer_by s m k))
+    (sym is)
+    (set_unless_is s m.bindings (causes s (may_write s m) m.bindings) (are_causes s (may_write s m) m.bindings))
 
 pub is_set_answer : (s : SignState) (m : SnmpMessage) → m.kind ≡ Set → IsSetAnswer m.bindings (primary s m)
 unfolding primary
@@ -161,7 +175,8 @@ is_set_answer s m is = answer_by_is s m m.kind is
 
 reply_if : (m : SnmpMessage) (a : Answer) → length (canonical (response_of m a)) ≤ 1472 → reply_to m a ≡ canonical (response_of m a)
 unfolding reply_to
-reply_if m a fits = ap (λ b. cond b (canonical (response_of m a)) (canonical (response_to m too_big 0))) (le-leb (length (canonical (response_of m a))) 1472 fits)
+reply_if m a fits =
+    ap (λ b. cond b (canonical (response_of m a)) (canonical (response_to m too_big 0))) (le-leb (length (canonical (response_of m a))) 1472 fits)
 
 echoes : (m : SnmpMessage) (a : Answer) → a.bindings ≡ m.bindings → response_of m a ≡ response_to m a.status a.index
 echoes m a same = ap (λ bindings. record (response_to m a.status a.index) { bindings = bindings }) same
@@ -169,7 +184,8 @@ echoes m a same = ap (λ bindings. record (response_to m a.status a.index) { bin
 not_replaced : (m : SnmpMessage) (datagram : List ℕ) (a : Answer) → Spells m datagram → IsSetAnswer m.bindings a → a.index < 128
     → reply_to m a ≡ canonical (response_to m a.status a.index)
 not_replaced m datagram a spells is small =
-    let shorter : length (canonical (response_to m a.status a.index)) ≤ length datagram = response_no_longer m datagram a.status a.index spells (omega (arith, is.status)) small in
+    let shorter : length (canonical (response_to m a.status a.index)) ≤ length datagram =
+    response_no_longer m datagram a.status a.index spells (omega (arith, is.status)) small in
     let same : canonical (response_of m a) ≡ canonical (response_to m a.status a.index) = ap canonical (echoes m a is.echo) in
     reply_if m a (omega (arith, spells.size, ap length same)) ∙ same
 
