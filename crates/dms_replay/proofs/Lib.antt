@@ -1,5 +1,7 @@
 mod BenchWorld
 mod BenchText
+mod ScriptText
 mod Silence
 mod Altered
+mod TableRows
 mod Worked
