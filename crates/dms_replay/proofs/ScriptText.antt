@@ -52,9 +52,10 @@ spells_publish = record {
   priority = spells_octet 255 (codes "255") refl (omega arith);
   address = record {
     four = refl;
-    parts =
-        (part 192 (codes "192") refl (omega arith),
-        (part 0 (codes "0") refl (omega arith), (part 2 (codes "2") refl (omega arith), (part 1 (codes "1") refl (omega arith), refl))));
+    parts = (
+      part 192 (codes "192") refl (omega arith),
+      (part 0 (codes "0") refl (omega arith), (part 2 (codes "2") refl (omega arith), (part 1 (codes "1") refl (omega arith), refl))),
+    );
   };
 }
 

@@ -152,7 +152,7 @@ opened_and_filled = refl
 
 -- a row is filled and asked to be validated at once
 filled_and_asked : statuses (after bench (sets (set_cell Status 3 1 (integer (pos 6)))
-        ∷ request Set (set_cell MultiString 3 1 (octet_string (codes "B")) ∷ set_cell Status 3 1 (integer (pos 7)) ∷ []) ∷ sign_tick ∷ [])) ≡ 4 ∷ 1 ∷ []
+    ∷ request Set (set_cell MultiString 3 1 (octet_string (codes "B")) ∷ set_cell Status 3 1 (integer (pos 7)) ∷ []) ∷ sign_tick ∷ [])) ≡ 4 ∷ 1 ∷ []
 unfolding after request hex
 filled_and_asked = refl
 
