@@ -4,4 +4,5 @@ mod ScriptText
 mod Silence
 mod Altered
 mod TableRows
+mod WorkedHeadline
 mod Worked

@@ -1,13 +1,13 @@
 -- A script as text spells its events on the bench sign.
-use Rattle.std.proofs.Common.{◌≡◌, ℕ, ◌≤◌, ◌<◌, ◌^◌, List, [], ◌∷◌, ◌++◌, length, Option, Some, refl, arith}
+use Rattle.std.proofs.Common.{◌≡◌, ℕ, ◌≤◌, ◌<◌, ◌^◌, List, [], ◌∷◌, ◌++◌, length, Some, refl, arith}
 use Rattle.std.specs.Prelude.{codes}
 use Rattle.hex.specs.Hex.{decode_pairs}
 use Rattle.dms_face.specs.Words.{number_of}
 use Rattle.dms_face.proofs.WordLaws.{number_found}
 use Rattle.dms_table.specs.declared.codes.Order.TheVariants.{High}
 use Rattle.dms_replay.specs.Event.{EventModel, sign_tick, centre_tick, to_sign, to_centre}
-use Rattle.dms_replay.specs.Fields.{SpellsOctet, SpellsTwoOctets, SpellsFourOctets, SpellsAddressPart}
-use Rattle.dms_replay.specs.EventLine.{SpellsOne, SpellsEvent}
+use Rattle.dms_replay.specs.Fields.{SpellsFourOctets, SpellsAddressPart}
+use Rattle.dms_replay.specs.EventLine.{SpellsEvent}
 use Rattle.dms_replay.specs.Script.{SpellsScript, the_bench}
 use Rattle.dms_replay.proofs.BenchWorld.{bench_sign, publish}
 use Rattle.dms_replay.proofs.BenchText.{spells_octet, spells_decimal, spells_the_bench_sign}

@@ -1,13 +1,12 @@
 -- Rows, codes, durations and losses of power on the bench sign, computed.
-use Rattle.std.proofs.Common.{◌≡◌, ℕ, List, [], ◌∷◌, ◌++◌, Some, refl, map, length}
+use Rattle.std.proofs.Common.{◌≡◌, ℕ, List, [], ◌∷◌, ◌++◌, refl, length}
 use Rattle.std.specs.Prelude.{pos, codes, replicate}
-use Rattle.dms_wire.specs.declared.message.Kind.TheVariants.{Get, GetNext, Response, Set}
+use Rattle.dms_wire.specs.declared.message.Kind.TheVariants.{Get, Response, Set}
 use Rattle.dms_wire.specs.Message.{integer, octet_string, null, VarBind}
 use Rattle.dms_wire.specs.Canonical.{canonical}
-use Rattle.dms_table.specs.declared.names.Column.TheVariants.{MultiString, RunTimePriority, Crc, Status}
-use Rattle.dms_table.specs.Names.{object_name, cell_name}
+use Rattle.dms_table.specs.declared.names.Column.TheVariants.{MultiString, Status}
+use Rattle.dms_table.specs.Names.{cell_name}
 use Rattle.dms_replay.specs.Event.{EventModel, sign_tick, power_lost, power_back}
-use Rattle.dms_replay.specs.World.{WorldModel}
 use Rattle.dms_replay.proofs.BenchWorld.{bench, after, hex, seconds, request, set_number, set_code, set_cell, sets, Seen, seen, told, errors, statuses, fills, puts_up}
 
 -- "A" is valid in the first changeable row, with the run-time priority 200
