@@ -16,12 +16,12 @@ use Rattle.dms_replay.proofs.BenchWorld.{tall_font, small_font, bench_sign, afte
 
 -- ---- words
 
-spells_decimal : (low high number : ℕ) (word : List ℕ) → number_of 10 5 word ≡ Some number → low ≤ number → number ≤ high
+pub spells_decimal : (low high number : ℕ) (word : List ℕ) → number_of 10 5 word ≡ Some number → low ≤ number → number ≤ high
     → SpellsDecimal low high number word
 spells_decimal low high number word found least greatest =
     record { spelled = number_found 10 5 number word found; least = least; greatest = greatest }
 
-spells_octet : (number : ℕ) (word : List ℕ) → number_of 10 5 word ≡ Some number → number ≤ 255 → SpellsOctet number word
+pub spells_octet : (number : ℕ) (word : List ℕ) → number_of 10 5 word ≡ Some number → number ≤ 255 → SpellsOctet number word
 spells_octet number word found greatest = spells_decimal 0 255 number word found (omega arith) greatest
 
 -- ---- fonts
