@@ -5,3 +5,4 @@ pub mod InRangeReplies
 pub mod InRangeFaults
 pub mod InRangeShown
 pub mod InRangeEvents
+pub mod InRangeSets
