@@ -1,6 +1,6 @@
 -- A datagram keeps a sign in range: what it assigns, and what its command does.
-use Rattle.std.proofs.Common.{◌≡◌, ℕ, ℤ, zero, suc, pos, negsuc, ◌+◌, ◌-◌, ◌*◌, ◌<◌, ◌≤◌, ◌==◌, ◌&&◌, ◌||◌, Bool, true, false, not, cond, List, [], ◌∷◌, ◌++◌, length, set, find, Option, Some, None, Result, Ok, Err, slice_get, slice_set, refl, ap, sym, subst, ◌∙◌, arith, eqb, leb, leb-true}
-use Rattle.std.specs.Prelude.{option_map, option_and_then, unwrap_or, nat_le, filter_map, ⊤}
+use Rattle.std.proofs.Common.{◌≡◌, ℕ, zero, suc, pos, negsuc, ◌-◌, ◌≤◌, ◌==◌, ◌&&◌, Bool, true, false, cond, List, [], ◌∷◌, length, set, find, Option, Some, None, Result, Ok, Err, slice_get, slice_set, refl, sym, subst, arith, eqb, leb, leb-true}
+use Rattle.std.specs.Prelude.{option_map, option_and_then, unwrap_or, ⊤}
 use Rattle.std.specs.Option.{IfSome}
 use Rattle.std.specs.List.{AllByRecursion, position_from}
 use Rattle.std.specs.Int.Digits.{AllBelowBase}
@@ -23,7 +23,7 @@ use Rattle.dms_table.specs.declared.status.Status.{Status}
 use Rattle.dms_table.specs.declared.status.Status.TheVariants as statuses
 use Rattle.dms_table.specs.Status.{next_status, is_modifying}
 use Rattle.dms_table.specs.Codes.{activation_of}
-use Rattle.dms_table.specs.Rows.{RowModel, TableModel, FieldModel, Text, Owner, Beacon, Pixel, Priority, numbered, rows_of, changed_in, with_changeable, with_volatile, changed, with_status, asked_row, may_ask, asked, is_in_range, with_field, written_row, written, changeable_memory, volatile_memory, longest_text, longest_owner}
+use Rattle.dms_table.specs.Rows.{RowModel, TableModel, FieldModel, Text, Owner, Beacon, Pixel, Priority, numbered, changed_in, with_changeable, with_volatile, changed, with_status, asked_row, may_ask, asked, is_in_range, with_field, written_row, written, changeable_memory, volatile_memory, longest_text, longest_owner}
 use Rattle.dms_table.specs.Deciding.{ShownModel, seconds_of, decided}
 use Rattle.dms_sign.specs.declared.object.Scalar.{Scalar}
 use Rattle.dms_sign.specs.declared.object.Scalar.TheVariants.{SignHeightPixels, SignWidthPixels, DefaultBackgroundColor, DefaultForegroundColor, DefaultFlashOn, DefaultFlashOff, DefaultFont, DefaultJustificationLine, DefaultJustificationPage, DefaultPageOnTime, DefaultPageOffTime, ColorScheme, NumPermanentMsg, NumChangeableMsg, MaxChangeableMsg, FreeChangeableMemory, NumVolatileMsg, MaxVolatileMsg, FreeVolatileMemory, ValidateMessageError, ActivateMessage, MessageTimeRemaining, MsgTableSource, MsgRequesterId, MsgSourceMode, ShortPowerRecoveryMessage, LongPowerRecoveryMessage, ShortPowerLossTime, CommunicationsLossMessage, TimeCommLoss, PowerLossMessage, EndDurationMessage, ActivateMsgError, MultiSyntaxError, MultiSyntaxErrorPosition, ActivateErrorMsgCode}
@@ -31,14 +31,13 @@ use Rattle.dms_sign.specs.declared.object.Instance.{Instance}
 use Rattle.dms_sign.specs.declared.object.Instance.TheVariants.{The, Cell}
 use Rattle.dms_sign.specs.Objects.{scalar_number}
 use Rattle.dms_sign.specs.State.{ReportsModel, SignState, end_duration_mode}
-use Rattle.dms_sign.specs.PuttingUp.{showing, put_up_code, with_refused_code}
+use Rattle.dms_sign.specs.PuttingUp.{showing, put_up_code}
 use Rattle.dms_sign.specs.Writing.{Write, SetNumber, SetCode, SetField, AskRow, Activate, SetRemaining, is_command, number_in, octets_in, font_in, ask_of, object_write, cell_write, write_of}
 use Rattle.dms_sign.specs.Setting.{SetCause, settable_instance, write_at, causes, given, is_same, number_for, code_for, with_write, with_writes, assigned}
-use Rattle.dms_sign.specs.Answering.{Answer, refused, granted, found_unless, has_no_value, with_value, get, is_last, next_after, get_next, activated, as_decided, as_asked, with_remaining, commanded, commanded_if, writes_of, command_index, set_unless, may_write, answer_by, primary}
-use Rattle.dms_sign.specs.Reply.{is_heard, dropped, awake, heard, on_message, on_message_if, received}
-use Rattle.dms_sign.specs.InRange.{AreOctets, AreOctetsUpTo, AreDefaultsInRange, IsRowInRange, IsTableInRange, AreReportsInRange, IsSignInRange}
+use Rattle.dms_sign.specs.Answering.{found_unless, has_no_value, is_last, as_decided, as_asked, with_remaining, commanded, commanded_if, writes_of, command_index, set_unless, may_write, answer_by, primary}
+use Rattle.dms_sign.specs.Reply.{is_heard, dropped, heard, on_message, on_message_if, received}
+use Rattle.dms_sign.specs.InRange.{AreOctets, AreOctetsUpTo, IsRowInRange, IsTableInRange, AreReportsInRange, IsSignInRange, IsBindingInLimits}
 use Rattle.dms_sign.proofs.InRangeLists.{if_either, if_mapped, if_then, if_or, if_found, if_at, all_filtered}
-use Rattle.dms_sign.proofs.InRangeValues.{IsBindingInLimits}
 use Rattle.dms_sign.proofs.InRangeShown.{IsDecisionInRange, showing_in_range, telling_in_range, with_table_in_range, activation_is, decided_in_range, seconds_in_range, refused_code_in_range, with_time, code_in_range}
 use Rattle.dms_sign.proofs.InRangeEvents.{with_status_in_range, unused_in_range, with_silence}
 

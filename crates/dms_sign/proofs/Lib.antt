@@ -6,3 +6,4 @@ pub mod InRangeFaults
 pub mod InRangeShown
 pub mod InRangeEvents
 pub mod InRangeSets
+pub mod InRangeStart
