@@ -1,8 +1,7 @@
 -- A second, a loss of power and its return keep a sign in range.
-use Rattle.std.proofs.Common.{◌≡◌, ℕ, ◌+◌, ◌-◌, ◌*◌, ◌<◌, ◌≤◌, ◌==◌, ◌&&◌, Bool, true, false, cond, List, [], ◌∷◌, ◌++◌, length, map, find, Option, Some, None, refl, arith, ltb, ltb-true, leb}
+use Rattle.std.proofs.Common.{◌≡◌, ℕ, ◌+◌, ◌-◌, ◌*◌, ◌<◌, ◌≤◌, ◌==◌, ◌&&◌, Bool, true, false, cond, Option, Some, None, refl, arith, ltb, ltb-true}
 use Rattle.std.specs.Prelude.{option_map, nat_lt, nat_le}
 use Rattle.std.specs.Option.{IfSome}
-use Rattle.std.specs.List.{AllByRecursion}
 use Rattle.std.proofs.lemmas.List.{length-map}
 use Rattle.dms_face.specs.declared.multi_fault.MultiFault.{MultiFault}
 use Rattle.dms_face.specs.Face.{FaceModel}
@@ -12,12 +11,12 @@ use Rattle.dms_table.specs.declared.row.Services.{Services}
 use Rattle.dms_table.specs.declared.status.Status.{Status}
 use Rattle.dms_table.specs.declared.verdict.Verdict.{Verdict}
 use Rattle.dms_table.specs.Rows.{RowModel, TableModel, longest_text, row_is_validating, interrupted, released, unused, after_power}
-use Rattle.dms_table.specs.Settling.{text_verdict, verdict_on, verdict_of, settled_row, settled, settling_row, verdict}
+use Rattle.dms_table.specs.Settling.{text_verdict, verdict_of, settled_row, settled, settling_row, verdict}
 use Rattle.dms_sign.specs.State.{ReportsModel, SignState, power_recovery_mode, communications_loss_mode, power_loss_mode, end_duration_mode}
 use Rattle.dms_sign.specs.PuttingUp.{showing, put_up_code}
 use Rattle.dms_sign.specs.Events.{text_reports, settled_reports, after_settling, counted_down, after_duration, longest_silence, quieter, after_silence, after_tick, after_power_loss, recovery_code, restored, after_power_return}
-use Rattle.dms_sign.specs.InRange.{AreOctets, most_minutes, IsRowInRange, IsTableInRange, IsTimeInRange, AreReportsInRange, AreFallbacksInRange, IsSignInRange}
-use Rattle.dms_sign.proofs.InRangeLists.{if_either, if_mapped, all_mapped, all_any}
+use Rattle.dms_sign.specs.InRange.{AreOctets, most_minutes, IsRowInRange, IsTableInRange, IsTimeInRange, AreReportsInRange, IsSignInRange}
+use Rattle.dms_sign.proofs.InRangeLists.{all_mapped}
 use Rattle.dms_sign.proofs.InRangeFaults.{fault_placed}
 use Rattle.dms_sign.proofs.InRangeShown.{showing_in_range, telling_in_range, with_table_in_range, fault_in_range, with_time, code_in_range}
 

@@ -1,5 +1,5 @@
 -- The place of a fault lies in the text or at its end.
-use Rattle.std.proofs.Common.{◌≡◌, ℕ, zero, suc, ◌-◌, ◌<◌, ◌≤◌, Bool, true, false, cond, List, [], ◌∷◌, ◌++◌, length, Option, Some, None, Result, Ok, Err, refl, arith, ltb, ltb-false}
+use Rattle.std.proofs.Common.{◌≡◌, ℕ, zero, suc, ◌≤◌, Bool, true, false, cond, List, [], ◌∷◌, ◌++◌, length, Option, Some, None, Result, Ok, Err, refl, arith, ltb, ltb-false}
 use Rattle.std.specs.Option.{IfSome, option_or, option_map}
 use Rattle.std.specs.List.{AllByRecursion}
 use Rattle.dms_multi.specs.declared.fault.FaultCode.{FaultCode}

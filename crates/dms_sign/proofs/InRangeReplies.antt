@@ -26,9 +26,9 @@ use Rattle.dms_sign.specs.Writing.{Write, SetNumber, SetCode, SetField, AskRow, 
 use Rattle.dms_sign.specs.Setting.{SetCause, too_big, is_command_at, tests_at, cause_if, causes_at, causes_behind, causes, assigned}
 use Rattle.dms_sign.specs.Answering.{Answer, refused, granted, found_unless, has_no_value, with_value, get, is_last, next_after, get_next, as_decided, as_asked, with_remaining, commanded, commanded_if, writes_of, command_index, set_unless, may_write, answer_by, primary}
 use Rattle.dms_sign.specs.Reply.{response_of, most_octets, reply_to, is_heard, dropped, heard, on_message_if, received}
-use Rattle.dms_sign.specs.InRange.{IsSignInRange, response_sent, IsSpelledReply}
+use Rattle.dms_sign.specs.InRange.{IsSignInRange, IsBindingInLimits, response_sent, IsSpelledReply}
 use Rattle.dms_sign.proofs.InRangeLists.{if_or, if_position, all_append, all_filtered}
-use Rattle.dms_sign.proofs.InRangeValues.{IsBindingInLimits, value_of_within, value_after_within}
+use Rattle.dms_sign.proofs.InRangeValues.{value_of_within, value_after_within}
 
 -- an answer to these bindings that can be said in a message
 pub record IsAnswerInLimits (bindings : List VarBind) (a : Answer) : Type 0 where
@@ -165,6 +165,16 @@ response_within m a is few within =
       bindings = within.within;
     }
 
+pub spelled_response_within : (s : SignState) (m : SnmpMessage) (octets : List ℕ) → IsSignInRange s → Spells m octets → IsMessageInLimits (response_of m (primary s m))
+spelled_response_within s m octets is spells =
+    let within = spelled_in_limits m octets spells in
+    let few : 7 * length m.bindings ≤ length octets = few_bindings m octets spells in
+    let size : length octets ≤ 1472 = spells.size in
+    response_within m (primary s m) within (omega arith) (primary_within s m is within.bindings)
+
+pub too_big_within : (m : SnmpMessage) → IsMessageInLimits m → IsMessageInLimits (response_to m too_big 0)
+too_big_within m is = record { community = is.community; request = is.request; status = refl; index = refl; bindings = is.bindings }
+
 -- ---- replies
 
 -- the reply to a message that octets spell spells the Response that is sent
@@ -177,11 +187,9 @@ sent_if m a octets true spells within e =
     canonical_spells (response_of m a) (response_within m a (spelled_in_limits m octets spells) (omega arith) within)
     (leb-true (length (canonical (response_of m a))) most_octets e)
 sent_if m a octets false spells within e =
-    let is = spelled_in_limits m octets spells in
     let short : length (canonical (response_to m too_big 0)) ≤ length octets = response_no_longer m octets too_big 0 spells (omega arith) (omega arith) in
     let size : length octets ≤ 1472 = spells.size in
-    canonical_spells (response_to m too_big 0)
-    (record { community = is.community; request = is.request; status = refl; index = refl; bindings = is.bindings }) (omega arith)
+    canonical_spells (response_to m too_big 0) (too_big_within m (spelled_in_limits m octets spells)) (omega arith)
 
 reply_spells : (m : SnmpMessage) (a : Answer) (octets : List ℕ) → Spells m octets → IsAnswerInLimits m.bindings a → Spells (response_sent m a) (reply_to m a)
 unfolding reply_to

@@ -1,11 +1,10 @@
 -- What a code puts up is in range, and so is what is told of a code that is refused.
-use Rattle.std.proofs.Common.{◌≡◌, ℕ, zero, suc, ◌+◌, ◌*◌, ◌^◌, ◌<◌, ◌≤◌, ◌==◌, ◌||◌, Bool, true, false, not, cond, List, [], ◌∷◌, ◌++◌, length, get_or, Option, Some, None, Result, Ok, Err, refl, ap, arith, nat_eq, eqb}
+use Rattle.std.proofs.Common.{◌≡◌, ℕ, zero, suc, ◌+◌, ◌*◌, ◌^◌, ◌<◌, ◌≤◌, ◌==◌, Bool, true, false, not, cond, List, [], ◌∷◌, length, get_or, Option, Some, None, Result, Ok, Err, refl, arith}
 use Rattle.std.specs.Prelude.{option_map, nat_lt, ⊤}
 use Rattle.std.specs.Option.{IfSome}
 use Rattle.std.specs.Int.Digits.{AllBelowBase}
 use Rattle.dms_face.specs.declared.defaults.Defaults.{Defaults}
 use Rattle.dms_face.specs.declared.multi_fault.MultiFault.{MultiFault}
-use Rattle.dms_face.specs.FaultCode.{number_of_code}
 use Rattle.dms_face.specs.Face.{FaceModel}
 use Rattle.dms_face.specs.Layout.{under}
 use Rattle.dms_face.specs.Fit.{fault_of}
@@ -16,12 +15,12 @@ use Rattle.dms_table.specs.declared.codes.Activation.{Activation}
 use Rattle.dms_table.specs.declared.cause.Cause.{Cause}
 use Rattle.dms_table.specs.declared.cause.Cause.TheVariants as causes
 use Rattle.dms_table.specs.Status.{is_valid}
-use Rattle.dms_table.specs.Rows.{RowModel, TableModel, RowReading, current_buffer, blank_memory, longest_text}
-use Rattle.dms_table.specs.Codes.{number_at, in_order, id_of, activation_of, octets_of_id, octets_of_activation, IsMessageId}
-use Rattle.dms_table.specs.Deciding.{ShownModel, shown_row, is_memory, named, row_id, has_checksum, text_error, activation_error, cause_number, seconds_of, put_up, unless_refused, decided_on, decided}
-use Rattle.dms_sign.specs.State.{ReportsModel, SignState, no_address, blank_id, blank_shown}
+use Rattle.dms_table.specs.Rows.{TableModel, RowReading, current_buffer, longest_text}
+use Rattle.dms_table.specs.Codes.{number_at, id_of, activation_of, octets_of_id, octets_of_activation, IsMessageId}
+use Rattle.dms_table.specs.Deciding.{ShownModel, is_memory, named, row_id, has_checksum, text_error, activation_error, cause_number, seconds_of, put_up, unless_refused, decided_on, decided}
+use Rattle.dms_sign.specs.State.{ReportsModel, SignState, no_address, blank_shown}
 use Rattle.dms_sign.specs.PuttingUp.{showing, with_fault, with_cause, refused_reports, with_refused_code, own_activation, put_up_as_decided, staying, put_up_code}
-use Rattle.dms_sign.specs.InRange.{AreOctets, AreDefaultsInRange, IsRowInRange, IsTableInRange, IsTimeInRange, IsShownInRange, AreReportsInRange, IsSignInRange}
+use Rattle.dms_sign.specs.InRange.{AreOctets, AreDefaultsInRange, IsTableInRange, IsTimeInRange, IsShownInRange, AreReportsInRange, IsSignInRange}
 use Rattle.dms_sign.proofs.InRangeLists.{if_either, if_mapped, all_append}
 use Rattle.dms_sign.proofs.InRangeValues.{IsReadingInRange, in_order_small, id_below, message_in_range}
 use Rattle.dms_sign.proofs.InRangeFaults.{code_small, fault_placed}

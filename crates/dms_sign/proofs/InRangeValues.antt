@@ -7,7 +7,6 @@ use Rattle.std.specs.Int.Digits.{AllBelowBase}
 use Rattle.std.proofs.Math.Nat.{pow-suc}
 use Rattle.std.proofs.lemmas.Bool.{and_parts}
 use Rattle.std.proofs.lemmas.List.Sums.{count_by-le-length}
-use Rattle.dms_wire.specs.Message.{VarBind}
 use Rattle.dms_wire.specs.Limits.{IsNameInLimits, IsValueInLimits}
 use Rattle.dms_table.specs.declared.codes.Order.{Order}
 use Rattle.dms_table.specs.declared.codes.Order.TheVariants.{High, Swapped}
@@ -31,7 +30,7 @@ use Rattle.dms_sign.specs.declared.object.Instance.TheVariants.{The, Cell}
 use Rattle.dms_sign.specs.Objects.{scalar_number, name_of, before_table, after_table, columns, numbers_to, memories, rows_in, row_ids, cells, instances, instance_named, next_instance}
 use Rattle.dms_sign.specs.State.{SignState}
 use Rattle.dms_sign.specs.Values.{number_value, minutes_left, scalar_value, cell_value, value_at, value_of, bound, binding_at, value_after}
-use Rattle.dms_sign.specs.InRange.{IsRowInRange, IsTableInRange, IsTimeInRange, IsShownInRange, IsSignInRange}
+use Rattle.dms_sign.specs.InRange.{IsRowInRange, IsTableInRange, IsTimeInRange, IsShownInRange, IsSignInRange, IsBindingInLimits}
 use Rattle.dms_sign.proofs.InRangeLists.{if_either, if_mapped, if_then, all_append, all_mapped, all_flat, all_any, if_found, if_at}
 
 -- ---- checksums
@@ -349,10 +348,6 @@ name_within (The object) small = object_name_within (scalar_number object).0 (sc
 name_within (Cell column id) small = cell_name_within column id small
 
 -- ---- what is found by a name
-
-pub record IsBindingInLimits (binding : VarBind) : Type 0 where
-  pub name : IsNameInLimits binding.name
-  pub value : IsValueInLimits binding.value
 
 pub value_of_within : (s : SignState) (name : List ℕ) → IsSignInRange s → IfSome (value_of s name) IsValueInLimits
 unfolding value_of

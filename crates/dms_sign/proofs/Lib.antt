@@ -11,3 +11,5 @@ pub mod InRangeReplies
 pub mod InRangeFaults
 pub mod InRangeShown
 pub mod InRangeEvents
+pub mod InRangeSets
+pub mod InRangeStart

@@ -1,16 +1,18 @@
 -- The ranges of what a sign holds. They hold of a sign as it is made and after every event, so that each value which its objects read
 -- can be said in a message.
-use Rattle.std.specs.Prelude.{◌≡◌, ℕ, ◌*◌, ◌≤◌, if◌then◌else◌, List, length, nat_le, Option, Some, None, ⊤}
+use Rattle.std.specs.Prelude.{◌≡◌, ℕ, ◌*◌, ◌≤◌, if◌then◌else◌, List, length, nat_le, Option, Some, None, ⊤, IsTrue, All, replicate}
 use Rattle.std.specs.List.{AllByRecursion}
 use Rattle.std.specs.Int.Digits.{AllBelowBase}
 use Rattle.dms_wire.specs.declared.message.Kind.TheVariants.{Response}
-use Rattle.dms_wire.specs.Message.{SnmpMessage}
+use Rattle.dms_wire.specs.Message.{VarBind, SnmpMessage}
+use Rattle.dms_wire.specs.Limits.{IsNameInLimits, IsValueInLimits}
 use Rattle.dms_wire.specs.MessageOf.{message_of}
 use Rattle.dms_wire.specs.Canonical.{canonical}
 use Rattle.dms_wire.specs.Response.{response_to}
 use Rattle.dms_face.specs.declared.defaults.Defaults.{Defaults}
 use Rattle.dms_table.specs.Codes.{IsMessageId}
-use Rattle.dms_table.specs.Rows.{RowModel, TableModel, longest_text, longest_owner}
+use Rattle.dms_table.specs.Rows.{RowModel, TableModel, unused, longest_text, longest_owner}
+use Rattle.dms_table.specs.Stocking.{has_ranges}
 use Rattle.dms_table.specs.Deciding.{ShownModel, shown_row}
 use Rattle.dms_sign.specs.State.{ConfigModel, FallbacksModel, ReportsModel, SignState}
 use Rattle.dms_sign.specs.Setting.{too_big}
@@ -116,7 +118,31 @@ pub record IsSignInRange (s : SignState) : Type 0 where
   pub kept : IsShownInRange s.kept
   pub reports : AreReportsInRange s.reports
 
+-- ---- how a sign is made
+
+-- at most 16 permanent rows, each with its ranges, and 64 changeable and 16 volatile rows that are not used
+pub record IsStocked (table : TableModel) : Type 0 where
+  pub permanent : All (λ (row : RowModel). IsTrue (has_ranges row)) table.permanent
+  pub permanent_count : length table.permanent ≤ 16
+  pub changeable : table.changeable ≡ replicate (length table.changeable) unused
+  pub changeable_count : length table.changeable ≤ 64
+  pub volatile : table.volatile ≡ replicate (length table.volatile) unused
+  pub volatile_count : length table.volatile ≤ 16
+
+-- the communities, the defaults, and the texts and owners of permanent rows are octets
+pub record IsMadeOfOctets (config : ConfigModel) (table : TableModel) : Type 0 where
+  pub reader : AllBelowBase 256 config.reader
+  pub writer : AllBelowBase 256 config.writer
+  pub defaults : AreDefaultsInRange config.face.defaults
+  pub texts : All (λ (row : RowModel). AllBelowBase 256 row.text) table.permanent
+  pub owners : All (λ (row : RowModel). AllBelowBase 256 row.owner) table.permanent
+
 -- ---- replies
+
+-- a binding that can be said in a message
+pub record IsBindingInLimits (binding : VarBind) : Type 0 where
+  pub name : IsNameInLimits binding.name
+  pub value : IsValueInLimits binding.value
 
 -- the Response that is sent: what is answered, or that it is too big
 abbrev pub response_sent : SnmpMessage → Answer → SnmpMessage
