@@ -152,7 +152,17 @@ kept_entered state before input job octets told below puts =
               | inl old ↦ inl (told.each k later old)
               | inr last ↦
                   (let is_new : IsNewEntry state.settings state.next (with_ledger (sends_octets state job octets) (state.ledger ++ new ∷ [])) new =
-                  record { number = refl; waiting = refl; octets = octets; sent = refl; puts_up = puts } in
+                  record {
+                    number = refl;
+                    waiting = refl;
+                    job = job;
+                    pending = record { number = state.next; octets = octets; sends = 1; age = 0 };
+                    phase = refl;
+                    code = refl;
+                    octets = octets;
+                    sent = refl;
+                    puts_up = puts;
+                  } in
                   inr (last.0 ∙ told.same_length, subst (IsNewEntry state.settings state.next (with_ledger (sends_octets state job octets) (state.ledger ++ new ∷ []))) last.1 is_new))
             ];
       };

@@ -126,7 +126,7 @@ kept_move history input move kept keeps moved =
       open_entry = moved.open_entry;
     }
 
-ledger_move : (history : History) (input : Input) → IsKept history → IsInput input
+pub ledger_move : (history : History) (input : Input) → IsKept history → IsInput input
     → LedgerKept history.state.settings history.state.next history.state.ledger input (move_at history.state input)
 ledger_move history input kept is = kept_input history.state input (ready history kept) kept.numbered.work is
 

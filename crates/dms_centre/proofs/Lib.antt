@@ -7,4 +7,6 @@ pub mod Keeping
 pub mod NumberLaws
 pub mod LedgerKeeping
 pub mod LedgerLaws
+pub mod Working
+pub mod Ordered
 pub mod Worked

@@ -1,20 +1,21 @@
 -- Given commands and replies, computed: the datagrams octet for octet, and the state after them.
-use Rattle.std.proofs.Common.{◌≡◌, ℕ, zero, suc, ◌+◌, pos, List, [], ◌∷◌, map, length, replicate, Some, option_map, option_and_then, slice_get, refl}
+use Rattle.std.proofs.Common.{◌≡◌, ℕ, zero, suc, ◌+◌, pos, List, [], ◌∷◌, map, length, replicate, Option, Some, None, option_map, option_and_then, slice_get, refl}
 use Rattle.dms_wire.specs.Canonical.{element, integer_octets, name_octets, binding_octets, numbers_octets, pdu_octets, canonical}
 use Rattle.dms_wire.specs.MessageOf.{message_of}
-use Rattle.dms_table.specs.declared.codes.Order.TheVariants.{High}
+use Rattle.dms_table.specs.declared.codes.Order.TheVariants.{High, Swapped}
 use Rattle.dms_table.specs.Checksum.{octet_bits}
 use Rattle.dms_table.specs.Codes.{octets_of_activation, activation_of}
 use Rattle.dms_centre.specs.declared.ended.Ended.{Ended}
 use Rattle.dms_centre.specs.declared.ended.Ended.TheVariants as endings
 use Rattle.dms_centre.specs.declared.ended.Why.TheVariants as reasons
+use Rattle.dms_centre.specs.declared.fault.CommandFault.{CommandFault}
 use Rattle.dms_centre.specs.declared.fault.CommandFault.TheVariants as faults
 use Rattle.dms_centre.specs.declared.outcome.Outcome.{Outcome}
 use Rattle.dms_centre.specs.declared.outcome.Outcome.TheVariants as outcomes
-use Rattle.dms_centre.specs.State.{SettingsModel, Entry}
+use Rattle.dms_centre.specs.State.{SettingsModel, PublicationModel, Entry, start}
 use Rattle.dms_centre.specs.Steps.{request_of}
 use Rattle.dms_centre.specs.Sending.{sends}
-use Rattle.dms_centre.specs.Commands.{Publish, Blank, Activate, refusal_of, commanded}
+use Rattle.dms_centre.specs.Commands.{CommandModel, Publish, Blank, Activate, refusal_of, commanded}
 use Rattle.dms_centre.specs.Inputs.{received, ticked, restarted}
 use Rattle.dms_centre.specs.History.{Input, Commands, Hears, Ticks, Restarts, History, made, after_inputs}
 
@@ -65,8 +66,8 @@ told number column value = Hears (
 -- ---- publishing
 
 -- the text "A" into the row changeable 1
-abbrev publish : Input
-publish = Commands (Publish (record {
+abbrev publication : PublicationModel
+publication = record {
   memory = 3;
   number = 1;
   text = 65 ∷ [];
@@ -77,7 +78,10 @@ publish = Commands (Publish (record {
   minutes = 65535;
   priority = 255;
   address = 192 ∷ 0 ∷ 2 ∷ 1 ∷ [];
-}))
+}
+
+abbrev publish : Input
+publish = Commands (Publish publication)
 
 abbrev first_request : List ℕ
 first_request =
@@ -291,3 +295,83 @@ last_number_end = refl
 no_number_left : refusal_of (last_of_all (activate ∷ refused_last ∷ [])).state (Blank 1 1 1 (0 ∷ 0 ∷ 0 ∷ 0 ∷ [])) ≡ Some faults.NumbersUsedUp
 unfolding canonical pdu_octets numbers_octets binding_octets element integer_octets name_octets octet_bits message_of request_of sends commanded received ticked restarted
 no_number_left = refl
+
+activation_datagram : (after (activate ∷ [])).sent
+    ≡ (
+    0x30 ∷ 0x36 ∷ 0x02 ∷ 0x01 ∷ 0x00 ∷ 0x04 ∷ 0x05 ∷ 0x61 ∷ 0x64 ∷ 0x6d ∷ 0x69 ∷ 0x6e ∷ 0xa3 ∷ 0x2a ∷ 0x02 ∷ 0x01
+    ∷ 0x01 ∷ 0x02 ∷ 0x01 ∷ 0x00 ∷ 0x02 ∷ 0x01 ∷ 0x00 ∷ 0x30 ∷ 0x1f ∷ 0x30 ∷ 0x1d ∷ 0x06 ∷ 0x0d ∷ 0x2b ∷ 0x06 ∷ 0x01
+    ∷ 0x04 ∷ 0x01 ∷ 0x89 ∷ 0x36 ∷ 0x04 ∷ 0x02 ∷ 0x03 ∷ 0x06 ∷ 0x03 ∷ 0x00 ∷ 0x04 ∷ 0x0c ∷ 0xff ∷ 0xff ∷ 0xff ∷ 0x03
+    ∷ 0x00 ∷ 0x01 ∷ 0x9a ∷ 0x66 ∷ 0x00 ∷ 0x00 ∷ 0x00 ∷ 0x00 ∷ [])
+    ∷ []
+unfolding canonical pdu_octets numbers_octets binding_octets element integer_octets name_octets octet_bits message_of request_of sends commanded received ticked restarted
+activation_datagram = refl
+
+-- the cause is refused too: the entry stays refused
+cause_refused : summary (activate ∷ reply 1 5 ∷ reply 2 5 ∷ []) ≡ record { last = endings.Failed 8 (reasons.Status (pos 5)); next = 3 }
+unfolding canonical pdu_octets numbers_octets binding_octets element integer_octets name_octets octet_bits message_of request_of sends commanded received ticked restarted
+cause_refused = refl
+
+-- ---- more of publishing
+
+-- the sign reads another checksum, 7502
+abbrev told_other : Input
+told_other = Hears (
+    0x30 ∷ 0x2f ∷ 0x02 ∷ 0x01 ∷ 0x00 ∷ 0x04 ∷ 0x05 ∷ 0x61 ∷ 0x64 ∷ 0x6d ∷ 0x69 ∷ 0x6e ∷ 0xa2 ∷ 0x23 ∷ 0x02 ∷ 0x01
+    ∷ 0x06 ∷ 0x02 ∷ 0x01 ∷ 0x00 ∷ 0x02 ∷ 0x01 ∷ 0x00 ∷ 0x30 ∷ 0x18 ∷ 0x30 ∷ 0x16 ∷ 0x06 ∷ 0x10 ∷ 0x2b ∷ 0x06 ∷ 0x01
+    ∷ 0x04 ∷ 0x01 ∷ 0x89 ∷ 0x36 ∷ 0x04 ∷ 0x02 ∷ 0x03 ∷ 0x05 ∷ 0x08 ∷ 0x01 ∷ 0x05 ∷ 0x03 ∷ 0x01 ∷ 0x02 ∷ 0x02 ∷ 0x75
+    ∷ 0x02 ∷ [])
+
+other_checksum : summary (polling (told 5 9 4 ∷ told_other ∷ [])) ≡ record { last = endings.Failed 6 reasons.OtherChecksum; next = 7 }
+unfolding canonical pdu_octets numbers_octets binding_octets element integer_octets name_octets octet_bits message_of request_of sends commanded received ticked restarted
+other_checksum = refl
+
+-- the other order of a checksum's octets: 669A is read, and stands in the code
+abbrev told_swapped : Input
+told_swapped = Hears (
+    0x30 ∷ 0x2f ∷ 0x02 ∷ 0x01 ∷ 0x00 ∷ 0x04 ∷ 0x05 ∷ 0x61 ∷ 0x64 ∷ 0x6d ∷ 0x69 ∷ 0x6e ∷ 0xa2 ∷ 0x23 ∷ 0x02 ∷ 0x01
+    ∷ 0x06 ∷ 0x02 ∷ 0x01 ∷ 0x00 ∷ 0x02 ∷ 0x01 ∷ 0x00 ∷ 0x30 ∷ 0x18 ∷ 0x30 ∷ 0x16 ∷ 0x06 ∷ 0x10 ∷ 0x2b ∷ 0x06 ∷ 0x01
+    ∷ 0x04 ∷ 0x01 ∷ 0x89 ∷ 0x36 ∷ 0x04 ∷ 0x02 ∷ 0x03 ∷ 0x05 ∷ 0x08 ∷ 0x01 ∷ 0x05 ∷ 0x03 ∷ 0x01 ∷ 0x02 ∷ 0x02 ∷ 0x66
+    ∷ 0x9a ∷ [])
+
+abbrev swapped : History
+swapped = after_inputs (made (record settings { order = Swapped }) 1) (polling (told 5 9 4 ∷ told_swapped ∷ Ticks ∷ []))
+
+swapped_code : map (λ (entry : Entry). octets_of_activation Swapped entry.code) swapped.state.ledger ≡ (0xff ∷ 0xff ∷ 0xff ∷ 0x03 ∷ 0x00 ∷ 0x01 ∷ 0x66 ∷ 0x9a ∷ 0xc0 ∷ 0x00 ∷ 0x02 ∷ 0x01 ∷ []) ∷ []
+unfolding canonical pdu_octets numbers_octets binding_octets element integer_octets name_octets octet_bits message_of request_of sends commanded received ticked restarted
+swapped_code = refl
+
+-- a restart while the next poll is due, and while the activation is
+restarted_polling : summary (polling (told 5 9 3 ∷ Restarts ∷ [])) ≡ record { last = endings.Failed 5 reasons.Restarted; next = 6 }
+unfolding canonical pdu_octets numbers_octets binding_octets element integer_octets name_octets octet_bits message_of request_of sends commanded received ticked restarted
+restarted_polling = refl
+
+restarted_due : summary (polling (told 5 9 4 ∷ told_checksum ∷ Restarts ∷ [])) ≡ record { last = endings.Failed 7 reasons.Restarted; next = 7 }
+unfolding canonical pdu_octets numbers_octets binding_octets element integer_octets name_octets octet_bits message_of request_of sends commanded received ticked restarted
+restarted_due = refl
+
+-- ---- commands that are not taken
+
+abbrev refusals : List CommandModel → List (Option CommandFault)
+refusals commands = map (refusal_of (start settings 1)) commands
+
+abbrev address : List ℕ
+address = 0 ∷ 0 ∷ 0 ∷ 0 ∷ []
+
+bad_commands : refusals (
+    Publish (record publication { memory = 2 }) ∷ Publish (record publication { number = 0 }) ∷ Publish (record publication { text = replicate 513 65 })
+    ∷ Publish (record publication { owner = replicate 128 65 }) ∷ Publish (record publication { beacon = 2 }) ∷ Publish (record publication { pixel = 2 })
+    ∷ Publish (record publication { run_priority = 0 }) ∷ Blank 0 1 1 address ∷ Blank 256 1 1 address ∷ [])
+    ≡ replicate 9 (Some faults.BadCommand)
+bad_commands = refl
+
+-- at the limits; any code is sent
+good_commands : refusals (
+    Publish (record publication { memory = 4 }) ∷ Publish (record publication { text = replicate 512 65 }) ∷ Publish (record publication { owner = replicate 127 65 })
+    ∷ Blank 1 1 1 address ∷ Blank 255 1 1 address ∷ Activate (activation_of High (replicate 12 0)) ∷ [])
+    ≡ replicate 6 None
+good_commands = refl
+
+-- being busy is looked at first
+busy : refusal_of (after (publish ∷ [])).state (Blank 0 1 1 address) ≡ Some faults.Busy
+unfolding canonical pdu_octets numbers_octets binding_octets element integer_octets name_octets octet_bits message_of request_of sends commanded received ticked restarted
+busy = refl

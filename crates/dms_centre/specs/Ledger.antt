@@ -1,5 +1,5 @@
 -- What becomes of the ledger, whatever comes in.
-use Rattle.std.specs.Prelude.{◌≡◌, ℕ, ◌<◌, ◌⊎◌, pos, List, length, Some, slice_get}
+use Rattle.std.specs.Prelude.{◌≡◌, ℕ, ◌<◌, ◌⊎◌, pos, List, length, Some, None, slice_get, take}
 use Rattle.dms_wire.specs.declared.message.Kind.TheVariants.{Response}
 use Rattle.dms_wire.specs.Message.{SnmpMessage}
 use Rattle.dms_wire.specs.MessageOf.{message_of}
@@ -7,10 +7,11 @@ use Rattle.dms_table.specs.declared.codes.Activation.{Activation}
 use Rattle.dms_centre.specs.declared.outcome.Outcome.{Outcome}
 use Rattle.dms_centre.specs.declared.outcome.Outcome.TheVariants.{Waiting, Accepted, Refused, NoReply, Unknown}
 use Rattle.dms_centre.specs.declared.step.Step.TheVariants.{Activating}
-use Rattle.dms_centre.specs.State.{SettingsModel, Showing, Entry}
-use Rattle.dms_centre.specs.Steps.{request_of}
+use Rattle.dms_centre.specs.State.{SettingsModel, Work, Showing, Job, Pending, Awaits, Entry}
+use Rattle.dms_centre.specs.Steps.{code_of, request_of}
 use Rattle.dms_centre.specs.Sending.{Move}
-use Rattle.dms_centre.specs.History.{Input, Hears, Ticks, Restarts}
+use Rattle.dms_centre.specs.Commands.{CommandModel, refusal_of, job_of}
+use Rattle.dms_centre.specs.History.{Input, Commands, Hears, Ticks, Restarts, made, after_inputs}
 use Rattle.dms_centre.specs.Numbers.{HasNumber}
 
 -- ---- at one input
@@ -41,10 +42,14 @@ pub record EntryMoves (settings : SettingsModel) (input : Input) (entry later : 
 abbrev pub PutsUp : SettingsModel → ℕ → Activation → List ℕ → Type 0
 PutsUp settings number code octets = message_of octets ≡ Some (request_of settings number (Showing code) Activating)
 
--- A new entry waits. It has the next number, and the request of this number, which puts its code up, goes out.
+-- A new entry waits. Its code is that of the job, and the request of the next number, which puts the code up, goes out and waits.
 pub record IsNewEntry (settings : SettingsModel) (next : ℕ) (move : Move) (entry : Entry) : Type 0 where
   pub number : entry.number ≡ next
   pub waiting : entry.outcome ≡ Waiting
+  pub job : Job
+  pub pending : Pending
+  pub phase : move.state.phase ≡ Awaits job pending
+  pub code : entry.code ≡ code_of job.work
   pub octets : List ℕ
   pub sent : move.sent ≡ Some octets
   pub puts_up : PutsUp settings next entry.code octets
@@ -77,3 +82,18 @@ abbrev pub NumbersPutUpTheirCodes : SettingsModel → List Entry → List (List 
 NumbersPutUpTheirCodes settings ledger sent =
     (k j : ℕ) (entry : Entry) (octets : List ℕ) → slice_get ledger k ≡ Some entry → slice_get sent j ≡ Some octets → HasNumber entry.number octets
     → PutsUp settings entry.number entry.code octets
+
+-- ---- whose code it is
+
+-- the input at this place is a command that is taken, and this is what its job puts up
+pub record IsOrdered (settings : SettingsModel) (first : ℕ) (inputs : List Input) (work : Work) : Type 0 where
+  pub place : ℕ
+  pub command : CommandModel
+  pub ordered : slice_get inputs place ≡ Some (Commands command)
+  pub taken : refusal_of (after_inputs (made settings first) (take place inputs)).state command ≡ None
+  pub work_is : work ≡ (job_of command).work
+
+-- Each code of the ledger is that of a command that was taken.
+abbrev pub CodesAreOrdered : SettingsModel → ℕ → List Input → List Entry → Type 0
+CodesAreOrdered settings first inputs ledger =
+    (k : ℕ) (entry : Entry) → slice_get ledger k ≡ Some entry → (work : Work) × IsOrdered settings first inputs work × (entry.code ≡ code_of work)

@@ -7,7 +7,7 @@ ghost use Rattle.dms_centre.specs.State.{SettingsModel};
 ghost use Rattle.dms_centre.specs.History.{AreSettings, Input, IsInput, History, made, move_at, after_input, after_inputs};
 ghost use Rattle.dms_centre.specs.Numbers.{AreRequests, NumbersRise, EqualNumbersMeanEqualOctets, ThreeSendsAtMost, Sends};
 ghost use Rattle.dms_centre.specs.Numbered.{HistoryIsNumbered};
-ghost use Rattle.dms_centre.specs.Ledger.{LedgerMoves, LedgerIsSent, NumbersPutUpTheirCodes};
+ghost use Rattle.dms_centre.specs.Ledger.{LedgerMoves, LedgerIsSent, NumbersPutUpTheirCodes, CodesAreOrdered};
 
 /// Each datagram that is sent spells a request of the machine, whose number is below the next one; no later datagram has a lower
 /// number; and what goes out at an input went out before, or is a new request, which takes the next number.
@@ -57,4 +57,10 @@ pub fn entries_were_sent()
     ensures codes { (settings : SettingsModel) (first : ℕ) (inputs : List Input) → AreSettings settings → AllByRecursion IsInput inputs
         → NumbersPutUpTheirCodes settings (after_inputs (made settings first) inputs).state.ledger
         (after_inputs (made settings first) inputs).sent }
+{}
+
+/// Each code of the ledger is that of a command that was taken; the code of a publication has the checksum of the operator's message.
+pub fn codes_are_ordered()
+    ensures { (settings : SettingsModel) (first : ℕ) (inputs : List Input) → AreSettings settings → AllByRecursion IsInput inputs
+        → CodesAreOrdered settings first inputs (after_inputs (made settings first) inputs).state.ledger }
 {}
