@@ -13,3 +13,11 @@ pub mod InRangeShown
 pub mod InRangeEvents
 pub mod InRangeSets
 pub mod InRangeStart
+pub mod BenchSign
+pub mod WorkedAnswers
+pub mod WorkedTable
+pub mod WorkedActivations
+pub mod WorkedPower
+pub mod WorkedSilence
+pub mod WorkedDefaults
+pub mod WorkedSizes
