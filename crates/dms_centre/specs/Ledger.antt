@@ -74,7 +74,8 @@ pub record WasSent (settings : SettingsModel) (sent : List (List ℕ)) (entry : 
 -- Entries have numbers below the next one, which rise, and each was sent.
 pub record LedgerIsSent (settings : SettingsModel) (next : ℕ) (ledger : List Entry) (sent : List (List ℕ)) : Type 0 where
   pub below : (k : ℕ) (entry : Entry) → slice_get ledger k ≡ Some entry → entry.number < next
-  pub rise : (j k : ℕ) (earlier later : Entry) → j < k → slice_get ledger j ≡ Some earlier → slice_get ledger k ≡ Some later → earlier.number < later.number
+  pub rise : (j k : ℕ) (earlier later : Entry) → j < k → slice_get ledger j ≡ Some earlier
+      → slice_get ledger k ≡ Some later → earlier.number < later.number
   pub was_sent : (k : ℕ) (entry : Entry) → slice_get ledger k ≡ Some entry → WasSent settings sent entry
 
 -- Each datagram of an entry's number puts the entry's code up.

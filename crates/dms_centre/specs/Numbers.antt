@@ -49,5 +49,6 @@ ThreeSendsAtMost sent = (number : ℕ) → count_by (has_number number) sent ≤
 -- Nothing; what went out before; or a new request, which takes the next number.
 pub data Sends (settings : SettingsModel) (next : ℕ) (sent : List (List ℕ)) (move : Move) : Type 0 where
   Nothing : move.sent ≡ None → move.state.next ≡ next → Sends settings next sent move
-  Again : (octets : List ℕ) (k : ℕ) → move.sent ≡ Some octets → slice_get sent k ≡ Some octets → move.state.next ≡ next → Sends settings next sent move
+  Again : (octets : List ℕ) (k : ℕ) → move.sent ≡ Some octets → slice_get sent k ≡ Some octets
+      → move.state.next ≡ next → Sends settings next sent move
   New : (octets : List ℕ) → move.sent ≡ Some octets → IsRequest settings next octets → move.state.next ≡ next + 1 → Sends settings next sent move
