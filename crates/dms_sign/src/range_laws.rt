@@ -33,7 +33,8 @@ pub fn signs_stay_in_range()
 pub fn answers_are_in_limits()
     ensures value { (s : SignState) (name : List ℕ) → IsSignInRange s → IfSome (value_of s name) IsValueInLimits }
     ensures next { (s : SignState) (name : List ℕ) → IsSignInRange s → IfSome (value_after s name) IsBindingInLimits }
-    ensures response { (s : SignState) (m : SnmpMessage) (octets : List ℕ) → IsSignInRange s → Spells m octets → IsMessageInLimits (response_of m (primary s m)) }
+    ensures response { (s : SignState) (m : SnmpMessage) (octets : List ℕ) → IsSignInRange s → Spells m octets
+        → IsMessageInLimits (response_of m (primary s m)) }
     ensures too_big { (m : SnmpMessage) → IsMessageInLimits m → IsMessageInLimits (response_to m too_big 0) }
 {}
 
