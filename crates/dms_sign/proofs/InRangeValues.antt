@@ -27,7 +27,7 @@ use Rattle.dms_sign.specs.declared.object.Scalar.{Scalar}
 use Rattle.dms_sign.specs.declared.object.Scalar.TheVariants.{SignHeightPixels, SignWidthPixels, DefaultBackgroundColor, DefaultForegroundColor, DefaultFlashOn, DefaultFlashOff, DefaultFont, DefaultJustificationLine, DefaultJustificationPage, DefaultPageOnTime, DefaultPageOffTime, ColorScheme, NumPermanentMsg, NumChangeableMsg, MaxChangeableMsg, FreeChangeableMemory, NumVolatileMsg, MaxVolatileMsg, FreeVolatileMemory, ValidateMessageError, ActivateMessage, MessageTimeRemaining, MsgTableSource, MsgRequesterId, MsgSourceMode, ShortPowerRecoveryMessage, LongPowerRecoveryMessage, ShortPowerLossTime, CommunicationsLossMessage, TimeCommLoss, PowerLossMessage, EndDurationMessage, ActivateMsgError, MultiSyntaxError, MultiSyntaxErrorPosition, ActivateErrorMsgCode}
 use Rattle.dms_sign.specs.declared.object.Instance.{Instance}
 use Rattle.dms_sign.specs.declared.object.Instance.TheVariants.{The, Cell}
-use Rattle.dms_sign.specs.Objects.{scalar_number, name_of, before_table, after_table, columns, numbers_to, memories, rows_in, row_ids, cells, instances, instance_named, next_instance}
+use Rattle.dms_sign.specs.Objects.{scalar_number, name_of, before_table, after_table, columns, numbers_to, memories, rows_in, row_ids, cells, instances, instance_named, next_instance, IsInstance}
 use Rattle.dms_sign.specs.State.{SignState}
 use Rattle.dms_sign.specs.Values.{number_value, minutes_left, scalar_value, cell_value, value_at, value_of, bound, binding_at, value_after}
 use Rattle.dms_sign.specs.InRange.{IsRowInRange, IsTableInRange, IsTimeInRange, IsShownInRange, IsSignInRange, IsBindingInLimits}
@@ -338,6 +338,13 @@ pub name_within : (i : Instance) → IsSmallInstance i → IsNameInLimits (name_
 unfolding name_of
 name_within (The object) small = object_name_within (scalar_number object).0 (scalar_number object).1 (object_small object).0 (object_small object).1
 name_within (Cell column id) small = cell_name_within column id small
+
+-- what an instance of a sign is called and reads
+pub instance_within : (s : SignState) (i : Instance) → IsSignInRange s → IsInstance s.table i → IsNameInLimits (name_of i) × IfSome (value_at s i) IsValueInLimits
+instance_within s i is there =
+    let small : IsSmallInstance i =
+    subst (λ o. IfSome o IsSmallInstance) there.1 (if_at IsSmallInstance (instances s.table) there.0 (instances_small s.table is.table)) in
+    (name_within i small, value_within s is i small)
 
 -- ---- what is found by a name
 
