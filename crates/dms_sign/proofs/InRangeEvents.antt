@@ -16,13 +16,9 @@ use Rattle.dms_sign.specs.State.{ReportsModel, SignState, power_recovery_mode, c
 use Rattle.dms_sign.specs.PuttingUp.{showing, put_up_code}
 use Rattle.dms_sign.specs.Events.{text_reports, settled_reports, after_settling, counted_down, after_duration, longest_silence, quieter, after_silence, after_tick, after_power_loss, recovery_code, restored, after_power_return}
 use Rattle.dms_sign.specs.InRange.{AreOctets, most_minutes, IsRowInRange, IsTableInRange, IsTimeInRange, AreReportsInRange, IsSignInRange}
-use Rattle.dms_sign.proofs.InRangeLists.{all_mapped}
+use Rattle.dms_sign.proofs.InRangeLists.{either, all_mapped}
 use Rattle.dms_sign.proofs.InRangeFaults.{fault_placed}
 use Rattle.dms_sign.proofs.InRangeShown.{showing_in_range, telling_in_range, with_table_in_range, fault_in_range, with_time, code_in_range}
-
-either : {X : Type 0} (P : X → Type 0) (b : Bool) (x y : X) → P x → P y → P (cond b x y)
-either P true x y first second = first
-either P false x y first second = second
 
 -- ---- settling
 
@@ -50,7 +46,8 @@ any_if P f (Some x) each = each x
 settled_verdict : (face : FaceModel) (table : TableModel) → IfSome (verdict face table) IsVerdictInRange
 settled_verdict face table = any_if IsVerdictInRange (verdict_of table.services face) (settling_row table) (verdict_in_range table.services face)
 
-text_told : (reports : ReportsModel) (o : Option MultiFault) → AreReportsInRange reports → IsFaultPlaced o → AreReportsInRange (text_reports reports o)
+text_told : (reports : ReportsModel) (o : Option MultiFault) → AreReportsInRange reports → IsFaultPlaced o
+    → AreReportsInRange (text_reports reports o)
 text_told reports None are placed = record {
   validate_error = are.validate_error;
   activate_error = are.activate_error;
@@ -61,7 +58,8 @@ text_told reports None are placed = record {
 }
 text_told reports (Some fault) are placed = fault_in_range reports fault are placed
 
-verdict_told : (reports : ReportsModel) (o : Option Verdict) → AreReportsInRange reports → IfSome o IsVerdictInRange → AreReportsInRange (settled_reports reports o)
+verdict_told : (reports : ReportsModel) (o : Option Verdict) → AreReportsInRange reports → IfSome o IsVerdictInRange
+    → AreReportsInRange (settled_reports reports o)
 verdict_told reports None are verdict = are
 verdict_told reports (Some found) are verdict =
     let new = text_told reports found.fault are verdict.fault in
@@ -75,7 +73,8 @@ verdict_told reports (Some found) are verdict =
     }
 
 pub with_status_in_range : (row : RowModel) (status : Status) → IsRowInRange row → IsRowInRange (record row { status = status })
-with_status_in_range row status is = record { text = is.text; owner = is.owner; beacon = is.beacon; pixel = is.pixel; least = is.least; priority = is.priority }
+with_status_in_range row status is =
+    record { text = is.text; owner = is.owner; beacon = is.beacon; pixel = is.pixel; least = is.least; priority = is.priority }
 
 pub unused_in_range : IsRowInRange unused
 unused_in_range = record {
@@ -116,7 +115,8 @@ settling_in_range s is =
 down_in_range : (s : SignState) (o : Option ℕ) → IsSignInRange s → IsTimeInRange o → IsSignInRange (counted_down s o)
 down_in_range s None is time = is
 down_in_range s (Some seconds) is time =
-    either IsSignInRange (nat_le seconds 1) (put_up_code s s.fallbacks.end_duration end_duration_mode) (showing s (record s.shown { remaining = Some (seconds - 1) }))
+    either IsSignInRange (nat_le seconds 1) (put_up_code s s.fallbacks.end_duration end_duration_mode)
+    (showing s (record s.shown { remaining = Some (seconds - 1) }))
     (code_in_range s s.fallbacks.end_duration end_duration_mode is is.fallbacks.end_duration.below (omega arith))
     (showing_in_range s (record s.shown { remaining = Some (seconds - 1) }) is (with_time s.shown (Some (seconds - 1)) is.shown (omega arith)))
 
@@ -140,8 +140,8 @@ with_silence s silent is few = record {
 
 silence_by : (s : SignState) (b : Bool) → ltb s.silent (longest_silence s) ≡ b → IsSignInRange s
     → IsSignInRange (cond b
-        (cond (s.silent + 1 == longest_silence s) (put_up_code (quieter s) s.fallbacks.communications_loss communications_loss_mode) (quieter s))
-        s)
+    (cond (s.silent + 1 == longest_silence s) (put_up_code (quieter s) s.fallbacks.communications_loss communications_loss_mode) (quieter s))
+    s)
 silence_by s false e is = is
 silence_by s true e is =
     let less : s.silent < 60 * s.time_comm_loss = ltb-true s.silent (longest_silence s) e in
@@ -226,7 +226,8 @@ restored_in_range s is = record {
 
 recovery_in_range : (s : SignState) (seconds : ℕ) → IsSignInRange s → AreOctets 5 (recovery_code s seconds)
 recovery_in_range s seconds is =
-    either (AreOctets 5) (nat_lt 0 s.short_power_loss_time && nat_le seconds s.short_power_loss_time) s.fallbacks.short_power_recovery s.fallbacks.long_power_recovery
+    either (AreOctets 5)
+    (nat_lt 0 s.short_power_loss_time && nat_le seconds s.short_power_loss_time) s.fallbacks.short_power_recovery s.fallbacks.long_power_recovery
     is.fallbacks.short_power_recovery is.fallbacks.long_power_recovery
 
 pub power_return_in_range : (s : SignState) (seconds : ℕ) → IsSignInRange s → IsSignInRange (after_power_return s seconds)

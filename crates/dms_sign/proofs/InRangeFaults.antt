@@ -54,7 +54,8 @@ IsPlacedBy end fault = fault.place ≤ end
 abbrev IsTurnBy : ℕ → PlacedTurn → Type 0
 IsTurnBy end turn = turn.1 ≤ end
 
-turns_placed : (end : ℕ) (read : List (Result Spot SyntaxFault)) → AllByRecursion (IsPlaced end) read → AllByRecursion (IsTurnBy end) (turns_in end read)
+turns_placed : (end : ℕ) (read : List (Result Spot SyntaxFault)) → AllByRecursion (IsPlaced end) read
+    → AllByRecursion (IsTurnBy end) (turns_in end read)
 turns_placed end [] placed = (omega arith, tt)
 turns_placed end (Ok spot ∷ more) placed = (placed.0, turns_placed end more placed.1)
 turns_placed end (Err fault ∷ more) placed = tt
@@ -68,10 +69,12 @@ first_placed : (face : FaceModel) (end : ℕ) (front : List Turn) (turns : List 
     → IfSome (first_fault face front turns) (IsPlacedBy end)
 first_placed face end front [] placed = tt
 first_placed face end front ((turn, place) ∷ more) placed =
-    fault_if end (fits face (front ++ turn ∷ [])) (first_fault face (front ++ turn ∷ []) more) (code_of face (layout_of face front) turn) place placed.0
+    fault_if end (fits face (front ++ turn ∷ [])) (first_fault face (front ++ turn ∷ []) more)
+    (code_of face (layout_of face front) turn) place placed.0
     (first_placed face end (front ++ turn ∷ []) more placed.1)
 
-syntax_placed : (end : ℕ) (read : List (Result Spot SyntaxFault)) → AllByRecursion (IsPlaced end) read → IfSome (fault_in read) (λ fault. fault.place ≤ end)
+syntax_placed : (end : ℕ) (read : List (Result Spot SyntaxFault)) → AllByRecursion (IsPlaced end) read
+    → IfSome (fault_in read) (λ fault. fault.place ≤ end)
 syntax_placed end [] placed = tt
 syntax_placed end (Ok spot ∷ more) placed = syntax_placed end more placed.1
 syntax_placed end (Err fault ∷ more) placed = placed.0

@@ -50,7 +50,8 @@ found_within : (s : SignState) (bindings found : List VarBind) (o : Option ℕ) 
 found_within s bindings found None few within values = granted_within s bindings found values
 found_within s bindings found (Some index) few within values = refused_within s bindings 2 index (omega arith) (omega arith) within
 
-values_within : (s : SignState) (bindings : List VarBind) → IsSignInRange s → AreBindingsInLimits bindings → AreBindingsInLimits (map (with_value s) bindings)
+values_within : (s : SignState) (bindings : List VarBind) → IsSignInRange s → AreBindingsInLimits bindings
+    → AreBindingsInLimits (map (with_value s) bindings)
 values_within s [] is within = tt
 values_within s (b ∷ bs) is within =
     (within.0, if_or IsValueInLimits (value_of s b.name) b.value (value_of_within s b.name is) within.1, values_within s bs is within.2)
@@ -60,21 +61,24 @@ get_within s bindings is within =
     found_within s bindings (map (with_value s) bindings) (position_from (has_no_value s) 1 bindings) (if_position (has_no_value s) 1 bindings) within
     (values_within s bindings is within)
 
-nexts_within : (s : SignState) (bindings : List VarBind) → IsSignInRange s → AreBindingsInLimits bindings → AreBindingsInLimits (map (next_after s) bindings)
+nexts_within : (s : SignState) (bindings : List VarBind) → IsSignInRange s → AreBindingsInLimits bindings
+    → AreBindingsInLimits (map (next_after s) bindings)
 nexts_within s [] is within = tt
 nexts_within s (b ∷ bs) is within =
     let next : IsBindingInLimits (next_after s b) =
     if_or IsBindingInLimits (value_after s b.name) b (value_after_within s b.name is) (record { name = within.0; value = within.1 }) in
     (next.name, next.value, nexts_within s bs is within.2)
 
-get_next_within : (s : SignState) (bindings : List VarBind) → IsSignInRange s → AreBindingsInLimits bindings → IsAnswerInLimits bindings (get_next s bindings)
+get_next_within : (s : SignState) (bindings : List VarBind) → IsSignInRange s → AreBindingsInLimits bindings
+    → IsAnswerInLimits bindings (get_next s bindings)
 get_next_within s bindings is within =
     found_within s bindings (map (next_after s) bindings) (position_from (is_last s) 1 bindings) (if_position (is_last s) 1 bindings) within
     (nexts_within s bindings is within)
 
 -- ---- commands
 
-as_decided_within : (old new : SignState) (bindings : List VarBind) (index : ℕ) (octets : List ℕ) (r : Result ShownModel Cause) → index ≤ length bindings
+as_decided_within : (old new : SignState) (bindings : List VarBind) (index : ℕ) (octets : List ℕ) (r : Result ShownModel Cause)
+    → index ≤ length bindings
     → AreBindingsInLimits bindings → IsAnswerInLimits bindings (as_decided old new bindings index octets r)
 as_decided_within old new bindings index octets (Ok shown) few within = record { status = omega arith; index = omega arith; within = within }
 as_decided_within old new bindings index octets (Err cause) few within = record { status = omega arith; index = few; within = within }
@@ -88,7 +92,8 @@ commanded_within : (old new : SignState) (bindings : List VarBind) (index : ℕ)
     → AreBindingsInLimits bindings → IsAnswerInLimits bindings (commanded old new bindings index w)
 commanded_within old new bindings index (AskRow id ask) few within = as_asked_within old new bindings index (asked new.table id ask) few within
 commanded_within old new bindings index (Activate octets) few within =
-    as_decided_within old new bindings index octets (decided new.config.face new.defaults new.table new.shown (activation_of old.table.order octets)) few within
+    as_decided_within old new bindings index octets
+    (decided new.config.face new.defaults new.table new.shown (activation_of old.table.order octets)) few within
 commanded_within old new bindings index (SetRemaining minutes) few within = granted_within (with_remaining new minutes) bindings bindings within
 commanded_within old new bindings index (SetNumber object number) few within = granted_within new bindings bindings within
 commanded_within old new bindings index (SetCode object octets) few within = granted_within new bindings bindings within
@@ -122,7 +127,8 @@ causes_behind_small : (s : SignState) (may : Bool) (before bindings : List VarBi
 causes_behind_small s may before [] most few = tt
 causes_behind_small s may before (b ∷ bs) most few =
     let longer : length (before ++ b ∷ []) + length bs ≤ most = omega (arith, length-append before (b ∷ [])) in
-    all_append (IsSmallCause most) (causes_at s may before b) (causes_behind s may (before ++ b ∷ []) bs) (causes_at_small s may before b most (omega arith))
+    all_append (IsSmallCause most) (causes_at s may before b) (causes_behind s may (before ++ b ∷ []) bs)
+    (causes_at_small s may before b most (omega arith))
     (causes_behind_small s may (before ++ b ∷ []) bs most longer)
 
 causes_small : (s : SignState) (may : Bool) (bindings : List VarBind) → AllByRecursion (IsSmallCause (length bindings)) (causes s may bindings)
@@ -132,28 +138,33 @@ causes_small s may bindings = causes_behind_small s may [] bindings (length bind
 command_few : (s : SignState) (bindings : List VarBind) → command_index s bindings ≤ length bindings
 command_few s bindings =
     let small : command_index s bindings < 1 + length bindings =
-    if_or (λ place. place < 1 + length bindings) (position_from (is_command_at s) 1 bindings) 0 (if_position (is_command_at s) 1 bindings) (omega arith) in
+    if_or (λ place. place < 1 + length bindings) (position_from (is_command_at s) 1 bindings) 0 (if_position (is_command_at s) 1 bindings)
+    (omega arith) in
     omega arith
 
 set_unless_within : (s : SignState) (bindings : List VarBind) (found : List SetCause) → AllByRecursion (IsSmallCause (length bindings)) found
     → AreBindingsInLimits bindings → IsAnswerInLimits bindings (set_unless s bindings found)
 set_unless_within s bindings [] small within =
-    commanded_if_within s (assigned s (writes_of s bindings)) bindings (command_index s bindings) (find is_command (writes_of s bindings)) (command_few s bindings) within
+    commanded_if_within s (assigned s (writes_of s bindings)) bindings (command_index s bindings) (find is_command (writes_of s bindings))
+    (command_few s bindings) within
 set_unless_within s bindings (cause ∷ more) small within = refused_within s bindings cause.status cause.index small.0.status small.0.index within
 
 -- ---- answers
 
-answer_within : (s : SignState) (m : SnmpMessage) (kind : Kind) → IsSignInRange s → AreBindingsInLimits m.bindings → IsAnswerInLimits m.bindings (answer_by s m kind)
+answer_within : (s : SignState) (m : SnmpMessage) (kind : Kind) → IsSignInRange s → AreBindingsInLimits m.bindings
+    → IsAnswerInLimits m.bindings (answer_by s m kind)
 answer_within s m Get is within = get_within s m.bindings is within
 answer_within s m GetNext is within = get_next_within s m.bindings is within
 answer_within s m Response is within = granted_within s m.bindings m.bindings within
-answer_within s m Set is within = set_unless_within s m.bindings (causes s (may_write s m) m.bindings) (causes_small s (may_write s m) m.bindings) within
+answer_within s m Set is within =
+    set_unless_within s m.bindings (causes s (may_write s m) m.bindings) (causes_small s (may_write s m) m.bindings) within
 
 pub primary_within : (s : SignState) (m : SnmpMessage) → IsSignInRange s → AreBindingsInLimits m.bindings → IsAnswerInLimits m.bindings (primary s m)
 unfolding primary
 primary_within s m is within = answer_within s m m.kind is within
 
-pub response_within : (m : SnmpMessage) (a : Answer) → IsMessageInLimits m → length m.bindings ≤ 210 → IsAnswerInLimits m.bindings a → IsMessageInLimits (response_of m a)
+pub response_within : (m : SnmpMessage) (a : Answer) → IsMessageInLimits m → length m.bindings ≤ 210 → IsAnswerInLimits m.bindings a
+    → IsMessageInLimits (response_of m a)
 response_within m a is few within =
     let index : a.index ≤ length m.bindings = within.index in
     let status : a.status < 128 = within.status in
@@ -165,7 +176,8 @@ response_within m a is few within =
       bindings = within.within;
     }
 
-pub spelled_response_within : (s : SignState) (m : SnmpMessage) (octets : List ℕ) → IsSignInRange s → Spells m octets → IsMessageInLimits (response_of m (primary s m))
+pub spelled_response_within : (s : SignState) (m : SnmpMessage) (octets : List ℕ) → IsSignInRange s → Spells m octets
+    → IsMessageInLimits (response_of m (primary s m))
 spelled_response_within s m octets is spells =
     let within = spelled_in_limits m octets spells in
     let few : 7 * length m.bindings ≤ length octets = few_bindings m octets spells in
@@ -191,7 +203,8 @@ sent_if m a octets false spells within e =
     let size : length octets ≤ 1472 = spells.size in
     canonical_spells (response_to m too_big 0) (too_big_within m (spelled_in_limits m octets spells)) (omega arith)
 
-reply_spells : (m : SnmpMessage) (a : Answer) (octets : List ℕ) → Spells m octets → IsAnswerInLimits m.bindings a → Spells (response_sent m a) (reply_to m a)
+reply_spells : (m : SnmpMessage) (a : Answer) (octets : List ℕ) → Spells m octets → IsAnswerInLimits m.bindings a
+    → Spells (response_sent m a) (reply_to m a)
 unfolding reply_to
 reply_spells m a octets spells within = sent_if m a octets (nat_le (length (canonical (response_of m a))) most_octets) spells within refl
 
@@ -204,7 +217,8 @@ sent_is : (m : SnmpMessage) (a : Answer) (b : Bool) → IsResponse m (cond b (re
 sent_is m a true = record { kind = refl; community = refl; number = refl }
 sent_is m a false = record { kind = refl; community = refl; number = refl }
 
-spelled_reply : (s : SignState) (m : SnmpMessage) (octets : List ℕ) → message_of octets ≡ Some m → Spells (response_sent m (primary s m)) (reply_to m (primary s m))
+spelled_reply : (s : SignState) (m : SnmpMessage) (octets : List ℕ) → message_of octets ≡ Some m
+    → Spells (response_sent m (primary s m)) (reply_to m (primary s m))
     → IsSpelledReply s octets (reply_to m (primary s m))
 spelled_reply s m octets asked spells =
     let is = sent_is m (primary s m) (nat_le (length (canonical (response_of m (primary s m)))) most_octets) in
@@ -234,6 +248,7 @@ message_reply : (s : SignState) (o : Option SnmpMessage) (octets reply : List �
 message_reply s None octets reply is asked e = absurd (cc)
 message_reply s (Some m) octets reply is asked e = heard_reply s m octets reply (is_heard s m) is asked e
 
-pub replies_spell_their_response : (s : SignState) (octets reply : List ℕ) → IsSignInRange s → (received s octets).reply ≡ Some reply → IsSpelledReply s octets reply
+pub replies_spell_their_response : (s : SignState) (octets reply : List ℕ) → IsSignInRange s → (received s octets).reply ≡ Some reply
+    → IsSpelledReply s octets reply
 unfolding received
 replies_spell_their_response s octets reply is e = message_reply s (message_of octets) octets reply is refl e

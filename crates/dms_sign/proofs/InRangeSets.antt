@@ -37,7 +37,7 @@ use Rattle.dms_sign.specs.Setting.{SetCause, settable_instance, write_at, causes
 use Rattle.dms_sign.specs.Answering.{found_unless, has_no_value, is_last, as_decided, as_asked, with_remaining, commanded, commanded_if, writes_of, command_index, set_unless, may_write, answer_by, primary}
 use Rattle.dms_sign.specs.Reply.{is_heard, dropped, heard, on_message, on_message_if, received}
 use Rattle.dms_sign.specs.InRange.{AreOctets, AreOctetsUpTo, IsRowInRange, IsTableInRange, AreReportsInRange, IsSignInRange, IsBindingInLimits}
-use Rattle.dms_sign.proofs.InRangeLists.{if_either, if_mapped, if_then, if_or, if_found, if_at, all_filtered}
+use Rattle.dms_sign.proofs.InRangeLists.{either, if_either, if_mapped, if_then, if_or, if_found, if_at, all_filtered}
 use Rattle.dms_sign.proofs.InRangeShown.{IsDecisionInRange, showing_in_range, telling_in_range, with_table_in_range, activation_is, decided_in_range, seconds_in_range, refused_code_in_range, with_time, code_in_range}
 use Rattle.dms_sign.proofs.InRangeEvents.{with_status_in_range, unused_in_range, with_silence}
 
@@ -47,7 +47,8 @@ pub record AreRowsLike (old new : List RowModel) : Type 0 where
   pub each : AllByRecursion IsRowInRange new
   pub count : length new ≡ length old
 
-all_set : (rows : List RowModel) (i : ℕ) (row : RowModel) → AllByRecursion IsRowInRange rows → IsRowInRange row → AllByRecursion IsRowInRange (set rows i row)
+all_set : (rows : List RowModel) (i : ℕ) (row : RowModel) → AllByRecursion IsRowInRange rows → IsRowInRange row
+    → AllByRecursion IsRowInRange (set rows i row)
 all_set [] i row all is = tt
 all_set (x ∷ xs) zero row all is = (is, all.1)
 all_set (x ∷ xs) (suc i) row all is = (all.0, all_set xs i row all.1 is)
@@ -57,7 +58,7 @@ changed_in_range : (rows : List RowModel) (n : ℕ) (change : RowModel → Optio
 changed_in_range rows n change all each =
     if_then IsRowInRange (AreRowsLike rows) (λ row. option_map (slice_set rows (n - 1)) (change row)) (numbered rows n)
     (λ row is. if_mapped IsRowInRange (AreRowsLike rows) (slice_set rows (n - 1)) (change row)
-        (λ new h. record { each = all_set rows (n - 1) new all h; count = length-set rows (n - 1) new }) (each row is))
+    (λ new h. record { each = all_set rows (n - 1) new all h; count = length-set rows (n - 1) new }) (each row is))
     (if_either IsRowInRange (n == 0) None (slice_get rows (n - 1)) tt (if_at IsRowInRange rows (n - 1) all))
 
 changed_table : (table : TableModel) (id : RowId) (change : RowModel → Option RowModel) → IsTableInRange table
@@ -65,26 +66,26 @@ changed_table : (table : TableModel) (id : RowId) (change : RowModel → Option 
 changed_table table id change is each =
     if_either IsTableInRange (id.memory == changeable_memory) (option_map (with_changeable table) (changed_in table.changeable id.number change)) _
     (if_mapped (AreRowsLike table.changeable) IsTableInRange (with_changeable table) (changed_in table.changeable id.number change)
-        (λ rows new. record {
-          permanent = is.permanent;
-          changeable = new.each;
-          volatile = is.volatile;
-          permanent_count = is.permanent_count;
-          changeable_count = omega (arith, new.count, is.changeable_count);
-          volatile_count = is.volatile_count;
-        })
-        (changed_in_range table.changeable id.number change is.changeable each))
+    (λ rows new. record {
+      permanent = is.permanent;
+      changeable = new.each;
+      volatile = is.volatile;
+      permanent_count = is.permanent_count;
+      changeable_count = omega (arith, new.count, is.changeable_count);
+      volatile_count = is.volatile_count;
+    })
+    (changed_in_range table.changeable id.number change is.changeable each))
     (if_either IsTableInRange (id.memory == volatile_memory) (option_map (with_volatile table) (changed_in table.volatile id.number change)) None
     (if_mapped (AreRowsLike table.volatile) IsTableInRange (with_volatile table) (changed_in table.volatile id.number change)
-        (λ rows new. record {
-          permanent = is.permanent;
-          changeable = is.changeable;
-          volatile = new.each;
-          permanent_count = is.permanent_count;
-          changeable_count = is.changeable_count;
-          volatile_count = omega (arith, new.count, is.volatile_count);
-        })
-        (changed_in_range table.volatile id.number change is.volatile each)) tt)
+    (λ rows new. record {
+      permanent = is.permanent;
+      changeable = is.changeable;
+      volatile = new.each;
+      permanent_count = is.permanent_count;
+      changeable_count = is.changeable_count;
+      volatile_count = omega (arith, new.count, is.volatile_count);
+    })
+    (changed_in_range table.volatile id.number change is.volatile each)) tt)
 
 -- ---- asking
 
@@ -114,13 +115,19 @@ IsFieldInRange (Pixel on) = on ≤ 1
 IsFieldInRange (Priority priority) = (1 ≤ priority) × (priority ≤ 255)
 
 field_in_range : (row : RowModel) (field : FieldModel) → IsRowInRange row → IsFieldInRange field → IsRowInRange (with_field row field)
-field_in_range row (Text octets) is new = record { text = new; owner = is.owner; beacon = is.beacon; pixel = is.pixel; least = is.least; priority = is.priority }
-field_in_range row (Owner octets) is new = record { text = is.text; owner = new; beacon = is.beacon; pixel = is.pixel; least = is.least; priority = is.priority }
-field_in_range row (Beacon on) is new = record { text = is.text; owner = is.owner; beacon = new; pixel = is.pixel; least = is.least; priority = is.priority }
-field_in_range row (Pixel on) is new = record { text = is.text; owner = is.owner; beacon = is.beacon; pixel = new; least = is.least; priority = is.priority }
-field_in_range row (Priority priority) is new = record { text = is.text; owner = is.owner; beacon = is.beacon; pixel = is.pixel; least = new.0; priority = new.1 }
+field_in_range row (Text octets) is new =
+    record { text = new; owner = is.owner; beacon = is.beacon; pixel = is.pixel; least = is.least; priority = is.priority }
+field_in_range row (Owner octets) is new =
+    record { text = is.text; owner = new; beacon = is.beacon; pixel = is.pixel; least = is.least; priority = is.priority }
+field_in_range row (Beacon on) is new =
+    record { text = is.text; owner = is.owner; beacon = new; pixel = is.pixel; least = is.least; priority = is.priority }
+field_in_range row (Pixel on) is new =
+    record { text = is.text; owner = is.owner; beacon = is.beacon; pixel = new; least = is.least; priority = is.priority }
+field_in_range row (Priority priority) is new =
+    record { text = is.text; owner = is.owner; beacon = is.beacon; pixel = is.pixel; least = new.0; priority = new.1 }
 
-written_in_range : (table : TableModel) (id : RowId) (field : FieldModel) → IsTableInRange table → IsFieldInRange field → IfSome (written table id field) IsTableInRange
+written_in_range : (table : TableModel) (id : RowId) (field : FieldModel) → IsTableInRange table → IsFieldInRange field
+    → IfSome (written table id field) IsTableInRange
 written_in_range table id field is new =
     changed_table table id (written_row field) is
     (λ row r. if_either IsRowInRange (is_modifying row.status && is_in_range field) (Some (with_field row field)) None (field_in_range row field r new) tt)
@@ -195,19 +202,26 @@ writes_code : (object : Scalar) (o : Option (List ℕ)) → IfSome o (AreOctetsW
 writes_code object None is = tt
 writes_code object (Some octets) is = record { size = omega (arith, is.least, is.most); below = is.below }
 
-object_writes : (face : FaceModel) (object : Scalar) (value : ObjectValue) → IsValueInLimits value → IfSome (object_write face object value) IsWriteInRange
+object_writes : (face : FaceModel) (object : Scalar) (value : ObjectValue) → IsValueInLimits value
+    → IfSome (object_write face object value) IsWriteInRange
 unfolding object_write
 object_writes face SignHeightPixels value within = tt
 object_writes face SignWidthPixels value within = tt
-object_writes face DefaultBackgroundColor value within = writes_number DefaultBackgroundColor 0 9 (number_in 0 9 value) (omega arith) (number_is 0 9 value)
-object_writes face DefaultForegroundColor value within = writes_number DefaultForegroundColor 0 9 (number_in 0 9 value) (omega arith) (number_is 0 9 value)
+object_writes face DefaultBackgroundColor value within =
+    writes_number DefaultBackgroundColor 0 9 (number_in 0 9 value) (omega arith) (number_is 0 9 value)
+object_writes face DefaultForegroundColor value within =
+    writes_number DefaultForegroundColor 0 9 (number_in 0 9 value) (omega arith) (number_is 0 9 value)
 object_writes face DefaultFlashOn value within = writes_number DefaultFlashOn 0 255 (number_in 0 255 value) (omega arith) (number_is 0 255 value)
 object_writes face DefaultFlashOff value within = writes_number DefaultFlashOff 0 255 (number_in 0 255 value) (omega arith) (number_is 0 255 value)
 object_writes face DefaultFont value within = writes_number DefaultFont 1 255 (font_in face value) (omega arith) (font_is face value)
-object_writes face DefaultJustificationLine value within = writes_number DefaultJustificationLine 2 4 (number_in 2 4 value) (omega arith) (number_is 2 4 value)
-object_writes face DefaultJustificationPage value within = writes_number DefaultJustificationPage 2 4 (number_in 2 4 value) (omega arith) (number_is 2 4 value)
-object_writes face DefaultPageOnTime value within = writes_number DefaultPageOnTime 0 255 (number_in 0 255 value) (omega arith) (number_is 0 255 value)
-object_writes face DefaultPageOffTime value within = writes_number DefaultPageOffTime 0 255 (number_in 0 255 value) (omega arith) (number_is 0 255 value)
+object_writes face DefaultJustificationLine value within =
+    writes_number DefaultJustificationLine 2 4 (number_in 2 4 value) (omega arith) (number_is 2 4 value)
+object_writes face DefaultJustificationPage value within =
+    writes_number DefaultJustificationPage 2 4 (number_in 2 4 value) (omega arith) (number_is 2 4 value)
+object_writes face DefaultPageOnTime value within =
+    writes_number DefaultPageOnTime 0 255 (number_in 0 255 value) (omega arith) (number_is 0 255 value)
+object_writes face DefaultPageOffTime value within =
+    writes_number DefaultPageOffTime 0 255 (number_in 0 255 value) (omega arith) (number_is 0 255 value)
 object_writes face ColorScheme value within = tt
 object_writes face NumPermanentMsg value within = tt
 object_writes face NumChangeableMsg value within = tt
@@ -217,14 +231,18 @@ object_writes face NumVolatileMsg value within = tt
 object_writes face MaxVolatileMsg value within = tt
 object_writes face FreeVolatileMemory value within = tt
 object_writes face ValidateMessageError value within = tt
-object_writes face ActivateMessage value within = if_mapped (AreOctetsWithin 12 12) IsWriteInRange Activate (octets_in 12 12 value) (λ octets is. record { size = omega (arith, is.least, is.most); below = is.below }) (octets_are 12 12 value within)
-object_writes face MessageTimeRemaining value within = if_mapped (IsWithin 0 65535) IsWriteInRange SetRemaining (number_in 0 65535 value) (λ n is. is.1) (number_is 0 65535 value)
+object_writes face ActivateMessage value within =
+    if_mapped (AreOctetsWithin 12 12) IsWriteInRange Activate (octets_in 12 12 value)
+    (λ octets is. record { size = omega (arith, is.least, is.most); below = is.below }) (octets_are 12 12 value within)
+object_writes face MessageTimeRemaining value within =
+    if_mapped (IsWithin 0 65535) IsWriteInRange SetRemaining (number_in 0 65535 value) (λ n is. is.1) (number_is 0 65535 value)
 object_writes face MsgTableSource value within = tt
 object_writes face MsgRequesterId value within = tt
 object_writes face MsgSourceMode value within = tt
 object_writes face ShortPowerRecoveryMessage value within = writes_code ShortPowerRecoveryMessage (octets_in 5 5 value) (octets_are 5 5 value within)
 object_writes face LongPowerRecoveryMessage value within = writes_code LongPowerRecoveryMessage (octets_in 5 5 value) (octets_are 5 5 value within)
-object_writes face ShortPowerLossTime value within = writes_number ShortPowerLossTime 0 65535 (number_in 0 65535 value) (omega arith) (number_is 0 65535 value)
+object_writes face ShortPowerLossTime value within =
+    writes_number ShortPowerLossTime 0 65535 (number_in 0 65535 value) (omega arith) (number_is 0 65535 value)
 object_writes face CommunicationsLossMessage value within = writes_code CommunicationsLossMessage (octets_in 5 5 value) (octets_are 5 5 value within)
 object_writes face TimeCommLoss value within = writes_number TimeCommLoss 0 65535 (number_in 0 65535 value) (omega arith) (number_is 0 65535 value)
 object_writes face PowerLossMessage value within = writes_code PowerLossMessage (octets_in 5 5 value) (octets_are 5 5 value within)
@@ -266,7 +284,8 @@ any_then P f (Some x) each = each x
 binding_writes : (s : SignState) (binding : VarBind) → IsValueInLimits binding.value → IfSome (write_at s binding) IsWriteInRange
 unfolding write_at
 binding_writes s binding within =
-    any_then IsWriteInRange (λ i. write_of s.config.face i binding.value) (settable_instance s binding.name) (λ i. instance_writes s.config.face i binding.value within)
+    any_then IsWriteInRange (λ i. write_of s.config.face i binding.value) (settable_instance s binding.name)
+    (λ i. instance_writes s.config.face i binding.value within)
 
 each_binding : (bindings : List VarBind) → AreBindingsInLimits bindings → AllByRecursion IsBindingInLimits bindings
 each_binding [] within = tt
@@ -278,7 +297,8 @@ writes_in_range s bindings within =
 
 -- ---- assignment
 
-given_in_range : {B : Type 0} (P : B → Type 0) (pick : Write → Option B) (writes : List Write) (old : B) → ((w : Write) → IsWriteInRange w → IfSome (pick w) P)
+given_in_range : {B : Type 0} (P : B → Type 0) (pick : Write → Option B) (writes : List Write) (old : B)
+    → ((w : Write) → IsWriteInRange w → IfSome (pick w) P)
     → AllByRecursion IsWriteInRange writes → P old → P (given pick writes old)
 given_in_range P pick [] old each all is = is
 given_in_range P pick (w ∷ ws) old each all is = given_in_range P pick ws (unwrap_or (pick w) old) each all.1 (if_or P (pick w) old (each w all.0) is)
@@ -324,7 +344,8 @@ with_write_in_range table (AskRow id ask) is new = is
 with_write_in_range table (Activate octets) is new = is
 with_write_in_range table (SetRemaining minutes) is new = is
 
-with_writes_in_range : (table : TableModel) (writes : List Write) → IsTableInRange table → AllByRecursion IsWriteInRange writes → IsTableInRange (with_writes table writes)
+with_writes_in_range : (table : TableModel) (writes : List Write) → IsTableInRange table → AllByRecursion IsWriteInRange writes
+    → IsTableInRange (with_writes table writes)
 with_writes_in_range table [] is all = is
 with_writes_in_range table (w ∷ ws) is all = with_writes_in_range (with_write table w) ws (with_write_in_range table w is all.0) all.1
 
@@ -372,25 +393,24 @@ accepted_reports reports octets are twelve = record {
   failed_code = are.failed_code;
 }
 
-as_decided_after : (old new : SignState) (bindings : List VarBind) (index : ℕ) (octets : List ℕ) (r : Result ShownModel Cause) → IsSignInRange old → IsSignInRange new
+as_decided_after : (old new : SignState) (bindings : List VarBind) (index : ℕ) (octets : List ℕ) (r : Result ShownModel Cause) → IsSignInRange old
+    → IsSignInRange new
     → AreOctets 12 octets → IsDecisionInRange r → IsSignInRange (as_decided old new bindings index octets r).after
 as_decided_after old new bindings index octets (Ok shown) was is twelve decision =
     telling_in_range (showing new shown) (record new.reports { activate_error = 2; accepted_code = octets }) (showing_in_range new shown is decision)
     (accepted_reports new.reports octets is.reports twelve)
 as_decided_after old new bindings index octets (Err cause) was is twelve decision = refused_code_in_range old cause octets was decision twelve
 
-as_asked_after : (old new : SignState) (bindings : List VarBind) (index : ℕ) (o : Option TableModel) → IsSignInRange old → IsSignInRange new → IfSome o IsTableInRange
+as_asked_after : (old new : SignState) (bindings : List VarBind) (index : ℕ) (o : Option TableModel) → IsSignInRange old → IsSignInRange new
+    → IfSome o IsTableInRange
     → IsSignInRange (as_asked old new bindings index o).after
 as_asked_after old new bindings index None was is table = was
 as_asked_after old new bindings index (Some t) was is table = with_table_in_range new t is table
 
-either : {X : Type 0} (P : X → Type 0) (b : Bool) (x y : X) → P x → P y → P (cond b x y)
-either P true x y first second = first
-either P false x y first second = second
-
 remaining_in_range : (s : SignState) (minutes : ℕ) → IsSignInRange s → minutes ≤ 65535 → IsSignInRange (with_remaining s minutes)
 remaining_in_range s minutes is few =
-    either IsSignInRange (minutes == 0) (put_up_code s s.fallbacks.end_duration end_duration_mode) (showing s (record s.shown { remaining = seconds_of minutes }))
+    either IsSignInRange (minutes == 0) (put_up_code s s.fallbacks.end_duration end_duration_mode)
+    (showing s (record s.shown { remaining = seconds_of minutes }))
     (code_in_range s s.fallbacks.end_duration end_duration_mode is is.fallbacks.end_duration.below (omega arith))
     (showing_in_range s (record s.shown { remaining = seconds_of minutes }) is (with_time s.shown (seconds_of minutes) is.shown (seconds_in_range minutes few)))
 
@@ -399,7 +419,8 @@ commanded_after : (old new : SignState) (bindings : List VarBind) (index : ℕ) 
 commanded_after old new bindings index (AskRow id ask) was is write =
     as_asked_after old new bindings index (asked new.table id ask) was is (asked_in_range new.table id ask is.table)
 commanded_after old new bindings index (Activate octets) was is write =
-    as_decided_after old new bindings index octets (decided new.config.face new.defaults new.table new.shown (activation_of old.table.order octets)) was is write
+    as_decided_after old new bindings index octets
+    (decided new.config.face new.defaults new.table new.shown (activation_of old.table.order octets)) was is write
     (decided_in_range new.config.face new.defaults new.table new.shown (activation_of old.table.order octets) is.defaults is.table is.shown
     (activation_is old.table.order octets write.below))
 commanded_after old new bindings index (SetRemaining minutes) was is write = remaining_in_range new minutes is write
@@ -407,7 +428,8 @@ commanded_after old new bindings index (SetNumber object n) was is write = is
 commanded_after old new bindings index (SetCode object octets) was is write = is
 commanded_after old new bindings index (SetField id field) was is write = is
 
-commanded_if_after : (old new : SignState) (bindings : List VarBind) (index : ℕ) (o : Option Write) → IsSignInRange old → IsSignInRange new → IfSome o IsWriteInRange
+commanded_if_after : (old new : SignState) (bindings : List VarBind) (index : ℕ) (o : Option Write) → IsSignInRange old → IsSignInRange new
+    → IfSome o IsWriteInRange
     → IsSignInRange (commanded_if old new bindings index o).after
 commanded_if_after old new bindings index None was is write = is
 commanded_if_after old new bindings index (Some w) was is write = commanded_after old new bindings index w was is write
@@ -426,7 +448,8 @@ set_unless_after s bindings [] is within =
     (assigned_in_range s (writes_of s bindings) is all) (if_found IsWriteInRange is_command (writes_of s bindings) all)
 set_unless_after s bindings (cause ∷ more) is within = is
 
-answer_after : (s : SignState) (m : SnmpMessage) (kind : Kind) → IsSignInRange s → AreBindingsInLimits m.bindings → IsSignInRange (answer_by s m kind).after
+answer_after : (s : SignState) (m : SnmpMessage) (kind : Kind) → IsSignInRange s → AreBindingsInLimits m.bindings
+    → IsSignInRange (answer_by s m kind).after
 answer_after s m Get is within = found_after s m.bindings _ (position_from (has_no_value s) 1 m.bindings) is
 answer_after s m GetNext is within = found_after s m.bindings _ (position_from (is_last s) 1 m.bindings) is
 answer_after s m Response is within = is
@@ -438,14 +461,16 @@ primary_after s m is within = answer_after s m m.kind is within
 
 -- ---- datagrams
 
-heard_after : (s : SignState) (m : SnmpMessage) (b : Bool) → IsSignInRange s → AreBindingsInLimits m.bindings → IsSignInRange (cond b (heard s m) (dropped s)).after
+heard_after : (s : SignState) (m : SnmpMessage) (b : Bool) → IsSignInRange s → AreBindingsInLimits m.bindings
+    → IsSignInRange (cond b (heard s m) (dropped s)).after
 heard_after s m true is within = with_silence (primary s m).after 0 (primary_after s m is within) (omega arith)
 heard_after s m false is within = is
 
 pub message_keeps_range : (s : SignState) (m : SnmpMessage) → IsSignInRange s → AreBindingsInLimits m.bindings → IsSignInRange (on_message s m).after
 message_keeps_range s m is within = heard_after s m (is_heard s m) is within
 
-datagram_after : (s : SignState) (octets : List ℕ) (o : Option SnmpMessage) → IsSignInRange s → message_of octets ≡ o → IsSignInRange (on_message_if s o).after
+datagram_after : (s : SignState) (octets : List ℕ) (o : Option SnmpMessage) → IsSignInRange s → message_of octets ≡ o
+    → IsSignInRange (on_message_if s o).after
 datagram_after s octets None is e = is
 datagram_after s octets (Some m) is e =
     message_keeps_range s m is (spelled_in_limits m octets ((read_is_spelled octets m).0 e)).bindings

@@ -21,7 +21,7 @@ use Rattle.dms_table.specs.Deciding.{ShownModel, is_memory, named, row_id, has_c
 use Rattle.dms_sign.specs.State.{ReportsModel, SignState, no_address, blank_shown}
 use Rattle.dms_sign.specs.PuttingUp.{showing, with_fault, with_cause, refused_reports, with_refused_code, own_activation, put_up_as_decided, staying, put_up_code}
 use Rattle.dms_sign.specs.InRange.{AreOctets, AreDefaultsInRange, IsTableInRange, IsTimeInRange, IsShownInRange, AreReportsInRange, IsSignInRange}
-use Rattle.dms_sign.proofs.InRangeLists.{if_either, if_mapped, all_append}
+use Rattle.dms_sign.proofs.InRangeLists.{either, if_either, if_mapped, all_append}
 use Rattle.dms_sign.proofs.InRangeValues.{IsReadingInRange, in_order_small, id_below, message_in_range}
 use Rattle.dms_sign.proofs.InRangeFaults.{code_small, fault_placed}
 
@@ -41,7 +41,8 @@ showing_in_range s shown is new = record {
   reports = is.reports;
 }
 
-pub telling_in_range : (s : SignState) (reports : ReportsModel) → IsSignInRange s → AreReportsInRange reports → IsSignInRange (record s { reports = reports })
+pub telling_in_range : (s : SignState) (reports : ReportsModel) → IsSignInRange s → AreReportsInRange reports
+    → IsSignInRange (record s { reports = reports })
 telling_in_range s reports is new = record {
   config = is.config;
   table = is.table;
@@ -129,7 +130,8 @@ activation_is order octets below =
     }
 
 own_is : (id : MessageId) → IsMessageId id → IsCodeInRange (own_activation id)
-own_is id is = record { minutes = omega arith; id = is; address = record { size = refl; below = (omega arith, (omega arith, (omega arith, (omega arith, tt)))) } }
+own_is id is =
+    record { minutes = omega arith; id = is; address = record { size = refl; below = (omega arith, (omega arith, (omega arith, (omega arith, tt)))) } }
 
 own_size : (order : Order) (id : MessageId) → length (octets_of_activation order (own_activation id)) ≡ 12
 own_size High id = refl
@@ -138,8 +140,17 @@ own_size Swapped id = refl
 own_octets : (order : Order) (id : MessageId) → IsMessageId id → AreOctets 12 (octets_of_activation order (own_activation id))
 own_octets order id is = record {
   size = own_size order id;
-  below = (omega arith, (omega arith, (omega arith,
-      all_append (λ n. n < 256) (octets_of_id order id) no_address (id_below order id is) (omega arith, (omega arith, (omega arith, (omega arith, tt)))))));
+  below = (
+    omega arith,
+    (
+      omega arith,
+      (
+        omega arith,
+        all_append (λ n. n < 256) (octets_of_id order id) no_address (id_below order id is)
+            (omega arith, (omega arith, (omega arith, (omega arith, tt)))),
+      ),
+    ),
+  );
 }
 
 -- ---- decisions
@@ -162,16 +173,13 @@ text_error_in_range face id message =
     (if_mapped (λ (fault : MultiFault). fault.place ≤ longest_text) IsCauseInRange causes.Syntax (fault_of face message.row.text) (λ fault h. h)
     (fault_placed face message.row.text))
 
-error_in_range : (face : FaceModel) (shown : ShownModel) (code : Activation) (message : RowReading) → IfSome (activation_error face shown code message) IsCauseInRange
+error_in_range : (face : FaceModel) (shown : ShownModel) (code : Activation) (message : RowReading)
+    → IfSome (activation_error face shown code message) IsCauseInRange
 error_in_range face shown code message =
     if_either IsCauseInRange (not (is_valid message.row.status)) (Some causes.Status) _ tt
     (if_either IsCauseInRange (not (has_checksum code.id message)) (Some causes.Checksum) _ tt
     (if_either IsCauseInRange (nat_lt code.priority shown.priority) (Some causes.Priority) (text_error face code.id message) tt
     (text_error_in_range face code.id message)))
-
-either : {X : Type 0} (P : X → Type 0) (b : Bool) (x y : X) → P x → P y → P (cond b x y)
-either P true x y first second = first
-either P false x y first second = second
 
 seconds_if : (b : Bool) (minutes : ℕ) → minutes ≤ 65535 → IsTimeInRange (cond b None (Some (minutes * 60)))
 seconds_if true minutes few = tt
@@ -180,7 +188,8 @@ seconds_if false minutes few = omega arith
 pub seconds_in_range : (minutes : ℕ) → minutes ≤ 65535 → IsTimeInRange (seconds_of minutes)
 seconds_in_range minutes few = seconds_if (minutes == 65535) minutes few
 
-put_up_in_range : (defaults : Defaults) (shown : ShownModel) (code : Activation) (message : RowReading) → AreDefaultsInRange defaults → IsShownInRange shown
+put_up_in_range : (defaults : Defaults) (shown : ShownModel) (code : Activation) (message : RowReading) → AreDefaultsInRange defaults
+    → IsShownInRange shown
     → IsCodeInRange code → IsReadingInRange message → IsShownInRange (put_up defaults shown code message)
 put_up_in_range defaults shown code message are is coded read = record {
   row = record {
@@ -198,7 +207,8 @@ put_up_in_range defaults shown code message are is coded read = record {
   defaults = either AreDefaultsInRange (code.id.memory == current_buffer) shown.defaults defaults is.defaults are;
 }
 
-unless_in_range : (shown : ShownModel) (o : Option Cause) → IsShownInRange shown → IfSome o IsCauseInRange → IsDecisionInRange (unless_refused shown o)
+unless_in_range : (shown : ShownModel) (o : Option Cause) → IsShownInRange shown → IfSome o IsCauseInRange
+    → IsDecisionInRange (unless_refused shown o)
 unless_in_range shown None is cause = is
 unless_in_range shown (Some c) is cause = cause
 
@@ -209,7 +219,8 @@ on_in_range face defaults shown code (Some message) are is coded read =
     unless_in_range (put_up defaults shown code message) (activation_error (under face defaults) shown code message)
     (put_up_in_range defaults shown code message are is coded read) (error_in_range (under face defaults) shown code message)
 
-pub decided_in_range : (face : FaceModel) (defaults : Defaults) (table : TableModel) (shown : ShownModel) (code : Activation) → AreDefaultsInRange defaults
+pub decided_in_range : (face : FaceModel) (defaults : Defaults) (table : TableModel) (shown : ShownModel) (code : Activation)
+    → AreDefaultsInRange defaults
     → IsTableInRange table → IsShownInRange shown → IsCodeInRange code → IsDecisionInRange (decided face defaults table shown code)
 decided_in_range face defaults table shown code are rows is coded =
     either IsDecisionInRange (is_memory code.id.memory) (decided_on face defaults shown code (named table shown code.id)) (Err causes.MemoryType)
@@ -217,7 +228,8 @@ decided_in_range face defaults table shown code are rows is coded =
 
 -- ---- codes that are refused
 
-pub fault_in_range : (reports : ReportsModel) (fault : MultiFault) → AreReportsInRange reports → fault.place ≤ longest_text → AreReportsInRange (with_fault reports fault)
+pub fault_in_range : (reports : ReportsModel) (fault : MultiFault) → AreReportsInRange reports → fault.place ≤ longest_text
+    → AreReportsInRange (with_fault reports fault)
 fault_in_range reports fault are placed = record {
   validate_error = are.validate_error;
   activate_error = are.activate_error;
@@ -227,7 +239,8 @@ fault_in_range reports fault are placed = record {
   failed_code = are.failed_code;
 }
 
-cause_in_range : (reports : ReportsModel) (cause : Cause) → AreReportsInRange reports → IsCauseInRange cause → AreReportsInRange (with_cause reports cause)
+cause_in_range : (reports : ReportsModel) (cause : Cause) → AreReportsInRange reports → IsCauseInRange cause
+    → AreReportsInRange (with_cause reports cause)
 cause_in_range reports (causes.Syntax fault) are is = fault_in_range reports fault are is
 cause_in_range reports causes.MemoryType are is = are
 cause_in_range reports causes.Number are is = are
@@ -264,24 +277,31 @@ refused_code_in_range s cause code is small octets =
 -- ---- codes of the sign's own
 
 with_mode : (shown : ShownModel) (mode : ℕ) → IsShownInRange shown → mode ≤ 255 → IsShownInRange (record shown { mode = mode })
-with_mode shown mode is small = record { row = is.row; source = is.source; mode = small; address = is.address; remaining = is.remaining; defaults = is.defaults }
+with_mode shown mode is small =
+    record { row = is.row; source = is.source; mode = small; address = is.address; remaining = is.remaining; defaults = is.defaults }
 
-pub with_time : (shown : ShownModel) (remaining : Option ℕ) → IsShownInRange shown → IsTimeInRange remaining → IsShownInRange (record shown { remaining = remaining })
-with_time shown remaining is time = record { row = is.row; source = is.source; mode = is.mode; address = is.address; remaining = time; defaults = is.defaults }
+pub with_time : (shown : ShownModel) (remaining : Option ℕ) → IsShownInRange shown → IsTimeInRange remaining
+    → IsShownInRange (record shown { remaining = remaining })
+with_time shown remaining is time =
+    record { row = is.row; source = is.source; mode = is.mode; address = is.address; remaining = time; defaults = is.defaults }
 
-as_decided_in_range : (s : SignState) (id : MessageId) (mode : ℕ) (r : Result ShownModel Cause) → IsSignInRange s → IsMessageId id → mode ≤ 255 → IsDecisionInRange r
+as_decided_in_range : (s : SignState) (id : MessageId) (mode : ℕ) (r : Result ShownModel Cause) → IsSignInRange s → IsMessageId id → mode ≤ 255
+    → IsDecisionInRange r
     → IsSignInRange (put_up_as_decided s id mode r)
-as_decided_in_range s id mode (Ok shown) is known small decision = showing_in_range s (record shown { mode = mode }) is (with_mode shown mode decision small)
+as_decided_in_range s id mode (Ok shown) is known small decision =
+    showing_in_range s (record shown { mode = mode }) is (with_mode shown mode decision small)
 as_decided_in_range s id mode (Err cause) is known small decision =
     refused_code_in_range (showing s (blank_shown s.defaults mode)) cause (octets_of_activation s.table.order (own_activation id))
-    (showing_in_range s (blank_shown s.defaults mode) is (blank_in_range s.defaults mode is.defaults small)) decision (own_octets s.table.order id known)
+    (showing_in_range s (blank_shown s.defaults mode) is (blank_in_range s.defaults mode is.defaults small)) decision
+    (own_octets s.table.order id known)
 
 staying_in_range : (s : SignState) (mode : ℕ) → IsSignInRange s → mode ≤ 255 → IsSignInRange (staying s mode)
 staying_in_range s mode is small =
     showing_in_range s (record s.shown { mode = mode; remaining = None }) is
     (with_time (record s.shown { mode = mode }) None (with_mode s.shown mode is.shown small) tt)
 
-pub code_in_range : (s : SignState) (octets : List ℕ) (mode : ℕ) → IsSignInRange s → AllBelowBase 256 octets → mode ≤ 255 → IsSignInRange (put_up_code s octets mode)
+pub code_in_range : (s : SignState) (octets : List ℕ) (mode : ℕ) → IsSignInRange s → AllBelowBase 256 octets → mode ≤ 255
+    → IsSignInRange (put_up_code s octets mode)
 unfolding put_up_code
 code_in_range s octets mode is below small =
     let id = id_of s.table.order octets in

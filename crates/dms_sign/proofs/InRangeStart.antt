@@ -28,7 +28,8 @@ zeros_below (suc n) = (omega arith, zeros_below n)
 zeros_are : AreOctets 12 (replicate 12 0)
 zeros_are = record { size = refl; below = zeros_below 12 }
 
-pub start_in_range : (config : ConfigModel) (table : TableModel) → IsConfigInRange config → AreDefaultsInRange config.face.defaults → IsTableInRange table
+pub start_in_range : (config : ConfigModel) (table : TableModel) → IsConfigInRange config → AreDefaultsInRange config.face.defaults
+    → IsTableInRange table
     → IsSignInRange (start config table)
 start_in_range config table is defaults rows = record {
   config = is;

@@ -27,11 +27,11 @@ use Rattle.dms_sign.specs.declared.object.Scalar.{Scalar}
 use Rattle.dms_sign.specs.declared.object.Scalar.TheVariants.{SignHeightPixels, SignWidthPixels, DefaultBackgroundColor, DefaultForegroundColor, DefaultFlashOn, DefaultFlashOff, DefaultFont, DefaultJustificationLine, DefaultJustificationPage, DefaultPageOnTime, DefaultPageOffTime, ColorScheme, NumPermanentMsg, NumChangeableMsg, MaxChangeableMsg, FreeChangeableMemory, NumVolatileMsg, MaxVolatileMsg, FreeVolatileMemory, ValidateMessageError, ActivateMessage, MessageTimeRemaining, MsgTableSource, MsgRequesterId, MsgSourceMode, ShortPowerRecoveryMessage, LongPowerRecoveryMessage, ShortPowerLossTime, CommunicationsLossMessage, TimeCommLoss, PowerLossMessage, EndDurationMessage, ActivateMsgError, MultiSyntaxError, MultiSyntaxErrorPosition, ActivateErrorMsgCode}
 use Rattle.dms_sign.specs.declared.object.Instance.{Instance}
 use Rattle.dms_sign.specs.declared.object.Instance.TheVariants.{The, Cell}
-use Rattle.dms_sign.specs.Objects.{scalar_number, name_of, before_table, after_table, columns, numbers_to, memories, rows_in, row_ids, cells, instances, instance_named, next_instance}
+use Rattle.dms_sign.specs.Objects.{scalar_number, name_of, before_table, after_table, columns, numbers_to, memories, rows_in, row_ids, cells, instances, instance_named, next_instance, IsInstance}
 use Rattle.dms_sign.specs.State.{SignState}
 use Rattle.dms_sign.specs.Values.{number_value, minutes_left, scalar_value, cell_value, value_at, value_of, bound, binding_at, value_after}
 use Rattle.dms_sign.specs.InRange.{IsRowInRange, IsTableInRange, IsTimeInRange, IsShownInRange, IsSignInRange, IsBindingInLimits}
-use Rattle.dms_sign.proofs.InRangeLists.{if_either, if_mapped, if_then, all_append, all_mapped, all_flat, all_any, if_found, if_at}
+use Rattle.dms_sign.proofs.InRangeLists.{either, if_either, if_mapped, if_then, all_append, all_mapped, all_flat, all_any, if_found, if_at}
 
 -- ---- checksums
 
@@ -71,7 +71,8 @@ checksum_below Swapped n small = (omega arith, (omega arith, tt))
 pub id_below : (order : Order) (id : MessageId) → IsMessageId id → AllBelowBase 256 (octets_of_id order id)
 id_below order id is =
     let memory : id.memory < 2 ^ 8 = is.memory in
-    (omega arith, all_append (λ n. n < 256) (two_octets id.number) (octets_of_checksum order id.crc) (two_octets_below id.number is.number) (checksum_below order id.crc is.crc))
+    let number_below = two_octets_below id.number is.number in
+    (omega arith, all_append (λ n. n < 256) (two_octets id.number) (octets_of_checksum order id.crc) number_below (checksum_below order id.crc is.crc))
 
 -- ---- objects with one instance
 
@@ -152,25 +153,17 @@ status_small statuses.Validating = omega arith
 status_small statuses.Valid = omega arith
 status_small statuses.Error = omega arith
 
-checksum_or_zero : (b : Bool) (n : ℕ) → n < 2 ^ 16 → cond b n 0 < 2 ^ 16
-checksum_or_zero true n small = small
-checksum_or_zero false n small = omega arith
-
-zero_or_checksum : (b : Bool) (n : ℕ) → n < 2 ^ 16 → cond b 0 n < 2 ^ 16
-zero_or_checksum true n small = omega arith
-zero_or_checksum false n small = small
-
 row_checksum_small : (row : RowModel) → row_checksum row < 2 ^ 16
 row_checksum_small row = checksum_small (row.text ++ row.beacon ∷ row.pixel ∷ [])
 
 reading_in_range : (row : RowModel) → IsRowInRange row → IsReadingInRange (reading row)
-reading_in_range row is = record { row = is; checksum = checksum_or_zero (is_valid row.status) (row_checksum row) (row_checksum_small row) }
+reading_in_range row is =
+    record { row = is; checksum = either (λ n. n < 2 ^ 16) (is_valid row.status) (row_checksum row) 0 (row_checksum_small row) (omega arith) }
 
 pub shown_in_range : (shown : ShownModel) → IsShownInRange shown → IsReadingInRange (shown_reading shown)
-shown_in_range shown is = record {
-  row = is.row;
-  checksum = zero_or_checksum (shown.source.memory == blank_memory) (row_checksum (shown_row shown)) (row_checksum_small (shown_row shown));
-}
+shown_in_range shown is =
+    let small = row_checksum_small (shown_row shown) in
+    record { row = is.row; checksum = either (λ n. n < 2 ^ 16) (shown.source.memory == blank_memory) 0 (row_checksum (shown_row shown)) (omega arith) small }
 
 blank_row : (n : ℕ) → 1 ≤ n → n ≤ 255 → IsRowInRange (blank n)
 blank_row n least most = record {
@@ -193,15 +186,11 @@ blank_in_range n = blank_if n (nat_le 1 n && nat_le n 255) refl
 numbered_in_range : (rows : List RowModel) (n : ℕ) → AllByRecursion IsRowInRange rows → IfSome (numbered rows n) IsRowInRange
 numbered_in_range rows n all = if_either IsRowInRange (n == 0) None (slice_get rows (n - 1)) tt (if_at IsRowInRange rows (n - 1) all)
 
-all_if : {X : Type 0} (P : X → Type 0) (b : Bool) (xs ys : List X) → AllByRecursion P xs → AllByRecursion P ys → AllByRecursion P (cond b xs ys)
-all_if P true xs ys first second = first
-all_if P false xs ys first second = second
-
 pub rows_in_range : (table : TableModel) (memory : ℕ) → IsTableInRange table → AllByRecursion IsRowInRange (rows_of table memory)
 rows_in_range table memory is =
-    all_if IsRowInRange (memory == permanent_memory) table.permanent _ is.permanent
-    (all_if IsRowInRange (memory == changeable_memory) table.changeable _ is.changeable
-    (all_if IsRowInRange (memory == volatile_memory) table.volatile [] is.volatile tt))
+    either (AllByRecursion IsRowInRange) (memory == permanent_memory) table.permanent _ is.permanent
+    (either (AllByRecursion IsRowInRange) (memory == changeable_memory) table.changeable _ is.changeable
+    (either (AllByRecursion IsRowInRange) (memory == volatile_memory) table.volatile [] is.volatile tt))
 
 row_read_in_range : (table : TableModel) (id : RowId) → IsTableInRange table → IfSome (row_read table id) IsReadingInRange
 row_read_in_range table id is =
@@ -217,12 +206,14 @@ message_in_range table shown id is is_shown =
     (if_either IsReadingInRange (id.number == 1) (Some (shown_reading shown)) None (shown_in_range shown is_shown) tt)
     (row_read_in_range table id is)
 
-cell_within : (order : Order) (column : Column) (id : RowId) (read : RowReading) → IsSmallId id → IsReadingInRange read → IsValueInLimits (cell_value order column id read)
+cell_within : (order : Order) (column : Column) (id : RowId) (read : RowReading) → IsSmallId id → IsReadingInRange read
+    → IsValueInLimits (cell_value order column id read)
 cell_within order columns_of.MemoryType id read small is = number_within id.memory (omega (arith, small.memory))
 cell_within order columns_of.Number id read small is = number_within id.number (omega (arith, small.number))
 cell_within order columns_of.MultiString id read small is = is.row.text.below
 cell_within order columns_of.Owner id read small is = is.row.owner.below
-cell_within order columns_of.Crc id read small is = number_within (in_order order read.checksum) (omega (arith, in_order_small order read.checksum is.checksum))
+cell_within order columns_of.Crc id read small is =
+    number_within (in_order order read.checksum) (omega (arith, in_order_small order read.checksum is.checksum))
 cell_within order columns_of.Beacon id read small is = number_within read.row.beacon (omega (arith, is.row.beacon))
 cell_within order columns_of.PixelService id read small is = number_within read.row.pixel (omega (arith, is.row.pixel))
 cell_within order columns_of.RunTimePriority id read small is = number_within read.row.priority (omega (arith, is.row.priority))
@@ -238,7 +229,8 @@ pub value_within : (s : SignState) → IsSignInRange s → (i : Instance) → Is
 unfolding value_at
 value_within s is (The object) small = scalar_within s is object
 value_within s is (Cell column id) small =
-    if_mapped IsReadingInRange IsValueInLimits (cell_value s.table.order column id) (message_at s.table s.shown id) (λ read r. cell_within s.table.order column id read small r)
+    if_mapped IsReadingInRange IsValueInLimits (cell_value s.table.order column id) (message_at s.table s.shown id)
+    (λ read r. cell_within s.table.order column id read small r)
     (message_in_range s.table s.shown id is.table is.shown)
 
 numbers_small : (from count most : ℕ) → from + count ≤ most → AllByRecursion (λ n. n < most) (range_with_len from count)
@@ -347,6 +339,13 @@ unfolding name_of
 name_within (The object) small = object_name_within (scalar_number object).0 (scalar_number object).1 (object_small object).0 (object_small object).1
 name_within (Cell column id) small = cell_name_within column id small
 
+-- what an instance of a sign is called and reads
+pub instance_within : (s : SignState) (i : Instance) → IsSignInRange s → IsInstance s.table i → IsNameInLimits (name_of i) × IfSome (value_at s i) IsValueInLimits
+instance_within s i is there =
+    let small : IsSmallInstance i =
+    subst (λ o. IfSome o IsSmallInstance) there.1 (if_at IsSmallInstance (instances s.table) there.0 (instances_small s.table is.table)) in
+    (name_within i small, value_within s is i small)
+
 -- ---- what is found by a name
 
 pub value_of_within : (s : SignState) (name : List ℕ) → IsSignInRange s → IfSome (value_of s name) IsValueInLimits
@@ -359,5 +358,6 @@ pub value_after_within : (s : SignState) (name : List ℕ) → IsSignInRange s �
 unfolding value_after
 value_after_within s name is =
     if_then IsSmallInstance IsBindingInLimits (binding_at s) (next_instance s.table name)
-    (λ i small. if_mapped IsValueInLimits IsBindingInLimits (bound i) (value_at s i) (λ v h. record { name = name_within i small; value = h }) (value_within s is i small))
+    (λ i small. if_mapped IsValueInLimits IsBindingInLimits (bound i) (value_at s i) (λ v h. record { name = name_within i small; value = h })
+    (value_within s is i small))
     (if_found IsSmallInstance _ (instances s.table) (instances_small s.table is.table))

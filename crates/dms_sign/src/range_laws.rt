@@ -2,15 +2,17 @@
 
 ghost use Rattle.std.specs.Prelude.{◌≡◌, ℕ, IsTrue, List, Some, None, IfSome};
 ghost use Rattle.dms_wire.specs.Message.{SnmpMessage};
-ghost use Rattle.dms_wire.specs.Limits.{IsValueInLimits, AreBindingsInLimits, IsMessageInLimits};
+ghost use Rattle.dms_wire.specs.Limits.{IsNameInLimits, IsValueInLimits, AreBindingsInLimits, IsMessageInLimits};
 ghost use Rattle.dms_wire.specs.Spelling.{Spells};
 ghost use Rattle.dms_wire.specs.Response.{response_to};
 ghost use Rattle.dms_face.specs.Face.{FaceModel, is_face};
 ghost use Rattle.dms_table.specs.declared.stock.Stock.{Stock};
 ghost use Rattle.dms_table.specs.Rows.{TableModel};
 ghost use Rattle.dms_table.specs.Stocking.{stock_fault, table_of};
+ghost use Rattle.dms_sign.specs.declared.object.Instance.{Instance};
+ghost use Rattle.dms_sign.specs.Objects.{name_of, IsInstance};
 ghost use Rattle.dms_sign.specs.State.{ConfigModel, SignState, start};
-ghost use Rattle.dms_sign.specs.Values.{value_of, value_after};
+ghost use Rattle.dms_sign.specs.Values.{value_at, value_of, value_after};
 ghost use Rattle.dms_sign.specs.Setting.{too_big};
 ghost use Rattle.dms_sign.specs.Answering.{primary};
 ghost use Rattle.dms_sign.specs.Reply.{response_of, on_message, received};
@@ -31,9 +33,12 @@ pub fn signs_stay_in_range()
 
 /// What a sign in range reads and answers can be said in a message.
 pub fn answers_are_in_limits()
+    ensures instance { (s : SignState) (i : Instance) → IsSignInRange s → IsInstance s.table i
+        → IsNameInLimits (name_of i) × IfSome (value_at s i) IsValueInLimits }
     ensures value { (s : SignState) (name : List ℕ) → IsSignInRange s → IfSome (value_of s name) IsValueInLimits }
     ensures next { (s : SignState) (name : List ℕ) → IsSignInRange s → IfSome (value_after s name) IsBindingInLimits }
-    ensures response { (s : SignState) (m : SnmpMessage) (octets : List ℕ) → IsSignInRange s → Spells m octets → IsMessageInLimits (response_of m (primary s m)) }
+    ensures response { (s : SignState) (m : SnmpMessage) (octets : List ℕ) → IsSignInRange s → Spells m octets
+        → IsMessageInLimits (response_of m (primary s m)) }
     ensures too_big { (m : SnmpMessage) → IsMessageInLimits m → IsMessageInLimits (response_to m too_big 0) }
 {}
 

@@ -1,6 +1,9 @@
 use Rattle.dms_sign.proofs.InRangeReplies.{spelled_response_within, too_big_within}
-use Rattle.dms_sign.proofs.InRangeValues.{value_of_within, value_after_within}
+use Rattle.dms_sign.proofs.InRangeValues.{instance_within, value_of_within, value_after_within}
 use Rattle.dms_sign.proofs.range_laws.answers_are_in_limits.Goals as goal
+
+pub returns-clause-instance : goal.returns-clause-instance
+returns-clause-instance c = instance_within
 
 pub returns-clause-value : goal.returns-clause-value
 returns-clause-value c = value_of_within
