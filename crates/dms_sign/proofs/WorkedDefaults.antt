@@ -65,11 +65,11 @@ fault_stays_told = refl
 
 -- ---- what is up keeps its defaults
 
-abbrev changeable_one : List ℕ
+abbrev pub changeable_one : List ℕ
 changeable_one = codes "ffffff0300019a6600000000"
 
 -- "A" is up, then defaultFont is set to 2
-abbrev copied_sign : SignState
+abbrev pub copied_sign : SignState
 copied_sign = (datagram (after_set lettered_sign (code changeable_one ∷ [])) font_two).after
 
 copy_has_font_one : copied_sign.shown.defaults.font ≡ 1
