@@ -1,1 +1,7 @@
+pub mod Members
+pub mod InOrder
+pub mod WhichInstances
 pub mod ObjectRows
+pub mod Replies
+pub mod Accepted
+pub mod OneValidating
