@@ -5,3 +5,7 @@ pub mod Replies
 pub mod Commands
 pub mod Inputs
 pub mod History
+pub mod Requests
+pub mod Numbers
+pub mod Numbered
+pub mod Ledger

@@ -3,6 +3,7 @@
 
 pub mod ended;
 pub mod fault;
+pub mod laws;
 pub mod outcome;
 pub mod step;
 
