@@ -157,18 +157,18 @@ statuses bindings = map (λ binding. (answer bench_sign Set (binding ∷ [])).st
 
 -- out of range, or not a font of the face: badValue
 bad_values : statuses
-      (number (The DefaultBackgroundColor) 10 ∷ number (The DefaultForegroundColor) 10 ∷ number (The DefaultFlashOn) 256 ∷ number (The DefaultFlashOff) 256
-      ∷ number (The DefaultFont) 3 ∷ number (The DefaultFont) 0 ∷ number (The DefaultFont) 258 ∷ number (The DefaultJustificationLine) 1 ∷ number (The DefaultJustificationLine) 5
-      ∷ number (The DefaultJustificationPage) 1 ∷ number (The DefaultJustificationPage) 5 ∷ number (The DefaultPageOnTime) 256 ∷ number (The DefaultPageOffTime) 256 ∷ [])
+    (number (The DefaultBackgroundColor) 10 ∷ number (The DefaultForegroundColor) 10 ∷ number (The DefaultFlashOn) 256 ∷ number (The DefaultFlashOff) 256
+    ∷ number (The DefaultFont) 3 ∷ number (The DefaultFont) 0 ∷ number (The DefaultFont) 258 ∷ number (The DefaultJustificationLine) 1 ∷ number (The DefaultJustificationLine) 5
+    ∷ number (The DefaultJustificationPage) 1 ∷ number (The DefaultJustificationPage) 5 ∷ number (The DefaultPageOnTime) 256 ∷ number (The DefaultPageOffTime) 256 ∷ [])
     ≡ 3 ∷ 3 ∷ 3 ∷ 3 ∷ 3 ∷ 3 ∷ 3 ∷ 3 ∷ 3 ∷ 3 ∷ 3 ∷ 3 ∷ 3 ∷ []
 unfolding answer
 bad_values = refl
 
 -- the greatest values and the least
 good_values : statuses
-      (number (The DefaultBackgroundColor) 9 ∷ number (The DefaultForegroundColor) 0 ∷ number (The DefaultFlashOn) 255 ∷ number (The DefaultFlashOff) 0
-      ∷ number (The DefaultFont) 2 ∷ number (The DefaultJustificationLine) 2 ∷ number (The DefaultJustificationPage) 4 ∷ number (The DefaultPageOnTime) 255
-      ∷ number (The DefaultPageOffTime) 0 ∷ [])
+    (number (The DefaultBackgroundColor) 9 ∷ number (The DefaultForegroundColor) 0 ∷ number (The DefaultFlashOn) 255 ∷ number (The DefaultFlashOff) 0
+    ∷ number (The DefaultFont) 2 ∷ number (The DefaultJustificationLine) 2 ∷ number (The DefaultJustificationPage) 4 ∷ number (The DefaultPageOnTime) 255
+    ∷ number (The DefaultPageOffTime) 0 ∷ [])
     ≡ 0 ∷ 0 ∷ 0 ∷ 0 ∷ 0 ∷ 0 ∷ 0 ∷ 0 ∷ 0 ∷ []
 unfolding answer
 good_values = refl

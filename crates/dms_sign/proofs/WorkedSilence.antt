@@ -125,9 +125,9 @@ silence_is_last = refl
 abbrev end_stays : SignState
 end_stays =
     after_set
-      (after_set lettered_sign
-        (number (The TimeCommLoss) 1 ∷ octets (The CommunicationsLossMessage) (octets_of (codes "0500010000")) ∷ octets (The EndDurationMessage) (octets_of (codes "0700090000")) ∷ []))
-      (code (codes "00010a0300019a66c0000201") ∷ [])
+    (after_set lettered_sign
+    (number (The TimeCommLoss) 1 ∷ octets (The CommunicationsLossMessage) (octets_of (codes "0500010000")) ∷ octets (The EndDurationMessage) (octets_of (codes "0700090000")) ∷ []))
+    (code (codes "00010a0300019a66c0000201") ∷ [])
 
 end_of_the_duration_stays : seen (later 60 end_stays) ≡ record { text = []; source = octets_of (codes "0700090000"); mode = 12; remaining = None }
 unfolding answer later
