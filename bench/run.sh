@@ -11,7 +11,9 @@ trap 'rm -f "$log"' EXIT
 (cd "$crate" && "${RT:-rt}" lib > "$log" 2>&1) || { cat "$log" >&2; exit 1; }
 "${CC:-cc}" -O2 -c -o "$build/crc.o" "$bench/crc.c"
 ar rcs "$build/libcrc.a" "$build/crc.o"
-rustc --edition 2024 -O -L "$build" -o "$build/measure" "$bench/measure.rs"
+# The kit's own few lines of C, through which what allocates calls malloc and free.
+kit=$(dirname "$("${RT:-rt}" doc)")
+rustc --edition 2024 -O -L "$build" -L "$kit/c" -l static=libc_c -o "$build/measure" "$bench/measure.rs"
 "$build/measure" "$@"
 
 if "${CC:-cc}" -O2 -o "$build/netsnmp" "$bench/netsnmp.c" -lnetsnmp 2> /dev/null; then

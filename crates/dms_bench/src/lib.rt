@@ -1,13 +1,16 @@
 //! Measures of the libraries, for the program of bench/: each export does one thing `times` times over the octets of a
-//! datagram, and returns a sum of what came out, so that nothing of the work can be left away.
+//! datagram or a text, and returns a sum of what came out, so that nothing of the work can be left away.
 #![tactic(auto)]
 
-ghost use Rattle.std.specs.Prelude.{◌≡◌};
+ghost use Rattle.std.specs.Prelude.{◌≡◌, ◌<◌};
 ghost use Rattle.dms_wire.specs.Message.{SnmpMessage};
 ghost use Rattle.dms_wire.specs.Spelling.{Spells};
 
+use dms_face::{Cell, Defaults, Face, Font, Page, check, pages};
+use dms_font::lines::Lines;
 use dms_table::crc;
 use dms_wire::{Bind, MessageParts, Oid, Out, Value, read, write};
+use std::alloc::Global;
 use std::array;
 
 /// The most octets of a datagram.
@@ -108,6 +111,107 @@ pub extern "C" fn dms_bench_crc(text: &[u8], times: u32) -> u64 {
     let mut sum = 0_u64;
     for time in 0..times {
         sum = sum.wrapping_add(u64::from(crc(text, (time % 2) as u8, 0)));
+    }
+    sum
+}
+
+/// What holds on the measured sign where a text says nothing else.
+const DEFAULTS: Defaults = Defaults {
+    background: 0,
+    foreground: 9,
+    flash_on: 5,
+    flash_off: 5,
+    font: 1,
+    line: 3,
+    page: 2,
+    on: 30,
+    off: 0,
+};
+
+/// The face of the largest matrix, with the fonts that these lines spell: each font's header, and behind it its characters.
+fn face_of(alloc: Global, fonts: &[u8]) -> Option<Face> {
+    let mut read: Vec<Font> = Vec::new(alloc);
+    let mut lines = Lines::of(fonts);
+    while let Some(line) = lines.next_line() {
+        match Font::from_header(alloc, line.octets) {
+            Some(font) => read.push(font).ok()?,
+            None => read.last_mut()?.add_glyph(alloc, line.octets).ok()?,
+        }
+    }
+    Face::new(256, 64, read, DEFAULTS).ok()
+}
+
+/// Checks the text, and sums the numbers of its pages.
+#[unsafe(no_mangle)]
+pub extern "C" fn dms_bench_check(alloc: Global, fonts: &[u8], text: &[u8], times: u32) -> u64 {
+    let Some(face) = face_of(alloc, fonts) else {
+        return 0;
+    };
+    let mut sum = 0_u64;
+    for _ in 0..times {
+        if let Ok(count) = check(&face, text) {
+            sum = sum.wrapping_add(count as u64);
+        }
+    }
+    sum
+}
+
+/// A number that depends on all that a cell shows.
+fn cell_weight(cell: Cell) -> u64 {
+    let flash = match cell.flash {
+        None => 0,
+        Some(flash) => u64::from(flash.lit) + u64::from(flash.dark),
+    };
+    u64::from(cell.lit) + u64::from(cell.colour) + flash
+}
+
+/// Sums the weights of the cells of a row.
+fn row_weight(page: &Page, y: u16) -> u64
+    requires { y < page.now.height }
+{
+    let mut sum = 0_u64;
+    for x in 0..page.width() {
+        sum = sum.wrapping_add(cell_weight(page.cell(x, y)));
+    }
+    sum
+}
+
+/// Makes the text's pages, and sums their number and the weights of the cells in the first row of each.
+#[unsafe(no_mangle)]
+pub extern "C" fn dms_bench_pages(alloc: Global, fonts: &[u8], text: &[u8], times: u32) -> u64 {
+    let Some(face) = face_of(alloc, fonts) else {
+        return 0;
+    };
+    let mut sum = 0_u64;
+    for _ in 0..times {
+        if let Ok(made) = pages(alloc, &face, text) {
+            sum = sum.wrapping_add(made.len() as u64);
+            for page in &made {
+                if page.height() > 0 {
+                    sum = sum.wrapping_add(row_weight(page, 0));
+                }
+            }
+        }
+    }
+    sum
+}
+
+/// Makes the text's pages once, and looks up each of their cells. It sums the weights of the cells.
+#[unsafe(no_mangle)]
+pub extern "C" fn dms_bench_cells(alloc: Global, fonts: &[u8], text: &[u8], times: u32) -> u64 {
+    let Some(face) = face_of(alloc, fonts) else {
+        return 0;
+    };
+    let Ok(made) = pages(alloc, &face, text) else {
+        return 0;
+    };
+    let mut sum = 0_u64;
+    for _ in 0..times {
+        for page in &made {
+            for y in 0..page.height() {
+                sum = sum.wrapping_add(row_weight(page, y));
+            }
+        }
     }
     sum
 }

@@ -1,14 +1,14 @@
 -- A character is drawn row by row, and a row cell by cell.
 use Rattle.std.proofs.Common.{◌≡◌, ℕ, zero, suc, ◌+◌, ◌-◌, ◌*◌, ◌/◌, ◌%◌, ◌==◌, ◌<◌, ◌≤◌, ◌&&◌, ◌||◌, Bool, true, false, cond, List, [], ◌∷◌, ◌++◌, length, Option, Some, None, refl, sym, ap, ◌∙◌, arith, min, ◌⊎◌, inl, inr}
-use Rattle.std.specs.Prelude.{nat_lt, nat_le, slice_index_or}
+use Rattle.std.specs.Prelude.{nat_lt, slice_index_or}
 use Rattle.std.specs.List.{find}
 use Rattle.std.specs.Option.{option_or}
-use Rattle.std.proofs.lemmas.Bool.{and_parts, and_from, and_left, and_right, or_cases, or_left, or_right, cases_Bool, cases_lt, leb-true, le-leb, ltb-true, lt-ltb, eqb-true, eq-eqb, false_from_ne_true}
+use Rattle.std.proofs.lemmas.Bool.{and_parts, and_from, or_cases, or_left, or_right, cases_lt, leb-true, le-leb, ltb-true, lt-ltb, eqb-true, eq-eqb, false_from_ne_true}
 use Rattle.std.proofs.lemmas.Nat.{div-add-mod', mod_below, div_below, same_from_place}
 use Rattle.std.proofs.Math.Nat.{mul_comm}
 use Rattle.std.proofs.lemmas.List.Folds.{find-append}
 use Rattle.dms_face.specs.declared.cell.Cell.{Cell}
-use Rattle.dms_face.specs.Glyph.{GlyphModel, lit_at}
+use Rattle.dms_font.specs.Glyph.{GlyphModel, lit_at}
 use Rattle.dms_face.specs.Face.{FaceModel}
 use Rattle.dms_face.specs.Layout.{PageModel}
 use Rattle.dms_face.specs.Cells.{PlacedCharacter, is_lit_by, cell_by}
@@ -163,9 +163,9 @@ pub all_above : (column line rows : ℕ) (placed : PlacedCharacter) → ((k row 
 all_above column line rows placed within = same_test _ _
     (λ h. (and_parts _ _ h).0)
     (λ h.
-    let parts = and_parts _ _ h in
+    let lit : lit_at placed.character.glyph (column - placed.x) (line - placed.y) ≡ true = (and_parts _ _ h).1 in
     let low : placed.y ≤ line = under_top column line placed h in
-    let row : line - placed.y < rows = within _ _ parts.1 in
+    let row : line - placed.y < rows = within (column - placed.x) (line - placed.y) lit in
     and_from _ _ h (lt-ltb line (placed.y + rows) (omega arith)))
 
 -- ---- one character more

@@ -1,13 +1,15 @@
 -- The texts without a fault are the good ones.
-use Rattle.std.proofs.Common.{◌≡◌, ◌↔◌, ℕ, zero, suc, ◌≤◌, ◌<◌, Bool, true, false, IsTrue, cond, List, [], ◌∷◌, ◌++◌, length, map, take, nat_lt, Option, Some, None, Err, refl, ap, sym, ◌∙◌, subst, arith, append-nil, append_assoc}
+use Rattle.std.proofs.Common.{◌≡◌, ◌↔◌, ℕ, zero, suc, ◌≤◌, Bool, true, false, IsTrue, cond, List, [], ◌∷◌, ◌++◌, length, map, take, nat_lt, inl, inr, Option, Some, None, Result, refl, ap, sym, ◌∙◌, subst, arith, append-nil, append_assoc}
 use Rattle.std.specs.Option.{option_or, option_map}
 use Rattle.std.specs.Result.{is_ok}
+use Rattle.std.proofs.lemmas.Bool.{cases_Bool}
 use Rattle.std.proofs.lemmas.Bool.Decides.{nat_tests}
-use Rattle.dms_multi.specs.declared.item.Item.{Item}
 use Rattle.dms_multi.specs.declared.spots.Spot.{Spot}
 use Rattle.dms_multi.specs.declared.fault.SyntaxFault.{SyntaxFault}
-use Rattle.dms_multi.specs.Grammar.{TextSpells, IsReading, ReadsAs, outcomes}
+use Rattle.dms_multi.specs.Grammar.{IsReading, ReadsAs, outcomes}
 use Rattle.dms_multi.specs.Outcomes.{fault_in, outcomes_of}
+use Rattle.dms_multi.proofs.ItemLaws.{one_list}
+use Rattle.dms_multi.proofs.Readings.{is_reading}
 use Rattle.dms_face.specs.declared.multi_fault.MultiFault.{MultiFault}
 use Rattle.dms_face.specs.declared.multi_fault.MultiFaultCode.TheVariants.{TextTooBig}
 use Rattle.dms_face.specs.FaultCode.{syntax_fault}
@@ -83,43 +85,58 @@ good_reading face text spots (Some fault) reads short none =
     let wrong : Some (syntax_fault fault) ≡ None = sym (ap (option_map syntax_fault) (fault_in_outcomes spots fault)) ∙ found in
     absurd cc
 
--- a text spells at most one list of items
-abbrev pub OneList : Type 0
-OneList = (items others : List Item) (text : List ℕ) → TextSpells items text → TextSpells others text → items ≡ others
-
-reading_good : (face : FaceModel) (text : List ℕ) (spots : List Spot) (fault : Option SyntaxFault) → OneList → ReadsAs text spots fault → IsGood face text
+reading_good : (face : FaceModel) (text : List ℕ) (spots : List Spot) (fault : Option SyntaxFault) → ReadsAs text spots fault → IsGood face text
     → fault_of_reading face (length text) (outcomes spots fault) ≡ None
 unfolding turns_alone
-reading_good face text spots None one reads good =
-    let items : good.items ≡ map item_of spots = one good.items (map item_of spots) text good.spelled (text_spelled 0 spots text reads) in
+reading_good face text spots None reads good =
+    let items : good.items ≡ map item_of spots = one_list good.items (map item_of spots) text good.spelled (text_spelled 0 spots text reads) in
     let P : List Turn → Type 0 = λ turns. (n : ℕ) → Fits face (take n turns) in
     let fit : (n : ℕ) → Fits face (take n (turns_alone (turns_in (length text) (outcomes spots None)))) =
     subst P (ap turns_of items ∙ sym (turns_in_outcomes (length text) spots)) good.fit in
     ap (λ o. option_or o (option_map syntax_fault (fault_in (outcomes spots None)))) (no_fault face [] (turns_in (length text) (outcomes spots None)) fit)
     ∙ ap (option_map syntax_fault) (no_fault_in_outcomes spots)
-reading_good face text spots (Some fault) one reads good = absurd (reads.1.none good.items good.spelled)
+reading_good face text spots (Some fault) reads good = absurd (reads.1.none good.items good.spelled)
+
+short_law : (face : FaceModel) (text : List ℕ) → nat_lt longest_text (length text) ≡ false → (fault_of face text ≡ None) ↔ IsGood face text
+unfolding fault_of
+short_law face text few =
+    let reading : IsReading text (outcomes_of text) = is_reading text in
+    let short : length text ≤ 512 = grind (arith, nat_tests) in
+    let fault : fault_of face text ≡ fault_of_reading face (length text) (outcomes reading.spots reading.fault) =
+    ap (λ b. cond b (Some (record { code = TextTooBig; place = longest_text })) (fault_of_reading face (length text) (outcomes_of text))) few
+    ∙ ap (fault_of_reading face (length text)) reading.parts in
+    let there : fault_of face text ≡ None → IsGood face text =
+    λ none. good_reading face text reading.spots reading.fault reading.reads short (sym fault ∙ none) in
+    let back : IsGood face text → fault_of face text ≡ None =
+    λ good. fault ∙ reading_good face text reading.spots reading.fault reading.reads good in
+    (there, back)
+
+long_law : (face : FaceModel) (text : List ℕ) → nat_lt longest_text (length text) ≡ true → (fault_of face text ≡ None) ↔ IsGood face text
+unfolding fault_of
+long_law face text many =
+    let fault : fault_of face text ≡ Some (record { code = TextTooBig; place = longest_text }) =
+    ap (λ b. cond b (Some (record { code = TextTooBig; place = longest_text })) (fault_of_reading face (length text) (outcomes_of text))) many in
+    let there : fault_of face text ≡ None → IsGood face text =
+    λ none. absurd (let wrong : Some (record { code = TextTooBig; place = longest_text }) ≡ None = sym fault ∙ none in cc) in
+    let back : IsGood face text → fault_of face text ≡ None = λ good. absurd (let short : length text ≤ 512 = good.short in grind (arith, nat_tests)) in
+    (there, back)
+
+-- A text has no fault just where it is good.
+pub faultless_law : (face : FaceModel) (text : List ℕ) → (fault_of face text ≡ None) ↔ IsGood face text
+faultless_law face text = elim (cases_Bool (nat_lt longest_text (length text))) [
+  | inl many ↦ long_law face text many
+  | inr few ↦ short_law face text few
+]
 
 is_ok_none : (n : ℕ) (o : Option MultiFault) → is_ok (or_fault n o) ≡ true → o ≡ None
 is_ok_none n None is = refl
 is_ok_none n (Some fault) is = absurd (let wrong : false ≡ true = is in cc)
 
--- A text that is short enough has an answer but no fault just where it is good.
-pub good_law : (face : FaceModel) (text : List ℕ) → length text ≤ 512 → OneList → IsReading text (outcomes_of text) → IsTrue (is_ok (checked_text face text)) ↔ IsGood face text
-unfolding fault_of
-good_law face text short one reading =
-    let few : nat_lt longest_text (length text) ≡ false = grind (arith, nat_tests) in
-    let fault : fault_of face text ≡ fault_of_reading face (length text) (outcomes reading.spots reading.fault) =
-    ap (λ b. cond b (Some (record { code = TextTooBig; place = longest_text })) (fault_of_reading face (length text) (outcomes_of text))) few
-    ∙ ap (fault_of_reading face (length text)) reading.parts in
-    let there : IsTrue (is_ok (checked_text face text)) → IsGood face text =
-    λ ok. good_reading face text reading.spots reading.fault reading.reads short (sym fault ∙ is_ok_none (page_count text) (fault_of face text) ok) in
-    let back : IsGood face text → IsTrue (is_ok (checked_text face text)) =
-    λ good. ap (λ o. is_ok (or_fault (page_count text) o)) (fault ∙ reading_good face text reading.spots reading.fault one reading.reads good) in
-    (there, back)
-
--- a text that is too long is not good
-pub long_law : (face : FaceModel) (text : List ℕ) (fault : MultiFault) → 512 < length text → IsTrue (is_ok {T = ℕ} (Err fault)) ↔ IsGood face text
-long_law face text fault long =
-    let there : IsTrue (is_ok {T = ℕ} (Err fault)) → IsGood face text = λ ok. absurd (let wrong : false ≡ true = ok in cc) in
-    let back : IsGood face text → IsTrue (is_ok {T = ℕ} (Err fault)) = λ good. absurd (let short : length text ≤ 512 = good.short in omega arith) in
+-- A text has an answer but no fault just where it is good.
+pub good_law : (face : FaceModel) (text : List ℕ) (result : Result ℕ MultiFault) → result ≡ checked_text face text → IsTrue (is_ok result) ↔ IsGood face text
+good_law face text result is =
+    let there : IsTrue (is_ok result) → IsGood face text =
+    λ ok. (faultless_law face text).0 (is_ok_none (page_count text) (fault_of face text) (sym (ap is_ok is) ∙ ok)) in
+    let back : IsGood face text → IsTrue (is_ok result) =
+    λ good. ap is_ok is ∙ ap (λ o. is_ok (or_fault (page_count text) o)) ((faultless_law face text).1 good) in
     (there, back)

@@ -13,7 +13,6 @@ use crate::defaults::Defaults;
 use crate::face::Face;
 use crate::multi_fault::{MultiFault, MultiFaultCode};
 use crate::totals::Totals;
-use dms_multi::laws::one_list;
 use dms_multi::{Spots, items};
 
 /// The most octets of a text.
@@ -39,7 +38,6 @@ pub fn check_with(face: &Face, defaults: &Defaults, text: &[u8]) -> Result<usize
             place: MAX_TEXT,
         });
     }
-    one_list();
     walk(face, defaults, items(text), text.len())
 }
 

@@ -1,12 +1,12 @@
 //! The face of a sign: its matrix, its fonts and its defaults.
 
-ghost use Rattle.std.specs.Prelude.{◌≡◌, ℕ, ◌==◌, ◌≤◌, length, IsTrue, ◌↔◌};
+ghost use Rattle.std.specs.Prelude.{◌≡◌, ◌≤◌, IsTrue, ◌↔◌};
 ghost use Rattle.std.specs.Option.{option_copied};
 ghost use Rattle.dms_face.specs.Face.{font_in, font_of, has_font, have_own_numbers, is_within, is_matrix, are_fonts, fit, checked};
 
 use crate::defaults::Defaults;
 use crate::fault::FaceFault;
-use crate::font::Font;
+use dms_font::Font;
 use std::marker::Model;
 
 /// What a sign is made with.

@@ -1,9 +1,9 @@
 //! Laws of texts and where they stand, each the contract of a function that does nothing.
 
-ghost use Rattle.std.specs.Prelude.{◌≡◌, if◌then◌else◌, List, [], ◌∷◌, ◌++◌, Some, None};
+ghost use Rattle.std.specs.Prelude.{◌≡◌, ◌↔◌, ℕ, if◌then◌else◌, List, [], ◌∷◌, ◌++◌, Some, None};
 ghost use Rattle.dms_face.specs.Face.{FaceModel};
 ghost use Rattle.dms_face.specs.Layout.{Turn, layout_of};
-ghost use Rattle.dms_face.specs.Fit.{fits, Fits, code_of, IsGood};
+ghost use Rattle.dms_face.specs.Fit.{fits, Fits, code_of, fault_of, IsGood};
 ghost use Rattle.dms_face.specs.OnePass.{local_fault};
 
 /// Behind a front that fits, the open line and the open page alone tell whether one turn more fits, and its fault.
@@ -17,4 +17,9 @@ pub fn a_turn_changes_the_open_line_and_page_alone()
 /// The empty text is good on every face, whatever its defaults.
 pub fn empty_text_is_good()
     ensures { (face : FaceModel) → IsGood face [] }
+{}
+
+/// A text has no fault on a face exactly where it is good there, whatever the face and whatever numbers stand in the text.
+pub fn a_text_without_a_fault_is_good()
+    ensures { (face : FaceModel) (text : List ℕ) → (fault_of face text ≡ None) ↔ IsGood face text }
 {}

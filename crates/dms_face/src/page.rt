@@ -1,6 +1,6 @@
 //! A text's page, with all its cells.
 
-ghost use Rattle.std.specs.Prelude.{◌≡◌, ℕ, ◌<◌, true, IfOk};
+ghost use Rattle.std.specs.Prelude.{◌≡◌, ◌<◌, true, IfOk};
 ghost use Rattle.dms_face.specs.Face.{FaceModel};
 ghost use Rattle.dms_face.specs.Layout.{PageModel};
 ghost use Rattle.dms_face.specs.Room.{page_fits};

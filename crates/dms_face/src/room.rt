@@ -1,7 +1,7 @@
 //! How much room characters take in their line, and lines on their page.
 
-ghost use Rattle.std.specs.Prelude.{◌≡◌, ℕ, ◌+◌, ◌<◌, ◌≤◌, List, [], ◌∷◌, ◌++◌, IsTrue};
-ghost use Rattle.dms_face.specs.Room.{average, begin, span, overlap, have_room, blocks_fit};
+ghost use Rattle.std.specs.Prelude.{◌≡◌, ◌+◌, ◌≤◌, List, [], ◌∷◌, ◌++◌, IsTrue};
+ghost use Rattle.dms_face.specs.Room.{average, span, overlap, have_room, blocks_fit};
 ghost use Rattle.dms_face.specs.Totals.{Sums, TellsBlocks, AreWithin};
 
 /// What a character is to its line, and a line to its page: its place, 2 to 4, its size, its spacing, and the gap that a

@@ -1,21 +1,19 @@
 //! What is known of a text while its items are walked: running sums of the open line and the open page.
 
-ghost use Rattle.std.specs.Prelude.{◌≡◌, ℕ, ◌+◌, ◌<◌, ◌≤◌, List, [], ◌∷◌, ◌++◌, map, Option, Some, None, IsTrue, IfNone};
+ghost use Rattle.std.specs.Prelude.{◌≡◌, ◌≤◌, List, [], ◌∷◌, ◌++◌, map, Some, None, IsTrue, IfNone};
 ghost use Rattle.dms_multi.specs.declared.item.Item.TheVariants.{JustLine};
-ghost use Rattle.dms_face.specs.Glyph.{GlyphModel};
 ghost use Rattle.dms_face.specs.Face.{fit};
 ghost use Rattle.dms_face.specs.Layout.{Layout, Line, under, open_line, standing, closed, has_line_in, with_character, with_line, with_page, with_part, with_item, blank_layout};
-ghost use Rattle.dms_face.specs.Room.{character_block, line_block, lines_fit, characters_fit};
+ghost use Rattle.dms_face.specs.Room.{line_block, lines_fit};
 ghost use Rattle.dms_face.specs.Fit.{misuse};
 ghost use Rattle.dms_face.specs.OnePass.{room_fault, open_fits, page_fault, part_fault, local_fault};
 ghost use Rattle.dms_face.specs.Totals.{TellsBlocks, AreWithin, Tells, AreSmall, IsJustified};
 
 use crate::defaults::Defaults;
 use crate::face::Face;
-use crate::font::Font;
-use crate::glyph::Glyph;
 use crate::multi_fault::MultiFaultCode;
 use crate::room::{Block, Places};
+use dms_font::{Font, Glyph};
 use dms_multi::Item;
 
 /// The most pages of a text.

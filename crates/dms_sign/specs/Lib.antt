@@ -7,3 +7,5 @@ pub mod Setting
 pub mod Answering
 pub mod Reply
 pub mod Events
+pub mod Promises
+pub mod InRange

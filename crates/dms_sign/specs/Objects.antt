@@ -55,6 +55,7 @@ scalar_number MultiSyntaxError = (6, 18)
 scalar_number MultiSyntaxErrorPosition = (6, 19)
 scalar_number ActivateErrorMsgCode = (6, 24)
 
+-- an object has the instance 0; a column's instances are named by the rows
 unfoldable pub name_of : Instance → List ℕ
 name_of (The object) = object_name (scalar_number object).0 (scalar_number object).1
 name_of (Cell column row) = cell_name column row
@@ -110,12 +111,19 @@ instances table = map The before_table ++ flat_map (cells table) columns ++ map 
 abbrev pub is_before : List ℕ → List ℕ → Bool
 is_before first second = is_lt (numbers_cmp first second)
 
-abbrev pub instance_named : TableModel → List ℕ → Option Instance
-instance_named table name = find (λ i. pointwise nat_eq (name_of i) name) (instances table)
+abbrev pub has_name : List ℕ → Instance → Bool
+has_name name i = pointwise nat_eq (name_of i) name
 
--- the first instance whose name comes after this one (RFC 1157, 4.1.3)
+-- the instance's name comes after this one
+abbrev pub comes_after : List ℕ → Instance → Bool
+comes_after name i = is_before name (name_of i)
+
+abbrev pub instance_named : TableModel → List ℕ → Option Instance
+instance_named table name = find (has_name name) (instances table)
+
+-- the first instance that comes after a name (RFC 1157, 4.1.3)
 abbrev pub next_instance : TableModel → List ℕ → Option Instance
-next_instance table name = find (λ i. is_before name (name_of i)) (instances table)
+next_instance table name = find (comes_after name) (instances table)
 
 -- ---- what the walk promises
 
@@ -123,15 +131,15 @@ next_instance table name = find (λ i. is_before name (name_of i)) (instances ta
 abbrev pub IsInstance : TableModel → Instance → Type 0
 IsInstance table i = (k : ℕ) × (slice_get (instances table) k ≡ Some i)
 
--- the instance's name comes after this one, and before that of any other whose name does
+-- the instance comes after this name, and any other that does comes after the instance
 pub record IsFirstAfter (table : TableModel) (name : List ℕ) (i : Instance) : Type 0 where
   pub there : IsInstance table i
-  pub after : is_before name (name_of i) ≡ true
-  pub first : (j : Instance) → IsInstance table j → is_before name (name_of j) ≡ true → (i ≡ j) ⊎ (is_before (name_of i) (name_of j) ≡ true)
+  pub after : comes_after name i ≡ true
+  pub first : (j : Instance) → IsInstance table j → comes_after name j ≡ true → (i ≡ j) ⊎ (comes_after (name_of i) j ≡ true)
 
--- no instance's name comes after this one
+-- no instance comes after this name
 abbrev pub IsLast : TableModel → List ℕ → Type 0
-IsLast table name = (j : Instance) → IsInstance table j → is_before name (name_of j) ≡ false
+IsLast table name = (j : Instance) → IsInstance table j → comes_after name j ≡ false
 
 -- what comes first after this name
 abbrev pub FirstAfter : TableModel → List ℕ → Option Instance → Type 0

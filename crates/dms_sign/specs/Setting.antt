@@ -42,6 +42,7 @@ settable_instance s name = option_and_then if_settable (instance_named s.table n
 unfoldable pub write_at : SignState → VarBind → Option Write
 write_at s binding = option_and_then (λ i. write_of s.config.face i binding.value) (settable_instance s binding.name)
 
+-- a name is that of one of these bindings
 abbrev pub is_among : List ℕ → List VarBind → Bool
 is_among name bindings = list_any (λ (binding : VarBind). pointwise nat_eq binding.name name) bindings
 
@@ -57,7 +58,7 @@ abbrev pub is_refused_field : TableModel → Write → Bool
 is_refused_field table (SetField id field) = not (unwrap_or (option_map reads_modifying (row_read table id)) false)
 is_refused_field table _ = false
 
--- a cause that a SET fails: the index of its binding, from 1, and its status
+-- why a SET is refused: the index of a binding, from 1, and an error status
 pub record SetCause : Type 0 where
   pub index : ℕ
   pub status : ℕ
@@ -79,24 +80,27 @@ cause_if index test = if test.0 then Some (record { index = index; status = test
 abbrev pub causes_at : SignState → Bool → List VarBind → VarBind → List SetCause
 causes_at s may_write before binding = filter_map (cause_if (length before + 1)) (tests_at s may_write before binding)
 
--- every cause that a SET fails, the first one first; all bindings are judged on the state before it
+-- why these bindings are refused behind others, all of it in order; each is judged on the state before the SET
 abbrev pub causes_behind : SignState → Bool → List VarBind → List VarBind → List SetCause
 causes_behind s may_write before [] = []
 causes_behind s may_write before (binding ∷ more) = causes_at s may_write before binding ++ causes_behind s may_write (before ++ binding ∷ []) more
 
+-- All that a SET is refused for; the first of it is told.
 unfoldable pub causes : SignState → Bool → List VarBind → List SetCause
 causes s may_write bindings = causes_behind s may_write [] bindings
 
 -- ---- assignment
 
--- the value that the last of these gives, or else the old one; a SET gives no object two
+-- the value that these give, the last of it where there are more, or else the old one: a SET that is not refused names no object twice
 abbrev pub given : {A B : Type 0} → (A → Option B) → List A → B → B
 given pick [] old = old
 given pick (x ∷ xs) old = given pick xs (unwrap_or (pick x) old)
 
+-- two objects are one: they have one number
 abbrev pub is_same : Scalar → Scalar → Bool
 is_same a b = (scalar_number a).0 == (scalar_number b).0 && (scalar_number a).1 == (scalar_number b).1
 
+-- what a write gives to an object
 abbrev pub number_for : Scalar → Write → Option ℕ
 number_for object (SetNumber other number) = if is_same object other then Some number else None
 number_for object _ = None
@@ -114,7 +118,8 @@ abbrev pub with_writes : TableModel → List Write → TableModel
 with_writes table [] = table
 with_writes table (write ∷ writes) = with_writes (with_write table write) writes
 
--- the state with all values assigned at once; commands assign none
+-- The state with all values assigned at once: no write depends on another, since no object and no field is named twice. Commands
+-- assign nothing.
 unfoldable pub assigned : SignState → List Write → SignState
 assigned s writes = record s {
   table = with_writes s.table writes;

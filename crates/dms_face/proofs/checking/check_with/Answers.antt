@@ -1,15 +1,13 @@
-use Rattle.std.proofs.Common.{◌≡◌, ◌↔◌, ◌≤◌, ℕ, IsTrue, List, length, Result, ap, sym, ◌∙◌, subst}
-use Rattle.std.specs.Result.{is_ok}
-use Rattle.dms_multi.specs.Grammar.{IsReading}
+use Rattle.std.proofs.Common.{◌≡◌, ◌≤◌, ℕ, List, length, Result, ap, ◌∙◌}
 use Rattle.dms_multi.specs.Outcomes.{outcomes_of}
 use Rattle.dms_multi.specs.declared.fault.SyntaxFault.{SyntaxFault}
 use Rattle.dms_multi.specs.declared.spots.Spot.{Spot}
 use Rattle.dms_face.specs.declared.multi_fault.MultiFault.{MultiFault}
 use Rattle.dms_face.specs.Face.{FaceModel}
-use Rattle.dms_face.specs.Fit.{IsGood, checked_text}
+use Rattle.dms_face.specs.Fit.{checked_text}
 use Rattle.dms_face.specs.Layout.{blank_layout}
 use Rattle.dms_face.specs.OnePass.{walked}
-use Rattle.dms_face.proofs.GoodLaws.{OneList, good_law}
+use Rattle.dms_face.proofs.GoodLaws.{good_law}
 use Rattle.dms_face.proofs.ReadingLaws.{reading_justified}
 use Rattle.dms_face.proofs.WalkLaws.{checked_long, checked_walk}
 use Rattle.dms_face.proofs.checking.check_with.Goals as goal
@@ -29,12 +27,5 @@ walk_is face text read result short exact is =
 pub returns-clause-exact : goal.returns-clause-exact
 returns-clause-exact c = walk_is _ c.args.text.now c.items.result c.walk.result c.if-text-gt-MAX_TEXT.false c.items.ensures.exact c.walk.ensures
 
-walk_good : (face : FaceModel) (text : List ℕ) (read : List (Result Spot SyntaxFault)) (result : Result ℕ MultiFault) → length text ≤ 512
-    → OneList → IsReading text read → read ≡ outcomes_of text → result ≡ walked face (length text) (blank_layout face) read → IsTrue (is_ok result) ↔ IsGood face text
-walk_good face text read result short one reading exact is =
-    let P : Result ℕ MultiFault → Type 0 = λ r. IsTrue (is_ok r) ↔ IsGood face text in
-    let Q : List (Result Spot SyntaxFault) → Type 0 = λ xs. IsReading text xs in
-    subst P (sym (walk_is face text read result short exact is)) (good_law face text short one (subst Q exact reading))
-
 pub returns-clause-good : goal.returns-clause-good
-returns-clause-good c = walk_good _ c.args.text.now c.items.result c.walk.result c.if-text-gt-MAX_TEXT.false c.one_list.ensures c.items.ensures.spelled c.items.ensures.exact c.walk.ensures
+returns-clause-good c = good_law _ c.args.text.now c.walk.result (walk_is _ c.args.text.now c.items.result c.walk.result c.if-text-gt-MAX_TEXT.false c.items.ensures.exact c.walk.ensures)

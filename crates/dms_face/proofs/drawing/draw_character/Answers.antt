@@ -1,8 +1,8 @@
-use Rattle.std.proofs.Common.{◌≡◌, ◌∙◌, ℕ, ◌+◌, ◌/◌, ◌%◌, ◌<◌, ◌&&◌, true, length, sym, ap, arith, refl}
-use Rattle.std.specs.Prelude.{slice_index_or, nat_lt}
-use Rattle.dms_face.specs.Glyph.{lit_at}
+use Rattle.std.proofs.Common.{◌≡◌, ◌∙◌, ◌+◌, ◌/◌, ◌%◌, ◌<◌, length, ap, arith}
+use Rattle.std.specs.Prelude.{slice_index_or}
+use Rattle.dms_font.specs.Glyph.{lit_at}
 use Rattle.dms_face.specs.Layout.{Character}
-use Rattle.dms_face.specs.Cells.{PlacedCharacter, is_lit_by}
+use Rattle.dms_face.specs.Cells.{PlacedCharacter}
 use Rattle.dms_face.specs.Drawing.{covered, lit_cell}
 use Rattle.dms_face.proofs.DrawingLaws.{row_drawn, no_row_drawn, all_above}
 use Rattle.dms_face.proofs.drawing.draw_character.Goals as goal

@@ -1,6 +1,6 @@
 use Rattle.std.proofs.Common.{◌≡◌, ◌∙◌, ◌+◌, map, ap, subst}
 use Rattle.dms_face.specs.Layout.{Line}
-use Rattle.dms_face.specs.Room.{begin, extent_at, character_block, line_height}
+use Rattle.dms_face.specs.Room.{begin, extent_at, character_block}
 use Rattle.dms_face.specs.Drawing.{Shows}
 use Rattle.dms_face.proofs.PlacingLaws.{line_is}
 use Rattle.dms_face.proofs.drawing.draw_line.Goals as goal

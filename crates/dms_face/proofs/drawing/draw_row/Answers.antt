@@ -1,4 +1,4 @@
-use Rattle.std.proofs.Common.{◌≡◌, ◌∙◌, ℕ, ◌+◌, ◌-◌, ◌*◌, ◌<◌, ◌≤◌, true, length, sym, ap, arith, min}
+use Rattle.std.proofs.Common.{◌≡◌, ◌∙◌, ◌+◌, ◌-◌, ◌*◌, ◌<◌, ap, arith, min}
 use Rattle.std.specs.Prelude.{slice_index_or}
 use Rattle.dms_face.specs.Drawing.{covered, is_lit_in_row}
 use Rattle.dms_face.proofs.DrawingLaws.{wide, on_row}

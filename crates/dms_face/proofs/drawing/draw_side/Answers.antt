@@ -1,14 +1,13 @@
-use Rattle.std.proofs.Common.{◌≡◌, ◌∙◌, ℕ, ◌+◌, ◌-◌, ◌/◌, ◌%◌, ◌<◌, ◌≤◌, true, List, [], ◌∷◌, ◌++◌, get_or, length, map, sym, ap, subst, arith}
+use Rattle.std.proofs.Common.{◌≡◌, ◌∙◌, ◌+◌, ◌-◌, ◌/◌, ◌%◌, ◌<◌, true, [], ◌∷◌, ◌++◌, get_or, length, map, sym, ap, subst, arith}
 use Rattle.std.specs.Prelude.{slice_index_or}
-use Rattle.std.specs.List.{flat_map}
 use Rattle.std.proofs.lemmas.Bool.{eq-eqb}
 use Rattle.dms_face.specs.declared.room.Block.{Block}
-use Rattle.dms_face.specs.Layout.{Character, Line}
-use Rattle.dms_face.specs.Room.{extent, placed_from, character_block, characters_fit}
+use Rattle.dms_face.specs.Layout.{Character}
+use Rattle.dms_face.specs.Room.{extent, placed_from, character_block}
 use Rattle.dms_face.specs.Totals.{Sums}
-use Rattle.dms_face.specs.Cells.{PlacedCharacter, line_characters, is_lit_by}
+use Rattle.dms_face.specs.Cells.{PlacedCharacter, is_lit_by}
 use Rattle.dms_face.specs.Drawing.{placed_above, covered, lit_cell, Shows}
-use Rattle.dms_face.proofs.PlacingLaws.{has_place, among, front_extent, last_fits, sums_more_of, placed_more, placed_more_of, all_at}
+use Rattle.dms_face.proofs.PlacingLaws.{has_place, among, front_extent, last_fits, sums_more_of, placed_more}
 use Rattle.dms_face.proofs.DrawingLaws.{shows_more}
 use Rattle.dms_face.proofs.drawing.draw_side.Goals as goal
 

@@ -1,4 +1,4 @@
-use Rattle.std.proofs.Common.{◌≡◌, ◌∙◌, ◌+◌, ◌<◌, length, sym, ap, arith}
+use Rattle.std.proofs.Common.{◌<◌, length, sym, ap, arith}
 use Rattle.std.specs.Prelude.{slice_index_or}
 use Rattle.dms_face.specs.Drawing.{covered}
 use Rattle.dms_face.proofs.DrawingLaws.{none_in_row, column_drawn}

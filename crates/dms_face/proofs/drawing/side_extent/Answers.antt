@@ -1,7 +1,7 @@
-use Rattle.std.proofs.Common.{◌≡◌, ◌∙◌, ◌≤◌, map, filter, take, length, sym, ap, arith}
+use Rattle.std.proofs.Common.{◌∙◌, ◌≤◌, map, filter, length, sym, ap, arith}
 use Rattle.std.proofs.lemmas.List.{take_all}
 use Rattle.dms_face.specs.Room.{extent, character_block}
-use Rattle.dms_face.proofs.PlacingLaws.{has_place, among, front_extent, at_place-map}
+use Rattle.dms_face.proofs.PlacingLaws.{has_place, front_extent, at_place-map}
 use Rattle.dms_face.proofs.drawing.side_extent.Goals as goal
 
 pub with-run-requires : goal.with-run-requires

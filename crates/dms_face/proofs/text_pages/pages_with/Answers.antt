@@ -1,6 +1,5 @@
-use Rattle.std.proofs.Common.{◌≡◌, ◌∙◌, map, Option, Some, None, Result, Ok, Err, sym, ap, refl}
+use Rattle.std.proofs.Common.{◌≡◌, ◌∙◌, map, None, Ok, sym, ap}
 use Rattle.std.specs.List.{list_all}
-use Rattle.dms_face.specs.declared.multi_fault.MultiFault.{MultiFault}
 use Rattle.dms_face.specs.Layout.{PageModel, under}
 use Rattle.dms_face.specs.Room.{page_fits}
 use Rattle.dms_face.specs.Fit.{or_fault, fault_of, page_count}

@@ -1,7 +1,7 @@
 use Rattle.std.proofs.Common.{◌≡◌, ◌∙◌, ◌*◌, [], length, replicate, ap, subst, arith}
 use Rattle.std.specs.Vec.{vec_len, with_items}
 use Rattle.dms_face.specs.Layout.{PageModel}
-use Rattle.dms_face.specs.Drawn.{unlit, drawn}
+use Rattle.dms_face.specs.Drawn.{unlit}
 use Rattle.dms_face.specs.Drawing.{lines_characters, Shows}
 use Rattle.dms_face.proofs.DrawnLaws.{blank_shows, refilled, cells_shown, page_is}
 use Rattle.dms_face.proofs.page.Page.drawn.Goals as goal

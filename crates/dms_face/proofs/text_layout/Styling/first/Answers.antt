@@ -1,8 +1,7 @@
-use Rattle.std.proofs.Common.{◌≡◌, ◌∙◌, Bool, true, false, List, [], ◌∷◌, Option, Some, None, sym, ap, refl, inl, inr}
-use Rattle.std.specs.Option.{IsSome, is_some, option_map}
+use Rattle.std.proofs.Common.{◌≡◌, ◌∙◌, Bool, true, false, List, [], ◌∷◌, Option, Some, None, ap, refl, inl, inr}
+use Rattle.std.specs.Option.{is_some, option_map}
 use Rattle.std.specs.List.{find, list_any}
 use Rattle.std.proofs.lemmas.Bool.{and_parts, cases_Bool}
-use Rattle.dms_face.specs.Font.{FontModel}
 use Rattle.dms_face.proofs.text_layout.Styling.first.Goals as goal
 
 -- where an element passes a test, one is found
