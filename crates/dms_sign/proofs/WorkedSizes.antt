@@ -36,7 +36,7 @@ three_texts_are_too_big : (datagram long_text (codes "305a02010004067075626c6963
 unfolding datagram
 three_texts_are_too_big = refl
 
--- ---- many names: their list is too long to be computed at once, so its size is counted
+-- ---- many names: the octets of so large a request-id are not computed, so sizes are counted
 
 -- a number added to another one so many times
 abbrev added : ℕ → ℕ → ℕ → ℕ
