@@ -6,3 +6,5 @@ mod Altered
 mod TableRows
 mod WorkedHeadline
 mod Worked
+pub mod WorldInputs
+pub mod WorldNumbers
