@@ -8,3 +8,5 @@ mod WorkedHeadline
 mod Worked
 pub mod WorldInputs
 pub mod WorldNumbers
+pub mod WorldGrows
+pub mod WorldOrders
