@@ -10,3 +10,4 @@ pub mod WorldInputs
 pub mod WorldNumbers
 pub mod WorldGrows
 pub mod WorldOrders
+pub mod WorldSent

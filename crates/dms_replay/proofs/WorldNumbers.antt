@@ -92,7 +92,7 @@ codes_at world events fresh are count =
 
 -- ---- the law
 
-has_number : (number : ℕ) (datagram : List ℕ) (message : SnmpMessage) → SpellsNumbered number datagram message → HasNumber number datagram
+pub has_number : (number : ℕ) (datagram : List ℕ) (message : SnmpMessage) → SpellsNumbered number datagram message → HasNumber number datagram
 has_number number datagram message spells = record { message = message; spelled = spells.spelled; is = spells.numbered }
 
 pub requests_agree : (world : WorldModel) (events : List EventModel) → IsFresh world → AreEvents events → RequestsAgree world events
