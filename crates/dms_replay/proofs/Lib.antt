@@ -11,3 +11,4 @@ pub mod WorldNumbers
 pub mod WorldGrows
 pub mod WorldOrders
 pub mod WorldSent
+pub mod WorldTold
