@@ -6,3 +6,9 @@ mod Altered
 mod TableRows
 mod WorkedHeadline
 mod Worked
+pub mod WorldInputs
+pub mod WorldNumbers
+pub mod WorldGrows
+pub mod WorldOrders
+pub mod WorldSent
+pub mod WorldTold
