@@ -8,7 +8,7 @@ use Rattle.std.proofs.lemmas.Nat.{div-add-mod', mod_below, div_below, same_from_
 use Rattle.std.proofs.Math.Nat.{mul_comm}
 use Rattle.std.proofs.lemmas.List.Folds.{find-append}
 use Rattle.dms_face.specs.declared.cell.Cell.{Cell}
-use Rattle.dms_face.specs.Glyph.{GlyphModel, lit_at}
+use Rattle.dms_font.specs.Glyph.{GlyphModel, lit_at}
 use Rattle.dms_face.specs.Face.{FaceModel}
 use Rattle.dms_face.specs.Layout.{PageModel}
 use Rattle.dms_face.specs.Cells.{PlacedCharacter, is_lit_by, cell_by}

@@ -1,12 +1,3 @@
-pub mod Splits
-pub mod LineLaws
-pub mod Pictures
-pub mod Numbers
-pub mod WordLaws
-pub mod RowLaws
-pub mod LineFilter
-pub mod FontLaws
-pub mod Promises
 pub mod Bench
 pub mod Extents
 pub mod PartLaws

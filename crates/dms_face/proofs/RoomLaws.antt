@@ -4,7 +4,7 @@ use Rattle.std.specs.List.{list_all}
 use Rattle.std.proofs.lemmas.Bool.Decides.{nat_tests}
 use Rattle.std.proofs.lemmas.List.Folds.{list_all-append}
 use Rattle.std.proofs.lemmas.List.{map-append}
-use Rattle.dms_face.specs.Font.{FontModel}
+use Rattle.dms_font.specs.Font.{FontModel}
 use Rattle.dms_face.specs.Face.{FaceModel}
 use Rattle.dms_face.specs.Layout.{Character, Line, PageModel, Layout, Style, is_blank, open_line, standing, closed, has_line_in, page_of, with_line, with_page}
 use Rattle.dms_face.specs.Room.{blocks_fit, line_block, characters_fit, lines_fit, page_fits, has_room}

@@ -3,7 +3,7 @@ use Rattle.std.proofs.Common.{◌≡◌, ℕ, ◌+◌, Bool, true, false, cond, 
 use Rattle.std.specs.Borrow.{Bor}
 use Rattle.std.specs.Option.{option_copied, IsSome}
 use Rattle.dms_face.specs.declared.totals.Totals.{Totals}
-use Rattle.dms_face.specs.Font.{FontModel}
+use Rattle.dms_font.specs.Font.{FontModel}
 use Rattle.dms_face.specs.Face.{font_in, has_font}
 use Rattle.dms_face.specs.Layout.{Layout, closed, with_page, with_part}
 use Rattle.dms_face.specs.Totals.{Tells}

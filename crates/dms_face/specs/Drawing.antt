@@ -2,7 +2,7 @@
 use Rattle.std.specs.Prelude.{◌≡◌, ℕ, ◌+◌, ◌-◌, ◌/◌, ◌%◌, ◌==◌, ◌<◌, ◌&&◌, Bool, true, if◌then◌else◌, List, length, slice_index_or, nat_lt, nat_le}
 use Rattle.std.specs.List.{find, flat_map}
 use Rattle.dms_face.specs.declared.cell.Cell.{Cell}
-use Rattle.dms_face.specs.Glyph.{GlyphModel, lit_at}
+use Rattle.dms_font.specs.Glyph.{GlyphModel, lit_at}
 use Rattle.dms_face.specs.Face.{FaceModel}
 use Rattle.dms_face.specs.Layout.{Style, Character, Line, PageModel}
 use Rattle.dms_face.specs.Room.{line_block, spread}

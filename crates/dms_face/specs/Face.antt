@@ -1,7 +1,7 @@
 -- What signs are made with: a matrix, its fonts, and what holds where a text says nothing else.
 use Rattle.std.specs.Prelude.{ℕ, ◌==◌, ◌&&◌, Bool, true, not, if◌then◌else◌, List, [], ◌∷◌, length, nat_le, Option, Result, Ok, Err}
 use Rattle.std.specs.List.{find, list_any}
-use Rattle.dms_face.specs.Font.{FontModel}
+use Rattle.dms_font.specs.Font.{FontModel}
 use Rattle.dms_face.specs.declared.defaults.Defaults.{Defaults}
 use Rattle.dms_face.specs.declared.fault.FaceFault.{FaceFault}
 use Rattle.dms_face.specs.declared.fault.FaceFault.TheVariants.{Size, Fonts, Default}

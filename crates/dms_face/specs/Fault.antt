@@ -1,17 +1,7 @@
 -- The numbers of faults.
 use Rattle.std.specs.Prelude.{ℕ}
-use Rattle.dms_face.specs.declared.fault.FontFaultKind.{FontFaultKind}
-use Rattle.dms_face.specs.declared.fault.FontFaultKind.TheVariants.{Header, Glyph, Bitmap, Twice, TooMany, Memory}
 use Rattle.dms_face.specs.declared.fault.FaceFault.{FaceFault}
 use Rattle.dms_face.specs.declared.fault.FaceFault.TheVariants.{Size, Fonts, Default}
-
-abbrev pub kind_number : FontFaultKind → ℕ
-kind_number Header = 1
-kind_number Glyph = 2
-kind_number Bitmap = 3
-kind_number Twice = 4
-kind_number TooMany = 5
-kind_number Memory = 6
 
 abbrev pub fault_number : FaceFault → ℕ
 fault_number Size = 1

@@ -12,7 +12,7 @@ use Rattle.dms_face.specs.declared.room.Block.{Block}
 use Rattle.dms_face.specs.declared.multi_fault.MultiFault.{MultiFault}
 use Rattle.dms_face.specs.declared.multi_fault.MultiFaultCode.{MultiFaultCode}
 use Rattle.dms_face.specs.declared.multi_fault.MultiFaultCode.TheVariants.{TextTooBig, FontNotDefined, CharacterNotDefined, TagConflict, TooManyPages, FontVersionId}
-use Rattle.dms_face.specs.Font.{FontModel, glyph_of}
+use Rattle.dms_font.specs.Font.{FontModel, glyph_of}
 use Rattle.dms_face.specs.Face.{FaceModel, font_of}
 use Rattle.dms_face.specs.FaultCode.{syntax_fault}
 use Rattle.dms_face.specs.Layout.{Layout, Turn, blank_layout, closed, with_turn, layout_of}

@@ -5,8 +5,8 @@ use Rattle.dms_multi.specs.declared.item.Item.{Item}
 use Rattle.dms_multi.specs.declared.item.Item.TheVariants.{Char, Background, Foreground, Font, FlashOn, FlashEnd, JustLine, JustPage, NewLine, NewPage, PageTime}
 use Rattle.dms_face.specs.declared.cell.Flash.{Flash}
 use Rattle.dms_face.specs.declared.defaults.Defaults.{Defaults}
-use Rattle.dms_face.specs.Glyph.{GlyphModel}
-use Rattle.dms_face.specs.Font.{FontModel, glyph_of}
+use Rattle.dms_font.specs.Glyph.{GlyphModel}
+use Rattle.dms_font.specs.Font.{FontModel, glyph_of}
 use Rattle.dms_face.specs.Face.{FaceModel, font_of}
 
 -- the same face, with other defaults

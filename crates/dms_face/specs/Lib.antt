@@ -1,13 +1,4 @@
-pub mod Lines
-pub mod LinesView
-pub mod Words
-pub mod WordsView
-pub mod Glyph
-pub mod Font
-pub mod FontText
-pub mod FontReading
 pub mod Face
-pub mod FontView
 pub mod FaultCode
 pub mod Layout
 pub mod Room

@@ -2,8 +2,8 @@
 
 ghost use Rattle.std.specs.Prelude.{◌≡◌, ℕ, ◌+◌, ◌*◌, ◌/◌, ◌%◌, ◌<◌, ◌≤◌, ◌==◌, ◌&&◌, List, ◌++◌, length, map, filter, true, slice_index_or};
 ghost use Rattle.std.specs.List.{list_all, flat_map};
-ghost use Rattle.dms_face.specs.Glyph.{lit_at};
-ghost use Rattle.dms_face.specs.Font.{FontModel};
+ghost use Rattle.dms_font.specs.Glyph.{lit_at};
+ghost use Rattle.dms_font.specs.Font.{FontModel};
 ghost use Rattle.dms_face.specs.Layout.{Character, Line, PageModel};
 ghost use Rattle.dms_face.specs.Room.{begin, extent_at, placed_from, character_block, line_block, line_height, greatest, characters_fit, page_fits};
 ghost use Rattle.dms_face.specs.Cells.{PlacedCharacter, is_lit_by, line_characters};
@@ -12,9 +12,9 @@ ghost use Rattle.dms_face.specs.StylingView.{style_of};
 
 use crate::cell::Cell;
 use crate::face::Face;
-use crate::glyph::Glyph;
 use crate::room::{Block, Run};
 use crate::text_layout::{StyledGlyph, Styling, TextLine};
+use dms_font::Glyph;
 
 impl Styling<'_> {
     /// The cell that a character of this style lights.

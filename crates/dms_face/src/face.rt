@@ -6,7 +6,7 @@ ghost use Rattle.dms_face.specs.Face.{font_in, font_of, has_font, have_own_numbe
 
 use crate::defaults::Defaults;
 use crate::fault::FaceFault;
-use crate::font::Font;
+use dms_font::Font;
 use std::marker::Model;
 
 /// What a sign is made with.

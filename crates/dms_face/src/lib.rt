@@ -1,4 +1,4 @@
-//! The fonts and the face of a sign: fonts as text, and what a sign is made with.
+//! The face of a sign: what it is made with, the layout of a text on it, and its pages.
 #![tactic(auto)]
 
 pub mod cell;
@@ -9,31 +9,24 @@ pub mod defaults;
 mod drawing;
 pub mod face;
 pub mod fault;
-pub mod font;
-mod font_text;
-pub mod glyph;
 pub mod laws;
-pub mod lines;
 pub mod multi_fault;
 pub mod page;
 #[cfg(test)]
 mod page_tests;
-mod parts;
 mod room;
 #[cfg(test)]
 mod tests;
 mod text_layout;
 pub mod text_pages;
 mod totals;
-pub mod words;
 
 pub use cell::{Cell, Flash};
 pub use checking::{check, check_with};
 pub use defaults::Defaults;
+pub use dms_font::{Font, FontFault, FontFaultKind, Glyph};
 pub use face::Face;
-pub use fault::{FaceFault, FontFault, FontFaultKind};
-pub use font::Font;
-pub use glyph::Glyph;
+pub use fault::FaceFault;
 pub use multi_fault::{MultiFault, MultiFaultCode};
 pub use page::Page;
 pub use text_pages::{PagesFault, pages, pages_with};

@@ -1,7 +1,7 @@
 //! Pages of lines of characters, as the items of a text make them one by one.
 
 ghost use Rattle.std.specs.Prelude.{◌≡◌, [], IsTrue, OnOk};
-ghost use Rattle.dms_face.specs.Font.{glyph_of};
+ghost use Rattle.dms_font.specs.Font.{glyph_of};
 ghost use Rattle.dms_face.specs.Face.{fit};
 ghost use Rattle.dms_face.specs.Layout.{under, first_style, styled, blank_layout, closed, has_line_in, with_character, with_line, with_page, with_part, with_item};
 ghost use Rattle.dms_face.specs.StylingView.{style_of};
@@ -9,8 +9,7 @@ ghost use Rattle.dms_face.specs.StylingView.{style_of};
 use crate::cell::Flash;
 use crate::defaults::Defaults;
 use crate::face::Face;
-use crate::font::Font;
-use crate::glyph::Glyph;
+use dms_font::{Font, Glyph};
 use dms_multi::Item;
 use std::alloc::{AllocError, Global};
 use std::marker::Model;

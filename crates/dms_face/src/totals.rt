@@ -11,10 +11,9 @@ ghost use Rattle.dms_face.specs.Totals.{TellsBlocks, AreWithin, Tells, AreSmall,
 
 use crate::defaults::Defaults;
 use crate::face::Face;
-use crate::font::Font;
-use crate::glyph::Glyph;
 use crate::multi_fault::MultiFaultCode;
 use crate::room::{Block, Places};
+use dms_font::{Font, Glyph};
 use dms_multi::Item;
 
 /// The most pages of a text.

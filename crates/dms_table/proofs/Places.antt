@@ -20,7 +20,7 @@ first_four xs = get_or xs 0 0 ∷ get_or xs 1 0 ∷ get_or xs 2 0 ∷ get_or xs 
 abbrev first_five : List ℕ → List ℕ
 first_five xs = get_or xs 0 0 ∷ get_or xs 1 0 ∷ get_or xs 2 0 ∷ get_or xs 3 0 ∷ get_or xs 4 0 ∷ []
 
-all_four : (xs : List ℕ) → length xs ≡ 4 → xs ≡ first_four xs
+pub all_four : (xs : List ℕ) → length xs ≡ 4 → xs ≡ first_four xs
 all_four xs h = text_from_reads xs (first_four xs) h (search rules)
 
 all_five : (xs : List ℕ) → length xs ≡ 5 → xs ≡ first_five xs

@@ -9,3 +9,4 @@ pub mod Settling
 pub mod Validating
 pub mod Stocking
 pub mod Deciding
+pub mod FaultTexts

@@ -67,3 +67,8 @@ fault_number faults.Memory = 3
 -- each permanent row can be shown
 abbrev pub PermanentRowsAreGood : FaceModel → TableModel → Type 0
 PermanentRowsAreGood face table = All (IsShowable table.services face) table.permanent
+
+-- the permanent rows stay as they are, and so does what the sign has
+pub record KeepsPermanentRows (old new : TableModel) : Type 0 where
+  pub rows : new.permanent ≡ old.permanent
+  pub services : new.services ≡ old.services

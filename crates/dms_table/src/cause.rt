@@ -41,6 +41,10 @@ impl Cause {
 }
 
 impl fmt::Display for Cause {
+    ghost use Rattle.dms_table.specs.FaultTexts.{cause_text};
+
+    ghost output = { cause_text };
+
     fn fmt<W: fmt::Write>(&self, f: &mut fmt::Formatter<W>) -> fmt::Result {
         match self {
             Cause::MemoryType => f.write_str("no type of memory"),

@@ -1,3 +1,11 @@
+//! The codes that name a message and put one up, and their octets.
+
+ghost use Rattle.std.specs.Prelude.{◌≡◌, ◌<◌, ◌^◌, ℕ, List, length, All};
+ghost use Rattle.dms_table.specs.declared.codes.Order.{Order};
+ghost use Rattle.dms_table.specs.declared.codes.MessageId.{MessageId};
+ghost use Rattle.dms_table.specs.declared.codes.Activation.{Activation};
+ghost use Rattle.dms_table.specs.Codes.{two_octets, octets_of_checksum, in_order, octets_of_id, octets_of_activation, id_of, activation_of, IsMessageId, IsActivation};
+
 /// Which octet of a checksum a code has first: makers differ.
 #[derive(Clone, Copy, Debug, PartialEq, Eq)]
 pub enum Order {
@@ -31,7 +39,7 @@ pub struct Activation {
 
 impl Order {
     ghost use Rattle.std.specs.Prelude.{◌≡◌};
-    ghost use Rattle.dms_table.specs.Codes.{octets_of_checksum};
+    ghost use Rattle.dms_table.specs.Codes.{octets_of_checksum, in_order, number_at};
 
     /// The two octets of a checksum.
     fn octets(self, crc: u16) -> [u8; 2]
@@ -46,7 +54,8 @@ impl Order {
 
     /// The checksum that has these two octets.
     fn checksum(self, octets: [u8; 2]) -> u16
-        ensures { octets_of_checksum self result ≡ octets }
+        ensures spelled { octets_of_checksum self result ≡ octets }
+        ensures value { result ≡ in_order self (number_at octets 0) }
     {
         match self {
             Order::High => u16::from_be_bytes(octets),
@@ -57,7 +66,7 @@ impl Order {
 
 impl MessageId {
     ghost use Rattle.std.specs.Prelude.{◌≡◌, ◌↔◌, length, IsSome, IfSome};
-    ghost use Rattle.dms_table.specs.Codes.{octets_of_id, IsMessageId};
+    ghost use Rattle.dms_table.specs.Codes.{octets_of_id, id_of, IsMessageId};
 
     pub fn to_bytes(&self, order: Order) -> [u8; 5]
         ensures { result ≡ octets_of_id order self.now }
@@ -71,6 +80,7 @@ impl MessageId {
     pub fn from_bytes(order: Order, octets: &[u8]) -> Option<Self>
         ensures five { IsSome result ↔ (length octets.now ≡ 5) }
         ensures spelled { IfSome result (λ id. octets_of_id order id ≡ octets.now) }
+        ensures value { IfSome result (λ id. id ≡ id_of order octets.now) }
         ensures back { (id : MessageId) → IsMessageId id → octets.now ≡ octets_of_id order id → result ≡ Some id }
     {
         match octets {
@@ -86,7 +96,7 @@ impl MessageId {
 
 impl Activation {
     ghost use Rattle.std.specs.Prelude.{◌≡◌, ◌↔◌, length, IsSome, IfSome};
-    ghost use Rattle.dms_table.specs.Codes.{octets_of_activation, IsActivation};
+    ghost use Rattle.dms_table.specs.Codes.{octets_of_activation, activation_of, IsActivation};
 
     pub fn to_bytes(&self, order: Order) -> [u8; 12]
         ensures { result ≡ octets_of_activation order self.now }
@@ -114,6 +124,7 @@ impl Activation {
     pub fn from_bytes(order: Order, octets: &[u8]) -> Option<Self>
         ensures twelve { IsSome result ↔ (length octets.now ≡ 12) }
         ensures spelled { IfSome result (λ a. octets_of_activation order a ≡ octets.now) }
+        ensures value { IfSome result (λ a. a ≡ activation_of order octets.now) }
         ensures back { (a : Activation) → IsActivation a → octets.now ≡ octets_of_activation order a → result ≡ Some a }
     {
         match octets {
@@ -127,6 +138,26 @@ impl Activation {
         }
     }
 }
+
+/// Five octets are those of the message that they name, and a message is the one that its octets name.
+pub fn ids_are_their_octets()
+    ensures octets { (order : Order) (octets : List ℕ) → length octets ≡ 5 → All (λ octet. octet < 256) octets
+        → octets_of_id order (id_of order octets) ≡ octets }
+    ensures id { (order : Order) (id : MessageId) → IsMessageId id → id_of order (octets_of_id order id) ≡ id }
+{}
+
+/// Twelve octets are those of the activation that they spell, and an activation is the one that its octets spell.
+pub fn activations_are_their_octets()
+    ensures octets { (order : Order) (octets : List ℕ) → length octets ≡ 12 → All (λ octet. octet < 256) octets
+        → octets_of_activation order (activation_of order octets) ≡ octets }
+    ensures activation { (order : Order) (a : Activation) → IsActivation a
+        → activation_of order (octets_of_activation order a) ≡ a }
+{}
+
+/// A checksum's octets in an order are those, the high octet first, of the number that the order makes of it.
+pub fn checksums_have_their_order()
+    ensures { (order : Order) (crc : ℕ) → crc < 2 ^ 16 → two_octets (in_order order crc) ≡ octets_of_checksum order crc }
+{}
 
 #[cfg(test)]
 mod tests;

@@ -1,8 +1,7 @@
 //! Rows of the table.
 
 ghost use Rattle.std.specs.Prelude.{◌≡◌, ◌≤◌, [], Some, None, OnOk, OnErr, IfSome, IsTrue, length, option_map};
-ghost use Rattle.arrayvec.specs.ArrayVec.{array_vec_len};
-ghost use Rattle.dms_table.specs.Rows.{unused, interrupted, is_in_range, with_field, with_status, asked_row, written_row, blank_at, blank_reading, reading, row_checksum, row_is_validating};
+ghost use Rattle.dms_table.specs.Rows.{unused, interrupted, is_in_range, with_field, with_status, asked_row, written_row, blank_at, blank_reading, reading, row_is_validating};
 ghost use Rattle.dms_table.specs.Status.{is_valid, is_not_used};
 ghost use Rattle.dms_face.specs.Face.{fit};
 ghost use Rattle.dms_table.specs.Validating.{settled_by, verdict_if, IsJudged};
@@ -65,6 +64,11 @@ pub struct RowView<'a> {
 pub struct Refused;
 
 impl fmt::Display for Refused {
+    ghost use Rattle.std.specs.Prelude.{Some};
+    ghost use Rattle.dms_table.specs.FaultTexts.{refused_text};
+
+    ghost output = { λ _. Some refused_text };
+
     fn fmt<W: fmt::Write>(&self, f: &mut fmt::Formatter<W>) -> fmt::Result {
         f.write_str("the row does not take this now")
     }

@@ -1,6 +1,6 @@
 //! What a sign shows.
 
-ghost use Rattle.std.specs.Prelude.{◌≡◌, ◌≤◌, length};
+ghost use Rattle.std.specs.Prelude.{◌≡◌};
 ghost use Rattle.dms_table.specs.RowsView.{reading_of, IsShort};
 ghost use Rattle.dms_table.specs.Deciding.{shown_reading, seconds_of, put_up};
 

@@ -1,6 +1,6 @@
 //! What a table is made of.
 
-ghost use Rattle.std.specs.Prelude.{◌≡◌, ℕ, IsTrue, IfNone, IfOk, All, map, replicate, position};
+ghost use Rattle.std.specs.Prelude.{◌≡◌, IsTrue, IfNone, IfOk, All, map, replicate, position};
 ghost use Rattle.dms_face.specs.Face.{fit};
 ghost use Rattle.dms_table.specs.Rows.{unused};
 ghost use Rattle.dms_table.specs.Stocking.{HasGoodText, are_counts, permanent_row, has_ranges, may_stand, may_not_stand, stock_fault, services_of};
@@ -162,6 +162,11 @@ impl TableFault {
 }
 
 impl fmt::Display for TableFault {
+    ghost use Rattle.std.specs.Prelude.{Some};
+    ghost use Rattle.dms_table.specs.FaultTexts.{table_fault_text};
+
+    ghost output = { λ fault. Some (table_fault_text fault) };
+
     fn fmt<W: fmt::Write>(&self, f: &mut fmt::Formatter<W>) -> fmt::Result {
         match self {
             TableFault::Counts => f.write_str("too many rows"),

@@ -1,15 +1,17 @@
 //! The message table.
 
-ghost use Rattle.std.specs.Prelude.{◌≡◌, ◌≤◌, ℕ, map, find, All, IsTrue, IfOk, IfErr, OnOk, OnErr, Some, None, IfSome, option_map, length};
+ghost use Rattle.std.specs.Prelude.{◌≡◌, map, find, All, IsTrue, IfOk, IfErr, OnOk, OnErr, Some, None, IfSome, option_map};
 ghost use Rattle.std.specs.Option.{option_copied};
 ghost use Rattle.std.specs.List.{list_any};
-ghost use Rattle.dms_table.specs.Rows.{row_is_validating, rows_of, numbered, row_read, valid_count, unused_count, row_count, may_ask, changed_in, asked_row, asked, written_row, written, interrupted, released, after_power, IsTable};
+ghost use Rattle.dms_table.specs.Rows.{row_is_validating, rows_of, numbered, row_read, valid_count, unused_count, row_count, may_ask, changed_in, asked_row, asked, written_row, written, interrupted, released, after_power, IsTable, TableModel, FieldModel};
 ghost use Rattle.dms_table.specs.RowsView.{field_of, reading_of, IsShort};
-ghost use Rattle.dms_face.specs.Face.{fit};
+ghost use Rattle.dms_table.specs.declared.row.RowId.{RowId};
+ghost use Rattle.dms_table.specs.declared.status.Ask.{Ask};
+ghost use Rattle.dms_face.specs.Face.{FaceModel, fit};
 ghost use Rattle.dms_face.specs.Layout.{under};
 ghost use Rattle.dms_table.specs.Settling.{settled, verdict, ValidRowsAreGood};
 ghost use Rattle.dms_table.specs.Validating.{settled_by, verdict_by, IsJudged};
-ghost use Rattle.dms_table.specs.Stocking.{permanent_row, has_ranges, stock_fault, table_of, IsFirstFault, PermanentRowsAreGood};
+ghost use Rattle.dms_table.specs.Stocking.{permanent_row, has_ranges, stock_fault, table_of, IsFirstFault, PermanentRowsAreGood, KeepsPermanentRows};
 ghost use Rattle.dms_table.specs.Deciding.{is_memory, named, activation_error, unless_refused, decided};
 
 use crate::cause::Cause;
@@ -362,3 +364,12 @@ fn settle_all(rows: &mut [Row], validator: &Validator<'_>) -> Option<Verdict>
     }
     verdict
 }
+
+/// What a table does leaves its permanent rows as they are, so they stay good on the face that it was made for.
+pub fn permanent_rows_stay()
+    ensures asked { (old new : TableModel) (id : RowId) (ask : Ask) → asked old id ask ≡ Some new → KeepsPermanentRows old new }
+    ensures written { (old new : TableModel) (id : RowId) (field : FieldModel) → written old id field ≡ Some new → KeepsPermanentRows old new }
+    ensures settled { (face : FaceModel) (table : TableModel) → KeepsPermanentRows table (settled face table) }
+    ensures after_power { (table : TableModel) → KeepsPermanentRows table (after_power table) }
+    ensures good { (face : FaceModel) (old new : TableModel) → KeepsPermanentRows old new → PermanentRowsAreGood face old → PermanentRowsAreGood face new }
+{}

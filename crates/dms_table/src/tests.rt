@@ -2,8 +2,8 @@
 //! is made of.
 
 use crate::{
-    Activation, Ask, Cause, Field, MessageId, Order, Permanent, Refused, RowId, Shown, Status,
-    Stock, Table, TableFault, Verdict,
+    Activation, Ask, Cause, Column, Field, MessageId, Order, Permanent, Refused, RowId, Shown,
+    Status, Stock, Table, TableFault, Verdict,
 };
 use arrayvec::ArrayVec;
 use dms_face::{Defaults, Face, Font, MultiFault, MultiFaultCode};
@@ -213,6 +213,25 @@ fn verdicts(rt: HostRuntime) -> Result<(), Fail> {
 }
 
 #[test]
+fn verdicts_of_a_sign_with_neither(rt: HostRuntime) -> Result<(), Fail> {
+    let face = bench_face(rt.alloc())?;
+    let mut stock = bench_stock(&[]);
+    stock.beacon = false;
+    let mut table = Table::new(rt.alloc(), stock, &face)?;
+    let rows: [(&[u8], u8, u8, u8); 4] = [
+        (b"A", 0, 0, 2),
+        (b"A", 1, 0, 3),
+        (b"A", 0, 1, 4),
+        (b"[nl", 1, 1, 3),
+    ];
+    for (text, beacon, pixel, error) in rows {
+        let verdict = validated(&mut table, &face, &DEFAULTS, text, beacon, pixel)?;
+        assert_eq!(rt; verdict, Some(Verdict { error, fault: None }));
+    }
+    Ok(())
+}
+
+#[test]
 fn one_validation_at_a_time(rt: HostRuntime) -> Result<(), Fail> {
     let face = bench_face(rt.alloc())?;
     let mut table = Table::new(rt.alloc(), bench_stock(&[]), &face)?;
@@ -228,7 +247,16 @@ fn one_validation_at_a_time(rt: HostRuntime) -> Result<(), Fail> {
     assert_eq!(rt; status(&table, volatile), Some(Status::NotUsed));
     assert_eq!(rt; table.write(volatile, Field::Owner(b"me")), Err(Refused));
     assert_eq!(rt; table.write(FIRST, Field::Owner(b"me")), Ok(()));
-    assert_eq!(rt; table.write(FIRST, Field::Text(&[65; 513])), Err(Refused));
+    let out_of_range = [
+        Field::Text(&[65; 513]),
+        Field::Owner(&[65; 128]),
+        Field::Beacon(2),
+        Field::Pixel(2),
+        Field::Priority(0),
+    ];
+    for field in out_of_range {
+        assert_eq!(rt; table.write(FIRST, field), Err(Refused), "{field:?}");
+    }
     Ok(())
 }
 
@@ -367,16 +395,71 @@ fn tables(rt: HostRuntime) -> Result<(), Fail> {
         assert_eq!(rt; table.valid_count(memory), valid);
         assert_eq!(rt; table.unused_count(memory), unused);
     }
-    let pixel = Permanent {
-        text: b"B",
-        owner: &[],
-        beacon: 0,
-        pixel: 1,
-        priority: 100,
-    };
-    let refused = Table::new(rt.alloc(), bench_stock(&[B, pixel, pixel]), &face);
-    assert_eq!(rt; refused.err(), Some(TableFault::Permanent(2)));
-    let many = Table::new(rt.alloc(), bench_stock(&[pixel; 17]), &face);
+    let rows: [(&[u8], u8, u8, u8); 5] = [
+        (b"B", 0, 1, 100),
+        (b"B", 2, 0, 100),
+        (b"B", 0, 0, 0),
+        (b"C", 0, 0, 100),
+        (&[65; 513], 0, 0, 100),
+    ];
+    for (text, beacon, pixel, priority) in rows {
+        let wrong = Permanent {
+            text,
+            owner: &[],
+            beacon,
+            pixel,
+            priority,
+        };
+        let refused = Table::new(rt.alloc(), bench_stock(&[B, wrong, wrong]), &face);
+        assert_eq!(rt; refused.err(), Some(TableFault::Permanent(2)));
+    }
+    let many = Table::new(rt.alloc(), bench_stock(&[B; 17]), &face);
     assert_eq!(rt; many.err(), Some(TableFault::Counts));
     Ok(())
+}
+
+#[test]
+fn counts(rt: HostRuntime) -> Result<(), Fail> {
+    let face = bench_face(rt.alloc())?;
+    let rows = [
+        (0, 0, None),
+        (64, 16, None),
+        (65, 16, Some(TableFault::Counts)),
+        (64, 17, Some(TableFault::Counts)),
+    ];
+    for (changeable, volatile, fault) in rows {
+        let mut stock = bench_stock(&[B; 16]);
+        stock.changeable = changeable;
+        stock.volatile = volatile;
+        match Table::new(rt.alloc(), stock, &face) {
+            Ok(table) => {
+                assert_eq!(rt; fault, None);
+                assert_eq!(rt; (table.row_count(2), table.valid_count(2)), (16, 16));
+                assert_eq!(rt; table.unused_count(3), usize::from(changeable));
+                assert_eq!(rt; table.unused_count(4), usize::from(volatile));
+            }
+            Err(found) => {
+                assert_eq!(rt; Some(found), fault);
+            }
+        }
+    }
+    Ok(())
+}
+
+#[test]
+fn columns(rt: HostRuntime) {
+    let numbers = [
+        (Column::MemoryType, 1),
+        (Column::Number, 2),
+        (Column::MultiString, 3),
+        (Column::Owner, 4),
+        (Column::Crc, 5),
+        (Column::Beacon, 6),
+        (Column::PixelService, 7),
+        (Column::RunTimePriority, 8),
+        (Column::Status, 9),
+    ];
+    for (column, number) in numbers {
+        assert_eq!(rt; column.number(), number, "{column:?}");
+    }
 }

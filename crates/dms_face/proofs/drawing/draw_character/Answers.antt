@@ -1,6 +1,6 @@
 use Rattle.std.proofs.Common.{◌≡◌, ◌∙◌, ◌+◌, ◌/◌, ◌%◌, ◌<◌, length, ap, arith}
 use Rattle.std.specs.Prelude.{slice_index_or}
-use Rattle.dms_face.specs.Glyph.{lit_at}
+use Rattle.dms_font.specs.Glyph.{lit_at}
 use Rattle.dms_face.specs.Layout.{Character}
 use Rattle.dms_face.specs.Cells.{PlacedCharacter}
 use Rattle.dms_face.specs.Drawing.{covered, lit_cell}

@@ -1,0 +1,5 @@
+use Rattle.dms_centre.proofs.LedgerLaws.{ledger_moves}
+use Rattle.dms_centre.proofs.laws.ledger_is_kept.Goals as goal
+
+pub returns : goal.returns
+returns c = ledger_moves

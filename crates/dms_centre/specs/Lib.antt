@@ -1,0 +1,11 @@
+pub mod State
+pub mod Steps
+pub mod Sending
+pub mod Replies
+pub mod Commands
+pub mod Inputs
+pub mod History
+pub mod Requests
+pub mod Numbers
+pub mod Numbered
+pub mod Ledger

@@ -1,0 +1,20 @@
+-- The requests that go out, and what their values have to be for it.
+use Rattle.std.specs.Prelude.{◌≡◌, ℕ, true, List, Some}
+use Rattle.dms_wire.specs.MessageOf.{message_of}
+use Rattle.dms_table.specs.declared.codes.Activation.{Activation}
+use Rattle.dms_table.specs.Codes.{IsActivation}
+use Rattle.dms_centre.specs.declared.step.Step.{Step}
+use Rattle.dms_centre.specs.State.{SettingsModel, PublicationModel, Work, Publishing, Showing}
+use Rattle.dms_centre.specs.Steps.{request_of}
+use Rattle.dms_centre.specs.Commands.{IsPublication, is_publishable}
+
+-- the values of what a job is to put up
+pub data IsWork : Work → Type 0 where
+  OfPublishing : (p : PublicationModel) → IsPublication p → is_publishable p ≡ true → IsWork (Publishing p)
+  OfShowing : (code : Activation) → IsActivation code → IsWork (Showing code)
+
+-- octets that spell the request of this number, of some step of some job
+pub record IsRequest (settings : SettingsModel) (number : ℕ) (octets : List ℕ) : Type 0 where
+  pub work : Work
+  pub step : Step
+  pub spelled : message_of octets ≡ Some (request_of settings number work step)

@@ -1,0 +1,111 @@
+-- The eight steps of a job, and the request of each (NTCIP 1203 by object name; the order of the steps is this profile's).
+use Rattle.std.specs.Prelude.{ℕ, pos, Bool, true, false, List, [], ◌∷◌}
+use Rattle.dms_wire.specs.declared.message.Kind.{Kind}
+use Rattle.dms_wire.specs.declared.message.Kind.TheVariants.{Get, Set}
+use Rattle.dms_wire.specs.Message.{ObjectValue, integer, octet_string, null, VarBind, SnmpMessage}
+use Rattle.dms_table.specs.declared.codes.Order.{Order}
+use Rattle.dms_table.specs.declared.codes.Activation.{Activation}
+use Rattle.dms_table.specs.declared.names.Column.{Column}
+use Rattle.dms_table.specs.declared.names.Column.TheVariants.{MultiString, Owner, Crc, Beacon, PixelService, RunTimePriority, Status}
+use Rattle.dms_table.specs.declared.row.RowId.{RowId}
+use Rattle.dms_table.specs.Checksum.{message_checksum}
+use Rattle.dms_table.specs.Codes.{octets_of_activation}
+use Rattle.dms_table.specs.Names.{activate_message, activate_message_error, cell_name}
+use Rattle.dms_centre.specs.declared.step.Step.{Step}
+use Rattle.dms_centre.specs.declared.step.Step.TheVariants.{Opening, Opened, Filling, Validating, Polling, Comparing, Activating, Explaining}
+use Rattle.dms_centre.specs.State.{SettingsModel, Work, Publishing, Showing}
+
+abbrev pub step_number : Step → ℕ
+step_number Opening = 1
+step_number Opened = 2
+step_number Filling = 3
+step_number Validating = 4
+step_number Polling = 5
+step_number Comparing = 6
+step_number Activating = 7
+step_number Explaining = 8
+
+abbrev pub is_activating : Step → Bool
+is_activating Activating = true
+is_activating step = false
+
+-- ---- what the job puts up
+
+-- The code of a publication carries the checksum of the operator's text, beacon and pixel service.
+abbrev pub code_of : Work → Activation
+code_of (Publishing p) = record {
+  minutes = p.minutes;
+  priority = p.priority;
+  id = record { memory = p.memory; number = p.number; crc = message_checksum p.text p.beacon p.pixel };
+  address = p.address;
+}
+code_of (Showing code) = code
+
+-- the row that the code names
+abbrev pub row_of : Work → RowId
+row_of work = record { memory = (code_of work).id.memory; number = (code_of work).id.number }
+
+-- ---- what is asked
+
+-- asking for the value of an object (RFC 1157, 4.1.2)
+abbrev pub reading : List ℕ → List VarBind
+reading name = record { name = name; value = null } ∷ []
+
+-- setting the value of an object (RFC 1157, 4.1.5)
+abbrev pub writing : List ℕ → ObjectValue → List VarBind
+writing name value = record { name = name; value = value } ∷ []
+
+abbrev pub cell : Work → Column → List ℕ
+cell work column = cell_name column (row_of work)
+
+-- the values of dmsMessageStatus that ask for a change
+abbrev pub modify_request : ℕ
+modify_request = 6
+
+abbrev pub validate_request : ℕ
+validate_request = 7
+
+abbrev pub field : Work → Column → ObjectValue → VarBind
+field work column value = record { name = cell work column; value = value }
+
+-- the fields of the message that is published
+abbrev pub fields : Work → List VarBind
+fields (Publishing p) =
+    field (Publishing p) MultiString (octet_string p.text)
+    ∷ field (Publishing p) Owner (octet_string p.owner)
+    ∷ field (Publishing p) Beacon (integer (pos p.beacon))
+    ∷ field (Publishing p) PixelService (integer (pos p.pixel))
+    ∷ field (Publishing p) RunTimePriority (integer (pos p.run_priority))
+    ∷ []
+fields (Showing code) = []
+
+abbrev pub bindings_of : Order → Work → Step → List VarBind
+bindings_of order work Opening = writing (cell work Status) (integer (pos modify_request))
+bindings_of order work Opened = reading (cell work Status)
+bindings_of order work Filling = fields work
+bindings_of order work Validating = writing (cell work Status) (integer (pos validate_request))
+bindings_of order work Polling = reading (cell work Status)
+bindings_of order work Comparing = reading (cell work Crc)
+bindings_of order work Activating = writing activate_message (octet_string (octets_of_activation order (code_of work)))
+bindings_of order work Explaining = reading activate_message_error
+
+abbrev pub kind_of : Step → Kind
+kind_of Opening = Set
+kind_of Opened = Get
+kind_of Filling = Set
+kind_of Validating = Set
+kind_of Polling = Get
+kind_of Comparing = Get
+kind_of Activating = Set
+kind_of Explaining = Get
+
+-- the request of a step, under a number (RFC 1157, 4.1.1)
+unfoldable pub request_of : SettingsModel → ℕ → Work → Step → SnmpMessage
+request_of settings number work step = record {
+  community = settings.community;
+  kind = kind_of step;
+  request = pos number;
+  status = pos 0;
+  index = pos 0;
+  bindings = bindings_of settings.order work step;
+}

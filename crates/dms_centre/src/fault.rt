@@ -1,0 +1,30 @@
+//! Why a command is not taken.
+
+use std::error::Error;
+use std::fmt;
+
+/// Why a command is not taken: the first that applies. Nothing is sent, and nothing changes.
+#[derive(Clone, Copy, Debug, PartialEq, Eq)]
+pub enum CommandFault {
+    /// A job is not done yet.
+    Busy,
+    /// No request number is left.
+    NumbersUsedUp,
+    /// A value of the command is out of its range.
+    BadCommand,
+    /// There is no memory for the ledger's entry.
+    Memory,
+}
+
+impl fmt::Display for CommandFault {
+    fn fmt<W: fmt::Write>(&self, f: &mut fmt::Formatter<W>) -> fmt::Result {
+        match self {
+            CommandFault::Busy => f.write_str("a job is not done yet"),
+            CommandFault::NumbersUsedUp => f.write_str("no request number is left"),
+            CommandFault::BadCommand => f.write_str("a value is out of its range"),
+            CommandFault::Memory => f.write_str("no memory"),
+        }
+    }
+}
+
+impl Error for CommandFault {}

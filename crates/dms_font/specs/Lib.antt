@@ -1,0 +1,10 @@
+pub mod Lines
+pub mod LinesView
+pub mod Words
+pub mod WordsView
+pub mod Glyph
+pub mod Font
+pub mod FontText
+pub mod FontReading
+pub mod FontView
+pub mod Fault

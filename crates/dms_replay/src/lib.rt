@@ -1,0 +1,2 @@
+//! Both ends in one world, with every datagram that was ever sent between them; scripts of events, and the report of a run.
+#![tactic(auto)]

@@ -1,0 +1,79 @@
+-- What holds of each element of a list, or of the value that there may be.
+use Rattle.std.proofs.Common.{ℕ, zero, suc, ◌+◌, ◌<◌, Bool, true, false, cond, List, [], ◌∷◌, ◌++◌, length, map, flat_map, find, Option, Some, None, slice_get, arith}
+use Rattle.std.specs.Prelude.{option_map, option_and_then, unwrap_or, filter_map}
+use Rattle.std.specs.Option.{IfSome}
+use Rattle.std.specs.List.{AllByRecursion, position_from, cons_option}
+
+-- ---- choices and options
+
+pub either : {X : Type 0} (P : X → Type 0) (b : Bool) (x y : X) → P x → P y → P (cond b x y)
+either P true x y first second = first
+either P false x y first second = second
+
+pub if_either : {X : Type 0} (P : X → Type 0) (b : Bool) (o p : Option X) → IfSome o P → IfSome p P → IfSome (cond b o p) P
+if_either P true o p first second = first
+if_either P false o p first second = second
+
+pub if_mapped : {X Y : Type 0} (P : X → Type 0) (Q : Y → Type 0) (f : X → Y) (o : Option X) → ((x : X) → P x → Q (f x)) → IfSome o P
+    → IfSome (option_map f o) Q
+if_mapped P Q f None each some = tt
+if_mapped P Q f (Some x) each some = each x some
+
+pub if_then : {X Y : Type 0} (P : X → Type 0) (Q : Y → Type 0) (f : X → Option Y) (o : Option X) → ((x : X) → P x → IfSome (f x) Q) → IfSome o P
+    → IfSome (option_and_then f o) Q
+if_then P Q f None each some = tt
+if_then P Q f (Some x) each some = each x some
+
+pub if_or : {X : Type 0} (P : X → Type 0) (o : Option X) (x : X) → IfSome o P → P x → P (unwrap_or o x)
+if_or P None x some other = other
+if_or P (Some y) x some other = some
+
+-- ---- lists
+
+pub all_append : {X : Type 0} (P : X → Type 0) (xs ys : List X) → AllByRecursion P xs → AllByRecursion P ys → AllByRecursion P (xs ++ ys)
+all_append P [] ys first second = second
+all_append P (x ∷ xs) ys first second = (first.0, all_append P xs ys first.1 second)
+
+pub all_mapped : {X Y : Type 0} (P : X → Type 0) (Q : Y → Type 0) (f : X → Y) (xs : List X) → ((x : X) → P x → Q (f x)) → AllByRecursion P xs
+    → AllByRecursion Q (map f xs)
+all_mapped P Q f [] each all = tt
+all_mapped P Q f (x ∷ xs) each all = (each x all.0, all_mapped P Q f xs each all.1)
+
+pub all_flat : {X Y : Type 0} (P : X → Type 0) (Q : Y → Type 0) (f : X → List Y) (xs : List X) → ((x : X) → P x → AllByRecursion Q (f x))
+    → AllByRecursion P xs
+    → AllByRecursion Q (flat_map f xs)
+all_flat P Q f [] each all = tt
+all_flat P Q f (x ∷ xs) each all = all_append Q (f x) (flat_map f xs) (each x all.0) (all_flat P Q f xs each all.1)
+
+all_option : {X : Type 0} (P : X → Type 0) (o : Option X) (xs : List X) → IfSome o P → AllByRecursion P xs → AllByRecursion P (cons_option o xs)
+all_option P None xs some all = all
+all_option P (Some x) xs some all = (some, all)
+
+pub all_filtered : {X Y : Type 0} (P : X → Type 0) (Q : Y → Type 0) (f : X → Option Y) (xs : List X) → ((x : X) → P x → IfSome (f x) Q)
+    → AllByRecursion P xs
+    → AllByRecursion Q (filter_map f xs)
+all_filtered P Q f [] each all = tt
+all_filtered P Q f (x ∷ xs) each all = all_option Q (f x) (filter_map f xs) (each x all.0) (all_filtered P Q f xs each all.1)
+
+pub all_any : {X : Type 0} (P : X → Type 0) (xs : List X) → ((x : X) → P x) → AllByRecursion P xs
+all_any P [] each = tt
+all_any P (x ∷ xs) each = (each x, all_any P xs each)
+
+pub if_found : {X : Type 0} (P : X → Type 0) (test : X → Bool) (xs : List X) → AllByRecursion P xs → IfSome (find test xs) P
+if_found P test [] all = tt
+if_found P test (x ∷ xs) all = if_either P (test x) (Some x) (find test xs) all.0 (if_found P test xs all.1)
+
+pub if_at : {X : Type 0} (P : X → Type 0) (xs : List X) (i : ℕ) → AllByRecursion P xs → IfSome (slice_get xs i) P
+if_at P [] i all = tt
+if_at P (x ∷ xs) zero all = all.0
+if_at P (x ∷ xs) (suc i) all = if_at P xs i all.1
+
+place_if : (i n : ℕ) (b : Bool) (o : Option ℕ) → IfSome o (λ place. place < i + 1 + n) → IfSome (cond b (Some i) o) (λ place. place < i + suc n)
+place_if i n true o some = omega arith
+place_if i n false None some = tt
+place_if i n false (Some place) some = omega arith
+
+pub if_position : {X : Type 0} (test : X → Bool) (i : ℕ) (xs : List X) → IfSome (position_from test i xs) (λ place. place < i + length xs)
+if_position test i [] = tt
+if_position test i (x ∷ xs) =
+    place_if i (length xs) (test x) (position_from test (i + 1) xs) (if_position test (i + 1) xs)

@@ -1,0 +1,480 @@
+-- A datagram keeps a sign in range: what it assigns, and what its command does.
+use Rattle.std.proofs.Common.{◌≡◌, ℕ, zero, suc, pos, negsuc, ◌-◌, ◌≤◌, ◌==◌, ◌&&◌, Bool, true, false, cond, List, [], ◌∷◌, length, set, find, Option, Some, None, Result, Ok, Err, slice_get, slice_set, refl, sym, subst, arith, eqb, leb, leb-true}
+use Rattle.std.specs.Prelude.{option_map, option_and_then, unwrap_or, ⊤}
+use Rattle.std.specs.Option.{IfSome}
+use Rattle.std.specs.List.{AllByRecursion, position_from}
+use Rattle.std.specs.Int.Digits.{AllBelowBase}
+use Rattle.std.proofs.lemmas.Bool.{and_parts, eqb-true}
+use Rattle.std.proofs.lemmas.List.{length-set}
+use Rattle.dms_wire.specs.declared.message.Kind.{Kind}
+use Rattle.dms_wire.specs.declared.message.Kind.TheVariants.{Get, GetNext, Response, Set}
+use Rattle.dms_wire.specs.Message.{ObjectValue, integer, octet_string, null, object_identifier, ip_address, counter, gauge, time_ticks, opaque, VarBind, SnmpMessage}
+use Rattle.dms_wire.specs.MessageOf.{message_of}
+use Rattle.dms_wire.specs.Limits.{IsValueInLimits, AreBindingsInLimits}
+use Rattle.dms_wire.proofs.LimitsLaws.{spelled_in_limits}
+use Rattle.dms_wire.proofs.MessageOfLaws.{read_is_spelled}
+use Rattle.dms_face.specs.Face.{FaceModel, has_font}
+use Rattle.dms_table.specs.declared.cause.Cause.{Cause}
+use Rattle.dms_table.specs.declared.names.Column.{Column}
+use Rattle.dms_table.specs.declared.names.Column.TheVariants as columns_of
+use Rattle.dms_table.specs.declared.row.RowId.{RowId}
+use Rattle.dms_table.specs.declared.status.Ask.{Ask}
+use Rattle.dms_table.specs.declared.status.Status.{Status}
+use Rattle.dms_table.specs.declared.status.Status.TheVariants as statuses
+use Rattle.dms_table.specs.Status.{next_status, is_modifying}
+use Rattle.dms_table.specs.Codes.{activation_of}
+use Rattle.dms_table.specs.Rows.{RowModel, TableModel, FieldModel, Text, Owner, Beacon, Pixel, Priority, numbered, changed_in, with_changeable, with_volatile, changed, with_status, asked_row, may_ask, asked, is_in_range, with_field, written_row, written, changeable_memory, volatile_memory, longest_text, longest_owner}
+use Rattle.dms_table.specs.Deciding.{ShownModel, seconds_of, decided}
+use Rattle.dms_sign.specs.declared.object.Scalar.{Scalar}
+use Rattle.dms_sign.specs.declared.object.Scalar.TheVariants.{SignHeightPixels, SignWidthPixels, DefaultBackgroundColor, DefaultForegroundColor, DefaultFlashOn, DefaultFlashOff, DefaultFont, DefaultJustificationLine, DefaultJustificationPage, DefaultPageOnTime, DefaultPageOffTime, ColorScheme, NumPermanentMsg, NumChangeableMsg, MaxChangeableMsg, FreeChangeableMemory, NumVolatileMsg, MaxVolatileMsg, FreeVolatileMemory, ValidateMessageError, ActivateMessage, MessageTimeRemaining, MsgTableSource, MsgRequesterId, MsgSourceMode, ShortPowerRecoveryMessage, LongPowerRecoveryMessage, ShortPowerLossTime, CommunicationsLossMessage, TimeCommLoss, PowerLossMessage, EndDurationMessage, ActivateMsgError, MultiSyntaxError, MultiSyntaxErrorPosition, ActivateErrorMsgCode}
+use Rattle.dms_sign.specs.declared.object.Instance.{Instance}
+use Rattle.dms_sign.specs.declared.object.Instance.TheVariants.{The, Cell}
+use Rattle.dms_sign.specs.Objects.{scalar_number}
+use Rattle.dms_sign.specs.State.{ReportsModel, SignState, end_duration_mode}
+use Rattle.dms_sign.specs.PuttingUp.{showing, put_up_code}
+use Rattle.dms_sign.specs.Writing.{Write, SetNumber, SetCode, SetField, AskRow, Activate, SetRemaining, is_command, number_in, octets_in, font_in, ask_of, object_write, cell_write, write_of}
+use Rattle.dms_sign.specs.Setting.{SetCause, settable_instance, write_at, causes, given, is_same, number_for, code_for, with_write, with_writes, assigned}
+use Rattle.dms_sign.specs.Answering.{found_unless, has_no_value, is_last, as_decided, as_asked, with_remaining, commanded, commanded_if, writes_of, command_index, set_unless, may_write, answer_by, primary}
+use Rattle.dms_sign.specs.Reply.{is_heard, dropped, heard, on_message, on_message_if, received}
+use Rattle.dms_sign.specs.InRange.{AreOctets, AreOctetsUpTo, IsRowInRange, IsTableInRange, AreReportsInRange, IsSignInRange, IsBindingInLimits}
+use Rattle.dms_sign.proofs.InRangeLists.{either, if_either, if_mapped, if_then, if_or, if_found, if_at, all_filtered}
+use Rattle.dms_sign.proofs.InRangeShown.{IsDecisionInRange, showing_in_range, telling_in_range, with_table_in_range, activation_is, decided_in_range, seconds_in_range, refused_code_in_range, with_time, code_in_range}
+use Rattle.dms_sign.proofs.InRangeEvents.{with_status_in_range, unused_in_range, with_silence}
+
+-- ---- rows that are changed
+
+pub record AreRowsLike (old new : List RowModel) : Type 0 where
+  pub each : AllByRecursion IsRowInRange new
+  pub count : length new ≡ length old
+
+all_set : (rows : List RowModel) (i : ℕ) (row : RowModel) → AllByRecursion IsRowInRange rows → IsRowInRange row
+    → AllByRecursion IsRowInRange (set rows i row)
+all_set [] i row all is = tt
+all_set (x ∷ xs) zero row all is = (is, all.1)
+all_set (x ∷ xs) (suc i) row all is = (all.0, all_set xs i row all.1 is)
+
+changed_in_range : (rows : List RowModel) (n : ℕ) (change : RowModel → Option RowModel) → AllByRecursion IsRowInRange rows
+    → ((row : RowModel) → IsRowInRange row → IfSome (change row) IsRowInRange) → IfSome (changed_in rows n change) (AreRowsLike rows)
+changed_in_range rows n change all each =
+    if_then IsRowInRange (AreRowsLike rows) (λ row. option_map (slice_set rows (n - 1)) (change row)) (numbered rows n)
+    (λ row is. if_mapped IsRowInRange (AreRowsLike rows) (slice_set rows (n - 1)) (change row)
+    (λ new h. record { each = all_set rows (n - 1) new all h; count = length-set rows (n - 1) new }) (each row is))
+    (if_either IsRowInRange (n == 0) None (slice_get rows (n - 1)) tt (if_at IsRowInRange rows (n - 1) all))
+
+changed_table : (table : TableModel) (id : RowId) (change : RowModel → Option RowModel) → IsTableInRange table
+    → ((row : RowModel) → IsRowInRange row → IfSome (change row) IsRowInRange) → IfSome (changed table id change) IsTableInRange
+changed_table table id change is each =
+    if_either IsTableInRange (id.memory == changeable_memory) (option_map (with_changeable table) (changed_in table.changeable id.number change)) _
+    (if_mapped (AreRowsLike table.changeable) IsTableInRange (with_changeable table) (changed_in table.changeable id.number change)
+    (λ rows new. record {
+      permanent = is.permanent;
+      changeable = new.each;
+      volatile = is.volatile;
+      permanent_count = is.permanent_count;
+      changeable_count = omega (arith, new.count, is.changeable_count);
+      volatile_count = is.volatile_count;
+    })
+    (changed_in_range table.changeable id.number change is.changeable each))
+    (if_either IsTableInRange (id.memory == volatile_memory) (option_map (with_volatile table) (changed_in table.volatile id.number change)) None
+    (if_mapped (AreRowsLike table.volatile) IsTableInRange (with_volatile table) (changed_in table.volatile id.number change)
+    (λ rows new. record {
+      permanent = is.permanent;
+      changeable = is.changeable;
+      volatile = new.each;
+      permanent_count = is.permanent_count;
+      changeable_count = is.changeable_count;
+      volatile_count = omega (arith, new.count, is.volatile_count);
+    })
+    (changed_in_range table.volatile id.number change is.volatile each)) tt)
+
+-- ---- asking
+
+asked_status : (row : RowModel) (status : Status) → IsRowInRange row → IsRowInRange (with_status row status)
+asked_status row statuses.NotUsed is = unused_in_range
+asked_status row statuses.Modifying is = with_status_in_range row statuses.Modifying is
+asked_status row statuses.Validating is = with_status_in_range row statuses.Validating is
+asked_status row statuses.Valid is = with_status_in_range row statuses.Valid is
+asked_status row statuses.Error is = with_status_in_range row statuses.Error is
+
+any_status : (row : RowModel) (o : Option Status) → IsRowInRange row → IfSome (option_map (with_status row) o) IsRowInRange
+any_status row None is = tt
+any_status row (Some status) is = asked_status row status is
+
+asked_in_range : (table : TableModel) (id : RowId) (ask : Ask) → IsTableInRange table → IfSome (asked table id ask) IsTableInRange
+asked_in_range table id ask is =
+    if_either IsTableInRange (may_ask table ask) (changed table id (asked_row ask)) None
+    (changed_table table id (asked_row ask) is (λ row r. any_status row (next_status row.status ask) r)) tt
+
+-- ---- writing
+
+abbrev IsFieldInRange : FieldModel → Type 0
+IsFieldInRange (Text octets) = AreOctetsUpTo longest_text octets
+IsFieldInRange (Owner octets) = AreOctetsUpTo longest_owner octets
+IsFieldInRange (Beacon on) = on ≤ 1
+IsFieldInRange (Pixel on) = on ≤ 1
+IsFieldInRange (Priority priority) = (1 ≤ priority) × (priority ≤ 255)
+
+field_in_range : (row : RowModel) (field : FieldModel) → IsRowInRange row → IsFieldInRange field → IsRowInRange (with_field row field)
+field_in_range row (Text octets) is new =
+    record { text = new; owner = is.owner; beacon = is.beacon; pixel = is.pixel; least = is.least; priority = is.priority }
+field_in_range row (Owner octets) is new =
+    record { text = is.text; owner = new; beacon = is.beacon; pixel = is.pixel; least = is.least; priority = is.priority }
+field_in_range row (Beacon on) is new =
+    record { text = is.text; owner = is.owner; beacon = new; pixel = is.pixel; least = is.least; priority = is.priority }
+field_in_range row (Pixel on) is new =
+    record { text = is.text; owner = is.owner; beacon = is.beacon; pixel = new; least = is.least; priority = is.priority }
+field_in_range row (Priority priority) is new =
+    record { text = is.text; owner = is.owner; beacon = is.beacon; pixel = is.pixel; least = new.0; priority = new.1 }
+
+written_in_range : (table : TableModel) (id : RowId) (field : FieldModel) → IsTableInRange table → IsFieldInRange field
+    → IfSome (written table id field) IsTableInRange
+written_in_range table id field is new =
+    changed_table table id (written_row field) is
+    (λ row r. if_either IsRowInRange (is_modifying row.status && is_in_range field) (Some (with_field row field)) None (field_in_range row field r new) tt)
+
+-- ---- what a binding writes
+
+-- the most that a number of an object may be: those of a message that is shown are of 16 bits, the defaults are octets
+abbrev most_of_group : ℕ → ℕ
+most_of_group group = cond (group == 6) 65535 255
+
+abbrev pub IsWriteInRange : Write → Type 0
+IsWriteInRange (SetNumber object number) = number ≤ most_of_group (scalar_number object).0
+IsWriteInRange (SetCode object octets) = AreOctets 5 octets
+IsWriteInRange (SetField id field) = IsFieldInRange field
+IsWriteInRange (AskRow id ask) = ⊤
+IsWriteInRange (Activate octets) = AreOctets 12 octets
+IsWriteInRange (SetRemaining minutes) = minutes ≤ 65535
+
+abbrev IsWithin : (low high : ℕ) → ℕ → Type 0
+IsWithin low high n = (low ≤ n) × (n ≤ high)
+
+number_if : (low high n : ℕ) (b : Bool) → (leb low n && leb n high) ≡ b → IfSome (cond b (Some n) None) (IsWithin low high)
+number_if low high n true e = let parts = and_parts (leb low n) (leb n high) e in (leb-true low n parts.0, leb-true n high parts.1)
+number_if low high n false e = tt
+
+number_is : (low high : ℕ) (value : ObjectValue) → IfSome (number_in low high value) (IsWithin low high)
+number_is low high (integer (pos n)) = number_if low high n (leb low n && leb n high) refl
+number_is low high (integer (negsuc n)) = tt
+number_is low high (octet_string octets) = tt
+number_is low high null = tt
+number_is low high (object_identifier numbers) = tt
+number_is low high (ip_address address) = tt
+number_is low high (counter n) = tt
+number_is low high (gauge n) = tt
+number_is low high (time_ticks n) = tt
+number_is low high (opaque octets) = tt
+
+record AreOctetsWithin (low high : ℕ) (octets : List ℕ) : Type 0 where
+  least : low ≤ length octets
+  most : length octets ≤ high
+  below : AllBelowBase 256 octets
+
+octets_if : (low high : ℕ) (octets : List ℕ) (b : Bool) → AllBelowBase 256 octets → (leb low (length octets) && leb (length octets) high) ≡ b
+    → IfSome (cond b (Some octets) None) (AreOctetsWithin low high)
+octets_if low high octets true below e =
+    let parts = and_parts (leb low (length octets)) (leb (length octets) high) e in
+    record { least = leb-true low (length octets) parts.0; most = leb-true (length octets) high parts.1; below = below }
+octets_if low high octets false below e = tt
+
+octets_are : (low high : ℕ) (value : ObjectValue) → IsValueInLimits value → IfSome (octets_in low high value) (AreOctetsWithin low high)
+octets_are low high (integer z) within = tt
+octets_are low high (octet_string octets) within = octets_if low high octets (leb low (length octets) && leb (length octets) high) within refl
+octets_are low high null within = tt
+octets_are low high (object_identifier numbers) within = tt
+octets_are low high (ip_address address) within = tt
+octets_are low high (counter n) within = tt
+octets_are low high (gauge n) within = tt
+octets_are low high (time_ticks n) within = tt
+octets_are low high (opaque octets) within = tt
+
+font_is : (face : FaceModel) (value : ObjectValue) → IfSome (font_in face value) (IsWithin 1 255)
+font_is face value =
+    if_then (IsWithin 1 255) (IsWithin 1 255) (λ n. cond (has_font face.fonts n) (Some n) None) (number_in 1 255 value)
+    (λ n h. if_either (IsWithin 1 255) (has_font face.fonts n) (Some n) None h tt) (number_is 1 255 value)
+
+writes_number : (object : Scalar) (low high : ℕ) (o : Option ℕ) → high ≤ most_of_group (scalar_number object).0 → IfSome o (IsWithin low high)
+    → IfSome (option_map (SetNumber object) o) IsWriteInRange
+writes_number object low high None few is = tt
+writes_number object low high (Some n) few is = let most : n ≤ high = is.1 in omega arith
+
+writes_code : (object : Scalar) (o : Option (List ℕ)) → IfSome o (AreOctetsWithin 5 5) → IfSome (option_map (SetCode object) o) IsWriteInRange
+writes_code object None is = tt
+writes_code object (Some octets) is = record { size = omega (arith, is.least, is.most); below = is.below }
+
+object_writes : (face : FaceModel) (object : Scalar) (value : ObjectValue) → IsValueInLimits value
+    → IfSome (object_write face object value) IsWriteInRange
+unfolding object_write
+object_writes face SignHeightPixels value within = tt
+object_writes face SignWidthPixels value within = tt
+object_writes face DefaultBackgroundColor value within =
+    writes_number DefaultBackgroundColor 0 9 (number_in 0 9 value) (omega arith) (number_is 0 9 value)
+object_writes face DefaultForegroundColor value within =
+    writes_number DefaultForegroundColor 0 9 (number_in 0 9 value) (omega arith) (number_is 0 9 value)
+object_writes face DefaultFlashOn value within = writes_number DefaultFlashOn 0 255 (number_in 0 255 value) (omega arith) (number_is 0 255 value)
+object_writes face DefaultFlashOff value within = writes_number DefaultFlashOff 0 255 (number_in 0 255 value) (omega arith) (number_is 0 255 value)
+object_writes face DefaultFont value within = writes_number DefaultFont 1 255 (font_in face value) (omega arith) (font_is face value)
+object_writes face DefaultJustificationLine value within =
+    writes_number DefaultJustificationLine 2 4 (number_in 2 4 value) (omega arith) (number_is 2 4 value)
+object_writes face DefaultJustificationPage value within =
+    writes_number DefaultJustificationPage 2 4 (number_in 2 4 value) (omega arith) (number_is 2 4 value)
+object_writes face DefaultPageOnTime value within =
+    writes_number DefaultPageOnTime 0 255 (number_in 0 255 value) (omega arith) (number_is 0 255 value)
+object_writes face DefaultPageOffTime value within =
+    writes_number DefaultPageOffTime 0 255 (number_in 0 255 value) (omega arith) (number_is 0 255 value)
+object_writes face ColorScheme value within = tt
+object_writes face NumPermanentMsg value within = tt
+object_writes face NumChangeableMsg value within = tt
+object_writes face MaxChangeableMsg value within = tt
+object_writes face FreeChangeableMemory value within = tt
+object_writes face NumVolatileMsg value within = tt
+object_writes face MaxVolatileMsg value within = tt
+object_writes face FreeVolatileMemory value within = tt
+object_writes face ValidateMessageError value within = tt
+object_writes face ActivateMessage value within =
+    if_mapped (AreOctetsWithin 12 12) IsWriteInRange Activate (octets_in 12 12 value)
+    (λ octets is. record { size = omega (arith, is.least, is.most); below = is.below }) (octets_are 12 12 value within)
+object_writes face MessageTimeRemaining value within =
+    if_mapped (IsWithin 0 65535) IsWriteInRange SetRemaining (number_in 0 65535 value) (λ n is. is.1) (number_is 0 65535 value)
+object_writes face MsgTableSource value within = tt
+object_writes face MsgRequesterId value within = tt
+object_writes face MsgSourceMode value within = tt
+object_writes face ShortPowerRecoveryMessage value within = writes_code ShortPowerRecoveryMessage (octets_in 5 5 value) (octets_are 5 5 value within)
+object_writes face LongPowerRecoveryMessage value within = writes_code LongPowerRecoveryMessage (octets_in 5 5 value) (octets_are 5 5 value within)
+object_writes face ShortPowerLossTime value within =
+    writes_number ShortPowerLossTime 0 65535 (number_in 0 65535 value) (omega arith) (number_is 0 65535 value)
+object_writes face CommunicationsLossMessage value within = writes_code CommunicationsLossMessage (octets_in 5 5 value) (octets_are 5 5 value within)
+object_writes face TimeCommLoss value within = writes_number TimeCommLoss 0 65535 (number_in 0 65535 value) (omega arith) (number_is 0 65535 value)
+object_writes face PowerLossMessage value within = writes_code PowerLossMessage (octets_in 5 5 value) (octets_are 5 5 value within)
+object_writes face EndDurationMessage value within = writes_code EndDurationMessage (octets_in 5 5 value) (octets_are 5 5 value within)
+object_writes face ActivateMsgError value within = tt
+object_writes face MultiSyntaxError value within = tt
+object_writes face MultiSyntaxErrorPosition value within = tt
+object_writes face ActivateErrorMsgCode value within = tt
+
+cell_writes : (column : Column) (id : RowId) (value : ObjectValue) → IsValueInLimits value → IfSome (cell_write column id value) IsWriteInRange
+unfolding cell_write
+cell_writes columns_of.MemoryType id value within = tt
+cell_writes columns_of.Number id value within = tt
+cell_writes columns_of.MultiString id value within =
+    if_mapped (AreOctetsWithin 0 longest_text) IsWriteInRange (λ octets. SetField id (Text octets)) (octets_in 0 longest_text value)
+    (λ octets is. record { size = is.most; below = is.below }) (octets_are 0 longest_text value within)
+cell_writes columns_of.Owner id value within =
+    if_mapped (AreOctetsWithin 0 longest_owner) IsWriteInRange (λ octets. SetField id (Owner octets)) (octets_in 0 longest_owner value)
+    (λ octets is. record { size = is.most; below = is.below }) (octets_are 0 longest_owner value within)
+cell_writes columns_of.Crc id value within = tt
+cell_writes columns_of.Beacon id value within =
+    if_mapped (IsWithin 0 1) IsWriteInRange (λ n. SetField id (Beacon n)) (number_in 0 1 value) (λ n is. is.1) (number_is 0 1 value)
+cell_writes columns_of.PixelService id value within =
+    if_mapped (IsWithin 0 1) IsWriteInRange (λ n. SetField id (Pixel n)) (number_in 0 1 value) (λ n is. is.1) (number_is 0 1 value)
+cell_writes columns_of.RunTimePriority id value within =
+    if_mapped (IsWithin 1 255) IsWriteInRange (λ n. SetField id (Priority n)) (number_in 1 255 value) (λ n is. is) (number_is 1 255 value)
+cell_writes columns_of.Status id value within =
+    if_mapped (IsWithin 6 8) IsWriteInRange (λ n. AskRow id (ask_of n)) (number_in 6 8 value) (λ n is. tt) (number_is 6 8 value)
+
+instance_writes : (face : FaceModel) (i : Instance) (value : ObjectValue) → IsValueInLimits value → IfSome (write_of face i value) IsWriteInRange
+unfolding write_of
+instance_writes face (The object) value within = object_writes face object value within
+instance_writes face (Cell column id) value within = cell_writes column id value within
+
+any_then : {X Y : Type 0} (P : Y → Type 0) (f : X → Option Y) (o : Option X) → ((x : X) → IfSome (f x) P) → IfSome (option_and_then f o) P
+any_then P f None each = tt
+any_then P f (Some x) each = each x
+
+binding_writes : (s : SignState) (binding : VarBind) → IsValueInLimits binding.value → IfSome (write_at s binding) IsWriteInRange
+unfolding write_at
+binding_writes s binding within =
+    any_then IsWriteInRange (λ i. write_of s.config.face i binding.value) (settable_instance s binding.name)
+    (λ i. instance_writes s.config.face i binding.value within)
+
+each_binding : (bindings : List VarBind) → AreBindingsInLimits bindings → AllByRecursion IsBindingInLimits bindings
+each_binding [] within = tt
+each_binding (b ∷ bs) within = (record { name = within.0; value = within.1 }, each_binding bs within.2)
+
+writes_in_range : (s : SignState) (bindings : List VarBind) → AreBindingsInLimits bindings → AllByRecursion IsWriteInRange (writes_of s bindings)
+writes_in_range s bindings within =
+    all_filtered IsBindingInLimits IsWriteInRange (write_at s) bindings (λ b is. binding_writes s b is.value) (each_binding bindings within)
+
+-- ---- assignment
+
+given_in_range : {B : Type 0} (P : B → Type 0) (pick : Write → Option B) (writes : List Write) (old : B)
+    → ((w : Write) → IsWriteInRange w → IfSome (pick w) P)
+    → AllByRecursion IsWriteInRange writes → P old → P (given pick writes old)
+given_in_range P pick [] old each all is = is
+given_in_range P pick (w ∷ ws) old each all is = given_in_range P pick ws (unwrap_or (pick w) old) each all.1 (if_or P (pick w) old (each w all.0) is)
+
+number_if_same : (object other : Scalar) (n : ℕ) (b : Bool) → is_same object other ≡ b → n ≤ most_of_group (scalar_number other).0
+    → IfSome (cond b (Some n) None) (λ n. n ≤ most_of_group (scalar_number object).0)
+number_if_same object other n false e few = tt
+number_if_same object other n true e few =
+    let parts = and_parts (eqb (scalar_number object).0 (scalar_number other).0) (eqb (scalar_number object).1 (scalar_number other).1) e in
+    let same : (scalar_number object).0 ≡ (scalar_number other).0 = eqb-true (scalar_number object).0 (scalar_number other).0 parts.0 in
+    subst (λ group. n ≤ most_of_group group) (sym same) few
+
+number_for_is : (object : Scalar) (w : Write) → IsWriteInRange w → IfSome (number_for object w) (λ n. n ≤ most_of_group (scalar_number object).0)
+number_for_is object (SetNumber other n) is = number_if_same object other n (is_same object other) refl is
+number_for_is object (SetCode other octets) is = tt
+number_for_is object (SetField id field) is = tt
+number_for_is object (AskRow id ask) is = tt
+number_for_is object (Activate octets) is = tt
+number_for_is object (SetRemaining minutes) is = tt
+
+code_for_is : (object : Scalar) (w : Write) → IsWriteInRange w → IfSome (code_for object w) (AreOctets 5)
+code_for_is object (SetNumber other n) is = tt
+code_for_is object (SetCode other octets) is = if_either (AreOctets 5) (is_same object other) (Some octets) None is tt
+code_for_is object (SetField id field) is = tt
+code_for_is object (AskRow id ask) is = tt
+code_for_is object (Activate octets) is = tt
+code_for_is object (SetRemaining minutes) is = tt
+
+given_number : (object : Scalar) (writes : List Write) (old : ℕ) → AllByRecursion IsWriteInRange writes → old ≤ most_of_group (scalar_number object).0
+    → given (number_for object) writes old ≤ most_of_group (scalar_number object).0
+given_number object writes old all is =
+    given_in_range (λ n. n ≤ most_of_group (scalar_number object).0) (number_for object) writes old (number_for_is object) all is
+
+given_code : (object : Scalar) (writes : List Write) (old : List ℕ) → AllByRecursion IsWriteInRange writes → AreOctets 5 old
+    → AreOctets 5 (given (code_for object) writes old)
+given_code object writes old all is = given_in_range (AreOctets 5) (code_for object) writes old (code_for_is object) all is
+
+with_write_in_range : (table : TableModel) (w : Write) → IsTableInRange table → IsWriteInRange w → IsTableInRange (with_write table w)
+with_write_in_range table (SetField id field) is new = if_or IsTableInRange (written table id field) table (written_in_range table id field is new) is
+with_write_in_range table (SetNumber object n) is new = is
+with_write_in_range table (SetCode object octets) is new = is
+with_write_in_range table (AskRow id ask) is new = is
+with_write_in_range table (Activate octets) is new = is
+with_write_in_range table (SetRemaining minutes) is new = is
+
+with_writes_in_range : (table : TableModel) (writes : List Write) → IsTableInRange table → AllByRecursion IsWriteInRange writes
+    → IsTableInRange (with_writes table writes)
+with_writes_in_range table [] is all = is
+with_writes_in_range table (w ∷ ws) is all = with_writes_in_range (with_write table w) ws (with_write_in_range table w is all.0) all.1
+
+assigned_in_range : (s : SignState) (writes : List Write) → IsSignInRange s → AllByRecursion IsWriteInRange writes → IsSignInRange (assigned s writes)
+unfolding assigned
+assigned_in_range s writes is all = record {
+  config = is.config;
+  table = with_writes_in_range s.table writes is.table all;
+  fallbacks = record {
+    short_power_recovery = given_code ShortPowerRecoveryMessage writes s.fallbacks.short_power_recovery all is.fallbacks.short_power_recovery;
+    long_power_recovery = given_code LongPowerRecoveryMessage writes s.fallbacks.long_power_recovery all is.fallbacks.long_power_recovery;
+    power_loss = given_code PowerLossMessage writes s.fallbacks.power_loss all is.fallbacks.power_loss;
+    end_duration = given_code EndDurationMessage writes s.fallbacks.end_duration all is.fallbacks.end_duration;
+    communications_loss = given_code CommunicationsLossMessage writes s.fallbacks.communications_loss all is.fallbacks.communications_loss;
+  };
+  short_power_loss_time = given_number ShortPowerLossTime writes s.short_power_loss_time all is.short_power_loss_time;
+  time_comm_loss = given_number TimeCommLoss writes s.time_comm_loss all is.time_comm_loss;
+  silent = is.silent;
+  defaults = record {
+    background = given_number DefaultBackgroundColor writes s.defaults.background all is.defaults.background;
+    foreground = given_number DefaultForegroundColor writes s.defaults.foreground all is.defaults.foreground;
+    flash_on = given_number DefaultFlashOn writes s.defaults.flash_on all is.defaults.flash_on;
+    flash_off = given_number DefaultFlashOff writes s.defaults.flash_off all is.defaults.flash_off;
+    font = given_number DefaultFont writes s.defaults.font all is.defaults.font;
+    line = given_number DefaultJustificationLine writes s.defaults.line all is.defaults.line;
+    page = given_number DefaultJustificationPage writes s.defaults.page all is.defaults.page;
+    on = given_number DefaultPageOnTime writes s.defaults.on all is.defaults.on;
+    off = given_number DefaultPageOffTime writes s.defaults.off all is.defaults.off;
+  };
+  shown = is.shown;
+  kept = is.kept;
+  reports = is.reports;
+}
+
+-- ---- commands
+
+accepted_reports : (reports : ReportsModel) (octets : List ℕ) → AreReportsInRange reports → AreOctets 12 octets
+    → AreReportsInRange (record reports { activate_error = 2; accepted_code = octets })
+accepted_reports reports octets are twelve = record {
+  validate_error = are.validate_error;
+  activate_error = omega arith;
+  syntax_error = are.syntax_error;
+  syntax_error_position = are.syntax_error_position;
+  accepted_code = twelve;
+  failed_code = are.failed_code;
+}
+
+as_decided_after : (old new : SignState) (bindings : List VarBind) (index : ℕ) (octets : List ℕ) (r : Result ShownModel Cause) → IsSignInRange old
+    → IsSignInRange new
+    → AreOctets 12 octets → IsDecisionInRange r → IsSignInRange (as_decided old new bindings index octets r).after
+as_decided_after old new bindings index octets (Ok shown) was is twelve decision =
+    telling_in_range (showing new shown) (record new.reports { activate_error = 2; accepted_code = octets }) (showing_in_range new shown is decision)
+    (accepted_reports new.reports octets is.reports twelve)
+as_decided_after old new bindings index octets (Err cause) was is twelve decision = refused_code_in_range old cause octets was decision twelve
+
+as_asked_after : (old new : SignState) (bindings : List VarBind) (index : ℕ) (o : Option TableModel) → IsSignInRange old → IsSignInRange new
+    → IfSome o IsTableInRange
+    → IsSignInRange (as_asked old new bindings index o).after
+as_asked_after old new bindings index None was is table = was
+as_asked_after old new bindings index (Some t) was is table = with_table_in_range new t is table
+
+remaining_in_range : (s : SignState) (minutes : ℕ) → IsSignInRange s → minutes ≤ 65535 → IsSignInRange (with_remaining s minutes)
+remaining_in_range s minutes is few =
+    either IsSignInRange (minutes == 0) (put_up_code s s.fallbacks.end_duration end_duration_mode)
+    (showing s (record s.shown { remaining = seconds_of minutes }))
+    (code_in_range s s.fallbacks.end_duration end_duration_mode is is.fallbacks.end_duration.below (omega arith))
+    (showing_in_range s (record s.shown { remaining = seconds_of minutes }) is (with_time s.shown (seconds_of minutes) is.shown (seconds_in_range minutes few)))
+
+commanded_after : (old new : SignState) (bindings : List VarBind) (index : ℕ) (w : Write) → IsSignInRange old → IsSignInRange new → IsWriteInRange w
+    → IsSignInRange (commanded old new bindings index w).after
+commanded_after old new bindings index (AskRow id ask) was is write =
+    as_asked_after old new bindings index (asked new.table id ask) was is (asked_in_range new.table id ask is.table)
+commanded_after old new bindings index (Activate octets) was is write =
+    as_decided_after old new bindings index octets
+    (decided new.config.face new.defaults new.table new.shown (activation_of old.table.order octets)) was is write
+    (decided_in_range new.config.face new.defaults new.table new.shown (activation_of old.table.order octets) is.defaults is.table is.shown
+    (activation_is old.table.order octets write.below))
+commanded_after old new bindings index (SetRemaining minutes) was is write = remaining_in_range new minutes is write
+commanded_after old new bindings index (SetNumber object n) was is write = is
+commanded_after old new bindings index (SetCode object octets) was is write = is
+commanded_after old new bindings index (SetField id field) was is write = is
+
+commanded_if_after : (old new : SignState) (bindings : List VarBind) (index : ℕ) (o : Option Write) → IsSignInRange old → IsSignInRange new
+    → IfSome o IsWriteInRange
+    → IsSignInRange (commanded_if old new bindings index o).after
+commanded_if_after old new bindings index None was is write = is
+commanded_if_after old new bindings index (Some w) was is write = commanded_after old new bindings index w was is write
+
+-- ---- answers
+
+found_after : (s : SignState) (bindings found : List VarBind) (o : Option ℕ) → IsSignInRange s → IsSignInRange (found_unless s bindings found o).after
+found_after s bindings found None is = is
+found_after s bindings found (Some index) is = is
+
+set_unless_after : (s : SignState) (bindings : List VarBind) (found : List SetCause) → IsSignInRange s → AreBindingsInLimits bindings
+    → IsSignInRange (set_unless s bindings found).after
+set_unless_after s bindings [] is within =
+    let all = writes_in_range s bindings within in
+    commanded_if_after s (assigned s (writes_of s bindings)) bindings (command_index s bindings) (find is_command (writes_of s bindings)) is
+    (assigned_in_range s (writes_of s bindings) is all) (if_found IsWriteInRange is_command (writes_of s bindings) all)
+set_unless_after s bindings (cause ∷ more) is within = is
+
+answer_after : (s : SignState) (m : SnmpMessage) (kind : Kind) → IsSignInRange s → AreBindingsInLimits m.bindings
+    → IsSignInRange (answer_by s m kind).after
+answer_after s m Get is within = found_after s m.bindings _ (position_from (has_no_value s) 1 m.bindings) is
+answer_after s m GetNext is within = found_after s m.bindings _ (position_from (is_last s) 1 m.bindings) is
+answer_after s m Response is within = is
+answer_after s m Set is within = set_unless_after s m.bindings (causes s (may_write s m) m.bindings) is within
+
+primary_after : (s : SignState) (m : SnmpMessage) → IsSignInRange s → AreBindingsInLimits m.bindings → IsSignInRange (primary s m).after
+unfolding primary
+primary_after s m is within = answer_after s m m.kind is within
+
+-- ---- datagrams
+
+heard_after : (s : SignState) (m : SnmpMessage) (b : Bool) → IsSignInRange s → AreBindingsInLimits m.bindings
+    → IsSignInRange (cond b (heard s m) (dropped s)).after
+heard_after s m true is within = with_silence (primary s m).after 0 (primary_after s m is within) (omega arith)
+heard_after s m false is within = is
+
+pub message_keeps_range : (s : SignState) (m : SnmpMessage) → IsSignInRange s → AreBindingsInLimits m.bindings → IsSignInRange (on_message s m).after
+message_keeps_range s m is within = heard_after s m (is_heard s m) is within
+
+datagram_after : (s : SignState) (octets : List ℕ) (o : Option SnmpMessage) → IsSignInRange s → message_of octets ≡ o
+    → IsSignInRange (on_message_if s o).after
+datagram_after s octets None is e = is
+datagram_after s octets (Some m) is e =
+    message_keeps_range s m is (spelled_in_limits m octets ((read_is_spelled octets m).0 e)).bindings
+
+pub received_in_range : (s : SignState) (octets : List ℕ) → IsSignInRange s → IsSignInRange (received s octets).after
+unfolding received
+received_in_range s octets is = datagram_after s octets (message_of octets) is refl

@@ -1,0 +1,275 @@
+-- Which instances there are: each object, and each column of each row that can be read.
+use Rattle.std.proofs.Common.{◌≡◌, ◌⊎◌, inl, inr, ◌↔◌, ℕ, zero, suc, ◌-◌, ◌<◌, ◌≤◌, Bool, true, false, cond, nat_le, ◌==◌, ◌&&◌, List, [], ◌∷◌, ◌++◌, map, length, flat_map, Option, Some, None, slice_get, IsSome, is_some, option_map, refl, sym, ap, subst, ◌∙◌, arith, true≢false}
+use Rattle.std.specs.List.{range_with_len}
+use Rattle.std.proofs.lemmas.Bool.{eqb-true, eqb-false, and_parts, and_from, leb-true, le-leb, ne_eqb}
+use Rattle.dms_table.specs.declared.names.Column.{Column}
+use Rattle.dms_table.specs.declared.names.Column.TheVariants.{MemoryType, Number, MultiString, Owner, Crc, Beacon, PixelService, RunTimePriority, Status}
+use Rattle.dms_table.specs.declared.row.RowId.{RowId}
+use Rattle.dms_table.specs.Rows.{RowModel, TableModel, row_read, blank, numbered, reading, rows_of, blank_at, blank_reading}
+use Rattle.dms_table.specs.Deciding.{ShownModel, message_at, shown_reading}
+use Rattle.dms_sign.specs.declared.object.Scalar.{Scalar}
+use Rattle.dms_sign.specs.declared.object.Scalar.TheVariants.{SignHeightPixels, SignWidthPixels, DefaultBackgroundColor, DefaultForegroundColor, DefaultFlashOn, DefaultFlashOff, DefaultFont, DefaultJustificationLine, DefaultJustificationPage, DefaultPageOnTime, DefaultPageOffTime, ColorScheme, NumPermanentMsg, NumChangeableMsg, MaxChangeableMsg, FreeChangeableMemory, NumVolatileMsg, MaxVolatileMsg, FreeVolatileMemory, ValidateMessageError, ActivateMessage, MessageTimeRemaining, MsgTableSource, MsgRequesterId, MsgSourceMode, ShortPowerRecoveryMessage, LongPowerRecoveryMessage, ShortPowerLossTime, CommunicationsLossMessage, TimeCommLoss, PowerLossMessage, EndDurationMessage, ActivateMsgError, MultiSyntaxError, MultiSyntaxErrorPosition, ActivateErrorMsgCode}
+use Rattle.dms_sign.specs.declared.object.Instance.{Instance}
+use Rattle.dms_sign.specs.declared.object.Instance.TheVariants.{The, Cell}
+use Rattle.dms_sign.specs.Objects.{before_table, after_table, columns, memories, rows_in, row_ids, cells, instances, IsInstance}
+use Rattle.dms_sign.proofs.Members.{In, some_is, in_left, in_right, in_either, in_map, of_map, in_flat, of_flat, in_range, of_range}
+
+-- ---- rows
+
+-- the row is of this type of memory, and its number is one of as many
+pub record Holds (memory : ℕ × ℕ) (row : RowId) : Type 0 where
+  pub type_is : row.memory ≡ memory.0
+  pub from_1 : 1 ≤ row.number
+  pub to : row.number ≤ memory.1
+
+rows_in_in : (memory : ℕ × ℕ) (row : RowId) → Holds memory row → In (rows_in memory) row
+rows_in_in memory row holds =
+    let number = in_range 1 memory.1 (row.number - 1) row.number (omega (arith, holds.from_1)) (omega (arith, holds.from_1, holds.to)) in
+    let place = in_map (λ number. record { memory = memory.0; number = number }) (range_with_len 1 memory.1) number.0 row.number number.1 in
+    subst (λ m. In (rows_in memory) (record { memory = m; number = row.number })) (sym holds.type_is) place
+
+of_rows_in : (memory : ℕ × ℕ) (row : RowId) → In (rows_in memory) row → Holds memory row
+of_rows_in memory row i =
+    let o = of_map (λ number. record { memory = memory.0; number = number }) (range_with_len 1 memory.1) i.0 row i.1 in
+    let bounds = of_range 1 memory.1 o.2.0 o.0 o.2.1 in
+    let number : o.0 ≡ row.number = ap (λ (r : RowId). r.number) o.1 in
+    record { type_is = sym (ap (λ (r : RowId). r.memory) o.1); from_1 = omega (arith, bounds.0, number); to = omega (arith, bounds.1, number) }
+
+some_at : {X : Type 0} (xs : List X) (k : ℕ) → k < length xs → IsSome (slice_get xs k)
+some_at [] k h = absurd (omega (arith, h))
+some_at (x ∷ xs) zero h = refl
+some_at (x ∷ xs) (suc k) h = some_at xs k (omega (arith, h))
+
+at_some : {X : Type 0} (xs : List X) (k : ℕ) → IsSome (slice_get xs k) → k < length xs
+at_some [] k h = absurd (true≢false (sym h))
+at_some (x ∷ xs) zero h = omega arith
+at_some (x ∷ xs) (suc k) h = let less = at_some xs k h in omega (arith, less)
+
+mapped_some : {X Y : Type 0} (f : X → Y) (o : Option X) → IsSome o → IsSome (option_map f o)
+mapped_some f (Some x) h = refl
+mapped_some f None h = h
+
+some_mapped : {X Y : Type 0} (f : X → Y) (o : Option X) → IsSome (option_map f o) → IsSome o
+some_mapped f (Some x) h = refl
+some_mapped f None h = h
+
+-- what holds of an if holds of the branch that was taken
+split : {A : Type 0} (P : A → Type 0) (b : Bool) (x y : A) → P (cond b x y) → ((b ≡ true) × P x) ⊎ ((b ≡ false) × P y)
+split P true x y h = inl (refl, h)
+split P false x y h = inr (refl, h)
+
+numbered_some : (rows : List RowModel) (number : ℕ) → 1 ≤ number → number ≤ length rows → IsSome (numbered rows number)
+numbered_some rows number from to =
+    ap (λ b. is_some (cond b None (slice_get rows (number - 1)))) (ne_eqb number 0 λ e. omega (arith, e, from))
+    ∙ some_at rows (number - 1) (omega (arith, from, to))
+
+some_numbered : (rows : List RowModel) (number : ℕ) → IsSome (numbered rows number) → (1 ≤ number) × (number ≤ length rows)
+some_numbered rows number h =
+    elim (split IsSome (number == 0) None (slice_get rows (number - 1)) h) [
+      | inl none ↦ absurd (true≢false (sym none.1))
+      | inr other ↦
+          let less = at_some rows (number - 1) other.1 in
+          let some = eqb-false number 0 other.0 in
+          (omega (arith, some), omega (arith, less, some))
+    ]
+
+blank_some : (number : ℕ) → 1 ≤ number → number ≤ 255 → IsSome (blank_at number)
+blank_some number from to =
+    ap (λ b. is_some (cond b (Some (blank number)) None)) (and_from (nat_le 1 number) (nat_le number 255) (le-leb 1 number from) (le-leb number 255 to))
+
+some_blank : (number : ℕ) → IsSome (blank_at number) → (1 ≤ number) × (number ≤ 255)
+some_blank number h =
+    elim (split IsSome (nat_le 1 number && nat_le number 255) (Some (blank number)) None h) [
+      | inl within ↦
+          let parts = and_parts (nat_le 1 number) (nat_le number 255) within.0 in
+          (leb-true 1 number parts.0, leb-true number 255 parts.1)
+      | inr other ↦ absurd (true≢false (sym other.1))
+    ]
+
+-- ---- rows that can be read
+
+abbrev Reads : TableModel → ShownModel → ℕ → ℕ × ℕ → Type 0
+Reads table shown number memory = number ≤ memory.1 → IsSome (message_at table shown (record { memory = memory.0; number = number }))
+
+-- a row of one of the types of memory can be read
+held_read : (table : TableModel) (shown : ShownModel) (k : ℕ) (memory : ℕ × ℕ) (number : ℕ) → slice_get (memories table) k ≡ Some memory → 1 ≤ number
+    → Reads table shown number memory
+held_read table shown zero memory number h from =
+    let is : (2, length table.permanent) ≡ memory = some_is (2, length table.permanent) memory h in
+    subst (Reads table shown number) is λ to. mapped_some reading (numbered table.permanent number) (numbered_some table.permanent number from to)
+held_read table shown (suc zero) memory number h from =
+    let is : (3, length table.changeable) ≡ memory = some_is (3, length table.changeable) memory h in
+    subst (Reads table shown number) is λ to. mapped_some reading (numbered table.changeable number) (numbered_some table.changeable number from to)
+held_read table shown (suc (suc zero)) memory number h from =
+    let is : (4, length table.volatile) ≡ memory = some_is (4, length table.volatile) memory h in
+    subst (Reads table shown number) is λ to. mapped_some reading (numbered table.volatile number) (numbered_some table.volatile number from to)
+held_read table shown (suc (suc (suc zero))) memory number h from =
+    let is : (5, 1) ≡ memory = some_is (5, 1) memory h in
+    subst (Reads table shown number) is λ to.
+    let one : 1 ≡ number = omega (arith, from, to) in
+    subst (λ n. IsSome (message_at table shown (record { memory = 5; number = n }))) one refl
+held_read table shown (suc (suc (suc (suc zero)))) memory number h from =
+    let is : (7, 255) ≡ memory = some_is (7, 255) memory h in
+    subst (Reads table shown number) is λ to. mapped_some blank_reading (blank_at number) (blank_some number from to)
+held_read table shown (suc (suc (suc (suc (suc k))))) memory number h from = absurd (cc)
+
+abbrev Held : TableModel → RowId → Type 0
+Held table row = (memory : ℕ × ℕ) × In (memories table) memory × Holds memory row
+
+stored_held : (table : TableModel) (row : RowId) → IsSome (numbered (rows_of table row.memory) row.number) → Held table row
+stored_held table row h =
+    let bounds = some_numbered (rows_of table row.memory) row.number h in
+    let else_3 = cond (row.memory == 3) table.changeable (cond (row.memory == 4) table.volatile []) in
+    elim (split (λ rows. row.number ≤ length rows) (row.memory == 2) table.permanent else_3 bounds.1) [
+      | inl two ↦ ((2, length table.permanent), (0, refl), record { type_is = eqb-true row.memory 2 two.0; from_1 = bounds.0; to = two.1 })
+      | inr other ↦
+          elim (split (λ rows. row.number ≤ length rows) (row.memory == 3) table.changeable (cond (row.memory == 4) table.volatile []) other.1) [
+            | inl three ↦ ((3, length table.changeable), (1, refl), record { type_is = eqb-true row.memory 3 three.0; from_1 = bounds.0; to = three.1 })
+            | inr other ↦
+                elim (split (λ (rows : List RowModel). row.number ≤ length rows) (row.memory == 4) table.volatile [] other.1) [
+                  | inl four ↦ ((4, length table.volatile), (2, refl), record { type_is = eqb-true row.memory 4 four.0; from_1 = bounds.0; to = four.1 })
+                  | inr other ↦ absurd (omega (arith, bounds.0, other.1))
+                ]
+          ]
+    ]
+
+-- a row that can be read is of one of them
+read_held : (table : TableModel) (shown : ShownModel) (row : RowId) → IsSome (message_at table shown row) → Held table row
+read_held table shown row h =
+    elim (split IsSome (row.memory == 5) (cond (row.number == 1) (Some (shown_reading shown)) None) (row_read table row) h) [
+      | inl five ↦
+          elim (split IsSome (row.number == 1) (Some (shown_reading shown)) None five.1) [
+            | inl one ↦
+                let is = eqb-true row.number 1 one.0 in
+                ((5, 1), (3, refl), record { type_is = eqb-true row.memory 5 five.0; from_1 = omega (arith, is); to = omega (arith, is) })
+            | inr other ↦ absurd (true≢false (sym other.1))
+          ]
+      | inr other ↦
+          let stored = numbered (rows_of table row.memory) row.number in
+          elim (split IsSome (row.memory == 7) (option_map blank_reading (blank_at row.number)) (option_map reading stored) other.1) [
+            | inl seven ↦
+                let bounds = some_blank row.number (some_mapped blank_reading (blank_at row.number) seven.1) in
+                ((7, 255), (4, refl), record { type_is = eqb-true row.memory 7 seven.0; from_1 = bounds.0; to = bounds.1 })
+            | inr other ↦ stored_held table row (some_mapped reading stored other.1)
+          ]
+    ]
+
+-- ---- instances
+
+abbrev before : List Instance
+before = map The before_table
+
+abbrev after : List Instance
+after = map The after_table
+
+abbrev rows : TableModel → List Instance
+rows table = flat_map (cells table) columns
+
+in_before : (table : TableModel) (k : ℕ) (object : Scalar) → slice_get before k ≡ Some (The object) → IsInstance table (The object)
+unfolding instances
+in_before table k object h =
+    let first = in_left before (rows table) k (The object) h in
+    in_left (before ++ rows table) after first.0 (The object) first.1
+
+in_after : (table : TableModel) (k : ℕ) (object : Scalar) → slice_get after k ≡ Some (The object) → IsInstance table (The object)
+unfolding instances
+in_after table k object h = in_right (before ++ rows table) after (The object) (k, h)
+
+pub object_there : (table : TableModel) (object : Scalar) → IsInstance table (The object)
+object_there table SignHeightPixels = in_before table 0 SignHeightPixels refl
+object_there table SignWidthPixels = in_before table 1 SignWidthPixels refl
+object_there table DefaultBackgroundColor = in_before table 2 DefaultBackgroundColor refl
+object_there table DefaultForegroundColor = in_before table 3 DefaultForegroundColor refl
+object_there table DefaultFlashOn = in_before table 4 DefaultFlashOn refl
+object_there table DefaultFlashOff = in_before table 5 DefaultFlashOff refl
+object_there table DefaultFont = in_before table 6 DefaultFont refl
+object_there table DefaultJustificationLine = in_before table 7 DefaultJustificationLine refl
+object_there table DefaultJustificationPage = in_before table 8 DefaultJustificationPage refl
+object_there table DefaultPageOnTime = in_before table 9 DefaultPageOnTime refl
+object_there table DefaultPageOffTime = in_before table 10 DefaultPageOffTime refl
+object_there table ColorScheme = in_before table 11 ColorScheme refl
+object_there table NumPermanentMsg = in_before table 12 NumPermanentMsg refl
+object_there table NumChangeableMsg = in_before table 13 NumChangeableMsg refl
+object_there table MaxChangeableMsg = in_before table 14 MaxChangeableMsg refl
+object_there table FreeChangeableMemory = in_before table 15 FreeChangeableMemory refl
+object_there table NumVolatileMsg = in_before table 16 NumVolatileMsg refl
+object_there table MaxVolatileMsg = in_before table 17 MaxVolatileMsg refl
+object_there table FreeVolatileMemory = in_before table 18 FreeVolatileMemory refl
+object_there table ValidateMessageError = in_after table 0 ValidateMessageError refl
+object_there table ActivateMessage = in_after table 1 ActivateMessage refl
+object_there table MessageTimeRemaining = in_after table 2 MessageTimeRemaining refl
+object_there table MsgTableSource = in_after table 3 MsgTableSource refl
+object_there table MsgRequesterId = in_after table 4 MsgRequesterId refl
+object_there table MsgSourceMode = in_after table 5 MsgSourceMode refl
+object_there table ShortPowerRecoveryMessage = in_after table 6 ShortPowerRecoveryMessage refl
+object_there table LongPowerRecoveryMessage = in_after table 7 LongPowerRecoveryMessage refl
+object_there table ShortPowerLossTime = in_after table 8 ShortPowerLossTime refl
+object_there table CommunicationsLossMessage = in_after table 9 CommunicationsLossMessage refl
+object_there table TimeCommLoss = in_after table 10 TimeCommLoss refl
+object_there table PowerLossMessage = in_after table 11 PowerLossMessage refl
+object_there table EndDurationMessage = in_after table 12 EndDurationMessage refl
+object_there table ActivateMsgError = in_after table 13 ActivateMsgError refl
+object_there table MultiSyntaxError = in_after table 14 MultiSyntaxError refl
+object_there table MultiSyntaxErrorPosition = in_after table 15 MultiSyntaxErrorPosition refl
+object_there table ActivateErrorMsgCode = in_after table 16 ActivateErrorMsgCode refl
+
+column_there : (column : Column) → In columns column
+column_there MemoryType = (0, refl)
+column_there Number = (1, refl)
+column_there MultiString = (2, refl)
+column_there Owner = (3, refl)
+column_there Crc = (4, refl)
+column_there Beacon = (5, refl)
+column_there PixelService = (6, refl)
+column_there RunTimePriority = (7, refl)
+column_there Status = (8, refl)
+
+cell_there : (table : TableModel) (column : Column) (row : RowId) → In (row_ids table) row → IsInstance table (Cell column row)
+unfolding instances
+cell_there table column row i =
+    let in_column = in_map (Cell column) (row_ids table) i.0 row i.1 in
+    let at = column_there column in
+    let in_rows = in_flat (cells table) columns at.0 column (Cell column row) at.1 in_column in
+    let front = in_right before (rows table) (Cell column row) in_rows in
+    in_left (before ++ rows table) after front.0 (Cell column row) front.1
+
+of_rows : (table : TableModel) (column : Column) (row : RowId) → In (rows table) (Cell column row) → In (row_ids table) row
+of_rows table column row i =
+    let o = of_flat (cells table) columns i.0 (Cell column row) i.1 in
+    let r = of_map (Cell o.0) (row_ids table) o.2.0 (Cell column row) o.2.1 in
+    let is : r.0 ≡ row = cc in
+    subst (In (row_ids table)) is r.2
+
+no_object : (objects : List Scalar) (column : Column) (row : RowId) → In (map The objects) (Cell column row) → ⊥
+no_object objects column row i =
+    let o = of_map The objects i.0 (Cell column row) i.1 in
+    absurd (cc)
+
+of_cell : (table : TableModel) (column : Column) (row : RowId) → IsInstance table (Cell column row) → In (row_ids table) row
+unfolding instances
+of_cell table column row there =
+    elim (in_either (before ++ rows table) after there.0 (Cell column row) there.1) [
+      | inl front ↦
+          elim (in_either before (rows table) front.0 (Cell column row) front.1) [
+            | inl object ↦ absurd (no_object before_table column row object)
+            | inr cell ↦ of_rows table column row cell
+          ]
+      | inr object ↦ absurd (no_object after_table column row object)
+    ]
+
+pub cell_read : (table : TableModel) (shown : ShownModel) (column : Column) (row : RowId)
+    → IsInstance table (Cell column row) ↔ IsSome (message_at table shown row)
+cell_read table shown column row = (there_read, read_there)
+  where
+    there_read : IsInstance table (Cell column row) → IsSome (message_at table shown row)
+    there_read there =
+        let i = of_cell table column row there in
+        let o = of_flat rows_in (memories table) i.0 row i.1 in
+        let holds = of_rows_in o.0 row o.2 in
+        let read = held_read table shown o.1.0 o.0 row.number o.1.1 holds.from_1 holds.to in
+        subst (λ m. IsSome (message_at table shown (record { memory = m; number = row.number }))) (sym holds.type_is) read
+
+    read_there : IsSome (message_at table shown row) → IsInstance table (Cell column row)
+    read_there read =
+        let held = read_held table shown row read in
+        cell_there table column row (in_flat rows_in (memories table) held.1.0 held.0 row held.1.1 (rows_in_in held.0 row held.2))

@@ -1,0 +1,78 @@
+-- What a second, a loss of power and its return make of a sign (this profile).
+use Rattle.std.specs.Prelude.{ℕ, ◌+◌, ◌-◌, ◌*◌, ◌==◌, ◌&&◌, true, false, List, Option, Some, None, nat_lt, nat_le, if◌then◌else◌}
+use Rattle.dms_face.specs.declared.multi_fault.MultiFault.{MultiFault}
+use Rattle.dms_face.specs.Layout.{under}
+use Rattle.dms_table.specs.declared.verdict.Verdict.{Verdict}
+use Rattle.dms_table.specs.Rows.{after_power}
+use Rattle.dms_table.specs.Settling.{settled, verdict}
+use Rattle.dms_sign.specs.State.{SignState, ReportsModel, power_recovery_mode, communications_loss_mode, power_loss_mode, end_duration_mode}
+use Rattle.dms_sign.specs.PuttingUp.{showing, with_fault, put_up_code}
+
+-- ---- a second
+
+-- what is told of a text: its fault, or that it has none (NTCIP 1203, dmsMultiSyntaxError)
+abbrev pub text_reports : ReportsModel → Option MultiFault → ReportsModel
+text_reports reports None = record reports { syntax_error = 2; syntax_error_position = 0 }
+text_reports reports (Some fault) = with_fault reports fault
+
+-- what is told where a row was settled (NTCIP 1203, dmsValidateMessageError)
+abbrev pub settled_reports : ReportsModel → Option Verdict → ReportsModel
+settled_reports reports None = reports
+settled_reports reports (Some verdict) = record (text_reports reports verdict.fault) { validate_error = verdict.error }
+
+-- The row that is being validated is settled, under the defaults of now.
+unfoldable pub after_settling : SignState → SignState
+after_settling s =
+    let face = under s.config.face s.defaults in
+    record s { table = settled face s.table; reports = settled_reports s.reports (verdict face s.table) }
+
+-- The message has a second less, with so many seconds left: at its end the code of the end of a duration is put up.
+abbrev pub counted_down : SignState → Option ℕ → SignState
+counted_down s None = s
+counted_down s (Some seconds) =
+    if nat_le seconds 1 then put_up_code s s.fallbacks.end_duration end_duration_mode
+    else showing s (record s.shown { remaining = Some (seconds - 1) })
+
+unfoldable pub after_duration : SignState → SignState
+after_duration s = counted_down s s.shown.remaining
+
+-- the seconds of silence that are a loss of communications
+abbrev pub longest_silence : SignState → ℕ
+longest_silence s = 60 * s.time_comm_loss
+
+-- one more second of silence
+abbrev pub quieter : SignState → SignState
+quieter s = record s { silent = s.silent + 1 }
+
+-- Silence is counted up to its limit, where the code of a communications loss is put up: once, until a datagram is answered.
+unfoldable pub after_silence : SignState → SignState
+after_silence s =
+    if nat_lt s.silent (longest_silence s)
+    then (if s.silent + 1 == longest_silence s then put_up_code (quieter s) s.fallbacks.communications_loss communications_loss_mode else quieter s)
+    else s
+
+-- A second: a row is settled, the duration goes on, and then the silence. A sign without power does nothing.
+unfoldable pub after_tick : SignState → SignState
+after_tick s = if s.powered then after_silence (after_duration (after_settling s)) else s
+
+-- ---- power
+
+-- The power is lost: what is shown is kept, and the code of a power loss is put up.
+unfoldable pub after_power_loss : SignState → SignState
+after_power_loss s =
+    if s.powered then record (put_up_code (record s { kept = s.shown }) s.fallbacks.power_loss power_loss_mode) { powered = false }
+    else s
+
+-- the code that comes up after a loss of so many seconds
+abbrev pub recovery_code : SignState → ℕ → List ℕ
+recovery_code s seconds =
+    if nat_lt 0 s.short_power_loss_time && nat_le seconds s.short_power_loss_time then s.fallbacks.short_power_recovery
+    else s.fallbacks.long_power_recovery
+
+-- what is there as the power comes back: what was kept is shown, volatile rows are gone, and the silence begins anew
+abbrev pub restored : SignState → SignState
+restored s = record s { table = after_power s.table; shown = s.kept; powered = true; silent = 0 }
+
+-- The power is back after so many seconds, and the code of the recovery is put up.
+unfoldable pub after_power_return : SignState → ℕ → SignState
+after_power_return s seconds = if s.powered then s else put_up_code (restored s) (recovery_code s seconds) power_recovery_mode

@@ -1,0 +1,162 @@
+-- The ranges of what a sign holds. They hold of a sign as it is made and after every event, so that each value which its objects read
+-- can be said in a message.
+use Rattle.std.specs.Prelude.{◌≡◌, ℕ, ◌*◌, ◌≤◌, if◌then◌else◌, List, length, nat_le, Option, Some, None, ⊤, IsTrue, All, replicate}
+use Rattle.std.specs.List.{AllByRecursion}
+use Rattle.std.specs.Int.Digits.{AllBelowBase}
+use Rattle.dms_wire.specs.declared.message.Kind.TheVariants.{Response}
+use Rattle.dms_wire.specs.Message.{VarBind, SnmpMessage}
+use Rattle.dms_wire.specs.Limits.{IsNameInLimits, IsValueInLimits}
+use Rattle.dms_wire.specs.MessageOf.{message_of}
+use Rattle.dms_wire.specs.Canonical.{canonical}
+use Rattle.dms_wire.specs.Response.{response_to}
+use Rattle.dms_face.specs.declared.defaults.Defaults.{Defaults}
+use Rattle.dms_table.specs.Codes.{IsMessageId}
+use Rattle.dms_table.specs.Rows.{RowModel, TableModel, unused, longest_text, longest_owner}
+use Rattle.dms_table.specs.Stocking.{has_ranges}
+use Rattle.dms_table.specs.Deciding.{ShownModel, shown_row}
+use Rattle.dms_sign.specs.State.{ConfigModel, FallbacksModel, ReportsModel, SignState}
+use Rattle.dms_sign.specs.Setting.{too_big}
+use Rattle.dms_sign.specs.Answering.{Answer, primary}
+use Rattle.dms_sign.specs.Reply.{response_of, most_octets}
+
+-- ---- parts
+
+-- so many octets
+pub record AreOctets (count : ℕ) (octets : List ℕ) : Type 0 where
+  pub size : length octets ≡ count
+  pub below : AllBelowBase 256 octets
+
+-- at most so many octets
+pub record AreOctetsUpTo (most : ℕ) (octets : List ℕ) : Type 0 where
+  pub size : length octets ≤ most
+  pub below : AllBelowBase 256 octets
+
+-- a matrix of at most 256 columns and 64 rows, and communities that are octets
+pub record IsConfigInRange (config : ConfigModel) : Type 0 where
+  pub width : config.face.width ≤ 256
+  pub height : config.face.height ≤ 64
+  pub reader : AllBelowBase 256 config.reader
+  pub writer : AllBelowBase 256 config.writer
+
+-- each default is an octet (NTCIP 1203, multiCfg)
+pub record AreDefaultsInRange (defaults : Defaults) : Type 0 where
+  pub background : defaults.background ≤ 255
+  pub foreground : defaults.foreground ≤ 255
+  pub flash_on : defaults.flash_on ≤ 255
+  pub flash_off : defaults.flash_off ≤ 255
+  pub font : defaults.font ≤ 255
+  pub line : defaults.line ≤ 255
+  pub page : defaults.page ≤ 255
+  pub on : defaults.on ≤ 255
+  pub off : defaults.off ≤ 255
+
+-- a row of dmsMessageTable
+pub record IsRowInRange (row : RowModel) : Type 0 where
+  pub text : AreOctetsUpTo longest_text row.text
+  pub owner : AreOctetsUpTo longest_owner row.owner
+  pub beacon : row.beacon ≤ 1
+  pub pixel : row.pixel ≤ 1
+  pub least : 1 ≤ row.priority
+  pub priority : row.priority ≤ 255
+
+-- at most 16 permanent, 64 changeable and 16 volatile rows, each in range
+pub record IsTableInRange (table : TableModel) : Type 0 where
+  pub permanent : AllByRecursion IsRowInRange table.permanent
+  pub changeable : AllByRecursion IsRowInRange table.changeable
+  pub volatile : AllByRecursion IsRowInRange table.volatile
+  pub permanent_count : length table.permanent ≤ 16
+  pub changeable_count : length table.changeable ≤ 64
+  pub volatile_count : length table.volatile ≤ 16
+
+-- each code is five octets (NTCIP 1203, MessageIDCode)
+pub record AreFallbacksInRange (fallbacks : FallbacksModel) : Type 0 where
+  pub short_power_recovery : AreOctets 5 fallbacks.short_power_recovery
+  pub long_power_recovery : AreOctets 5 fallbacks.long_power_recovery
+  pub power_loss : AreOctets 5 fallbacks.power_loss
+  pub end_duration : AreOctets 5 fallbacks.end_duration
+  pub communications_loss : AreOctets 5 fallbacks.communications_loss
+
+-- the most minutes that an object says
+abbrev pub most_minutes : ℕ
+most_minutes = 65535
+
+-- seconds that are at most the most minutes, or no end
+abbrev pub IsTimeInRange : Option ℕ → Type 0
+IsTimeInRange None = ⊤
+IsTimeInRange (Some seconds) = seconds ≤ most_minutes * 60
+
+-- what is shown: its row, its code, how it came up and by whom, and its defaults
+pub record IsShownInRange (shown : ShownModel) : Type 0 where
+  pub row : IsRowInRange (shown_row shown)
+  pub source : IsMessageId shown.source
+  pub mode : shown.mode ≤ 255
+  pub address : AreOctets 4 shown.address
+  pub remaining : IsTimeInRange shown.remaining
+  pub defaults : AreDefaultsInRange shown.defaults
+
+-- the errors are octets, a place lies in a text or at its end, and each code is twelve octets (NTCIP 1203, MessageActivationCode)
+pub record AreReportsInRange (reports : ReportsModel) : Type 0 where
+  pub validate_error : reports.validate_error ≤ 255
+  pub activate_error : reports.activate_error ≤ 255
+  pub syntax_error : reports.syntax_error ≤ 255
+  pub syntax_error_position : reports.syntax_error_position ≤ longest_text
+  pub accepted_code : AreOctets 12 reports.accepted_code
+  pub failed_code : AreOctets 12 reports.failed_code
+
+-- ---- signs
+
+-- Times are numbers of 16 bits, and the silence is counted no further than to the longest time of it.
+pub record IsSignInRange (s : SignState) : Type 0 where
+  pub config : IsConfigInRange s.config
+  pub table : IsTableInRange s.table
+  pub fallbacks : AreFallbacksInRange s.fallbacks
+  pub short_power_loss_time : s.short_power_loss_time ≤ 65535
+  pub time_comm_loss : s.time_comm_loss ≤ most_minutes
+  pub silent : s.silent ≤ 60 * most_minutes
+  pub defaults : AreDefaultsInRange s.defaults
+  pub shown : IsShownInRange s.shown
+  pub kept : IsShownInRange s.kept
+  pub reports : AreReportsInRange s.reports
+
+-- ---- how a sign is made
+
+-- at most 16 permanent rows, each with its ranges, and 64 changeable and 16 volatile rows that are not used
+pub record IsStocked (table : TableModel) : Type 0 where
+  pub permanent : All (λ (row : RowModel). IsTrue (has_ranges row)) table.permanent
+  pub permanent_count : length table.permanent ≤ 16
+  pub changeable : table.changeable ≡ replicate (length table.changeable) unused
+  pub changeable_count : length table.changeable ≤ 64
+  pub volatile : table.volatile ≡ replicate (length table.volatile) unused
+  pub volatile_count : length table.volatile ≤ 16
+
+-- the communities, the defaults, and the texts and owners of permanent rows are octets
+pub record IsMadeOfOctets (config : ConfigModel) (table : TableModel) : Type 0 where
+  pub reader : AllBelowBase 256 config.reader
+  pub writer : AllBelowBase 256 config.writer
+  pub defaults : AreDefaultsInRange config.face.defaults
+  pub texts : All (λ (row : RowModel). AllBelowBase 256 row.text) table.permanent
+  pub owners : All (λ (row : RowModel). AllBelowBase 256 row.owner) table.permanent
+
+-- ---- replies
+
+-- a binding that can be said in a message
+pub record IsBindingInLimits (binding : VarBind) : Type 0 where
+  pub name : IsNameInLimits binding.name
+  pub value : IsValueInLimits binding.value
+
+-- the Response that is sent: what is answered, or that it is too big
+abbrev pub response_sent : SnmpMessage → Answer → SnmpMessage
+response_sent m answer = if nat_le (length (canonical (response_of m answer))) most_octets then response_of m answer else response_to m too_big 0
+
+-- The reply fits a datagram, and its octets spell the Response that is sent to the request, which has the community and the request-id
+-- of the request.
+pub record IsSpelledReply (s : SignState) (datagram reply : List ℕ) : Type 0 where
+  pub request : SnmpMessage
+  pub asked : message_of datagram ≡ Some request
+  pub response : SnmpMessage
+  pub meant : response ≡ response_sent request (primary s request)
+  pub kind : response.kind ≡ Response
+  pub community : response.community ≡ request.community
+  pub number : response.request ≡ request.request
+  pub spelled : message_of reply ≡ Some response
+  pub short : length reply ≤ most_octets

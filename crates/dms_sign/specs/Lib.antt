@@ -1,0 +1,11 @@
+pub mod Objects
+pub mod State
+pub mod Values
+pub mod PuttingUp
+pub mod Writing
+pub mod Setting
+pub mod Answering
+pub mod Reply
+pub mod Events
+pub mod Promises
+pub mod InRange

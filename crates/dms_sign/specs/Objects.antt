@@ -1,0 +1,147 @@
+-- The objects of a sign: which instances it has, by which names, and in which order they are walked (NTCIP 1203, dms).
+use Rattle.std.specs.Prelude.{◌⊎◌, ◌≡◌, ℕ, Bool, true, false, List, [], ◌∷◌, ◌++◌, map, length, nat_eq, Option, Some, None, slice_get}
+use Rattle.std.specs.List.{find, flat_map, range_with_len}
+use Rattle.std.specs.Cmp.Lexicographic.{pointwise}
+use Rattle.std.specs.Ordering.{is_lt}
+use Rattle.dms_wire.specs.NameOrder.{numbers_cmp}
+use Rattle.dms_table.specs.declared.names.Column.{Column}
+use Rattle.dms_table.specs.declared.names.Column.TheVariants.{MemoryType, Number, MultiString, Owner, Crc, Beacon, PixelService, RunTimePriority, Status}
+use Rattle.dms_table.specs.declared.row.RowId.{RowId}
+use Rattle.dms_table.specs.Names.{object_name, cell_name}
+use Rattle.dms_table.specs.Rows.{TableModel, permanent_memory, changeable_memory, volatile_memory, current_buffer, blank_memory}
+use Rattle.dms_sign.specs.declared.object.Scalar.{Scalar}
+use Rattle.dms_sign.specs.declared.object.Scalar.TheVariants.{SignHeightPixels, SignWidthPixels, DefaultBackgroundColor, DefaultForegroundColor, DefaultFlashOn, DefaultFlashOff, DefaultFont, DefaultJustificationLine, DefaultJustificationPage, DefaultPageOnTime, DefaultPageOffTime, ColorScheme, NumPermanentMsg, NumChangeableMsg, MaxChangeableMsg, FreeChangeableMemory, NumVolatileMsg, MaxVolatileMsg, FreeVolatileMemory, ValidateMessageError, ActivateMessage, MessageTimeRemaining, MsgTableSource, MsgRequesterId, MsgSourceMode, ShortPowerRecoveryMessage, LongPowerRecoveryMessage, ShortPowerLossTime, CommunicationsLossMessage, TimeCommLoss, PowerLossMessage, EndDurationMessage, ActivateMsgError, MultiSyntaxError, MultiSyntaxErrorPosition, ActivateErrorMsgCode}
+use Rattle.dms_sign.specs.declared.object.Instance.{Instance}
+use Rattle.dms_sign.specs.declared.object.Instance.TheVariants.{The, Cell}
+
+-- ---- names
+
+-- the number of an object below dms: its group, and its number there
+abbrev pub scalar_number : Scalar → ℕ × ℕ
+scalar_number SignHeightPixels = (2, 3)
+scalar_number SignWidthPixels = (2, 4)
+scalar_number DefaultBackgroundColor = (4, 1)
+scalar_number DefaultForegroundColor = (4, 2)
+scalar_number DefaultFlashOn = (4, 3)
+scalar_number DefaultFlashOff = (4, 4)
+scalar_number DefaultFont = (4, 5)
+scalar_number DefaultJustificationLine = (4, 6)
+scalar_number DefaultJustificationPage = (4, 7)
+scalar_number DefaultPageOnTime = (4, 8)
+scalar_number DefaultPageOffTime = (4, 9)
+scalar_number ColorScheme = (4, 11)
+scalar_number NumPermanentMsg = (5, 1)
+scalar_number NumChangeableMsg = (5, 2)
+scalar_number MaxChangeableMsg = (5, 3)
+scalar_number FreeChangeableMemory = (5, 4)
+scalar_number NumVolatileMsg = (5, 5)
+scalar_number MaxVolatileMsg = (5, 6)
+scalar_number FreeVolatileMemory = (5, 7)
+scalar_number ValidateMessageError = (5, 9)
+scalar_number ActivateMessage = (6, 3)
+scalar_number MessageTimeRemaining = (6, 4)
+scalar_number MsgTableSource = (6, 5)
+scalar_number MsgRequesterId = (6, 6)
+scalar_number MsgSourceMode = (6, 7)
+scalar_number ShortPowerRecoveryMessage = (6, 8)
+scalar_number LongPowerRecoveryMessage = (6, 9)
+scalar_number ShortPowerLossTime = (6, 10)
+scalar_number CommunicationsLossMessage = (6, 12)
+scalar_number TimeCommLoss = (6, 13)
+scalar_number PowerLossMessage = (6, 14)
+scalar_number EndDurationMessage = (6, 15)
+scalar_number ActivateMsgError = (6, 17)
+scalar_number MultiSyntaxError = (6, 18)
+scalar_number MultiSyntaxErrorPosition = (6, 19)
+scalar_number ActivateErrorMsgCode = (6, 24)
+
+-- an object has the instance 0; a column's instances are named by the rows
+unfoldable pub name_of : Instance → List ℕ
+name_of (The object) = object_name (scalar_number object).0 (scalar_number object).1
+name_of (Cell column row) = cell_name column row
+
+-- ---- the instances of a sign
+
+-- the objects before dmsMessageTable and those after it, by their numbers
+abbrev pub before_table : List Scalar
+before_table =
+    SignHeightPixels ∷ SignWidthPixels ∷ DefaultBackgroundColor ∷ DefaultForegroundColor ∷ DefaultFlashOn
+    ∷ DefaultFlashOff ∷ DefaultFont ∷ DefaultJustificationLine ∷ DefaultJustificationPage ∷ DefaultPageOnTime
+    ∷ DefaultPageOffTime ∷ ColorScheme ∷ NumPermanentMsg ∷ NumChangeableMsg ∷ MaxChangeableMsg ∷ FreeChangeableMemory
+    ∷ NumVolatileMsg ∷ MaxVolatileMsg ∷ FreeVolatileMemory ∷ []
+
+abbrev pub after_table : List Scalar
+after_table =
+    ValidateMessageError ∷ ActivateMessage ∷ MessageTimeRemaining ∷ MsgTableSource ∷ MsgRequesterId ∷ MsgSourceMode
+    ∷ ShortPowerRecoveryMessage ∷ LongPowerRecoveryMessage ∷ ShortPowerLossTime ∷ CommunicationsLossMessage
+    ∷ TimeCommLoss ∷ PowerLossMessage ∷ EndDurationMessage ∷ ActivateMsgError ∷ MultiSyntaxError
+    ∷ MultiSyntaxErrorPosition ∷ ActivateErrorMsgCode ∷ []
+
+abbrev pub columns : List Column
+columns = MemoryType ∷ Number ∷ MultiString ∷ Owner ∷ Crc ∷ Beacon ∷ PixelService ∷ RunTimePriority ∷ Status ∷ []
+
+-- 1 to n
+abbrev pub numbers_to : ℕ → List ℕ
+numbers_to n = range_with_len 1 n
+
+-- each type of memory with how many rows it has; what is shown is one, and blank messages have the numbers 1 to 255
+abbrev pub memories : TableModel → List (ℕ × ℕ)
+memories table =
+    (permanent_memory, length table.permanent) ∷ (changeable_memory, length table.changeable) ∷ (volatile_memory, length table.volatile)
+    ∷ (current_buffer, 1) ∷ (blank_memory, 255) ∷ []
+
+-- the rows of a type of memory, from number 1
+abbrev pub rows_in : ℕ × ℕ → List RowId
+rows_in memory = map (λ number. record { memory = memory.0; number = number }) (numbers_to memory.1)
+
+abbrev pub row_ids : TableModel → List RowId
+row_ids table = flat_map rows_in (memories table)
+
+-- a column's instances, one for each row
+abbrev pub cells : TableModel → Column → List Instance
+cells table column = map (Cell column) (row_ids table)
+
+-- every instance, in the order of names
+unfoldable pub instances : TableModel → List Instance
+instances table = map The before_table ++ flat_map (cells table) columns ++ map The after_table
+
+-- ---- the walk
+
+-- the first name comes before the second one
+abbrev pub is_before : List ℕ → List ℕ → Bool
+is_before first second = is_lt (numbers_cmp first second)
+
+abbrev pub has_name : List ℕ → Instance → Bool
+has_name name i = pointwise nat_eq (name_of i) name
+
+-- the instance's name comes after this one
+abbrev pub comes_after : List ℕ → Instance → Bool
+comes_after name i = is_before name (name_of i)
+
+abbrev pub instance_named : TableModel → List ℕ → Option Instance
+instance_named table name = find (has_name name) (instances table)
+
+-- the first instance that comes after a name (RFC 1157, 4.1.3)
+abbrev pub next_instance : TableModel → List ℕ → Option Instance
+next_instance table name = find (comes_after name) (instances table)
+
+-- ---- what the walk promises
+
+-- the sign has the instance
+abbrev pub IsInstance : TableModel → Instance → Type 0
+IsInstance table i = (k : ℕ) × (slice_get (instances table) k ≡ Some i)
+
+-- the instance comes after this name, and any other that does comes after the instance
+pub record IsFirstAfter (table : TableModel) (name : List ℕ) (i : Instance) : Type 0 where
+  pub there : IsInstance table i
+  pub after : comes_after name i ≡ true
+  pub first : (j : Instance) → IsInstance table j → comes_after name j ≡ true → (i ≡ j) ⊎ (comes_after (name_of i) j ≡ true)
+
+-- no instance comes after this name
+abbrev pub IsLast : TableModel → List ℕ → Type 0
+IsLast table name = (j : Instance) → IsInstance table j → comes_after name j ≡ false
+
+-- what comes first after this name
+abbrev pub FirstAfter : TableModel → List ℕ → Option Instance → Type 0
+FirstAfter table name None = IsLast table name
+FirstAfter table name (Some i) = IsFirstAfter table name i

@@ -1,0 +1,134 @@
+-- The state of a sign, and how it starts (the values at the start are this profile's).
+use Rattle.std.specs.Prelude.{ℕ, Bool, true, List, [], ◌∷◌, replicate, None}
+use Rattle.dms_face.specs.declared.defaults.Defaults.{Defaults}
+use Rattle.dms_face.specs.Face.{FaceModel}
+use Rattle.dms_table.specs.declared.codes.MessageId.{MessageId}
+use Rattle.dms_table.specs.Rows.{TableModel, blank_memory}
+use Rattle.dms_table.specs.Deciding.{ShownModel}
+
+-- ---- states
+
+-- what a sign is made with, beside its table: the community that may write may read too (RFC 1157, 3.2.5)
+pub record ConfigModel : Type 0 where
+  pub face : FaceModel
+  pub reader : List ℕ
+  pub writer : List ℕ
+
+-- The codes of the messages that a sign puts up by itself, each the five octets that were written (NTCIP 1203, MessageIDCode).
+pub record FallbacksModel : Type 0 where
+  -- dmsShortPowerRecoveryMessage
+  pub short_power_recovery : List ℕ
+  -- dmsLongPowerRecoveryMessage
+  pub long_power_recovery : List ℕ
+  -- dmsPowerLossMessage
+  pub power_loss : List ℕ
+  -- dmsEndDurationMessage
+  pub end_duration : List ℕ
+  -- dmsCommunicationsLossMessage
+  pub communications_loss : List ℕ
+
+-- what a sign tells of its verdicts and decisions; codes are the twelve octets that came (NTCIP 1203, MessageActivationCode)
+pub record ReportsModel : Type 0 where
+  -- dmsValidateMessageError
+  pub validate_error : ℕ
+  -- dmsActivateMsgError
+  pub activate_error : ℕ
+  -- dmsMultiSyntaxError
+  pub syntax_error : ℕ
+  -- dmsMultiSyntaxErrorPosition
+  pub syntax_error_position : ℕ
+  -- dmsActivateMessage: the code last accepted by SET
+  pub accepted_code : List ℕ
+  -- dmsActivateErrorMsgCode: the code last refused
+  pub failed_code : List ℕ
+
+pub record SignState : Type 0 where
+  pub config : ConfigModel
+  -- its rows, what the sign has, and the order of the octets of its checksums
+  pub table : TableModel
+  pub fallbacks : FallbacksModel
+  -- dmsShortPowerLossTime: the seconds of a loss of power that is still short
+  pub short_power_loss_time : ℕ
+  -- dmsTimeCommLoss: the minutes of silence that are a loss of communications; 0 is never
+  pub time_comm_loss : ℕ
+  -- the seconds since a datagram was answered
+  pub silent : ℕ
+  -- what holds where a text says nothing else (NTCIP 1203, multiCfg)
+  pub defaults : Defaults
+  pub shown : ShownModel
+  -- what was shown when the power was lost
+  pub kept : ShownModel
+  pub reports : ReportsModel
+  pub powered : Bool
+
+-- ---- modes: how a message came up (NTCIP 1203, dmsMsgSourceMode); central_mode is that of a SET
+
+abbrev pub power_recovery_mode : ℕ
+power_recovery_mode = 10
+
+abbrev pub communications_loss_mode : ℕ
+communications_loss_mode = 12
+
+abbrev pub power_loss_mode : ℕ
+power_loss_mode = 13
+
+abbrev pub end_duration_mode : ℕ
+end_duration_mode = 14
+
+-- ---- the start
+
+-- the address of nobody, 0.0.0.0
+abbrev pub no_address : List ℕ
+no_address = 0 ∷ 0 ∷ 0 ∷ 0 ∷ []
+
+-- blank message 1
+abbrev pub blank_id : MessageId
+blank_id = record { memory = blank_memory; number = 1; crc = 0 }
+
+-- its octets, in either order
+abbrev pub blank_code : List ℕ
+blank_code = 7 ∷ 0 ∷ 1 ∷ 0 ∷ 0 ∷ []
+
+-- blank message 1, put up by the sign itself under these defaults, without an end
+abbrev pub blank_shown : Defaults → ℕ → ShownModel
+blank_shown defaults mode = record {
+  text = [];
+  owner = [];
+  beacon = 0;
+  pixel = 0;
+  priority = 1;
+  source = blank_id;
+  mode = mode;
+  address = no_address;
+  remaining = None;
+  defaults = defaults;
+}
+
+-- A sign as it is made shows the blank message and has power.
+abbrev pub start : ConfigModel → TableModel → SignState
+start config table = record {
+  config = config;
+  table = table;
+  fallbacks = record {
+    short_power_recovery = blank_code;
+    long_power_recovery = blank_code;
+    power_loss = blank_code;
+    end_duration = blank_code;
+    communications_loss = blank_code;
+  };
+  short_power_loss_time = 0;
+  time_comm_loss = 0;
+  silent = 0;
+  defaults = config.face.defaults;
+  shown = blank_shown config.face.defaults power_recovery_mode;
+  kept = blank_shown config.face.defaults power_recovery_mode;
+  reports = record {
+    validate_error = 2;
+    activate_error = 2;
+    syntax_error = 2;
+    syntax_error_position = 0;
+    accepted_code = replicate 12 0;
+    failed_code = replicate 12 0;
+  };
+  powered = true;
+}

@@ -1,0 +1,107 @@
+-- What the objects of a sign read (NTCIP 1203, each by its name).
+use Rattle.std.specs.Prelude.{ℕ, pos, ◌+◌, ◌*◌, ◌/◌, List, Option, Some, None, option_map, option_and_then}
+use Rattle.dms_wire.specs.Message.{ObjectValue, integer, octet_string, ip_address, VarBind}
+use Rattle.dms_table.specs.declared.codes.Order.{Order}
+use Rattle.dms_table.specs.declared.names.Column.{Column}
+use Rattle.dms_table.specs.declared.names.Column.TheVariants as columns
+use Rattle.dms_table.specs.declared.row.RowId.{RowId}
+use Rattle.dms_table.specs.Status.{status_number}
+use Rattle.dms_table.specs.Codes.{in_order, octets_of_id}
+use Rattle.dms_table.specs.Rows.{TableModel, RowReading, permanent_memory, changeable_memory, volatile_memory, valid_count, unused_count, row_count, longest_text}
+use Rattle.dms_table.specs.Deciding.{message_at}
+use Rattle.dms_sign.specs.declared.object.Scalar.{Scalar}
+use Rattle.dms_sign.specs.declared.object.Scalar.TheVariants.{SignHeightPixels, SignWidthPixels, DefaultBackgroundColor, DefaultForegroundColor, DefaultFlashOn, DefaultFlashOff, DefaultFont, DefaultJustificationLine, DefaultJustificationPage, DefaultPageOnTime, DefaultPageOffTime, ColorScheme, NumPermanentMsg, NumChangeableMsg, MaxChangeableMsg, FreeChangeableMemory, NumVolatileMsg, MaxVolatileMsg, FreeVolatileMemory, ValidateMessageError, ActivateMessage, MessageTimeRemaining, MsgTableSource, MsgRequesterId, MsgSourceMode, ShortPowerRecoveryMessage, LongPowerRecoveryMessage, ShortPowerLossTime, CommunicationsLossMessage, TimeCommLoss, PowerLossMessage, EndDurationMessage, ActivateMsgError, MultiSyntaxError, MultiSyntaxErrorPosition, ActivateErrorMsgCode}
+use Rattle.dms_sign.specs.declared.object.Instance.{Instance}
+use Rattle.dms_sign.specs.declared.object.Instance.TheVariants.{The, Cell}
+use Rattle.dms_sign.specs.Objects.{name_of, instance_named, next_instance}
+use Rattle.dms_sign.specs.State.{SignState}
+
+abbrev pub number_value : ℕ → ObjectValue
+number_value n = integer (pos n)
+
+-- ---- objects with one instance
+
+-- seconds as minutes, rounded up; 65535 is without an end (this profile)
+abbrev pub minutes_left : Option ℕ → ℕ
+minutes_left None = 65535
+minutes_left (Some seconds) = (seconds + 59) / 60
+
+-- the octets that are free in a type of memory: each row that is not used has room for the longest text (this profile)
+abbrev pub free_octets : TableModel → ℕ → ℕ
+free_octets table memory = longest_text * unused_count table memory
+
+unfoldable pub scalar_value : SignState → Scalar → ObjectValue
+scalar_value s SignHeightPixels = number_value s.config.face.height
+scalar_value s SignWidthPixels = number_value s.config.face.width
+scalar_value s DefaultBackgroundColor = number_value s.defaults.background
+scalar_value s DefaultForegroundColor = number_value s.defaults.foreground
+scalar_value s DefaultFlashOn = number_value s.defaults.flash_on
+scalar_value s DefaultFlashOff = number_value s.defaults.flash_off
+scalar_value s DefaultFont = number_value s.defaults.font
+scalar_value s DefaultJustificationLine = number_value s.defaults.line
+scalar_value s DefaultJustificationPage = number_value s.defaults.page
+scalar_value s DefaultPageOnTime = number_value s.defaults.on
+scalar_value s DefaultPageOffTime = number_value s.defaults.off
+-- colorClassic
+scalar_value s ColorScheme = number_value 3
+scalar_value s NumPermanentMsg = number_value (row_count s.table permanent_memory)
+-- messages that are valid (this profile)
+scalar_value s NumChangeableMsg = number_value (valid_count s.table changeable_memory)
+scalar_value s MaxChangeableMsg = number_value (row_count s.table changeable_memory)
+scalar_value s FreeChangeableMemory = number_value (free_octets s.table changeable_memory)
+scalar_value s NumVolatileMsg = number_value (valid_count s.table volatile_memory)
+scalar_value s MaxVolatileMsg = number_value (row_count s.table volatile_memory)
+scalar_value s FreeVolatileMemory = number_value (free_octets s.table volatile_memory)
+scalar_value s ValidateMessageError = number_value s.reports.validate_error
+scalar_value s ActivateMessage = octet_string s.reports.accepted_code
+scalar_value s MessageTimeRemaining = number_value (minutes_left s.shown.remaining)
+scalar_value s MsgTableSource = octet_string (octets_of_id s.table.order s.shown.source)
+scalar_value s MsgRequesterId = ip_address s.shown.address
+scalar_value s MsgSourceMode = number_value s.shown.mode
+scalar_value s ShortPowerRecoveryMessage = octet_string s.fallbacks.short_power_recovery
+scalar_value s LongPowerRecoveryMessage = octet_string s.fallbacks.long_power_recovery
+scalar_value s ShortPowerLossTime = number_value s.short_power_loss_time
+scalar_value s CommunicationsLossMessage = octet_string s.fallbacks.communications_loss
+scalar_value s TimeCommLoss = number_value s.time_comm_loss
+scalar_value s PowerLossMessage = octet_string s.fallbacks.power_loss
+scalar_value s EndDurationMessage = octet_string s.fallbacks.end_duration
+scalar_value s ActivateMsgError = number_value s.reports.activate_error
+scalar_value s MultiSyntaxError = number_value s.reports.syntax_error
+scalar_value s MultiSyntaxErrorPosition = number_value s.reports.syntax_error_position
+scalar_value s ActivateErrorMsgCode = octet_string s.reports.failed_code
+
+-- ---- cells of dmsMessageTable
+
+-- what a column tells of a row; the checksum is in the sign's order
+abbrev pub cell_value : Order → Column → RowId → RowReading → ObjectValue
+cell_value order columns.MemoryType id reading = number_value id.memory
+cell_value order columns.Number id reading = number_value id.number
+cell_value order columns.MultiString id reading = octet_string reading.row.text
+cell_value order columns.Owner id reading = octet_string reading.row.owner
+cell_value order columns.Crc id reading = number_value (in_order order reading.checksum)
+cell_value order columns.Beacon id reading = number_value reading.row.beacon
+cell_value order columns.PixelService id reading = number_value reading.row.pixel
+cell_value order columns.RunTimePriority id reading = number_value reading.row.priority
+cell_value order columns.Status id reading = number_value (status_number reading.row.status)
+
+-- ---- names
+
+-- what an instance reads; the row of the current buffer is what is shown
+unfoldable pub value_at : SignState → Instance → Option ObjectValue
+value_at s (The object) = Some (scalar_value s object)
+value_at s (Cell column id) = option_map (cell_value s.table.order column id) (message_at s.table s.shown id)
+
+-- what a name reads, where it is that of an instance
+unfoldable pub value_of : SignState → List ℕ → Option ObjectValue
+value_of s name = option_and_then (value_at s) (instance_named s.table name)
+
+abbrev pub bound : Instance → ObjectValue → VarBind
+bound i value = record { name = name_of i; value = value }
+
+-- an instance with what it reads
+abbrev pub binding_at : SignState → Instance → Option VarBind
+binding_at s i = option_map (bound i) (value_at s i)
+
+-- the first instance after a name, with what it reads (RFC 1157, 4.1.3)
+unfoldable pub value_after : SignState → List ℕ → Option VarBind
+value_after s name = option_and_then (binding_at s) (next_instance s.table name)

@@ -1,0 +1,87 @@
+//! Laws over the definitions of specs/ alone, stated as functions with nothing to run.
+
+ghost use Rattle.std.specs.Prelude.{◌≡◌, ◌↔◌, ℕ, List, [], ◌∷◌, length, Some, IsSome};
+ghost use Rattle.dms_wire.specs.declared.message.Kind.TheVariants.{Set};
+ghost use Rattle.dms_wire.specs.Message.{SnmpMessage};
+ghost use Rattle.dms_wire.specs.MessageOf.{message_of};
+ghost use Rattle.dms_wire.specs.Canonical.{canonical};
+ghost use Rattle.dms_wire.specs.Response.{response_to};
+ghost use Rattle.dms_table.specs.declared.names.Column.{Column};
+ghost use Rattle.dms_table.specs.declared.row.RowId.{RowId};
+ghost use Rattle.dms_table.specs.Names.{activate_message, activate_message_error, cell_name};
+ghost use Rattle.dms_table.specs.declared.codes.Activation.{Activation};
+ghost use Rattle.dms_table.specs.Codes.{activation_of};
+ghost use Rattle.dms_table.specs.Rows.{TableModel, IsTable};
+ghost use Rattle.dms_table.specs.declared.stock.Stock.{Stock};
+ghost use Rattle.dms_table.specs.Stocking.{table_of};
+ghost use Rattle.dms_table.specs.Deciding.{ShownModel, message_at};
+ghost use Rattle.dms_sign.specs.declared.object.Instance.{Instance};
+ghost use Rattle.dms_sign.specs.declared.object.Scalar.{Scalar};
+ghost use Rattle.dms_sign.specs.declared.object.Scalar.TheVariants.{ActivateMessage, ActivateMsgError};
+ghost use Rattle.dms_sign.specs.declared.object.Instance.TheVariants.{The, Cell};
+ghost use Rattle.dms_sign.specs.Objects.{name_of, instance_named, next_instance, IsInstance, FirstAfter};
+ghost use Rattle.dms_sign.specs.State.{ConfigModel, SignState, start};
+ghost use Rattle.dms_sign.specs.Answering.{primary};
+ghost use Rattle.dms_sign.specs.Reply.{reply_to, received};
+ghost use Rattle.dms_sign.specs.Events.{after_tick, after_power_loss, after_power_return};
+ghost use Rattle.dms_sign.specs.Promises.{IsReplyTo, AsksFor, activates};
+
+/// The names that the central system uses are those of these objects.
+#[tactic(auto, unfolding(crate::specs::Objects::name_of))]
+pub fn names_are_shared()
+    ensures activate { name_of (The ActivateMessage) ≡ activate_message }
+    ensures error { name_of (The ActivateMsgError) ≡ activate_message_error }
+    ensures cell { (column : Column) (row : RowId) → name_of (Cell column row) ≡ cell_name column row }
+{}
+
+/// Each object has its instance, and each column one for each row that can be read, and for no other row.
+pub fn each_has_its_instances()
+    ensures object { (table : TableModel) (object : Scalar) → IsInstance table (The object) }
+    ensures cell { (table : TableModel) (shown : ShownModel) (column : Column) (row : RowId)
+        → IsInstance table (Cell column row) ↔ IsSome (message_at table shown row) }
+{}
+
+/// The instances stand in the strict order of their names: the one that comes next after a name is the least of those that come
+/// after it, and an instance is found by its name, and by no other.
+pub fn objects_in_order()
+    ensures next { (table : TableModel) (name : List ℕ) → FirstAfter table name (next_instance table name) }
+    ensures named { (table : TableModel) (i : Instance) → IsInstance table i → instance_named table (name_of i) ≡ Some i }
+    ensures found { (table : TableModel) (name : List ℕ) (i : Instance) → instance_named table name ≡ Some i
+        → (name_of i ≡ name) × IsInstance table i }
+{}
+
+/// What is sent is a Response to a request that came, with its community and its request-id.
+pub fn replies_name_their_request()
+    ensures { (s : SignState) (datagram : List ℕ) (reply : List ℕ) → (received s datagram).reply ≡ Some reply → IsReplyTo datagram reply }
+{}
+
+/// A SET of one binding is never answered by tooBig: its reply has the status and the index of what is answered, and repeats the
+/// binding.
+pub fn one_binding_set_is_never_too_big()
+    ensures { (s : SignState) (m : SnmpMessage) (datagram : List ℕ) → message_of datagram ≡ Some m → m.kind ≡ Set → length m.bindings ≡ 1
+        → reply_to m (primary s m) ≡ canonical (response_to m (primary s m).status (primary s m).index) }
+{}
+
+/// Nor is a SET that succeeds.
+pub fn no_success_is_replaced()
+    ensures { (s : SignState) (m : SnmpMessage) (datagram : List ℕ) → message_of datagram ≡ Some m → m.kind ≡ Set → (primary s m).status ≡ 0
+        → reply_to m (primary s m) ≡ canonical (response_to m (primary s m).status (primary s m).index) }
+{}
+
+/// A SET of dmsActivateMessage alone is answered by no error where its activation was accepted, and there alone; and an activation is
+/// accepted where a binding of a SET asks for it, and no error is answered.
+pub fn accepted_where_no_error()
+    ensures one { (s : SignState) (m : SnmpMessage) (octets : List ℕ) → m.kind ≡ Set → m.bindings ≡ activates octets ∷ []
+        → ((primary s m).status ≡ 0) ↔ ((primary s m).accepted ≡ Some (activation_of s.table.order octets)) }
+    ensures only { (s : SignState) (m : SnmpMessage) (activation : Activation) → (primary s m).accepted ≡ Some activation
+        → ((primary s m).status ≡ 0) × AsksFor s m activation }
+{}
+
+/// At most one row is being validated: as the sign is made, and after whatever comes.
+pub fn at_most_one_row_validates()
+    ensures start { (config : ConfigModel) (stock : Stock) → IsTable (start config (table_of stock)).table }
+    ensures datagram { (s : SignState) (datagram : List ℕ) → IsTable s.table → IsTable (received s datagram).after.table }
+    ensures tick { (s : SignState) → IsTable s.table → IsTable (after_tick s).table }
+    ensures power_loss { (s : SignState) → IsTable s.table → IsTable (after_power_loss s).table }
+    ensures power_return { (s : SignState) (seconds : ℕ) → IsTable s.table → IsTable (after_power_return s seconds).table }
+{}

@@ -1,0 +1,8 @@
+//! The controller of a dynamic message sign: its objects, and what holds of it as a machine.
+#![tactic(auto)]
+
+pub mod laws;
+pub mod object;
+pub mod range_laws;
+
+pub use object::{Instance, Scalar};

@@ -1,0 +1,23 @@
+-- What the faults of the table print (this profile).
+use Rattle.std.specs.Prelude.{ℕ, List, ◌++◌, Option, Some, None, codes, decimal}
+use Rattle.dms_table.specs.declared.stock.TableFault.{TableFault}
+use Rattle.dms_table.specs.declared.stock.TableFault.TheVariants as faults
+use Rattle.dms_table.specs.declared.cause.Cause.{Cause}
+use Rattle.dms_table.specs.declared.cause.Cause.TheVariants as causes
+
+abbrev pub refused_text : List ℕ
+refused_text = codes "the row does not take this now"
+
+abbrev pub table_fault_text : TableFault → List ℕ
+table_fault_text faults.Counts = codes "too many rows"
+table_fault_text (faults.Permanent number) = codes "permanent row " ++ (decimal number ++ codes " is not valid")
+table_fault_text faults.Memory = codes "out of memory"
+
+-- Of a text, its fault prints what it says of itself, which is not told here.
+abbrev pub cause_text : Cause → Option (List ℕ)
+cause_text causes.MemoryType = Some (codes "no type of memory")
+cause_text causes.Number = Some (codes "no such row")
+cause_text causes.Status = Some (codes "the row is not valid")
+cause_text causes.Checksum = Some (codes "another checksum")
+cause_text causes.Priority = Some (codes "what is shown has a higher priority")
+cause_text (causes.Syntax fault) = None
