@@ -1,5 +1,7 @@
 mod WorldSign
 mod WorldSignRows
+mod WorldSignSteps
+mod WorldSignSound
 mod BenchWorld
 mod BenchText
 mod ScriptText

@@ -81,7 +81,7 @@ step_code old mid octets mode step own =
     (shows_code old mid (put_up_code mid octets mode) id step.shown own puts.behind puts.shown)
 
 -- nothing happens
-step_none : (s : SignState) → IsSignStep s s None
+pub step_none : (s : SignState) → IsSignStep s s None
 step_none s = record {
   config = refl;
   table = step_kept (under s.config.face s.defaults) s.table s.table (rows_same s.table);

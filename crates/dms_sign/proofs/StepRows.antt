@@ -257,7 +257,7 @@ text_passes : (o : Option MultiFault) → passes (text_verdict o) ≡ true → o
 text_passes None h = refl
 text_passes (Some fault) h = absurd (cc)
 
-good_where_passes : (services : Services) (face : FaceModel) (row : RowModel) → passes (verdict_of services face row) ≡ true → IsGood face row.text
+pub good_where_passes : (services : Services) (face : FaceModel) (row : RowModel) → passes (verdict_of services face row) ≡ true → IsGood face row.text
 good_where_passes services face row h =
     let second = passes_on ((row.beacon == 1) && not services.beacon) (record { error = 3; fault = None }) _ refl h in
     let third = passes_on ((row.pixel == 1) && not services.pixel) (record { error = 4; fault = None }) (text_verdict (fault_of face row.text)) refl second in

@@ -48,7 +48,7 @@ blank_as defaults a b same is = record {
   copied = same.defaults ∙ is.copied;
 }
 
-checksum_as : (a b : ShownModel) → IsSameMessage a b → message_checksum a.text a.beacon a.pixel ≡ a.source.crc → message_checksum b.text b.beacon b.pixel ≡ b.source.crc
+pub checksum_as : (a b : ShownModel) → IsSameMessage a b → message_checksum a.text a.beacon a.pixel ≡ a.source.crc → message_checksum b.text b.beacon b.pixel ≡ b.source.crc
 checksum_as a b same is = rw (same.text, same.beacon, same.pixel, same.source) is
 
 pub row_as : (face : FaceModel) (defaults : Defaults) (table : TableModel) (a b : ShownModel) → IsSameMessage a b → IsRowOf face defaults table a
