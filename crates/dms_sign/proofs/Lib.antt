@@ -16,6 +16,7 @@ pub mod InRangeStart
 pub mod StepRows
 pub mod StepShown
 pub mod StepEvents
+pub mod StepDefaults
 pub mod BenchSign
 pub mod WorkedAnswers
 pub mod WorkedTable

@@ -1,7 +1,7 @@
 -- What one thing that comes to a sign makes of its rows and of what it shows: a datagram, a second, a loss of power or its return.
-use Rattle.std.specs.Prelude.{◌≡◌, ◌⊎◌, ℕ, [], Option, Some}
+use Rattle.std.specs.Prelude.{IsTrue, ◌≡◌, ◌⊎◌, ℕ, [], Option, Some}
 use Rattle.dms_face.specs.declared.defaults.Defaults.{Defaults}
-use Rattle.dms_face.specs.Face.{FaceModel}
+use Rattle.dms_face.specs.Face.{FaceModel, fit}
 use Rattle.dms_face.specs.Layout.{under}
 use Rattle.dms_face.specs.Fit.{IsGood}
 use Rattle.dms_table.specs.declared.status.Status.TheVariants.{Valid}
@@ -86,3 +86,7 @@ pub record IsSignStep (old new : SignState) (accepted : Option Activation) : Typ
   pub table : TableStep (under old.config.face old.defaults) old.table new.table
   pub shown : ShowsNow old new accepted
   pub kept : (new.kept ≡ old.kept) ⊎ (new.kept ≡ old.shown)
+
+-- the defaults are in their ranges, and name a font of the face
+abbrev pub HasFitDefaults : SignState → Type 0
+HasFitDefaults s = IsTrue (fit s.config.face.fonts s.defaults)
