@@ -2,6 +2,7 @@ mod WorldSign
 mod WorldSignRows
 mod WorldSignSteps
 mod WorldSignSound
+mod WorldSignFit
 mod BenchWorld
 mod BenchText
 mod ScriptText

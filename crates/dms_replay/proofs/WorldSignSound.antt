@@ -1,40 +1,22 @@
 -- What is shown, what is kept, and the rows of a sign, after any events.
-use Rattle.std.proofs.Common.{◌≡◌, ◌⊎◌, inl, inr, ℕ, zero, suc, ◌-◌, ◌<◌, ◌≤◌, ◌==◌, ◌&&◌, Bool, true, false, cond, IsTrue, List, [], ◌∷◌, length, replicate, Option, Some, None, slice_get, refl, ap, sym, subst, ◌∙◌, arith}
-use Rattle.std.specs.List.{list_all}
-use Rattle.std.proofs.lemmas.Bool.{eqb-true, and_parts}
+use Rattle.std.proofs.Common.{◌≡◌, ◌⊎◌, inl, inr, ℕ, zero, suc, List, length, Option, refl, sym, subst, ◌∙◌, arith}
 use Rattle.dms_face.specs.declared.defaults.Defaults.{Defaults}
-use Rattle.dms_face.specs.Face.{FaceModel}
-use Rattle.dms_face.specs.Layout.{under}
-use Rattle.dms_face.specs.Fit.{IsGood}
-use Rattle.dms_table.specs.declared.status.Status.TheVariants.{NotUsed, Valid, Validating}
-use Rattle.dms_table.specs.declared.codes.MessageId.{MessageId}
 use Rattle.dms_table.specs.declared.codes.Activation.{Activation}
-use Rattle.dms_table.specs.declared.codes.Order.{Order}
-use Rattle.dms_table.specs.declared.row.Services.{Services}
-use Rattle.dms_table.specs.Rows.{RowModel, TableModel, unused, rows_of, numbered, permanent_memory, changeable_memory, volatile_memory}
-use Rattle.dms_table.specs.Settling.{verdict_of, passes, IsShowable, CameToBeValid, was_valid, was_settled}
-use Rattle.dms_table.specs.Stocking.{has_ranges}
-use Rattle.dms_table.specs.Deciding.{ShownModel, shown_row}
-use Rattle.dms_table.proofs.GoodRows.{showable}
-use Rattle.dms_sign.specs.State.{ConfigModel, SignState, blank_shown, power_recovery_mode}
-use Rattle.dms_sign.specs.Steps.{IsSameMessage, IsBlankedUnder, IsRowOf, IsOwnCode, ShowsNow, stayed, came_back, blanked, activated, fell_back, IsSignStep}
-use Rattle.dms_sign.proofs.StepRows.{good_where_passes}
-use Rattle.dms_sign.proofs.StepShown.{checksum_as}
-use Rattle.dms_replay.specs.Description.{may_stand}
+use Rattle.dms_table.specs.Deciding.{ShownModel}
+use Rattle.dms_sign.specs.Steps.{ShowsNow, stayed, came_back, blanked, activated, fell_back}
 use Rattle.dms_replay.specs.Event.{EventModel}
-use Rattle.dms_replay.specs.World.{WorldModel, IsFresh, world_at, world_after}
-use Rattle.dms_replay.specs.Backed.{Has, IsBlank, Stands, WasPutUp, WasTheSigns, stored_row, Held, WasHeld, WereDefaults, IsValidated, IsBackedAt, IsBacked, CopiedDefaults}
-use Rattle.dms_replay.specs.GoodRows.{CouldBeShown, WasGood, was_made, was_settled as was_settled_at, ValidRowsWereGood}
-use Rattle.dms_replay.proofs.WorldSignSteps.{IsWorldStep, world_step}
+use Rattle.dms_replay.specs.World.{WorldModel, IsFresh, world_at}
+use Rattle.dms_replay.specs.Backed.{WereDefaults, CopiedDefaults}
+use Rattle.dms_replay.proofs.WorldSignSteps.{world_step}
 
 -- ---- what holds after so many events
 
-record IsSoundAt (world : WorldModel) (events : List EventModel) (count : ℕ) : Type 0 where
-  config : (world_at world events count).sign.config ≡ world.sign.config
-  services : (world_at world events count).sign.table.services ≡ world.sign.table.services
-  order : (world_at world events count).sign.table.order ≡ world.sign.table.order
-  shown_copy : WereDefaults world events count (world_at world events count).sign.shown.defaults
-  kept_copy : WereDefaults world events count (world_at world events count).sign.kept.defaults
+pub record IsSoundAt (world : WorldModel) (events : List EventModel) (count : ℕ) : Type 0 where
+  pub config : (world_at world events count).sign.config ≡ world.sign.config
+  pub services : (world_at world events count).sign.table.services ≡ world.sign.table.services
+  pub order : (world_at world events count).sign.table.order ≡ world.sign.table.order
+  pub shown_copy : WereDefaults world events count (world_at world events count).sign.shown.defaults
+  pub kept_copy : WereDefaults world events count (world_at world events count).sign.kept.defaults
 
 -- ---- copies of the defaults
 
@@ -88,7 +70,7 @@ sound_first world events fresh = record {
   kept_copy = (0, omega arith, subst (λ (w : WorldModel). w.sign.defaults ≡ w.sign.kept.defaults) (sym fresh.is_beginning) refl);
 }
 
-sound_at : (world : WorldModel) (events : List EventModel) → IsFresh world → (count : ℕ) → IsSoundAt world events count
+pub sound_at : (world : WorldModel) (events : List EventModel) → IsFresh world → (count : ℕ) → IsSoundAt world events count
 sound_at world events fresh zero = sound_first world events fresh
 sound_at world events fresh (suc count) = sound_next world events count (sound_at world events fresh count)
 
