@@ -3,6 +3,7 @@ mod WorldSignRows
 mod WorldSignSteps
 mod WorldSignSound
 mod WorldSignFit
+mod WorldSignGood
 mod BenchWorld
 mod BenchText
 mod ScriptText

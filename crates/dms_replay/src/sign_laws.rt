@@ -4,7 +4,7 @@ ghost use Rattle.std.specs.Prelude.{List};
 ghost use Rattle.dms_replay.specs.Event.{EventModel};
 ghost use Rattle.dms_replay.specs.World.{WorldModel, IsFresh};
 ghost use Rattle.dms_replay.specs.Backed.{CopiedDefaults};
-ghost use Rattle.dms_replay.specs.GoodRows.{OneRowIsValidating, DefaultsFit};
+ghost use Rattle.dms_replay.specs.GoodRows.{OneRowIsValidating, DefaultsFit, ValidRowsWereGood};
 
 /// At most one row is being validated.
 pub fn one_row_is_validating()
@@ -19,4 +19,9 @@ pub fn copied_defaults()
 /// The defaults stay in their ranges and name a font of the face, and so does the copy that belongs to what is shown.
 pub fn defaults_fit()
     ensures { (world : WorldModel) (events : List EventModel) → IsFresh world → DefaultsFit world events }
+{}
+
+/// Each row that is valid is a permanent one, or was good under the defaults of the moment at which an event settled it.
+pub fn rows_were_good()
+    ensures { (world : WorldModel) (events : List EventModel) → IsFresh world → ValidRowsWereGood world events }
 {}
