@@ -4,6 +4,7 @@ mod WorldSignSteps
 mod WorldSignSound
 mod WorldSignFit
 mod WorldSignGood
+mod WorldSignBacked
 mod BenchWorld
 mod BenchText
 mod ScriptText

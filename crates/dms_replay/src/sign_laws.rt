@@ -3,7 +3,7 @@
 ghost use Rattle.std.specs.Prelude.{List};
 ghost use Rattle.dms_replay.specs.Event.{EventModel};
 ghost use Rattle.dms_replay.specs.World.{WorldModel, IsFresh};
-ghost use Rattle.dms_replay.specs.Backed.{CopiedDefaults};
+ghost use Rattle.dms_replay.specs.Backed.{CopiedDefaults, IsBacked};
 ghost use Rattle.dms_replay.specs.GoodRows.{OneRowIsValidating, DefaultsFit, ValidRowsWereGood};
 
 /// At most one row is being validated.
@@ -24,4 +24,10 @@ pub fn defaults_fit()
 /// Each row that is valid is a permanent one, or was good under the defaults of the moment at which an event settled it.
 pub fn rows_were_good()
     ensures { (world : WorldModel) (events : List EventModel) → IsFresh world → ValidRowsWereGood world events }
+{}
+
+/// What is shown is blank, or it is a message of a row that was valid: good under the copy of the defaults that was made as it was put
+/// up, with a checksum that stands in the code of an activation that was accepted, or in one of the sign's own codes.
+pub fn backed()
+    ensures { (world : WorldModel) (events : List EventModel) → IsFresh world → IsBacked world events }
 {}
