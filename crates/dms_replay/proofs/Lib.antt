@@ -1,3 +1,10 @@
+mod WorldSign
+mod WorldSignRows
+mod WorldSignSteps
+mod WorldSignSound
+mod WorldSignFit
+mod WorldSignGood
+mod WorldSignBacked
 mod BenchWorld
 mod BenchText
 mod ScriptText
