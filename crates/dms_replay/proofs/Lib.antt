@@ -6,3 +6,5 @@ mod Altered
 mod TableRows
 mod WorkedHeadline
 mod Worked
+mod WorldHonestOrder
+mod WorldHonestPutUp
