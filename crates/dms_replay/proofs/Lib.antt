@@ -8,3 +8,7 @@ mod WorkedHeadline
 mod Worked
 mod WorldHonestOrder
 mod WorldHonestPutUp
+pub mod WorldInputs
+pub mod WorldNumbers
+pub mod WorldGrows
+pub mod WorldOrders

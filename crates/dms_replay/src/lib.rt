@@ -1,2 +1,4 @@
 //! Both ends in one world, with every datagram that was ever sent between them; scripts of events, and the report of a run.
 #![tactic(auto)]
+
+pub mod number_laws;
