@@ -1,3 +1,5 @@
+mod WorldSign
+mod WorldSignRows
 mod BenchWorld
 mod BenchText
 mod ScriptText

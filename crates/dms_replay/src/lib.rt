@@ -2,3 +2,4 @@
 #![tactic(auto)]
 
 pub mod number_laws;
+pub mod sign_laws;
