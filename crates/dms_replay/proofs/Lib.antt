@@ -14,3 +14,5 @@ pub mod WorldInputs
 pub mod WorldNumbers
 pub mod WorldGrows
 pub mod WorldOrders
+mod WorldHonestRange
+mod WorldReplies
