@@ -16,3 +16,5 @@ pub mod WorldGrows
 pub mod WorldOrders
 mod WorldHonestRange
 mod WorldReplies
+mod WorldHonestSent
+mod WorldHonestCodes
