@@ -18,3 +18,4 @@ mod WorldHonestRange
 mod WorldReplies
 mod WorldHonestSent
 mod WorldHonestCodes
+mod WorldHonest
