@@ -1,8 +1,7 @@
 -- What the ledger says of a code is what the sign did with it, where nothing is forged.
-use Rattle.std.proofs.Common.{◌≡◌, ◌≢◌, ℕ, zero, suc, ◌+◌, ◌<◌, ◌≤◌, inl, inr, true, false, List, [], ◌∷◌, ◌++◌, length, Option, Some, None, slice_get, refl, sym, ap, ◌∙◌, subst, arith}
+use Rattle.std.proofs.Common.{◌≡◌, ◌≢◌, ℕ, zero, suc, ◌<◌, inl, inr, true, false, List, [], ◌∷◌, ◌++◌, length, Option, Some, None, slice_get, refl, sym, ap, ◌∙◌, subst, arith}
 use Rattle.std.specs.Prelude.{ℤ, pos}
 use Rattle.std.specs.List.{Contains}
-use Rattle.std.specs.Int.Digits.{AllBelowBase}
 use Rattle.std.proofs.lemmas.Option.{none-some, same_Some}
 use Rattle.dms_wire.specs.declared.message.Kind.TheVariants.{Set}
 use Rattle.dms_wire.specs.Message.{SnmpMessage, VarBind, octet_string}
@@ -11,7 +10,6 @@ use Rattle.dms_wire.specs.Limits.{AreBindingsInLimits}
 use Rattle.dms_wire.proofs.LimitsLaws.{spelled_in_limits}
 use Rattle.dms_wire.proofs.MessageOfLaws.{read_is_spelled}
 use Rattle.dms_table.specs.declared.codes.Activation.{Activation}
-use Rattle.dms_table.specs.declared.codes.Order.{Order}
 use Rattle.dms_table.specs.Codes.{octets_of_activation, activation_of}
 use Rattle.dms_table.specs.Rows.{current_buffer, blank_memory}
 use Rattle.dms_sign.specs.State.{SignState}
@@ -25,18 +23,18 @@ use Rattle.dms_sign.proofs.InRangeReplies.{replies_spell_their_response}
 use Rattle.dms_centre.specs.declared.outcome.Outcome.{Outcome}
 use Rattle.dms_centre.specs.declared.outcome.Outcome.TheVariants.{Waiting, Accepted, Refused, NoReply, Unknown}
 use Rattle.dms_centre.specs.declared.step.Step.TheVariants.{Activating}
-use Rattle.dms_centre.specs.State.{SettingsModel, Showing, Entry}
+use Rattle.dms_centre.specs.State.{Showing, Entry}
 use Rattle.dms_centre.specs.Steps.{request_of}
-use Rattle.dms_centre.specs.History.{Input, Hears, History, move_at}
+use Rattle.dms_centre.specs.History.{Input, Hears, History}
 use Rattle.dms_centre.specs.Numbers.{HasNumber}
-use Rattle.dms_centre.specs.Ledger.{Answers, Becomes, Stays, IsAccepted, IsRefused, IsUnheard, IsForgotten, EntryMoves, PutsUp, IsNewEntry}
+use Rattle.dms_centre.specs.Ledger.{Answers, Becomes, Stays, IsAccepted, IsRefused, IsUnheard, IsForgotten, EntryMoves, PutsUp}
 use Rattle.dms_centre.proofs.Lists.{at_end}
 use Rattle.dms_replay.specs.Event.{EventModel, to_sign, forge_centre}
 use Rattle.dms_replay.specs.World.{WorldModel, noted, by_sign, world_at, world_after, IsFresh}
 use Rattle.dms_replay.specs.Backed.{Has}
-use Rattle.dms_replay.specs.Headline.{AreEvents, is_forged, NothingIsForged, LedgerIsTrue}
-use Rattle.dms_replay.specs.Honest.{SpellsNumbered, WasSent, IsSentAt, WasDelivered, Carries, shown_checksum, WasAccepted, WasRefused, AcceptedWasAccepted, RefusedWasRefused}
-use Rattle.dms_replay.proofs.WorldInputs.{history_of, input_after}
+use Rattle.dms_replay.specs.Headline.{AreEvents, NothingIsForged, LedgerIsTrue}
+use Rattle.dms_replay.specs.Honest.{SpellsNumbered, WasSent, WasDelivered, Carries, shown_checksum, WasAccepted, WasRefused}
+use Rattle.dms_replay.proofs.WorldInputs.{input_after}
 use Rattle.dms_replay.proofs.WorldNumbers.{codes_at}
 use Rattle.dms_replay.proofs.WorldGrows.{grows_until}
 use Rattle.dms_replay.proofs.WorldOrders.{rests_at, acts_at, ledger_at, heard_at}

@@ -17,7 +17,7 @@ use Rattle.dms_sign.specs.State.{SignState}
 use Rattle.dms_sign.specs.PuttingUp.{put_up_as_decided, staying, own_activation, put_up_code}
 use Rattle.dms_sign.specs.Writing.{Write, SetNumber, SetCode, SetField, AskRow, Activate, SetRemaining, is_command}
 use Rattle.dms_sign.specs.Setting.{SetCause, with_write, with_writes, causes, assigned}
-use Rattle.dms_sign.specs.Answering.{found_unless, as_decided, as_asked, with_remaining, commanded, commanded_if, writes_of, set_unless, may_write, answer_by, primary}
+use Rattle.dms_sign.specs.Answering.{found_unless, as_decided, as_asked, commanded, commanded_if, writes_of, set_unless, may_write, answer_by, primary}
 use Rattle.dms_sign.specs.Reply.{is_heard, heard, dropped, on_message_if, received}
 use Rattle.dms_sign.specs.Events.{after_settling, counted_down, after_duration, longest_silence, quieter, after_silence, after_tick, recovery_code, restored, after_power_loss, after_power_return}
 

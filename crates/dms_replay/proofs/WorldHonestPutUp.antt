@@ -1,5 +1,5 @@
 -- An activation of a row that is accepted puts up a message with the checksum of its code.
-use Rattle.std.proofs.Common.{◌≡◌, ◌≢◌, ℕ, ◌==◌, ◌||◌, Bool, true, false, not, cond, List, [], ◌∷◌, Option, Some, None, Result, Ok, Err, option_map, if◌then◌else◌, refl, sym, ap, subst, ◌∙◌, arith}
+use Rattle.std.proofs.Common.{◌≡◌, ◌≢◌, ℕ, ◌==◌, Bool, true, false, not, cond, List, [], ◌∷◌, Option, Some, None, Result, Ok, Err, option_map, if◌then◌else◌, refl, sym, ap, subst, ◌∙◌, arith}
 use Rattle.std.specs.Prelude.{find}
 use Rattle.std.proofs.lemmas.Bool.Decides.{nat_tests}
 use Rattle.dms_wire.specs.declared.message.Kind.{Kind}
@@ -15,7 +15,7 @@ use Rattle.dms_table.specs.declared.codes.Activation.{Activation}
 use Rattle.dms_table.specs.Status.{is_valid}
 use Rattle.dms_table.specs.Rows.{RowModel, TableModel, RowReading, row_checksum, reading, blank_reading, blank_at, rows_of, numbered, row_read, current_buffer, blank_memory}
 use Rattle.dms_table.specs.Codes.{activation_of}
-use Rattle.dms_table.specs.Deciding.{ShownModel, shown_reading, row_id, named, is_memory, has_checksum, text_error, activation_error, put_up, unless_refused, decided_on, decided}
+use Rattle.dms_table.specs.Deciding.{ShownModel, shown_reading, row_id, named, is_memory, has_checksum, activation_error, put_up, unless_refused, decided_on, decided}
 use Rattle.dms_sign.specs.State.{SignState}
 use Rattle.dms_sign.specs.Writing.{Write, SetNumber, SetCode, SetField, AskRow, Activate, SetRemaining, is_command}
 use Rattle.dms_sign.specs.Setting.{SetCause, causes, assigned}

@@ -1,6 +1,6 @@
 -- The sign of a fresh world is in range after any events, and has its order.
-use Rattle.std.proofs.Common.{◌≡◌, ℕ, ◌≤◌, Bool, true, ◌&&◌, IsTrue, List, [], ◌∷◌, length, refl, sym, ap, subst}
-use Rattle.std.specs.List.{All, AllByRecursion, list_all}
+use Rattle.std.proofs.Common.{◌≡◌, ℕ, true, IsTrue, List, [], ◌∷◌, refl, sym, subst}
+use Rattle.std.specs.List.{AllByRecursion, list_all}
 use Rattle.std.proofs.lemmas.Bool.{and_parts}
 use Rattle.std.proofs.lemmas.List.Elements.{All-from_recursion}
 use Rattle.dms_face.specs.Face.{FaceModel}
@@ -8,7 +8,7 @@ use Rattle.dms_table.specs.declared.row.Services.{Services}
 use Rattle.dms_table.specs.Rows.{RowModel, TableModel}
 use Rattle.dms_table.specs.Settling.{verdict_of, passes}
 use Rattle.dms_table.specs.Stocking.{has_ranges}
-use Rattle.dms_sign.specs.State.{ConfigModel, SignState, start}
+use Rattle.dms_sign.specs.State.{ConfigModel, start}
 use Rattle.dms_sign.specs.InRange.{IsSignInRange, IsStocked}
 use Rattle.dms_sign.proofs.InRangeStart.{made_in_range}
 use Rattle.dms_sign.proofs.InRangeSets.{received_in_range}

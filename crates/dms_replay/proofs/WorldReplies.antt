@@ -1,9 +1,8 @@
 -- Where nothing is forged, each reply that was sent is what the sign answered to a datagram of the centre, at an event that handed it over.
-use Rattle.std.proofs.Common.{◌≡◌, ℕ, zero, suc, ◌<◌, ◌≤◌, ◌⊎◌, inl, inr, Bool, true, false, cond, List, [], ◌∷◌, ◌++◌, length, Option, Some, None, option_to_list, slice_get, refl, sym, ap, ◌∙◌, subst, arith, append-nil}
-use Rattle.std.specs.Prelude.{ℤ, pos, nat_le, ◌&&◌, IsTrue}
-use Rattle.std.specs.List.{All, list_all}
-use Rattle.std.proofs.lemmas.Bool.{and_parts, le-leb}
-use Rattle.std.proofs.lemmas.Option.{none-some, same_Some}
+use Rattle.std.proofs.Common.{◌≡◌, ℕ, zero, suc, ◌<◌, ◌≤◌, ◌⊎◌, inl, inr, Bool, true, false, cond, List, [], ◌++◌, length, Option, Some, None, option_to_list, slice_get, refl, sym, ap, ◌∙◌, subst, arith, append-nil}
+use Rattle.std.specs.Prelude.{pos, nat_le}
+use Rattle.std.proofs.lemmas.Bool.{le-leb}
+use Rattle.std.proofs.lemmas.Option.{none-some}
 use Rattle.dms_wire.specs.declared.message.Kind.TheVariants.{Set}
 use Rattle.dms_wire.specs.Message.{SnmpMessage}
 use Rattle.dms_wire.specs.MessageOf.{message_of}
@@ -16,11 +15,8 @@ use Rattle.dms_sign.specs.Setting.{too_big}
 use Rattle.dms_sign.specs.Answering.{Answer, primary}
 use Rattle.dms_sign.specs.Reply as sign_reply
 use Rattle.dms_sign.specs.Reply.{response_of, most_octets, is_heard, heard, dropped, on_message_if}
-use Rattle.dms_sign.specs.InRange.{response_sent, IsSpelledReply}
+use Rattle.dms_sign.specs.InRange.{response_sent}
 use Rattle.dms_sign.proofs.Replies.{is_set_answer}
-use Rattle.dms_centre.specs.Inputs as centre_inputs
-use Rattle.dms_centre.specs.Sending.{Move}
-use Rattle.dms_centre.specs.Commands.{commanded}
 use Rattle.dms_centre.proofs.Lists.{in_push}
 use Rattle.dms_replay.specs.Event.{EventModel, command, sign_tick, centre_tick, to_sign, to_centre, power_lost, power_back, centre_restart, forge_sign, forge_centre}
 use Rattle.dms_replay.specs.World.{WorldModel, by_sign, at_sign, at_centre, happens, happens_if, world_at, IsFresh}
