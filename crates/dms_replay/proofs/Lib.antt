@@ -19,3 +19,4 @@ mod WorldReplies
 mod WorldHonestSent
 mod WorldHonestCodes
 mod WorldHonest
+mod WorldHonestBench
