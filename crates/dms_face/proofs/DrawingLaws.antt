@@ -163,9 +163,9 @@ pub all_above : (column line rows : ℕ) (placed : PlacedCharacter) → ((k row 
 all_above column line rows placed within = same_test _ _
     (λ h. (and_parts _ _ h).0)
     (λ h.
-    let parts = and_parts _ _ h in
+    let lit : lit_at placed.character.glyph (column - placed.x) (line - placed.y) ≡ true = (and_parts _ _ h).1 in
     let low : placed.y ≤ line = under_top column line placed h in
-    let row : line - placed.y < rows = within _ _ parts.1 in
+    let row : line - placed.y < rows = within (column - placed.x) (line - placed.y) lit in
     and_from _ _ h (lt-ltb line (placed.y + rows) (omega arith)))
 
 -- ---- one character more

@@ -1,6 +1,8 @@
 //! Texts by their answers on a sign of 23 by 14 with two fonts, and a long text on the largest matrix.
 
-use crate::{Defaults, Face, Font, MultiFault, MultiFaultCode, check, check_with};
+use crate::{
+    Defaults, Face, Font, MultiFault, MultiFaultCode, Page, PagesFault, check, check_with, pages,
+};
 use std::alloc::{AllocError, Global};
 use std::test::Fail;
 
@@ -107,6 +109,84 @@ fn other_defaults(rt: HostRuntime) -> Result<(), Fail> {
     Ok(())
 }
 
+#[test]
+fn each_default(rt: HostRuntime) -> Result<(), Fail> {
+    let face = bench(rt.alloc())?;
+    for (defaults, text, own, expected) in [
+        (
+            Defaults {
+                background: 1,
+                ..DEFAULTS
+            },
+            "[cb]A",
+            Ok(1),
+            Ok(1),
+        ),
+        (
+            Defaults {
+                foreground: 4,
+                ..DEFAULTS
+            },
+            "[cf]A",
+            Ok(1),
+            Ok(1),
+        ),
+        (
+            Defaults {
+                flash_on: 7,
+                ..DEFAULTS
+            },
+            "[fl]A",
+            Ok(1),
+            Ok(1),
+        ),
+        (
+            Defaults {
+                flash_off: 8,
+                ..DEFAULTS
+            },
+            "[fl]A",
+            Ok(1),
+            Ok(1),
+        ),
+        (
+            Defaults {
+                font: 2,
+                ..DEFAULTS
+            },
+            "[nl]A",
+            Err((5u8, 4usize)),
+            Ok(1),
+        ),
+        (
+            Defaults {
+                line: 4,
+                ..DEFAULTS
+            },
+            "A[jl3]A",
+            Ok(1),
+            Err((11, 1)),
+        ),
+        (
+            Defaults {
+                page: 4,
+                ..DEFAULTS
+            },
+            "A[jp2]A",
+            Ok(1),
+            Err((11, 1)),
+        ),
+        (Defaults { on: 40, ..DEFAULTS }, "[pt]A", Ok(1), Ok(1)),
+        (Defaults { off: 2, ..DEFAULTS }, "[pt]A", Ok(1), Ok(1)),
+    ] {
+        let text = text.as_bytes();
+        assert!(rt; defaults.fits(&face));
+        assert_eq!(rt; answer(check(&face, text)), own);
+        assert_eq!(rt; answer(check_with(&face, &defaults, text)), expected);
+    }
+    Ok(())
+}
+
 const NARROW: &[u8] = b"font 3 height 7 space 0 line 0 version 0003
 glyph 65 1 fe
 ";
@@ -136,6 +216,15 @@ fn long_text(alloc: Global, more: usize) -> Result<Vec<u8>, AllocError> {
     Ok(text)
 }
 
+/// The number of pages made, or the code's number and the place; nothing where memory is wanting.
+fn made(given: Result<Vec<Page>, PagesFault>) -> Option<Result<usize, (u8, usize)>> {
+    match given {
+        Ok(pages) => Some(Ok(pages.len())),
+        Err(PagesFault::Multi(fault)) => Some(answer(Err(fault))),
+        Err(PagesFault::Memory) => None,
+    }
+}
+
 #[test]
 fn long_texts(rt: HostRuntime) -> Result<(), Fail> {
     let alloc = rt.alloc();
@@ -148,6 +237,7 @@ fn long_texts(rt: HostRuntime) -> Result<(), Fail> {
         let text = long_text(alloc, more)?;
         assert_eq!(rt; text.len(), octets);
         assert_eq!(rt; answer(check(&face, text.as_slice())), expected);
+        assert_eq!(rt; made(pages(alloc, &face, text.as_slice())), Some(expected));
     }
     Ok(())
 }

@@ -1,6 +1,6 @@
 //! Drawing the characters of a page on the cells of a matrix.
 
-ghost use Rattle.std.specs.Prelude.{◌≡◌, ℕ, ◌+◌, ◌-◌, ◌*◌, ◌/◌, ◌%◌, ◌<◌, ◌≤◌, ◌==◌, ◌&&◌, List, ◌++◌, length, map, filter, true, slice_index_or};
+ghost use Rattle.std.specs.Prelude.{◌≡◌, ℕ, ◌+◌, ◌*◌, ◌/◌, ◌%◌, ◌<◌, ◌≤◌, ◌==◌, ◌&&◌, List, ◌++◌, length, map, filter, true, slice_index_or};
 ghost use Rattle.std.specs.List.{list_all, flat_map};
 ghost use Rattle.dms_font.specs.Glyph.{lit_at};
 ghost use Rattle.dms_font.specs.Font.{FontModel};

@@ -1,6 +1,6 @@
 //! The face of a sign: its matrix, its fonts and its defaults.
 
-ghost use Rattle.std.specs.Prelude.{◌≡◌, ◌==◌, ◌≤◌, IsTrue, ◌↔◌};
+ghost use Rattle.std.specs.Prelude.{◌≡◌, ◌≤◌, IsTrue, ◌↔◌};
 ghost use Rattle.std.specs.Option.{option_copied};
 ghost use Rattle.dms_face.specs.Face.{font_in, font_of, has_font, have_own_numbers, is_within, is_matrix, are_fonts, fit, checked};
 

@@ -138,6 +138,7 @@ fn faults_are_those_of_check(rt: HostRuntime) -> Result<(), Fail> {
     Ok(())
 }
 
+/// Where a text says nothing, and where its tags have no values, the defaults hold.
 #[test]
 fn each_default(rt: HostRuntime) -> Result<(), Fail> {
     let alloc = rt.alloc();
@@ -230,26 +231,32 @@ fn each_default(rt: HostRuntime) -> Result<(), Fail> {
         ),
     ] {
         assert!(rt; defaults.fits(&face));
-        let shown = pages_with(alloc, &face, &defaults, b"[fl]A")?;
-        assert_eq!(rt; Ok(shown.len()), check_with(&face, &defaults, b"[fl]A"));
-        let first = shown.get(0).ok_or("no page")?;
-        assert_eq!(rt; (first.back(), first.on(), first.off()), page);
-        let (x, y, cell) = first_lit(first).ok_or("nothing lit")?;
-        let (lit, dark) = flash;
-        let flash = Some(Flash {
-            first: Lead::Lit,
-            lit,
-            dark,
-        });
-        assert_eq!(rt; (x, y), at);
-        assert_eq!(rt;
-            cell,
-            Cell {
-                lit: true,
-                colour,
-                flash
-            }
-        );
+        for text in [
+            "[fl]A",
+            "[cb5][cf2][fo2][jl2][jp4][pt99o99][cb][cf][fo][jl][jp][pt][fl]A",
+        ] {
+            let text = text.as_bytes();
+            let shown = pages_with(alloc, &face, &defaults, text)?;
+            assert_eq!(rt; Ok(shown.len()), check_with(&face, &defaults, text));
+            let first = shown.get(0).ok_or("no page")?;
+            assert_eq!(rt; (first.back(), first.on(), first.off()), page);
+            let (x, y, cell) = first_lit(first).ok_or("nothing lit")?;
+            let (lit, dark) = flash;
+            let flash = Some(Flash {
+                first: Lead::Lit,
+                lit,
+                dark,
+            });
+            assert_eq!(rt; (x, y), at);
+            assert_eq!(rt;
+                cell,
+                Cell {
+                    lit: true,
+                    colour,
+                    flash
+                }
+            );
+        }
     }
     Ok(())
 }

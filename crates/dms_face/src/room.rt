@@ -1,6 +1,6 @@
 //! How much room characters take in their line, and lines on their page.
 
-ghost use Rattle.std.specs.Prelude.{◌≡◌, ◌+◌, ◌<◌, ◌≤◌, List, [], ◌∷◌, ◌++◌, IsTrue};
+ghost use Rattle.std.specs.Prelude.{◌≡◌, ◌+◌, ◌≤◌, List, [], ◌∷◌, ◌++◌, IsTrue};
 ghost use Rattle.dms_face.specs.Room.{average, span, overlap, have_room, blocks_fit};
 ghost use Rattle.dms_face.specs.Totals.{Sums, TellsBlocks, AreWithin};
 

@@ -1,6 +1,6 @@
 //! Pages of lines of characters, as the items of a text make them one by one.
 
-ghost use Rattle.std.specs.Prelude.{◌≡◌, [], IsTrue, OnOk, Some};
+ghost use Rattle.std.specs.Prelude.{◌≡◌, [], IsTrue, OnOk};
 ghost use Rattle.dms_font.specs.Font.{glyph_of};
 ghost use Rattle.dms_face.specs.Face.{fit};
 ghost use Rattle.dms_face.specs.Layout.{under, first_style, styled, blank_layout, closed, has_line_in, with_character, with_line, with_page, with_part, with_item};

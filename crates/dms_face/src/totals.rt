@@ -1,6 +1,6 @@
 //! What is known of a text while its items are walked: running sums of the open line and the open page.
 
-ghost use Rattle.std.specs.Prelude.{◌≡◌, ◌+◌, ◌<◌, ◌≤◌, List, [], ◌∷◌, ◌++◌, map, Option, Some, None, IsTrue, IfNone};
+ghost use Rattle.std.specs.Prelude.{◌≡◌, ◌≤◌, List, [], ◌∷◌, ◌++◌, map, Some, None, IsTrue, IfNone};
 ghost use Rattle.dms_multi.specs.declared.item.Item.TheVariants.{JustLine};
 ghost use Rattle.dms_face.specs.Face.{fit};
 ghost use Rattle.dms_face.specs.Layout.{Layout, Line, under, open_line, standing, closed, has_line_in, with_character, with_line, with_page, with_part, with_item, blank_layout};

@@ -1,6 +1,6 @@
 //! Fonts.
 
-ghost use Rattle.std.specs.Prelude.{◌≡◌, ◌==◌};
+ghost use Rattle.std.specs.Prelude.{◌≡◌};
 ghost use Rattle.std.specs.Option.{option_copied};
 ghost use Rattle.dms_font.specs.Font.{glyph_in, glyph_of, has_glyph};
 

@@ -1,13 +1,13 @@
 //! Fonts as text: a line `font N height H space C line L version V`, then a line `glyph CHARACTER WIDTH BITS` for each
 //! character.
 
-ghost use Rattle.std.specs.Prelude.{◌≡◌, ◌*◌, ◌<◌, ◌≤◌, ◌⊎◌, length, option_map, IfOk, IfErr, OnOk, OnErr};
+ghost use Rattle.std.specs.Prelude.{◌≡◌, ◌*◌, ◌≤◌, ◌⊎◌, length, option_map, IfOk, IfErr, OnOk, OnErr};
 ghost use Rattle.dms_font.specs.Lines.{lines_left};
 ghost use Rattle.dms_font.specs.Words.{words_of};
 ghost use Rattle.dms_font.specs.Glyph.{GlyphModel};
 ghost use Rattle.dms_font.specs.Font.{FontModel};
 ghost use Rattle.dms_font.specs.FontText.{SpellsFont};
-ghost use Rattle.dms_font.specs.FontReading.{labelled_at, version_at, header_of, glyph_words, are_enough, bitmap_of, bitmap_read, glyph_read, glyph_added, glyphs_added, font_read, fault, placed};
+ghost use Rattle.dms_font.specs.FontReading.{labelled_at, version_at, header_of, glyph_words, are_enough, bitmap_read, glyph_read, glyph_added, glyphs_added, font_read, fault, placed};
 ghost use Rattle.dms_font.specs.FontView.{glyph_line, GivesOrMemory, ReadsOrMemory};
 
 use crate::fault::{FontFault, FontFaultKind};

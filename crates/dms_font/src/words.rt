@@ -1,6 +1,6 @@
 //! A line as words, parted by one space, and what words spell.
 
-ghost use Rattle.std.specs.Prelude.{◌≡◌, ◌+◌, ◌^◌, ◌<◌, ◌≤◌, List, IfSome, IfOk, option_map};
+ghost use Rattle.std.specs.Prelude.{◌≡◌, ◌^◌, ◌<◌, ◌≤◌, List, IfSome, IfOk, option_map};
 ghost use Rattle.dms_font.specs.Words.{words_of, number_of, within, version_of, octets_of, is_dash, same_octets, word_at, keyword_at, decimal_at, is_end};
 ghost use Rattle.dms_font.specs.WordsView.{word_and_rest, octets_found};
 

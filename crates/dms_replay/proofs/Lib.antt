@@ -8,15 +8,16 @@ mod Altered
 mod TableRows
 mod WorkedHeadline
 mod Worked
-mod WorldHonestOrder
-mod WorldHonestPutUp
 pub mod WorldInputs
 pub mod WorldNumbers
 pub mod WorldGrows
 pub mod WorldOrders
+pub mod WorldSent
+pub mod WorldTold
+mod WorldHonestOrder
+mod WorldHonestPutUp
 mod WorldHonestRange
-mod WorldReplies
-mod WorldHonestSent
 mod WorldHonestCodes
+mod WorldReplies
 mod WorldHonest
 mod WorldHonestBench

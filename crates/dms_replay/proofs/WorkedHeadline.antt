@@ -73,12 +73,12 @@ was_ordered = record { before = 0; asked = publication; event = refl; taken = re
 -- its request was sent by the fifteenth event
 was_sent : WasSent bench published 7 15
 unfolding after hex
-was_sent = record { datagram = canonical asked; message = asked; there = (6, refl); spells = record { spelled = refl; numbered = refl } }
+was_sent = record { datagram = canonical asked; there = (6, refl); has_number = record { message = asked; spelled = refl; is = refl } }
 
 -- it carries the code
 carried : Carries asked (octets_of_activation High code)
 unfolding hex
-carried = (activate_message, refl)
+carried = refl
 
 -- what is shown came by the activation that was accepted at the sixteenth
 was_put_up : WasPutUp bench published 17 (world_after bench published).sign.shown.source

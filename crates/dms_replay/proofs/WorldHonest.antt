@@ -1,8 +1,8 @@
 -- What the ledger says of a code is what the sign did with it, where nothing is forged.
-use Rattle.std.proofs.Common.{◌≡◌, ◌≢◌, ℕ, zero, suc, ◌<◌, inl, inr, true, false, List, [], ◌∷◌, ◌++◌, length, Option, Some, None, slice_get, refl, sym, ap, ◌∙◌, subst, arith}
+use Rattle.std.proofs.Common.{◌≡◌, ◌≢◌, ℕ, zero, suc, ◌<◌, ◌≤◌, inl, inr, true, false, List, [], ◌∷◌, ◌++◌, length, Some, slice_get, refl, sym, ap, ◌∙◌, subst, arith}
 use Rattle.std.specs.Prelude.{ℤ, pos}
 use Rattle.std.specs.List.{Contains}
-use Rattle.std.proofs.lemmas.Option.{none-some, same_Some}
+use Rattle.std.proofs.lemmas.Option.{same_Some}
 use Rattle.dms_wire.specs.declared.message.Kind.TheVariants.{Set}
 use Rattle.dms_wire.specs.Message.{SnmpMessage, VarBind, octet_string}
 use Rattle.dms_wire.specs.MessageOf.{message_of}
@@ -20,29 +20,27 @@ use Rattle.dms_sign.specs.InRange.{response_sent, IsSpelledReply}
 use Rattle.dms_sign.specs.Promises.{activates}
 use Rattle.dms_sign.proofs.Accepted.{accepted_was_asked_for, accepted_where_no_error}
 use Rattle.dms_sign.proofs.InRangeReplies.{replies_spell_their_response}
-use Rattle.dms_centre.specs.declared.outcome.Outcome.{Outcome}
-use Rattle.dms_centre.specs.declared.outcome.Outcome.TheVariants.{Waiting, Accepted, Refused, NoReply, Unknown}
+use Rattle.dms_centre.specs.declared.outcome.Outcome.TheVariants.{Accepted, Refused}
 use Rattle.dms_centre.specs.declared.step.Step.TheVariants.{Activating}
 use Rattle.dms_centre.specs.State.{Showing, Entry}
 use Rattle.dms_centre.specs.Steps.{request_of}
-use Rattle.dms_centre.specs.History.{Input, Hears, History}
 use Rattle.dms_centre.specs.Numbers.{HasNumber}
-use Rattle.dms_centre.specs.Ledger.{Answers, Becomes, Stays, IsAccepted, IsRefused, IsUnheard, IsForgotten, EntryMoves, PutsUp}
+use Rattle.dms_centre.specs.Ledger.{Answers, PutsUp}
 use Rattle.dms_centre.proofs.Lists.{at_end}
 use Rattle.dms_replay.specs.Event.{EventModel, to_sign, forge_centre}
 use Rattle.dms_replay.specs.World.{WorldModel, noted, by_sign, world_at, world_after, IsFresh}
 use Rattle.dms_replay.specs.Backed.{Has}
 use Rattle.dms_replay.specs.Headline.{AreEvents, NothingIsForged, LedgerIsTrue}
-use Rattle.dms_replay.specs.Honest.{SpellsNumbered, WasSent, WasDelivered, Carries, shown_checksum, WasAccepted, WasRefused}
-use Rattle.dms_replay.proofs.WorldInputs.{input_after}
+use Rattle.dms_replay.specs.Honest.{WasSent, WasDelivered, shown_checksum, WasAccepted, WasRefused, AcceptedWasAccepted, RefusedWasRefused}
 use Rattle.dms_replay.proofs.WorldNumbers.{codes_at}
 use Rattle.dms_replay.proofs.WorldGrows.{grows_until}
-use Rattle.dms_replay.proofs.WorldOrders.{rests_at, acts_at, ledger_at, heard_at}
+use Rattle.dms_replay.proofs.WorldOrders.{CameBy}
+use Rattle.dms_replay.proofs.WorldSent.{first_sent}
+use Rattle.dms_replay.proofs.WorldTold.{WasHeard, WasTold, told_at}
 use Rattle.dms_replay.proofs.WorldHonestRange.{in_range_at, order_at}
 use Rattle.dms_replay.proofs.WorldReplies.{heard_message, status_told, answered_at, turned}
 use Rattle.dms_replay.proofs.WorldHonestPutUp.{accepted_is_up}
 use Rattle.dms_replay.proofs.WorldHonestCodes.{octets_back, alike}
-use Rattle.dms_replay.proofs.WorldHonestSent.{first_sent}
 
 -- ---- the request that puts a code up
 
@@ -77,20 +75,6 @@ record WasAnswered (world : WorldModel) (events : List EventModel) (count number
   puts_up : PutsUp world.centre.settings number code datagram
   heard_is : sign_reply.received (world_at world events before).sign datagram ≡ heard (world_at world events before).sign (request_for world number code)
   status_is : pos (primary (world_at world events before).sign (request_for world number code)).status ≡ status
-
-later_answer : (world : WorldModel) (events : List EventModel) (count number : ℕ) (code : Activation) (status : ℤ)
-    → WasAnswered world events count number code status → WasAnswered world events (suc count) number code status
-later_answer world events count number code status was = record {
-  before = was.before;
-  earlier = omega (arith, was.earlier);
-  place = was.place;
-  event = was.event;
-  datagram = was.datagram;
-  handed = was.handed;
-  puts_up = was.puts_up;
-  heard_is = was.heard_is;
-  status_is = was.status_is;
-}
 
 -- each datagram that the centre had sent with this number puts this code up
 abbrev AllPutUp : WorldModel → List EventModel → ℕ → ℕ → Activation → Type 0
@@ -130,129 +114,71 @@ told world events fresh fair count number code octets reply there spelled answer
       status_is = sym (status_told s request is.datagram up (request_kind world number code) one) ∙ ap (λ (m : SnmpMessage). m.status) meant;
     }
 
--- ---- what an outcome says
+-- ---- what the centre was told
 
-abbrev IsTold : WorldModel → List EventModel → ℕ → ℕ → Activation → Outcome → Type 0
-IsTold world events count number code Waiting = Unit {0}
-IsTold world events count number code Accepted = WasAnswered world events count number code (pos 0)
-IsTold world events count number code (Refused status) = WasAnswered world events count number code status
-IsTold world events count number code NoReply = Unit {0}
-IsTold world events count number code Unknown = Unit {0}
-
-later_told : (world : WorldModel) (events : List EventModel) (count number : ℕ) (code : Activation) (outcome : Outcome)
-    → IsTold world events count number code outcome → IsTold world events (suc count) number code outcome
-later_told world events count number code Waiting is = tt
-later_told world events count number code Accepted is = later_answer world events count number code (pos 0) is
-later_told world events count number code (Refused status) is = later_answer world events count number code status is
-later_told world events count number code NoReply is = tt
-later_told world events count number code Unknown is = tt
-
--- what the centre hears is in flight
-heard_in_flight : (world : WorldModel) (events : List EventModel) → NothingIsForged events → (count : ℕ) (octets : List ℕ)
-    → input_after world events count ≡ Some (Hears octets) → Has (world_at world events count).to_centre octets
-heard_in_flight world events fair count octets e =
-    elim (heard_at world events count octets e) [
+-- what the centre heard is in flight
+in_flight : (world : WorldModel) (events : List EventModel) → NothingIsForged events → (count : ℕ) (octets : List ℕ)
+    → CameBy (world_at world events count) (slice_get events count) octets → Has (world_at world events count).to_centre octets
+in_flight world events fair count octets came =
+    elim came [
       | inl handed ↦ (handed.place, handed.there)
       | inr forged ↦ (let not : true ≡ false = fair (forge_centre octets) (count, forged) in absurd (cc not))
     ]
 
-becomes_told : (world : WorldModel) (events : List EventModel) → IsFresh world → NothingIsForged events → (count number : ℕ) (code : Activation)
-    → AllPutUp world events count number code
-    → (input : Input) (old new : Outcome) → input_after world events count ≡ Some input → Becomes world.centre.settings number input old new
-    → IsTold world events count number code old → IsTold world events (suc count) number code new
-becomes_told world events fresh fair count number code all input old new e (Stays i outcome) is = later_told world events count number code outcome is
-becomes_told world events fresh fair count number code all input old new e (IsAccepted octets reply spelled answers none) is =
-    let there = heard_in_flight world events fair count octets e in
-    let was = told world events fresh fair count number code octets reply there spelled answers all in
-    later_answer world events count number code (pos 0) (subst (WasAnswered world events count number code) none was)
-becomes_told world events fresh fair count number code all input old new e (IsRefused octets reply spelled answers some) is =
-    let there = heard_in_flight world events fair count octets e in
-    let was = told world events fresh fair count number code octets reply there spelled answers all in
-    later_answer world events count number code reply.status was
-becomes_told world events fresh fair count number code all input old new e IsUnheard is = tt
-becomes_told world events fresh fair count number code all input old new e IsForgotten is = tt
+later_answer : (world : WorldModel) (events : List EventModel) (count later number : ℕ) (code : Activation) (status : ℤ) → count ≤ later
+    → WasAnswered world events count number code status → WasAnswered world events later number code status
+later_answer world events count later number code status le was = record {
+  before = was.before;
+  earlier = omega (arith, was.earlier, le);
+  place = was.place;
+  event = was.event;
+  datagram = was.datagram;
+  handed = was.handed;
+  puts_up = was.puts_up;
+  heard_is = was.heard_is;
+  status_is = was.status_is;
+}
 
--- ---- each entry
-
-abbrev EntryIsTold : WorldModel → List EventModel → ℕ → Entry → Type 0
-EntryIsTold world events count entry = IsTold world events count entry.number entry.code entry.outcome
-
-abbrev LedgerIsTold : WorldModel → List EventModel → ℕ → List Entry → Type 0
-LedgerIsTold world events count ledger = (place : ℕ) (entry : Entry) → slice_get ledger place ≡ Some entry → EntryIsTold world events count entry
-
--- an entry that moved
-moved_told : (world : WorldModel) (events : List EventModel) → IsFresh world → AreEvents events → NothingIsForged events → (count place : ℕ)
-    → (input : Input) (entry later : Entry) → input_after world events count ≡ Some input
-    → slice_get (world_at world events count).centre.ledger place ≡ Some entry → EntryMoves world.centre.settings input entry later
-    → EntryIsTold world events count entry → EntryIsTold world events (suc count) later
-moved_told world events fresh are fair count place input entry later e there moves is =
-    let all : AllPutUp world events count entry.number entry.code =
-    λ at datagram sent has. codes_at world events fresh are count place at entry datagram there sent has in
-    let now : IsTold world events (suc count) entry.number entry.code later.outcome =
-    becomes_told world events fresh fair count entry.number entry.code all input entry.outcome later.outcome e moves.outcome is in
-    subst (λ n. IsTold world events (suc count) n later.code later.outcome) (sym moves.number)
-    (subst (λ c. IsTold world events (suc count) entry.number c later.outcome) (sym moves.code) now)
-
--- one that is new
-new_told : (world : WorldModel) (events : List EventModel) (count : ℕ) (entry : Entry) → entry.outcome ≡ Waiting → EntryIsTold world events count entry
-new_told world events count entry waiting = subst (IsTold world events count entry.number entry.code) (sym waiting) tt
-
-told_if : (world : WorldModel) (events : List EventModel) → IsFresh world → AreEvents events → NothingIsForged events → (count : ℕ)
-    → LedgerIsTold world events count (world_at world events count).centre.ledger
-    → (o : Option Input) → input_after world events count ≡ o → LedgerIsTold world events (suc count) (world_at world events (suc count)).centre.ledger
-told_if world events fresh are fair count all None e place later there =
-    let same = ap (λ (history : History). history.state.ledger) (rests_at world events count e) in
-    let was = subst (λ ledger. slice_get ledger place ≡ Some later) same there in
-    later_told world events count later.number later.code later.outcome (all place later was)
-told_if world events fresh are fair count all (Some input) e place later there =
-    let same = ap (λ (history : History). history.state.ledger) (acts_at world events count input e) in
-    let now = subst (λ ledger. slice_get ledger place ≡ Some later) same there in
-    elim ((ledger_at world events fresh are count input e).each place later now) [
-      | inl was ↦ moved_told world events fresh are fair count place input was.0 later e was.1 was.2 (all place was.0 was.1)
-      | inr new ↦ new_told world events (suc count) later new.1.waiting
-    ]
-
-none_told : (world : WorldModel) (events : List EventModel) → world.centre.ledger ≡ [] → LedgerIsTold world events zero world.centre.ledger
-none_told world events none place entry e =
-    let at : slice_get [] place ≡ Some entry = subst (λ xs. slice_get xs place ≡ Some entry) none e in
-    absurd (none-some entry at)
-
-told_at : (world : WorldModel) (events : List EventModel) → IsFresh world → AreEvents events → NothingIsForged events → (count : ℕ)
-    → LedgerIsTold world events count (world_at world events count).centre.ledger
-told_at world events fresh are fair zero = none_told world events (ap (λ (w : WorldModel). w.centre.ledger) fresh.is_beginning)
-told_at world events fresh are fair (suc count) =
-    told_if world events fresh are fair count (told_at world events fresh are fair count) (input_after world events count) refl
+-- the reply that told it was the sign's
+answer_heard : (world : WorldModel) (events : List EventModel) → IsFresh world → AreEvents events → NothingIsForged events → (count number : ℕ)
+    → (code : Activation) (status : ℤ) (was : WasHeard world events count number code) → was.reply.status ≡ status
+    → WasAnswered world events count number code status
+answer_heard world events fresh are fair count number code status was e =
+    let all : AllPutUp world events was.before number code =
+    λ place datagram sent has. codes_at world events fresh are was.before was.waited.0 place _ datagram was.waited.1 sent has in
+    let there = in_flight world events fair was.before was.datagram was.came in
+    let answer = told world events fresh fair was.before number code was.datagram was.reply there was.spelled was.answers all in
+    later_answer world events was.before count number code status (omega (arith, was.less))
+    (subst (WasAnswered world events was.before number code) e answer)
 
 -- ---- the request was delivered
 
-delivered : (world : WorldModel) (events : List EventModel) (number : ℕ) (code : Activation) (status : ℤ)
+delivered : (world : WorldModel) (events : List EventModel) → IsFresh world → AreEvents events → (number : ℕ) (code : Activation) (status : ℤ)
     → (was : WasAnswered world events (length events) number code status) → WasDelivered world events number was.before
-delivered world events number code status was =
-    let spells : SpellsNumbered number was.datagram (request_for world number code) =
-    record { spelled = was.puts_up; numbered = request_number world number code } in
-    let sent : WasSent world events number was.before =
-    record { datagram = was.datagram; message = request_for world number code; there = (was.place, was.handed); spells = spells } in
-    let first = first_sent world events number was.before sent in
+delivered world events fresh are number code status was =
+    let has : HasNumber number was.datagram =
+    record { message = request_for world number code; spelled = was.puts_up; is = request_number world number code } in
+    let sent : WasSent world events number was.before = record { datagram = was.datagram; there = (was.place, was.handed); has_number = has } in
+    let first = first_sent world events fresh are number was.before sent in
     record {
-      sent_at = first.count;
-      is_sent_at = first.is;
-      later = omega (arith, first.few);
+      sent_at = first.0;
+      is_sent_at = first.2;
+      later = omega (arith, first.1);
       place = was.place;
       event = was.event;
       datagram = was.datagram;
       handed = (grows_until world events was.before (length events) (omega (arith, was.earlier))).to_sign was.place was.datagram was.handed;
-      message = request_for world number code;
-      spells = spells;
+      has_number = has;
     }
 
 -- ---- refused
 
-was_refused : (world : WorldModel) (events : List EventModel) (entry : Entry) (status : ℤ)
+was_refused : (world : WorldModel) (events : List EventModel) → IsFresh world → AreEvents events → (entry : Entry) (status : ℤ)
     → WasAnswered world events (length events) entry.number entry.code status → WasRefused world events entry status
 unfolding delivered
-was_refused world events entry status was = record {
+was_refused world events fresh are entry status was = record {
   before = was.before;
-  delivered = delivered world events entry.number entry.code status was;
+  delivered = delivered world events fresh are entry.number entry.code status was;
   status_is = was.status_is;
 }
 
@@ -327,14 +253,10 @@ is_up world events number code taken status count was is not_current not_blank o
     accepted_is_up s request taken is.accepted (λ e. not_current (sym both.memory ∙ e)) (λ e. not_blank (sym both.memory ∙ e)) in
     ap (λ (w : WorldModel). shown_checksum w.sign.shown) (after_it world events number code status count was) ∙ up ∙ both.crc
 
-carried : (world : WorldModel) (number : ℕ) (code : Activation) → Carries (request_for world number code) (octets_for world code)
-unfolding request_of
-carried world number code = (_, refl)
-
-was_accepted : (world : WorldModel) (events : List EventModel) (entry : Entry)
+was_accepted : (world : WorldModel) (events : List EventModel) → IsFresh world → AreEvents events → (entry : Entry)
     → WasAnswered world events (length events) entry.number entry.code (pos 0) → WasAccepted world events entry
 unfolding delivered
-was_accepted world events entry was =
+was_accepted world events fresh are entry was =
     let s : SignState = (world_at world events was.before).sign in
     let none : (primary s (request_for world entry.number entry.code)).status ≡ 0 = status_zero _ was.status_is in
     let taken : Activation = activation_of world.sign.table.order (octets_for world entry.code) in
@@ -342,22 +264,32 @@ was_accepted world events entry was =
     is_taken world s entry.number entry.code was.datagram (order_at world events was.before) was.puts_up none in
     record {
       before = was.before;
-      delivered = delivered world events entry.number entry.code (pos 0) was;
+      delivered = delivered world events fresh are entry.number entry.code (pos 0) was;
       code = taken;
       listed = listed world events entry.number entry.code taken (pos 0) was is.accepted;
       same = is.same;
-      carries = carried world entry.number entry.code;
+      carries = request_bindings world entry.number entry.code;
       put_up = is_up world events entry.number entry.code taken (pos 0) (length events) was is;
     }
 
 -- ---- the law
 
+accepted_is_true : (world : WorldModel) (events : List EventModel) → IsFresh world → AreEvents events → NothingIsForged events → AcceptedWasAccepted world events
+accepted_is_true world events fresh are fair entry there is =
+    let count = length events in
+    let heard : WasTold world events count entry.number entry.code Accepted =
+    subst (WasTold world events count entry.number entry.code) is (told_at world events fresh are count there.0 entry there.1) in
+    was_accepted world events fresh are entry
+    (answer_heard world events fresh are fair count entry.number entry.code (pos 0) heard.0 heard.1)
+
+refused_is_true : (world : WorldModel) (events : List EventModel) → IsFresh world → AreEvents events → NothingIsForged events → RefusedWasRefused world events
+refused_is_true world events fresh are fair entry status there is =
+    let count = length events in
+    let heard : WasTold world events count entry.number entry.code (Refused status) =
+    subst (WasTold world events count entry.number entry.code) is (told_at world events fresh are count there.0 entry there.1) in
+    was_refused world events fresh are entry status
+    (answer_heard world events fresh are fair count entry.number entry.code status heard.0 heard.1)
+
 pub ledger_is_true : (world : WorldModel) (events : List EventModel) → IsFresh world → AreEvents events → NothingIsForged events → LedgerIsTrue world events
 ledger_is_true world events fresh are fair =
-    let all = told_at world events fresh are fair (length events) in
-    record {
-      accepted = λ entry there is.
-          was_accepted world events entry (subst (IsTold world events (length events) entry.number entry.code) is (all there.0 entry there.1));
-      refused = λ entry status there is.
-          was_refused world events entry status (subst (IsTold world events (length events) entry.number entry.code) is (all there.0 entry there.1));
-    }
+    record { accepted = accepted_is_true world events fresh are fair; refused = refused_is_true world events fresh are fair }

@@ -1,54 +1,36 @@
 -- The ledger of a centre is honest: its requests have numbers of their own, and what it says of a code is what the sign did.
-use Rattle.std.specs.Prelude.{◌≡◌, ◌≢◌, ℕ, ℤ, pos, suc, ◌<◌, ◌≤◌, Bool, false, List, [], ◌∷◌, count_by, slice_get, Option, Some, None}
-use Rattle.std.specs.Ordering.{int_eq}
-use Rattle.dms_wire.specs.Message.{SnmpMessage, octet_string}
-use Rattle.dms_wire.specs.MessageOf.{message_of}
+use Rattle.std.specs.Prelude.{◌≡◌, ◌≢◌, ℕ, ℤ, pos, suc, ◌<◌, ◌≤◌, List, [], ◌∷◌, slice_get, Some, None}
+use Rattle.dms_wire.specs.Message.{SnmpMessage}
 use Rattle.dms_table.specs.declared.codes.Activation.{Activation}
 use Rattle.dms_table.specs.Checksum.{message_checksum}
 use Rattle.dms_table.specs.Codes.{octets_of_activation}
 use Rattle.dms_table.specs.Rows.{current_buffer, blank_memory}
 use Rattle.dms_table.specs.Deciding.{ShownModel}
 use Rattle.dms_sign.specs.Answering.{primary}
+use Rattle.dms_sign.specs.Promises.{activates}
 use Rattle.dms_centre.specs.declared.outcome.Outcome.TheVariants.{Accepted, Refused}
 use Rattle.dms_centre.specs.State.{Entry}
 use Rattle.dms_centre.specs.Steps.{code_of}
 use Rattle.dms_centre.specs.Commands.{CommandModel, job_of, refusal_of}
+use Rattle.dms_centre.specs.Numbers.{HasNumber, EqualNumbersMeanEqualOctets, ThreeSendsAtMost}
 use Rattle.dms_replay.specs.Event.{EventModel, command, to_sign}
 use Rattle.dms_replay.specs.World.{WorldModel, world_at, world_after}
 use Rattle.dms_replay.specs.Backed.{Has}
 
 -- ---- numbers
 
--- the octets spell a message of this number
-pub record SpellsNumbered (number : ℕ) (datagram : List ℕ) (message : SnmpMessage) : Type 0 where
-  pub spelled : message_of datagram ≡ Some message
-  pub numbered : message.request ≡ pos number
-
-abbrev pub is_numbered_by : ℕ → Option SnmpMessage → Bool
-is_numbered_by number None = false
-is_numbered_by number (Some message) = int_eq message.request (pos number)
-
-abbrev pub is_numbered : ℕ → List ℕ → Bool
-is_numbered number datagram = is_numbered_by number (message_of datagram)
-
--- A request goes out three times at most, as the same octets, and no other has its number.
-pub record HasOneRequest (sent : List (List ℕ)) (number : ℕ) : Type 0 where
-  pub few : count_by (is_numbered number) sent ≤ 3
-  pub same : (one other : List ℕ) (message another : SnmpMessage) → Has sent one → Has sent other
-      → SpellsNumbered number one message → SpellsNumbered number other another → one ≡ other
-
--- no two requests have one number, across restarts too
-abbrev pub RequestsAgree : WorldModel → List EventModel → Type 0
-RequestsAgree world events = (number : ℕ) → HasOneRequest (world_after world events).to_sign number
+-- A request has a number of its own, across restarts too, and goes out three times at most, as the same octets.
+pub record RequestsAgree (world : WorldModel) (events : List EventModel) : Type 0 where
+  pub same : EqualNumbersMeanEqualOctets (world_after world events).to_sign
+  pub few : ThreeSendsAtMost (world_after world events).to_sign
 
 -- ---- a request, sent and handed over
 
 -- after so many events some datagram to the sign spells a request of this number
 pub record WasSent (world : WorldModel) (events : List EventModel) (number count : ℕ) : Type 0 where
   pub datagram : List ℕ
-  pub message : SnmpMessage
   pub there : Has (world_at world events count).to_sign datagram
-  pub spells : SpellsNumbered number datagram message
+  pub has_number : HasNumber number datagram
 
 -- after so many events, and no fewer
 pub record IsSentAt (world : WorldModel) (events : List EventModel) (number count : ℕ) : Type 0 where
@@ -64,14 +46,13 @@ pub record WasDelivered (world : WorldModel) (events : List EventModel) (number 
   pub event : slice_get events before ≡ Some (to_sign place)
   pub datagram : List ℕ
   pub handed : slice_get (world_after world events).to_sign place ≡ Some datagram
-  pub message : SnmpMessage
-  pub spells : SpellsNumbered number datagram message
+  pub has_number : HasNumber number datagram
 
 -- ---- what the ledger says
 
--- the octets are the value of the request's one binding
+-- it sets dmsActivateMessage to these octets, and nothing else
 abbrev pub Carries : SnmpMessage → List ℕ → Type 0
-Carries message octets = (name : List ℕ) × (message.bindings ≡ record { name = name; value = octet_string octets } ∷ [])
+Carries message octets = message.bindings ≡ activates octets ∷ []
 
 abbrev pub shown_checksum : ShownModel → ℕ
 shown_checksum shown = message_checksum shown.text shown.beacon shown.pixel
@@ -84,7 +65,7 @@ pub record WasAccepted (world : WorldModel) (events : List EventModel) (entry : 
   pub code : Activation
   pub listed : Has (world_after world events).accepted (suc before, code)
   pub same : octets_of_activation world.sign.table.order code ≡ octets_of_activation world.centre.settings.order entry.code
-  pub carries : Carries delivered.message (octets_of_activation world.centre.settings.order entry.code)
+  pub carries : Carries delivered.has_number.message (octets_of_activation world.centre.settings.order entry.code)
   pub put_up : entry.code.id.memory ≢ current_buffer → entry.code.id.memory ≢ blank_memory
       → world.sign.table.order ≡ world.centre.settings.order
       → shown_checksum (world_at world events (suc before)).sign.shown ≡ entry.code.id.crc
@@ -93,7 +74,7 @@ pub record WasAccepted (world : WorldModel) (events : List EventModel) (entry : 
 pub record WasRefused (world : WorldModel) (events : List EventModel) (entry : Entry) (status : ℤ) : Type 0 where
   pub before : ℕ
   pub delivered : WasDelivered world events entry.number before
-  pub status_is : pos (primary (world_at world events before).sign delivered.message).status ≡ status
+  pub status_is : pos (primary (world_at world events before).sign delivered.has_number.message).status ≡ status
 
 -- each entry that is accepted
 abbrev pub AcceptedWasAccepted : WorldModel → List EventModel → Type 0

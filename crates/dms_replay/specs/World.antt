@@ -1,6 +1,5 @@
 -- A sign and a centre, with every datagram that was ever sent between them, under any list of events.
-use Rattle.std.specs.Prelude.{◌≡◌, ℕ, zero, suc, IsTrue, List, [], ◌∷◌, ◌++◌, length, slice_get, Option, Some, None, option_to_list}
-use Rattle.std.specs.Int.Digits.{AllBelowBase}
+use Rattle.std.specs.Prelude.{◌≡◌, ℕ, zero, suc, List, [], ◌∷◌, ◌++◌, length, slice_get, Option, Some, None, option_to_list}
 use Rattle.dms_table.specs.declared.codes.Activation.{Activation}
 use Rattle.dms_table.specs.Rows.{TableModel}
 use Rattle.dms_sign.specs.State.{ConfigModel, SignState}
@@ -12,8 +11,9 @@ use Rattle.dms_centre.specs.State.{SettingsModel, CentreState}
 use Rattle.dms_centre.specs.State as centre
 use Rattle.dms_centre.specs.Sending.{Move}
 use Rattle.dms_centre.specs.Commands.{commanded}
+use Rattle.dms_centre.specs.History.{AreSettings}
 use Rattle.dms_centre.specs.Inputs.{received, ticked, restarted}
-use Rattle.dms_replay.specs.Description.{Description, CanBeMade, is_community}
+use Rattle.dms_replay.specs.Description.{Description, CanBeMade}
 use Rattle.dms_replay.specs.Event.{EventModel, command, sign_tick, centre_tick, to_sign, to_centre, power_lost, power_back, centre_restart, forge_sign, forge_centre}
 
 -- The lists hold all datagrams that the ends ever sent, the oldest first; each activation that the sign accepted stands beside the
@@ -97,8 +97,7 @@ pub record IsFresh (world : WorldModel) : Type 0 where
   pub first : ℕ
   pub can_be_made : CanBeMade config table
   pub made_of_octets : IsMadeOfOctets config table
-  pub community : IsTrue (is_community settings.community)
-  pub octets : AllBelowBase 256 settings.community
+  pub are_settings : AreSettings settings
   pub is_beginning : world ≡ beginning (sign.start config table) (centre.start settings first)
 
 -- the world in which a script's events happen: the centre has the sign's writing community and its order

@@ -1,4 +1,4 @@
--- The sign of the worked rows, what is asked of it there, and what is seen of it.
+-- The sign of the worked examples, what is asked of it, and what is seen of it.
 use Rattle.std.proofs.Common.{ℕ, zero, suc, true, false, List, [], ◌∷◌, ◌+◌, ◌-◌, ◌*◌, Option, None, if◌then◌else◌}
 use Rattle.std.specs.Prelude.{pos, codes, nat_lt}
 use Rattle.dms_wire.specs.declared.message.Kind.{Kind}

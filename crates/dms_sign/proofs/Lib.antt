@@ -21,3 +21,4 @@ pub mod WorkedPower
 pub mod WorkedSilence
 pub mod WorkedDefaults
 pub mod WorkedSizes
+pub mod WorkedPictures

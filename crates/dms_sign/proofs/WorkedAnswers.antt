@@ -30,17 +30,20 @@ unfolding datagram
 no_third_row = refl
 
 -- without its last octet the request is none
-cut_short : datagram bench_sign (codes "302e02010004067075626c6963a0210201010201000201003016301406102b06010401893604020305080109030105") ≡ dropped bench_sign
+cut_short : datagram bench_sign (codes "302e02010004067075626c6963a0210201010201000201003016301406102b06010401893604020305080109030105")
+    ≡ dropped bench_sign
 unfolding datagram
 cut_short = refl
 
 -- nor is it with one octet more
-one_octet_more : datagram bench_sign (codes "302e02010004067075626c6963a0210201010201000201003016301406102b060104018936040203050801090301050000") ≡ dropped bench_sign
+one_octet_more : datagram bench_sign (codes "302e02010004067075626c6963a0210201010201000201003016301406102b060104018936040203050801090301050000")
+    ≡ dropped bench_sign
 unfolding datagram
 one_octet_more = refl
 
 -- the community "private" is neither of the two
-another_community : datagram bench_sign (codes "302f020100040770726976617465a0210201010201000201003016301406102b0601040189360402030508010903010500") ≡ dropped bench_sign
+another_community : datagram bench_sign (codes "302f020100040770726976617465a0210201010201000201003016301406102b0601040189360402030508010903010500")
+    ≡ dropped bench_sign
 unfolding datagram
 another_community = refl
 
@@ -66,7 +69,8 @@ reader_writes_nothing = refl
 
 -- dmsShortPowerLossTime is to be 5, and dmsEndDurationMessage four octets
 abbrev four_octets_of_five : List ℕ
-four_octets_of_five = codes "3042020100040561646d696ea336020101020100020100302b3012060d2b060104018936040203060a000201053015060d2b060104018936040203060f00040407000100"
+four_octets_of_five =
+    codes "3042020100040561646d696ea336020101020100020100302b3012060d2b060104018936040203060a000201053015060d2b060104018936040203060f00040407000100"
 
 -- badValue, index 2
 wrong_length : (datagram bench_sign four_octets_of_five).reply

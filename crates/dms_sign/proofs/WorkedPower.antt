@@ -16,9 +16,11 @@ use Rattle.dms_sign.proofs.WorkedTable.{validating_sign}
 -- volatile row 1, "A", is up; a loss of up to ten seconds is short, and after it the row is to come up again
 abbrev volatile_sign : SignState
 volatile_sign =
-    after_set (after_set (record bench_sign { table = record bench_table { volatile = valid_row (codes "A") 200 ∷ [] } }) (code (codes "ffffff0400019a6600000000") ∷ []))
+    let stored = record bench_sign { table = record bench_table { volatile = valid_row (codes "A") 200 ∷ [] } } in
+    after_set (after_set stored (code (codes "ffffff0400019a6600000000") ∷ []))
     (number (The ShortPowerLossTime) 10 ∷ octets (The ShortPowerRecoveryMessage) (octets_of (codes "0400019a66")) ∷ [])
 
+-- it is up without an end
 volatile_is_up : seen volatile_sign ≡ record { text = codes "A"; source = octets_of (codes "0400019a66"); mode = 8; remaining = None }
 unfolding answer
 volatile_is_up = refl
@@ -37,7 +39,9 @@ volatile_has_a_cause = refl
 
 -- "A" is up for five minutes, and after a long loss what was up is to stay
 abbrev kept_sign : SignState
-kept_sign = after_set (after_set lettered_sign (octets (The LongPowerRecoveryMessage) (octets_of (codes "0500010000")) ∷ [])) (code (codes "00050a0300019a66c0000201") ∷ [])
+kept_sign =
+    after_set (after_set lettered_sign (octets (The LongPowerRecoveryMessage) (octets_of (codes "0500010000")) ∷ []))
+    (code (codes "00050a0300019a66c0000201") ∷ [])
 
 abbrev off : SignState
 off = without_power kept_sign
@@ -48,7 +52,8 @@ unfolding answer without_power
 blank_without_power = refl
 
 -- a GET is dropped
-unheard_without_power : datagram off (codes "302e02010004067075626c6963a0210201010201000201003016301406102b0601040189360402030508010903010500") ≡ dropped off
+unheard_without_power : datagram off (codes "302e02010004067075626c6963a0210201010201000201003016301406102b0601040189360402030508010903010500")
+    ≡ dropped off
 unfolding answer datagram without_power
 unheard_without_power = refl
 

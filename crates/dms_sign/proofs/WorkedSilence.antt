@@ -1,6 +1,6 @@
 -- A loss of communications on the bench sign, computed.
-use Rattle.std.proofs.Common.{◌≡◌, ℕ, List, [], ◌∷◌, Some, None, refl}
-use Rattle.std.specs.Prelude.{pos, codes}
+use Rattle.std.proofs.Common.{◌≡◌, [], ◌∷◌, Some, None, refl}
+use Rattle.std.specs.Prelude.{codes}
 use Rattle.dms_wire.specs.declared.message.Kind.TheVariants.{GetNext}
 use Rattle.dms_wire.specs.Message.{null}
 use Rattle.dms_sign.specs.declared.object.Scalar.TheVariants.{ShortPowerLossTime, CommunicationsLossMessage, TimeCommLoss, EndDurationMessage}
@@ -8,10 +8,11 @@ use Rattle.dms_sign.specs.declared.object.Instance.TheVariants.{The}
 use Rattle.dms_sign.specs.State.{SignState, blank_code}
 use Rattle.dms_sign.specs.Values.{bound}
 use Rattle.dms_sign.specs.Reply.{dropped}
-use Rattle.dms_sign.proofs.BenchSign.{octets_of, bench_sign, lettered_sign, number, octets, code, datagram, answer, after_set, later, without_power, with_power, Seen, seen, letter_a, blank_one}
+use Rattle.dms_sign.proofs.BenchSign.{octets_of, bench_sign, lettered_sign, number, octets, code, datagram, answer, after_set, later, without_power, with_power, seen, letter_a, blank_one}
 
 -- after dmsShortPowerLossTime.0 comes dmsCommunicationsLossMessage.0
-after_short_power_loss_time : (answer bench_sign GetNext (bound (The ShortPowerLossTime) null ∷ [])).bindings ≡ octets (The CommunicationsLossMessage) blank_code ∷ []
+after_short_power_loss_time : (answer bench_sign GetNext (bound (The ShortPowerLossTime) null ∷ [])).bindings
+    ≡ octets (The CommunicationsLossMessage) blank_code ∷ []
 unfolding answer
 after_short_power_loss_time = refl
 
@@ -27,17 +28,17 @@ time_is_set = refl
 
 -- after 59 seconds nothing has happened
 fifty_nine_seconds : seen (later 59 one_minute) ≡ blank_one 10
-unfolding datagram later
+unfolding later
 fifty_nine_seconds = refl
 
 -- a second later blank 1 is up with the mode commLoss
 sixty_seconds : seen (later 60 one_minute) ≡ blank_one 12
-unfolding datagram later
+unfolding later
 sixty_seconds = refl
 
 -- it acts once: the count stays
 once : (later 70 one_minute).silent ≡ 60
-unfolding datagram later
+unfolding later
 once = refl
 
 -- ---- what ends the silence
@@ -45,24 +46,32 @@ once = refl
 abbrev half_a_minute : SignState
 half_a_minute = record one_minute { silent = 30 }
 
+-- thirty seconds of silence are counted
 thirty_seconds : later 30 one_minute ≡ half_a_minute
 unfolding later
 thirty_seconds = refl
 
--- a datagram that is dropped does not: junk, a Response, another community
+-- a datagram that is dropped does not: octets that spell no message
 junk : datagram half_a_minute (codes "3000") ≡ dropped half_a_minute
 unfolding datagram
 junk = refl
 
-response : datagram half_a_minute (codes "3017020100040561646d696ea20b0201010201000201003000") ≡ dropped half_a_minute
+-- a Response
+response_is_dropped : datagram half_a_minute (codes "3017020100040561646d696ea20b0201010201000201003000") ≡ dropped half_a_minute
 unfolding datagram
-response = refl
+response_is_dropped = refl
 
-another_community : datagram half_a_minute (codes "3019020100040770726976617465a00b0201010201000201003000") ≡ dropped half_a_minute
+-- the community "private"
+another_community_is_dropped : datagram half_a_minute (codes "3019020100040770726976617465a00b0201010201000201003000") ≡ dropped half_a_minute
 unfolding datagram
-another_community = refl
+another_community_is_dropped = refl
 
--- thirty seconds after it the minute is over
+-- 29 seconds after it nothing has happened
+silence_is_not_over : seen (later 29 (datagram half_a_minute (codes "3000")).after) ≡ blank_one 10
+unfolding datagram later
+silence_is_not_over = refl
+
+-- a second later the minute is over
 silence_goes_on : seen (later 30 (datagram half_a_minute (codes "3000")).after) ≡ blank_one 12
 unfolding datagram later
 silence_goes_on = refl
@@ -82,18 +91,19 @@ unfolding datagram later
 minute_after_the_answer = refl
 
 -- a SET that is refused is answered too
-refusal_is_an_answer : (datagram half_a_minute (codes "302c02010004067075626c6963a31f02010102010002010030143012060d2b060104018936040203060a00020105")).after.silent ≡ 0
+refusal_is_an_answer : (datagram half_a_minute (codes "302c02010004067075626c6963a31f02010102010002010030143012060d2b060104018936040203060a00020105")).after.silent
+    ≡ 0
 unfolding datagram
 refusal_is_an_answer = refl
 
 -- power that comes back ends it
 power_ends_the_silence : (with_power 9 (without_power half_a_minute)).silent ≡ 0
-unfolding datagram without_power with_power
+unfolding without_power with_power
 power_ends_the_silence = refl
 
 -- power that was there does not
 power_was_there : (with_power 9 half_a_minute).silent ≡ 30
-unfolding datagram with_power
+unfolding with_power
 power_was_there = refl
 
 -- ---- what comes up
@@ -101,7 +111,9 @@ power_was_there = refl
 -- "A" is up for five minutes, and its code for a loss of communications is that of the current buffer
 abbrev staying_sign : SignState
 staying_sign =
-    after_set (after_set lettered_sign (octets (The CommunicationsLossMessage) (octets_of (codes "0500010000")) ∷ number (The TimeCommLoss) 1 ∷ [])) (code (codes "00050a0300019a66c0000201") ∷ [])
+    after_set
+    (after_set lettered_sign (octets (The CommunicationsLossMessage) (octets_of (codes "0500010000")) ∷ number (The TimeCommLoss) 1 ∷ []))
+    (code (codes "00050a0300019a66c0000201") ∷ [])
 
 -- "A" stays, without an end
 message_stays : seen (later 60 staying_sign) ≡ letter_a 12 None
@@ -112,6 +124,7 @@ message_stays = refl
 abbrev both_end : SignState
 both_end = after_set (after_set lettered_sign (number (The TimeCommLoss) 1 ∷ [])) (code (codes "00010a0300019a66c0000201") ∷ [])
 
+-- a second before it "A" is up, with a second left
 before_both_end : seen (later 59 both_end) ≡ letter_a 8 (Some 1)
 unfolding answer later
 before_both_end = refl
@@ -125,10 +138,12 @@ silence_is_last = refl
 abbrev end_stays : SignState
 end_stays =
     after_set
-      (after_set lettered_sign
-        (number (The TimeCommLoss) 1 ∷ octets (The CommunicationsLossMessage) (octets_of (codes "0500010000")) ∷ octets (The EndDurationMessage) (octets_of (codes "0700090000")) ∷ []))
-      (code (codes "00010a0300019a66c0000201") ∷ [])
+    (after_set lettered_sign
+    (number (The TimeCommLoss) 1 ∷ octets (The CommunicationsLossMessage) (octets_of (codes "0500010000"))
+    ∷ octets (The EndDurationMessage) (octets_of (codes "0700090000")) ∷ []))
+    (code (codes "00010a0300019a66c0000201") ∷ [])
 
+-- it has the mode of the silence
 end_of_the_duration_stays : seen (later 60 end_stays) ≡ record { text = []; source = octets_of (codes "0700090000"); mode = 12; remaining = None }
 unfolding answer later
 end_of_the_duration_stays = refl

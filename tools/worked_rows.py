@@ -1,0 +1,39 @@
+#!/usr/bin/env python3
+"""The worked rows that proofs compute, by name: `worked_rows.py` lists them; `worked_rows.py --check` says which names of the
+table "Worked rows" in docs/MAP.md stand in no file of proofs/, and ends with 1 where there are such."""
+import pathlib
+import re
+import sys
+
+TOP = pathlib.Path(__file__).resolve().parent.parent
+ROWS = re.compile(r"^(?:pub )?([a-z][a-z0-9_]*) :", re.M)
+
+
+def rows(path):
+    return ROWS.findall(path.read_text())
+
+
+def listed():
+    text = (TOP / "docs/MAP.md").read_text()
+    part = text[text.index("## Worked rows"):]
+    part = part[: part.index("\n## ", 3)]
+    for line in part.splitlines():
+        cells = [cell.strip() for cell in line.strip("|").split("|")]
+        if len(cells) == 3 and cells[1].startswith("`"):
+            path = cells[1].strip("`")
+            yield from ((path, name) for name in re.findall(r"`([a-z][a-z0-9_]*)`", cells[2]))
+
+
+def main():
+    if sys.argv[1:] == ["--check"]:
+        missing = [(path, name) for path, name in listed() if name not in rows(TOP / "crates" / path)]
+        for path, name in missing:
+            print(f"{path}: {name}")
+        return 1 if missing else 0
+    for path in sorted(TOP.glob("crates/*/proofs/*.antt")):
+        if re.search(r"Worked|Silence|Altered|TableRows|ObjectRows|ScriptText|BenchText", path.name):
+            print(path.relative_to(TOP / "crates"), " ".join(rows(path)))
+    return 0
+
+
+sys.exit(main())
