@@ -1,5 +1,8 @@
 mod WorldSign
 mod WorldSignRows
+mod WorldSignSteps
+mod WorldSignSound
+mod WorldSignFit
 mod BenchWorld
 mod BenchText
 mod ScriptText

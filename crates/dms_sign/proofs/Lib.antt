@@ -13,6 +13,10 @@ pub mod InRangeShown
 pub mod InRangeEvents
 pub mod InRangeSets
 pub mod InRangeStart
+pub mod StepRows
+pub mod StepShown
+pub mod StepEvents
+pub mod StepDefaults
 pub mod BenchSign
 pub mod WorkedAnswers
 pub mod WorkedTable

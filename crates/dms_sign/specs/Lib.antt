@@ -9,3 +9,4 @@ pub mod Reply
 pub mod Events
 pub mod Promises
 pub mod InRange
+pub mod Steps

@@ -4,5 +4,6 @@
 pub mod laws;
 pub mod object;
 pub mod range_laws;
+pub mod step_laws;
 
 pub use object::{Instance, Scalar};

@@ -1,0 +1,348 @@
+-- The defaults of a sign stay in their ranges, and name a font of its face.
+use Rattle.std.proofs.Common.{◌≡◌, ℕ, pos, negsuc, ◌+◌, ◌==◌, ◌&&◌, Bool, true, false, cond, IsTrue, List, [], ◌∷◌, map, find, Option, Some, None, Result, Ok, Err, refl, sym, subst, eqb, leb}
+use Rattle.std.specs.Prelude.{option_map, option_and_then, unwrap_or, filter_map, nat_lt, nat_le, ⊤}
+use Rattle.std.specs.Option.{IfSome}
+use Rattle.std.specs.List.{AllByRecursion, position_from}
+use Rattle.std.proofs.lemmas.Bool.{and_parts, and_from, eqb-true}
+use Rattle.dms_wire.specs.declared.message.Kind.{Kind}
+use Rattle.dms_wire.specs.declared.message.Kind.TheVariants.{Get, GetNext, Response, Set}
+use Rattle.dms_wire.specs.Message.{ObjectValue, integer, octet_string, null, object_identifier, ip_address, counter, gauge, time_ticks, opaque, VarBind, SnmpMessage}
+use Rattle.dms_wire.specs.MessageOf.{message_of}
+use Rattle.dms_face.specs.declared.defaults.Defaults.{Defaults}
+use Rattle.dms_face.specs.Face.{FaceModel, has_font, is_within, fit}
+use Rattle.dms_table.specs.declared.cause.Cause.{Cause}
+use Rattle.dms_table.specs.declared.names.Column.{Column}
+use Rattle.dms_table.specs.declared.names.Column.TheVariants as columns
+use Rattle.dms_table.specs.declared.row.RowId.{RowId}
+use Rattle.dms_table.specs.Codes.{activation_of}
+use Rattle.dms_table.specs.Rows.{TableModel, Text, Owner, Beacon, Pixel, Priority, asked, longest_text, longest_owner}
+use Rattle.dms_table.specs.Deciding.{ShownModel, seconds_of, decided}
+use Rattle.dms_sign.specs.declared.object.Scalar.{Scalar}
+use Rattle.dms_sign.specs.declared.object.Scalar.TheVariants.{SignHeightPixels, SignWidthPixels, DefaultBackgroundColor, DefaultForegroundColor, DefaultFlashOn, DefaultFlashOff, DefaultFont, DefaultJustificationLine, DefaultJustificationPage, DefaultPageOnTime, DefaultPageOffTime, ColorScheme, NumPermanentMsg, NumChangeableMsg, MaxChangeableMsg, FreeChangeableMemory, NumVolatileMsg, MaxVolatileMsg, FreeVolatileMemory, ValidateMessageError, ActivateMessage, MessageTimeRemaining, MsgTableSource, MsgRequesterId, MsgSourceMode, ShortPowerRecoveryMessage, LongPowerRecoveryMessage, ShortPowerLossTime, CommunicationsLossMessage, TimeCommLoss, PowerLossMessage, EndDurationMessage, ActivateMsgError, MultiSyntaxError, MultiSyntaxErrorPosition, ActivateErrorMsgCode}
+use Rattle.dms_sign.specs.declared.object.Instance.{Instance}
+use Rattle.dms_sign.specs.declared.object.Instance.TheVariants.{The, Cell}
+use Rattle.dms_sign.specs.Objects.{scalar_number}
+use Rattle.dms_sign.specs.State.{ConfigModel, SignState, power_recovery_mode, communications_loss_mode, power_loss_mode, end_duration_mode}
+use Rattle.dms_sign.specs.PuttingUp.{showing, put_up_code}
+use Rattle.dms_sign.specs.Writing.{Write, SetNumber, SetCode, SetField, AskRow, Activate, SetRemaining, is_command, number_in, octets_in, font_in, ask_of, object_write, cell_write, write_of}
+use Rattle.dms_sign.specs.Setting.{SetCause, settable_instance, write_at, causes, given, is_same, number_for, assigned}
+use Rattle.dms_sign.specs.Answering.{found_unless, with_value, has_no_value, next_after, is_last, as_decided, as_asked, with_remaining, commanded, commanded_if, writes_of, set_unless, may_write, answer_by, primary}
+use Rattle.dms_sign.specs.Reply.{is_heard, heard, dropped, on_message_if, received}
+use Rattle.dms_sign.specs.Events.{after_settling, counted_down, after_duration, longest_silence, quieter, after_silence, after_tick, recovery_code, restored, after_power_loss, after_power_return}
+use Rattle.dms_sign.specs.Steps.{HasFitDefaults}
+use Rattle.dms_sign.proofs.InRangeLists.{if_or, all_filtered, all_any}
+use Rattle.dms_sign.proofs.StepShown.{StaysBehind, code_puts_up}
+
+-- ---- what a binding writes
+
+-- what fits the object of these numbers
+abbrev number_fits : FaceModel → (group place number : ℕ) → Bool
+number_fits face group place number =
+    cond (group == 4)
+    (cond (place == 1) (nat_le number 9)
+    (cond (place == 2) (nat_le number 9)
+    (cond (place == 5) (has_font face.fonts number)
+    (cond (place == 6) (is_within 2 4 number) (cond (place == 7) (is_within 2 4 number) true))))) true
+
+abbrev object_fits : FaceModel → Scalar → ℕ → Bool
+object_fits face object number = number_fits face (scalar_number object).0 (scalar_number object).1 number
+
+-- a number that fits its object
+abbrev WriteFits : FaceModel → Write → Type 0
+WriteFits face (SetNumber object number) = object_fits face object number ≡ true
+WriteFits face (SetCode object octets) = ⊤
+WriteFits face (SetField id field) = ⊤
+WriteFits face (AskRow id ask) = ⊤
+WriteFits face (Activate octets) = ⊤
+WriteFits face (SetRemaining minutes) = ⊤
+
+number_if : (test : ℕ → Bool) (n : ℕ) (b : Bool) → test n ≡ b → IfSome (cond b (Some n) None) (λ n. test n ≡ true)
+number_if test n true e = e
+number_if test n false e = tt
+
+number_is : (low high : ℕ) (value : ObjectValue) → IfSome (number_in low high value) (λ n. (nat_le low n && nat_le n high) ≡ true)
+number_is low high (integer (pos n)) = number_if (λ n. nat_le low n && nat_le n high) n (nat_le low n && nat_le n high) refl
+number_is low high (integer (negsuc n)) = tt
+number_is low high (octet_string octets) = tt
+number_is low high null = tt
+number_is low high (object_identifier numbers) = tt
+number_is low high (ip_address address) = tt
+number_is low high (counter n) = tt
+number_is low high (gauge n) = tt
+number_is low high (time_ticks n) = tt
+number_is low high (opaque octets) = tt
+
+font_then : (face : FaceModel) (o : Option ℕ)
+    → IfSome (option_and_then (λ n. cond (has_font face.fonts n) (Some n) None) o) (λ n. has_font face.fonts n ≡ true)
+font_then face None = tt
+font_then face (Some n) = number_if (has_font face.fonts) n (has_font face.fonts n) refl
+
+-- a number that passes a test writes what fits
+number_writes : (face : FaceModel) (object : Scalar) (test : ℕ → Bool) (o : Option ℕ) → ((n : ℕ) → test n ≡ true → object_fits face object n ≡ true)
+    → IfSome o (λ n. test n ≡ true) → IfSome (option_map (SetNumber object) o) (WriteFits face)
+number_writes face object test None each is = tt
+number_writes face object test (Some n) each is = each n is
+
+-- any number fits an object that is no default
+any_number : (face : FaceModel) (object : Scalar) (o : Option ℕ) → ((n : ℕ) → object_fits face object n ≡ true)
+    → IfSome (option_map (SetNumber object) o) (WriteFits face)
+any_number face object None each = tt
+any_number face object (Some n) each = each n
+
+any_mapped : {A : Type 0} (face : FaceModel) (f : A → Write) (o : Option A) → ((x : A) → WriteFits face (f x)) → IfSome (option_map f o) (WriteFits face)
+any_mapped face f None each = tt
+any_mapped face f (Some x) each = each x
+
+object_writes : (face : FaceModel) (object : Scalar) (value : ObjectValue) → IfSome (object_write face object value) (WriteFits face)
+unfolding object_write
+object_writes face SignHeightPixels value = tt
+object_writes face SignWidthPixels value = tt
+object_writes face DefaultBackgroundColor value =
+    number_writes face DefaultBackgroundColor (λ n. nat_le 0 n && nat_le n 9) (number_in 0 9 value) (λ n e. (and_parts (leb 0 n) (leb n 9) e).1) (number_is 0 9 value)
+object_writes face DefaultForegroundColor value =
+    number_writes face DefaultForegroundColor (λ n. nat_le 0 n && nat_le n 9) (number_in 0 9 value) (λ n e. (and_parts (leb 0 n) (leb n 9) e).1) (number_is 0 9 value)
+object_writes face DefaultFlashOn value = any_number face DefaultFlashOn (number_in 0 255 value) (λ n. refl)
+object_writes face DefaultFlashOff value = any_number face DefaultFlashOff (number_in 0 255 value) (λ n. refl)
+object_writes face DefaultFont value = number_writes face DefaultFont (has_font face.fonts) (font_in face value) (λ n e. e) (font_then face (number_in 1 255 value))
+object_writes face DefaultJustificationLine value =
+    number_writes face DefaultJustificationLine (is_within 2 4) (number_in 2 4 value) (λ n e. e) (number_is 2 4 value)
+object_writes face DefaultJustificationPage value =
+    number_writes face DefaultJustificationPage (is_within 2 4) (number_in 2 4 value) (λ n e. e) (number_is 2 4 value)
+object_writes face DefaultPageOnTime value = any_number face DefaultPageOnTime (number_in 0 255 value) (λ n. refl)
+object_writes face DefaultPageOffTime value = any_number face DefaultPageOffTime (number_in 0 255 value) (λ n. refl)
+object_writes face ColorScheme value = tt
+object_writes face NumPermanentMsg value = tt
+object_writes face NumChangeableMsg value = tt
+object_writes face MaxChangeableMsg value = tt
+object_writes face FreeChangeableMemory value = tt
+object_writes face NumVolatileMsg value = tt
+object_writes face MaxVolatileMsg value = tt
+object_writes face FreeVolatileMemory value = tt
+object_writes face ValidateMessageError value = tt
+object_writes face ActivateMessage value = any_mapped face Activate (octets_in 12 12 value) (λ x. tt)
+object_writes face MessageTimeRemaining value = any_mapped face SetRemaining (number_in 0 65535 value) (λ x. tt)
+object_writes face MsgTableSource value = tt
+object_writes face MsgRequesterId value = tt
+object_writes face MsgSourceMode value = tt
+object_writes face ShortPowerRecoveryMessage value = any_mapped face (SetCode ShortPowerRecoveryMessage) (octets_in 5 5 value) (λ x. tt)
+object_writes face LongPowerRecoveryMessage value = any_mapped face (SetCode LongPowerRecoveryMessage) (octets_in 5 5 value) (λ x. tt)
+object_writes face ShortPowerLossTime value = any_number face ShortPowerLossTime (number_in 0 65535 value) (λ n. refl)
+object_writes face CommunicationsLossMessage value = any_mapped face (SetCode CommunicationsLossMessage) (octets_in 5 5 value) (λ x. tt)
+object_writes face TimeCommLoss value = any_number face TimeCommLoss (number_in 0 65535 value) (λ n. refl)
+object_writes face PowerLossMessage value = any_mapped face (SetCode PowerLossMessage) (octets_in 5 5 value) (λ x. tt)
+object_writes face EndDurationMessage value = any_mapped face (SetCode EndDurationMessage) (octets_in 5 5 value) (λ x. tt)
+object_writes face ActivateMsgError value = tt
+object_writes face MultiSyntaxError value = tt
+object_writes face MultiSyntaxErrorPosition value = tt
+object_writes face ActivateErrorMsgCode value = tt
+
+cell_writes : (face : FaceModel) (column : Column) (id : RowId) (value : ObjectValue) → IfSome (cell_write column id value) (WriteFits face)
+unfolding cell_write
+cell_writes face columns.MemoryType id value = tt
+cell_writes face columns.Number id value = tt
+cell_writes face columns.MultiString id value = any_mapped face (λ octets. SetField id (Text octets)) (octets_in 0 longest_text value) (λ x. tt)
+cell_writes face columns.Owner id value = any_mapped face (λ octets. SetField id (Owner octets)) (octets_in 0 longest_owner value) (λ x. tt)
+cell_writes face columns.Crc id value = tt
+cell_writes face columns.Beacon id value = any_mapped face (λ n. SetField id (Beacon n)) (number_in 0 1 value) (λ x. tt)
+cell_writes face columns.PixelService id value = any_mapped face (λ n. SetField id (Pixel n)) (number_in 0 1 value) (λ x. tt)
+cell_writes face columns.RunTimePriority id value = any_mapped face (λ n. SetField id (Priority n)) (number_in 1 255 value) (λ x. tt)
+cell_writes face columns.Status id value = any_mapped face (λ n. AskRow id (ask_of n)) (number_in 6 8 value) (λ x. tt)
+
+instance_writes : (face : FaceModel) (i : Instance) (value : ObjectValue) → IfSome (write_of face i value) (WriteFits face)
+unfolding write_of
+instance_writes face (The object) value = object_writes face object value
+instance_writes face (Cell column id) value = cell_writes face column id value
+
+any_then : {X Y : Type 0} (P : Y → Type 0) (f : X → Option Y) (o : Option X) → ((x : X) → IfSome (f x) P) → IfSome (option_and_then f o) P
+any_then P f None each = tt
+any_then P f (Some x) each = each x
+
+binding_writes : (s : SignState) (binding : VarBind) → IfSome (write_at s binding) (WriteFits s.config.face)
+unfolding write_at
+binding_writes s binding =
+    any_then (WriteFits s.config.face) (λ i. write_of s.config.face i binding.value) (settable_instance s binding.name)
+    (λ i. instance_writes s.config.face i binding.value)
+
+filtered_any : {X Y : Type 0} (P : Y → Type 0) (f : X → Option Y) (xs : List X) → ((x : X) → IfSome (f x) P) → AllByRecursion P (filter_map f xs)
+filtered_any P f xs each = all_filtered (λ x. ⊤) P f xs (λ x is. each x) (all_any (λ x. ⊤) xs (λ x. tt))
+
+writes_fit : (s : SignState) (bindings : List VarBind) → AllByRecursion (WriteFits s.config.face) (writes_of s bindings)
+writes_fit s bindings = filtered_any (WriteFits s.config.face) (write_at s) bindings (binding_writes s)
+
+-- ---- assignment
+
+fits_if_same : (face : FaceModel) (object other : Scalar) (n : ℕ) (b : Bool) → is_same object other ≡ b → object_fits face other n ≡ true
+    → IfSome (cond b (Some n) None) (λ n. object_fits face object n ≡ true)
+fits_if_same face object other n false e fits = tt
+fits_if_same face object other n true e fits =
+    let parts = and_parts (eqb (scalar_number object).0 (scalar_number other).0) (eqb (scalar_number object).1 (scalar_number other).1) e in
+    let group : (scalar_number object).0 ≡ (scalar_number other).0 = eqb-true (scalar_number object).0 (scalar_number other).0 parts.0 in
+    let place : (scalar_number object).1 ≡ (scalar_number other).1 = eqb-true (scalar_number object).1 (scalar_number other).1 parts.1 in
+    subst (λ g. number_fits face g (scalar_number object).1 n ≡ true) (sym group)
+    (subst (λ p. number_fits face (scalar_number other).0 p n ≡ true) (sym place) fits)
+
+given_number_fits : (face : FaceModel) (object : Scalar) (write : Write) → WriteFits face write → IfSome (number_for object write) (λ n. object_fits face object n ≡ true)
+given_number_fits face object (SetNumber other n) is = fits_if_same face object other n (is_same object other) refl is
+given_number_fits face object (SetCode other octets) is = tt
+given_number_fits face object (SetField id field) is = tt
+given_number_fits face object (AskRow id ask) is = tt
+given_number_fits face object (Activate octets) is = tt
+given_number_fits face object (SetRemaining minutes) is = tt
+
+given_fits : (face : FaceModel) (object : Scalar) (writes : List Write) (old : ℕ) → AllByRecursion (WriteFits face) writes → object_fits face object old ≡ true
+    → object_fits face object (given (number_for object) writes old) ≡ true
+given_fits face object [] old all is = is
+given_fits face object (write ∷ writes) old all is =
+    given_fits face object writes (unwrap_or (number_for object write) old) all.1
+    (if_or (λ n. object_fits face object n ≡ true) (number_for object write) old (given_number_fits face object write all.0) is)
+
+record AreFit (face : FaceModel) (defaults : Defaults) : Type 0 where
+  background : nat_le defaults.background 9 ≡ true
+  foreground : nat_le defaults.foreground 9 ≡ true
+  line : is_within 2 4 defaults.line ≡ true
+  page : is_within 2 4 defaults.page ≡ true
+  font : has_font face.fonts defaults.font ≡ true
+
+parts_of_fit : (face : FaceModel) (d : Defaults) → fit face.fonts d ≡ true → AreFit face d
+parts_of_fit face d e =
+    let four = and_parts (leb d.background 9 && leb d.foreground 9 && is_within 2 4 d.line && is_within 2 4 d.page) (has_font face.fonts d.font) e in
+    let three = and_parts (leb d.background 9 && leb d.foreground 9 && is_within 2 4 d.line) (is_within 2 4 d.page) four.0 in
+    let two = and_parts (leb d.background 9 && leb d.foreground 9) (is_within 2 4 d.line) three.0 in
+    let one = and_parts (leb d.background 9) (leb d.foreground 9) two.0 in
+    record { background = one.0; foreground = one.1; line = two.1; page = three.1; font = four.1 }
+
+fit_of_parts : (face : FaceModel) (d : Defaults) → AreFit face d → fit face.fonts d ≡ true
+fit_of_parts face d are =
+    let one = and_from (leb d.background 9) (leb d.foreground 9) are.background are.foreground in
+    let two = and_from (leb d.background 9 && leb d.foreground 9) (is_within 2 4 d.line) one are.line in
+    let three = and_from (leb d.background 9 && leb d.foreground 9 && is_within 2 4 d.line) (is_within 2 4 d.page) two are.page in
+    and_from (leb d.background 9 && leb d.foreground 9 && is_within 2 4 d.line && is_within 2 4 d.page) (has_font face.fonts d.font) three are.font
+
+assigned_fit : (s : SignState) (writes : List Write) → AllByRecursion (WriteFits s.config.face) writes → HasFitDefaults s → HasFitDefaults (assigned s writes)
+unfolding assigned
+assigned_fit s writes all is =
+    let old = parts_of_fit s.config.face s.defaults is in
+    let face = s.config.face in
+    fit_of_parts face (assigned s writes).defaults (record {
+      background = given_fits face DefaultBackgroundColor writes s.defaults.background all old.background;
+      foreground = given_fits face DefaultForegroundColor writes s.defaults.foreground all old.foreground;
+      line = given_fits face DefaultJustificationLine writes s.defaults.line all old.line;
+      page = given_fits face DefaultJustificationPage writes s.defaults.page all old.page;
+      font = given_fits face DefaultFont writes s.defaults.font all old.font;
+    })
+
+-- ---- codes of the sign's own
+
+code_fits : (s : SignState) (octets : List ℕ) (mode : ℕ) → HasFitDefaults s → HasFitDefaults (put_up_code s octets mode)
+code_fits s octets mode is =
+    let behind : StaysBehind s (put_up_code s octets mode) = (code_puts_up s octets mode).behind in
+    subst (λ (c : ConfigModel). IsTrue (fit c.face.fonts (put_up_code s octets mode).defaults)) (sym behind.config)
+    (subst (λ (d : Defaults). IsTrue (fit s.config.face.fonts d)) (sym behind.defaults) is)
+
+fits_if : (b : Bool) (x y : SignState) → HasFitDefaults x → HasFitDefaults y → HasFitDefaults (cond b x y)
+fits_if true x y first second = first
+fits_if false x y first second = second
+
+-- ---- messages
+
+decided_fits : (old new : SignState) (bindings : List VarBind) (index : ℕ) (octets : List ℕ) (r : Result ShownModel Cause) → HasFitDefaults old → HasFitDefaults new
+    → HasFitDefaults (as_decided old new bindings index octets r).after
+decided_fits old new bindings index octets (Ok shown) was is = is
+decided_fits old new bindings index octets (Err cause) was is = was
+
+asked_fits : (old new : SignState) (bindings : List VarBind) (index : ℕ) (o : Option TableModel) → HasFitDefaults old → HasFitDefaults new
+    → HasFitDefaults (as_asked old new bindings index o).after
+asked_fits old new bindings index None was is = was
+asked_fits old new bindings index (Some table) was is = is
+
+remaining_fits : (s : SignState) (minutes : ℕ) → HasFitDefaults s → HasFitDefaults (with_remaining s minutes)
+remaining_fits s minutes is =
+    fits_if (minutes == 0) (put_up_code s s.fallbacks.end_duration end_duration_mode) (showing s (record s.shown { remaining = seconds_of minutes }))
+    (code_fits s s.fallbacks.end_duration end_duration_mode is) is
+
+command_fits : (old new : SignState) (bindings : List VarBind) (index : ℕ) (write : Write) → HasFitDefaults old → HasFitDefaults new
+    → HasFitDefaults (commanded old new bindings index write).after
+command_fits old new bindings index (AskRow id ask) was is = asked_fits old new bindings index (asked new.table id ask) was is
+command_fits old new bindings index (Activate octets) was is =
+    decided_fits old new bindings index octets (decided new.config.face new.defaults new.table new.shown (activation_of old.table.order octets)) was is
+command_fits old new bindings index (SetRemaining minutes) was is = remaining_fits new minutes is
+command_fits old new bindings index (SetNumber object number) was is = is
+command_fits old new bindings index (SetCode object octets) was is = is
+command_fits old new bindings index (SetField id field) was is = is
+
+command_if_fits : (old new : SignState) (bindings : List VarBind) (index : ℕ) (o : Option Write) → HasFitDefaults old → HasFitDefaults new
+    → HasFitDefaults (commanded_if old new bindings index o).after
+command_if_fits old new bindings index None was is = is
+command_if_fits old new bindings index (Some write) was is = command_fits old new bindings index write was is
+
+set_fits : (s : SignState) (bindings : List VarBind) (found : List SetCause) → HasFitDefaults s → HasFitDefaults (set_unless s bindings found).after
+set_fits s bindings [] is =
+    command_if_fits s (assigned s (writes_of s bindings)) bindings _ (find is_command (writes_of s bindings)) is
+    (assigned_fit s (writes_of s bindings) (writes_fit s bindings) is)
+set_fits s bindings (cause ∷ more) is = is
+
+found_fits : (s : SignState) (bindings found : List VarBind) (o : Option ℕ) → HasFitDefaults s → HasFitDefaults (found_unless s bindings found o).after
+found_fits s bindings found None is = is
+found_fits s bindings found (Some index) is = is
+
+kind_fits : (s : SignState) (m : SnmpMessage) (kind : Kind) → HasFitDefaults s → HasFitDefaults (answer_by s m kind).after
+kind_fits s m Get is = found_fits s m.bindings (map (with_value s) m.bindings) (position_from (has_no_value s) 1 m.bindings) is
+kind_fits s m GetNext is = found_fits s m.bindings (map (next_after s) m.bindings) (position_from (is_last s) 1 m.bindings) is
+kind_fits s m Response is = is
+kind_fits s m Set is = set_fits s m.bindings (causes s (may_write s m) m.bindings) is
+
+primary_fits : (s : SignState) (m : SnmpMessage) → HasFitDefaults s → HasFitDefaults (primary s m).after
+unfolding primary
+primary_fits s m is = kind_fits s m m.kind is
+
+heard_fits : (s : SignState) (m : SnmpMessage) (b : Bool) → HasFitDefaults s → HasFitDefaults (cond b (heard s m) (dropped s)).after
+heard_fits s m true is = primary_fits s m is
+heard_fits s m false is = is
+
+message_fits : (s : SignState) (o : Option SnmpMessage) → HasFitDefaults s → HasFitDefaults (on_message_if s o).after
+message_fits s None is = is
+message_fits s (Some m) is = heard_fits s m (is_heard s m) is
+
+pub received_fits : (s : SignState) (datagram : List ℕ) → HasFitDefaults s → HasFitDefaults (received s datagram).after
+unfolding received
+received_fits s datagram is = message_fits s (message_of datagram) is
+
+-- ---- seconds and power
+
+settling_fits : (s : SignState) → HasFitDefaults s → HasFitDefaults (after_settling s)
+unfolding after_settling
+settling_fits s is = is
+
+down_fits : (s : SignState) (o : Option ℕ) → HasFitDefaults s → HasFitDefaults (counted_down s o)
+down_fits s None is = is
+down_fits s (Some seconds) is =
+    fits_if (nat_le seconds 1) (put_up_code s s.fallbacks.end_duration end_duration_mode) _ (code_fits s s.fallbacks.end_duration end_duration_mode is) is
+
+duration_fits : (s : SignState) → HasFitDefaults s → HasFitDefaults (after_duration s)
+unfolding after_duration
+duration_fits s is = down_fits s s.shown.remaining is
+
+silence_fits : (s : SignState) → HasFitDefaults s → HasFitDefaults (after_silence s)
+unfolding after_silence
+silence_fits s is =
+    fits_if (nat_lt s.silent (longest_silence s)) _ s
+    (fits_if (s.silent + 1 == longest_silence s) (put_up_code (quieter s) s.fallbacks.communications_loss communications_loss_mode) (quieter s)
+    (code_fits (quieter s) s.fallbacks.communications_loss communications_loss_mode is) is) is
+
+pub tick_fits : (s : SignState) → HasFitDefaults s → HasFitDefaults (after_tick s)
+unfolding after_tick
+tick_fits s is =
+    fits_if s.powered (after_silence (after_duration (after_settling s))) s
+    (silence_fits (after_duration (after_settling s)) (duration_fits (after_settling s) (settling_fits s is))) is
+
+pub power_loss_fits : (s : SignState) → HasFitDefaults s → HasFitDefaults (after_power_loss s)
+unfolding after_power_loss
+power_loss_fits s is =
+    fits_if s.powered (record (put_up_code (record s { kept = s.shown }) s.fallbacks.power_loss power_loss_mode) { powered = false }) s
+    (code_fits (record s { kept = s.shown }) s.fallbacks.power_loss power_loss_mode is) is
+
+pub power_return_fits : (s : SignState) (seconds : ℕ) → HasFitDefaults s → HasFitDefaults (after_power_return s seconds)
+unfolding after_power_return
+power_return_fits s seconds is =
+    fits_if s.powered s (put_up_code (restored s) (recovery_code s seconds) power_recovery_mode) is
+    (code_fits (restored s) (recovery_code s seconds) power_recovery_mode is)
