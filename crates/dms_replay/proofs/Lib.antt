@@ -17,7 +17,6 @@ pub mod WorldGrows
 pub mod WorldOrders
 pub mod WorldSent
 pub mod WorldTold
-mod WorldHonestOrder
 mod WorldHonestPutUp
 mod WorldHonestRange
 mod WorldHonestCodes

@@ -32,12 +32,13 @@ use Rattle.dms_replay.specs.World.{WorldModel, noted, by_sign, world_at, world_a
 use Rattle.dms_replay.specs.Backed.{Has}
 use Rattle.dms_replay.specs.Headline.{AreEvents, NothingIsForged, LedgerIsTrue}
 use Rattle.dms_replay.specs.Honest.{WasSent, WasDelivered, shown_checksum, WasAccepted, WasRefused, AcceptedWasAccepted, RefusedWasRefused}
+use Rattle.dms_replay.proofs.WorldSignSound.{sound_at}
 use Rattle.dms_replay.proofs.WorldNumbers.{codes_at}
 use Rattle.dms_replay.proofs.WorldGrows.{grows_until}
 use Rattle.dms_replay.proofs.WorldOrders.{CameBy}
 use Rattle.dms_replay.proofs.WorldSent.{first_sent}
 use Rattle.dms_replay.proofs.WorldTold.{WasHeard, WasTold, told_at}
-use Rattle.dms_replay.proofs.WorldHonestRange.{in_range_at, order_at}
+use Rattle.dms_replay.proofs.WorldHonestRange.{in_range_at}
 use Rattle.dms_replay.proofs.WorldReplies.{heard_message, status_told, answered_at, turned}
 use Rattle.dms_replay.proofs.WorldHonestPutUp.{accepted_is_up}
 use Rattle.dms_replay.proofs.WorldHonestCodes.{octets_back, alike}
@@ -261,7 +262,7 @@ was_accepted world events fresh are entry was =
     let none : (primary s (request_for world entry.number entry.code)).status ≡ 0 = status_zero _ was.status_is in
     let taken : Activation = activation_of world.sign.table.order (octets_for world entry.code) in
     let is : IsTaken world s entry.number entry.code taken =
-    is_taken world s entry.number entry.code was.datagram (order_at world events was.before) was.puts_up none in
+    is_taken world s entry.number entry.code was.datagram (sound_at world events fresh was.before).order was.puts_up none in
     record {
       before = was.before;
       delivered = delivered world events fresh are entry.number entry.code (pos 0) was;

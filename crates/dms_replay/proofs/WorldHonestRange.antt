@@ -1,5 +1,5 @@
--- The sign of a fresh world is in range after any events, and has its order.
-use Rattle.std.proofs.Common.{◌≡◌, ℕ, true, IsTrue, List, [], ◌∷◌, refl, sym, subst}
+-- The sign of a fresh world is in range after any events.
+use Rattle.std.proofs.Common.{◌≡◌, ℕ, true, IsTrue, List, [], ◌∷◌, sym, subst}
 use Rattle.std.specs.List.{AllByRecursion, list_all}
 use Rattle.std.proofs.lemmas.Bool.{and_parts}
 use Rattle.std.proofs.lemmas.List.Elements.{All-from_recursion}
@@ -17,7 +17,6 @@ use Rattle.dms_replay.specs.Description.{CanBeMade, may_stand}
 use Rattle.dms_replay.specs.Event.{EventModel}
 use Rattle.dms_replay.specs.World.{WorldModel, world_at, IsFresh}
 use Rattle.dms_replay.proofs.WorldSign.{IsKept, kept_after}
-use Rattle.dms_replay.proofs.WorldHonestOrder.{HasOrder, received_order, tick_order, power_loss_order, power_return_order}
 
 have_ranges : (services : Services) (face : FaceModel) (rows : List RowModel) → list_all (may_stand services face) rows ≡ true
     → AllByRecursion (λ (row : RowModel). IsTrue (has_ranges row)) rows
@@ -45,11 +44,3 @@ in_range_at world events fresh count =
     let made : IsSignInRange (start fresh.config fresh.table) =
     made_in_range fresh.config fresh.table fresh.can_be_made.face (stocked fresh.config fresh.table fresh.can_be_made) fresh.made_of_octets in
     kept_after IsSignInRange range_is_kept world events (subst (λ (w : WorldModel). IsSignInRange w.sign) (sym fresh.is_beginning) made) count
-
-order_is_kept : (world : WorldModel) → IsKept (HasOrder world.sign.table.order)
-order_is_kept world =
-    let order = world.sign.table.order in
-    record { datagram = received_order order; tick = tick_order order; power_loss = power_loss_order order; power_return = power_return_order order }
-
-pub order_at : (world : WorldModel) (events : List EventModel) (count : ℕ) → (world_at world events count).sign.table.order ≡ world.sign.table.order
-order_at world events count = kept_after (HasOrder world.sign.table.order) (order_is_kept world) world events refl count
