@@ -19,3 +19,9 @@ pub mod WorldGrows
 pub mod WorldOrders
 pub mod WorldSent
 pub mod WorldTold
+mod WorldHonestPutUp
+mod WorldHonestRange
+mod WorldHonestCodes
+mod WorldReplies
+mod WorldHonest
+mod WorldHonestBench

@@ -1,6 +1,5 @@
 -- A world's centre has a history of inputs: each event gives it one at most.
-use Rattle.std.proofs.Common.{◌≡◌, ℕ, suc, List, Option, Some, None, option_map, slice_get, refl, sym, ap, subst, arith, append-nil}
-use Rattle.std.proofs.lemmas.Bool.Decides.{nat_tests}
+use Rattle.std.proofs.Common.{◌≡◌, ℕ, suc, List, Option, Some, None, option_map, slice_get, refl, sym, ap, subst, append-nil}
 use Rattle.dms_centre.specs.Commands.{CommandModel, IsCommand}
 use Rattle.dms_centre.specs.Inputs.{restarted}
 use Rattle.dms_centre.specs.History.{AreSettings, Input, Commands, Hears, Ticks, Restarts, IsInput, OfCommand, OfDatagram, OfTick, OfRestart, History, made, after_input}
@@ -106,11 +105,7 @@ is_input_after world events count are = is_input_if (world_at world events count
 -- ---- the beginning
 
 pub fresh_settings : (world : WorldModel) (fresh : IsFresh world) → AreSettings fresh.settings
-fresh_settings world fresh = record {
-  some = grind (arith, nat_tests, fresh.community);
-  few = grind (arith, nat_tests, fresh.community);
-  octets = fresh.octets;
-}
+fresh_settings world fresh = fresh.are_settings
 
 pub fresh_history : (world : WorldModel) (fresh : IsFresh world) → history_of world ≡ made fresh.settings fresh.first
 fresh_history world fresh = ap history_of fresh.is_beginning

@@ -1,9 +1,8 @@
 -- The numbers of the requests to a sign, and the entries that they belong to, after any events.
 use Rattle.std.proofs.Common.{◌≡◌, ℕ, zero, suc, List, Option, Some, None, length, refl, sym, ◌∙◌, subst}
-use Rattle.dms_wire.specs.Message.{SnmpMessage}
 use Rattle.dms_centre.specs.State.{SettingsModel, Job, Pending, Awaits}
 use Rattle.dms_centre.specs.History.{Input, History}
-use Rattle.dms_centre.specs.Numbers.{HasNumber, AreRequests, EqualNumbersMeanEqualOctets, ThreeSendsAtMost}
+use Rattle.dms_centre.specs.Numbers.{AreRequests, EqualNumbersMeanEqualOctets, ThreeSendsAtMost}
 use Rattle.dms_centre.specs.Numbered.{IsOut, IsAwaited}
 use Rattle.dms_centre.specs.Ledger.{LedgerIsSent, NumbersPutUpTheirCodes}
 use Rattle.dms_centre.proofs.Keeping.{keeps_input}
@@ -11,7 +10,7 @@ use Rattle.dms_centre.proofs.LedgerLaws.{IsKept, is_kept_made, is_kept_input, pu
 use Rattle.dms_replay.specs.Event.{EventModel}
 use Rattle.dms_replay.specs.World.{WorldModel, world_at, IsFresh}
 use Rattle.dms_replay.specs.Headline.{AreEvents}
-use Rattle.dms_replay.specs.Honest.{SpellsNumbered, RequestsAgree}
+use Rattle.dms_replay.specs.Honest.{RequestsAgree}
 use Rattle.dms_replay.proofs.WorldInputs.{history_of, after_if, input_after, moves_at, IsInputIf, is_input_after, fresh_settings, fresh_history}
 
 -- ---- what is kept up
@@ -92,13 +91,5 @@ codes_at world events fresh are count =
 
 -- ---- the law
 
-pub has_number : (number : ℕ) (datagram : List ℕ) (message : SnmpMessage) → SpellsNumbered number datagram message → HasNumber number datagram
-has_number number datagram message spells = record { message = message; spelled = spells.spelled; is = spells.numbered }
-
 pub requests_agree : (world : WorldModel) (events : List EventModel) → IsFresh world → AreEvents events → RequestsAgree world events
-requests_agree world events fresh are number = record {
-  few = few_at world events fresh are (length events) number;
-  same = λ one other message another first second a b.
-      same_at world events fresh are (length events) first.0 second.0 number one other first.1 second.1
-      (has_number number one message a) (has_number number other another b);
-}
+requests_agree world events fresh are = record { same = same_at world events fresh are (length events); few = few_at world events fresh are (length events) }

@@ -2,10 +2,8 @@
 use Rattle.std.proofs.Common.{◌≡◌, ℕ, zero, suc, ◌<◌, ◌≤◌, inl, inr, List, Some, slice_get, refl, sym, ◌∙◌, subst, arith}
 use Rattle.std.proofs.lemmas.Bool.{cases_lt}
 use Rattle.std.proofs.lemmas.Option.{same_Some}
-use Rattle.dms_wire.specs.Message.{SnmpMessage}
 use Rattle.dms_table.specs.declared.codes.Activation.{Activation}
 use Rattle.dms_table.specs.Codes.{octets_of_activation}
-use Rattle.dms_table.specs.Names.{activate_message}
 use Rattle.dms_centre.specs.declared.step.Step.TheVariants.{Activating}
 use Rattle.dms_centre.specs.State.{SettingsModel, Showing, Entry}
 use Rattle.dms_centre.specs.Steps.{request_of}
@@ -17,30 +15,23 @@ use Rattle.dms_replay.specs.Event.{EventModel}
 use Rattle.dms_replay.specs.World.{WorldModel, world_at, IsFresh}
 use Rattle.dms_replay.specs.Backed.{Has}
 use Rattle.dms_replay.specs.Headline.{AreEvents}
-use Rattle.dms_replay.specs.Honest.{SpellsNumbered, WasSent, IsSentAt, Carries}
-use Rattle.dms_replay.proofs.WorldNumbers.{has_number, requests_at, entries_at, codes_at}
+use Rattle.dms_replay.specs.Honest.{WasSent, IsSentAt, Carries}
+use Rattle.dms_replay.proofs.WorldNumbers.{requests_at, entries_at, codes_at}
 use Rattle.dms_replay.proofs.WorldGrows.{grows_until, there_before}
 
--- ---- two ways to say the same
-
-pub spells_number : (number : ℕ) (datagram : List ℕ) (has : HasNumber number datagram) → SpellsNumbered number datagram has.message
-spells_number number datagram has = record { spelled = has.spelled; numbered = has.is }
-
-pub was_sent : (world : WorldModel) (events : List EventModel) (number count : ℕ) (datagram : List ℕ) → Has (world_at world events count).to_sign datagram
-    → HasNumber number datagram → WasSent world events number count
-was_sent world events number count datagram there has =
-    record { datagram = datagram; message = has.message; there = there; spells = spells_number number datagram has }
-
 -- ---- the first moment
+
+was_sent : (world : WorldModel) (events : List EventModel) (number count : ℕ) (datagram : List ℕ) → Has (world_at world events count).to_sign datagram
+    → HasNumber number datagram → WasSent world events number count
+was_sent world events number count datagram there has = record { datagram = datagram; there = there; has_number = has }
 
 -- what was sent was sent later too
 pub sent_later : (world : WorldModel) (events : List EventModel) (number count later : ℕ) → count ≤ later → WasSent world events number count
     → WasSent world events number later
 sent_later world events number count later le sent = record {
   datagram = sent.datagram;
-  message = sent.message;
   there = (sent.there.0, (grows_until world events count later le).to_sign sent.there.0 sent.datagram sent.there.1);
-  spells = sent.spells;
+  has_number = sent.has_number;
 }
 
 -- a number that was sent is below the next one
@@ -49,14 +40,13 @@ pub sent_below : (world : WorldModel) (events : List EventModel) → IsFresh wor
 sent_below world events fresh are number count sent =
     let at = world_at world events count in
     below_next world.centre.settings at.centre.next number sent.there.0 at.to_sign sent.datagram (requests_at world events fresh are count) sent.there.1
-    (has_number number sent.datagram sent.message sent.spells)
+    sent.has_number
 
 -- a number that had been taken had been sent, if it ever is
 pub sent_before : (world : WorldModel) (events : List EventModel) → IsFresh world → AreEvents events → (number count later : ℕ) → count ≤ later
     → number < (world_at world events count).centre.next → WasSent world events number later → WasSent world events number count
 sent_before world events fresh are number count later le less sent =
-    let has = has_number number sent.datagram sent.message sent.spells in
-    was_sent world events number count sent.datagram (there_before world events fresh are count later number le less sent.datagram sent.there has) has
+    was_sent world events number count sent.datagram (there_before world events fresh are count later number le less sent.datagram sent.there sent.has_number) sent.has_number
 
 -- none with a number that is not taken
 not_sent_before : (world : WorldModel) (events : List EventModel) → IsFresh world → AreEvents events → (number count fewer : ℕ)
@@ -91,23 +81,23 @@ entry_was_sent world events fresh are count place entry e =
 
 -- whatever is sent with its number is its request
 pub entry_request : (world : WorldModel) (events : List EventModel) → IsFresh world → AreEvents events → (count : ℕ) (entry : Entry) (datagram : List ℕ)
-    (message : SnmpMessage) → Has (world_at world events count).centre.ledger entry → Has (world_at world events count).to_sign datagram
-    → SpellsNumbered entry.number datagram message → message ≡ request_of world.centre.settings entry.number (Showing entry.code) Activating
-entry_request world events fresh are count entry datagram message listed there spells =
+    → Has (world_at world events count).centre.ledger entry → Has (world_at world events count).to_sign datagram
+    → (has : HasNumber entry.number datagram) → has.message ≡ request_of world.centre.settings entry.number (Showing entry.code) Activating
+entry_request world events fresh are count entry datagram listed there has =
     let puts : PutsUp world.centre.settings entry.number entry.code datagram =
-    codes_at world events fresh are count listed.0 there.0 entry datagram listed.1 there.1 (has_number entry.number datagram message spells) in
-    same_Some message (request_of world.centre.settings entry.number (Showing entry.code) Activating) (sym spells.spelled ∙ puts)
+    codes_at world events fresh are count listed.0 there.0 entry datagram listed.1 there.1 has in
+    same_Some has.message (request_of world.centre.settings entry.number (Showing entry.code) Activating) (sym has.spelled ∙ puts)
 
 request_carries : (settings : SettingsModel) (number : ℕ) (code : Activation)
     → Carries (request_of settings number (Showing code) Activating) (octets_of_activation settings.order code)
 unfolding request_of
-request_carries settings number code = (activate_message, refl)
+request_carries settings number code = refl
 
 -- and carries its code
 pub entry_carries : (world : WorldModel) (events : List EventModel) → IsFresh world → AreEvents events → (count : ℕ) (entry : Entry) (datagram : List ℕ)
-    (message : SnmpMessage) → Has (world_at world events count).centre.ledger entry → Has (world_at world events count).to_sign datagram
-    → SpellsNumbered entry.number datagram message → Carries message (octets_of_activation world.centre.settings.order entry.code)
-entry_carries world events fresh are count entry datagram message listed there spells =
+    → Has (world_at world events count).centre.ledger entry → Has (world_at world events count).to_sign datagram
+    → (has : HasNumber entry.number datagram) → Carries has.message (octets_of_activation world.centre.settings.order entry.code)
+entry_carries world events fresh are count entry datagram listed there has =
     subst (λ m. Carries m (octets_of_activation world.centre.settings.order entry.code))
-    (sym (entry_request world events fresh are count entry datagram message listed there spells))
+    (sym (entry_request world events fresh are count entry datagram listed there has))
     (request_carries world.centre.settings entry.number entry.code)

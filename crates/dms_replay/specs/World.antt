@@ -5,6 +5,7 @@ use Rattle.dms_table.specs.Rows.{TableModel}
 use Rattle.dms_sign.specs.State.{ConfigModel, SignState}
 use Rattle.dms_sign.specs.State as sign
 use Rattle.dms_sign.specs.Reply as sign_reply
+use Rattle.dms_sign.specs.InRange.{IsMadeOfOctets}
 use Rattle.dms_sign.specs.Events.{after_tick, after_power_loss, after_power_return}
 use Rattle.dms_centre.specs.State.{SettingsModel, CentreState}
 use Rattle.dms_centre.specs.State as centre
@@ -88,13 +89,14 @@ world_after world events = world_at world events (length events)
 abbrev pub beginning : SignState → CentreState → WorldModel
 beginning sign_state centre_state = record { sign = sign_state; centre = centre_state; to_sign = []; to_centre = []; accepted = [] }
 
--- both ends are as they are made, and nothing was sent
+-- both ends are as they are made, of octets, and nothing was sent
 pub record IsFresh (world : WorldModel) : Type 0 where
   pub config : ConfigModel
   pub table : TableModel
   pub settings : SettingsModel
   pub first : ℕ
   pub can_be_made : CanBeMade config table
+  pub made_of_octets : IsMadeOfOctets config table
   pub are_settings : AreSettings settings
   pub is_beginning : world ≡ beginning (sign.start config table) (centre.start settings first)
 
