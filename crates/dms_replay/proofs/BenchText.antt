@@ -50,7 +50,8 @@ communities_differ same =
     let wrong : 6 ≡ 5 = sizes in
     omega (arith, wrong)
 
-can_be_made : CanBeMade bench_sign.config bench_sign.table
+-- the bench sign can be made
+pub can_be_made : CanBeMade bench_sign.config bench_sign.table
 unfolding after
 can_be_made = record {
   face = refl;

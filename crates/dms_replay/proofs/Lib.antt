@@ -24,4 +24,4 @@ mod WorldHonestRange
 mod WorldHonestCodes
 mod WorldReplies
 mod WorldHonest
-mod WorldHonestBench
+mod BenchFresh
