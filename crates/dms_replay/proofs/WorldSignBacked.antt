@@ -14,7 +14,7 @@ use Rattle.dms_sign.specs.Steps.{IsSameMessage, IsRowOf, IsOwnCode, ShowsNow, st
 use Rattle.dms_sign.proofs.StepShown.{checksum_as}
 use Rattle.dms_replay.specs.Event.{EventModel}
 use Rattle.dms_replay.specs.World.{WorldModel, IsFresh, world_at}
-use Rattle.dms_replay.specs.Backed.{Has, IsBlank, Stands, WasPutUp, WasTheSigns, stored_row, Held, WasHeld, IsValidated, IsBackedAt, IsBacked}
+use Rattle.dms_replay.specs.Backed.{Has, IsBlank, WasPutUp, WasTheSigns, stored_row, Held, WasHeld, IsValidated, IsBackedAt, IsBacked}
 use Rattle.dms_replay.specs.GoodRows.{WasGood, was_made, was_settled}
 use Rattle.dms_replay.proofs.WorldSignSteps.{world_step}
 use Rattle.dms_replay.proofs.WorldSignSound.{sound_at}
@@ -142,7 +142,7 @@ was_the_signs : (world : WorldModel) (events : List EventModel) (count : ℕ) �
     → WasTheSigns world events count (world_at world events count).sign.shown.source
 was_the_signs world events count fresh own =
     let sign = (world_at world events count).sign in
-    (count, omega arith, subst (λ (o : Order). Stands o sign.fallbacks sign.shown.source) (sound_at world events fresh count).order own)
+    (count, omega arith, subst (λ (o : Order). IsOwnCode o sign.fallbacks sign.shown.source) (sound_at world events fresh count).order own)
 
 shown_next : (world : WorldModel) (events : List EventModel) (count : ℕ) (accepted : Option Activation) → IsFresh world → IsSureAt world events count
     → ((code : Activation) → accepted ≡ Some code → Has (world_at world events (suc count)).accepted (suc count, code))

@@ -3,15 +3,13 @@ use Rattle.std.specs.Prelude.{◌≡◌, ◌⊎◌, ℕ, ◌≤◌, List, [], le
 use Rattle.dms_face.specs.declared.defaults.Defaults.{Defaults}
 use Rattle.dms_face.specs.Layout.{under}
 use Rattle.dms_table.specs.declared.status.Status.TheVariants.{Valid}
-use Rattle.dms_table.specs.declared.codes.Order.{Order}
 use Rattle.dms_table.specs.declared.codes.MessageId.{MessageId}
 use Rattle.dms_table.specs.declared.codes.Activation.{Activation}
 use Rattle.dms_table.specs.Checksum.{message_checksum}
-use Rattle.dms_table.specs.Codes.{id_of}
 use Rattle.dms_table.specs.Rows.{RowModel, TableModel, rows_of, numbered, blank_memory}
 use Rattle.dms_table.specs.Settling.{IsShowable}
 use Rattle.dms_table.specs.Deciding.{ShownModel, shown_row}
-use Rattle.dms_sign.specs.State.{FallbacksModel}
+use Rattle.dms_sign.specs.Steps.{IsOwnCode}
 use Rattle.dms_replay.specs.Event.{EventModel}
 use Rattle.dms_replay.specs.World.{WorldModel, world_at, world_after}
 
@@ -28,13 +26,6 @@ pub record IsBlank (shown : ShownModel) : Type 0 where
 
 -- ---- the code that put it up
 
--- the code stands in one of the objects that hold a sign's own codes
-abbrev pub Stands : Order → FallbacksModel → MessageId → Type 0
-Stands order fallbacks id =
-    (id ≡ id_of order fallbacks.short_power_recovery) ⊎ (id ≡ id_of order fallbacks.long_power_recovery)
-    ⊎ (id ≡ id_of order fallbacks.power_loss) ⊎ (id ≡ id_of order fallbacks.end_duration)
-    ⊎ (id ≡ id_of order fallbacks.communications_loss)
-
 -- after the first events, so many of them, an activation with this code had been accepted
 abbrev pub WasPutUp : WorldModel → List EventModel → ℕ → MessageId → Type 0
 WasPutUp world events count id =
@@ -43,7 +34,7 @@ WasPutUp world events count id =
 -- by then the code had stood among the sign's own
 abbrev pub WasTheSigns : WorldModel → List EventModel → ℕ → MessageId → Type 0
 WasTheSigns world events count id =
-    (front : ℕ) × (front ≤ count) × Stands world.sign.table.order (world_at world events front).sign.fallbacks id
+    (front : ℕ) × (front ≤ count) × IsOwnCode world.sign.table.order (world_at world events front).sign.fallbacks id
 
 -- ---- the row that the code names
 
