@@ -9,3 +9,4 @@ pub mod Requests
 pub mod Numbers
 pub mod Numbered
 pub mod Ledger
+pub mod FaultTexts

@@ -17,6 +17,11 @@ pub enum CommandFault {
 }
 
 impl fmt::Display for CommandFault {
+    ghost use Rattle.std.specs.Prelude.{Some};
+    ghost use Rattle.dms_centre.specs.FaultTexts.{command_fault_text};
+
+    ghost output = { λ fault. Some (command_fault_text fault) };
+
     fn fmt<W: fmt::Write>(&self, f: &mut fmt::Formatter<W>) -> fmt::Result {
         match self {
             CommandFault::Busy => f.write_str("a job is not done yet"),
