@@ -1,4 +1,5 @@
 pub mod Message
+pub mod ErrorStatus
 pub mod Length
 pub mod Integer
 pub mod ObjectIdentifier

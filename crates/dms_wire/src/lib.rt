@@ -1,6 +1,7 @@
 //! SNMPv1 messages in BER: reading a datagram, and writing the shortest one.
 #![tactic(auto)]
 
+pub mod error_status;
 pub mod fault;
 pub mod laws;
 pub mod message;
@@ -11,6 +12,7 @@ mod tag;
 mod tests;
 mod writing;
 
+pub use error_status::ErrorStatus;
 pub use fault::{FaultKind, TooBig, WireFault};
 pub use message::{Bind, Binds, Kind, Message, MessageParts, Out, Value};
 pub use object_identifier::{Numbers, Oid, oid_cmp};
