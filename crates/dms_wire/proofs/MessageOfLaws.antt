@@ -23,6 +23,10 @@ message_of_is : (bytes : List ℕ) → message_of bytes ≡ cond (are_octets byt
 unfolding message_of
 message_of_is bytes = refl
 
+-- octets that are below 256 need no test
+pub message_of_octets : (bytes : List ℕ) → AllBelowBase 256 bytes → message_of bytes ≡ result_ok (message_at bytes)
+message_of_octets bytes below = rw (message_of_is, octets_pass bytes below) refl
+
 -- a test that was passed, and a result that is no error
 some_parts : (test : Bool) (read : Result SnmpMessage WireFault) (m : SnmpMessage) → cond test (result_ok read) None ≡ Some m → (test ≡ true) × (read ≡ Ok m)
 some_parts true (Ok x) m e = (refl, cc)

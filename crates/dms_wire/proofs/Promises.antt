@@ -1,5 +1,7 @@
 -- What the exact clause of the reading says in the words of `read`'s contract.
-use Rattle.std.proofs.Common.{◌≡◌, ℕ, ◌<◌, suc, List, [], ◌∷◌, get_or, Result, Ok, Err, IfOk, OnErr, sym, ◌∙◌}
+use Rattle.std.proofs.Common.{◌≡◌, ℕ, ◌<◌, suc, List, [], ◌∷◌, get_or, Result, Ok, Err, IfOk, OnErr, Option, IfSome, sym, ap, ◌∙◌}
+use Rattle.std.specs.Option.{option_map}
+use Rattle.std.specs.Result.{result_ok}
 use Rattle.std.specs.Int.Digits.{AllBelowBase}
 use Rattle.dms_wire.specs.declared.fault.WireFault.{WireFault}
 use Rattle.dms_wire.specs.declared.message.Message.{Message}
@@ -7,8 +9,10 @@ use Rattle.dms_wire.specs.Message.{SnmpMessage}
 use Rattle.dms_wire.specs.Spelling.{Spells}
 use Rattle.dms_wire.specs.Reading.{Gives, message_at}
 use Rattle.dms_wire.specs.View.{snmp_message}
+use Rattle.dms_wire.specs.MessageOf.{message_of}
 use Rattle.dms_wire.proofs.Elements.{ok_is, not_ok}
 use Rattle.dms_wire.proofs.Messages.{message_found, message_only}
+use Rattle.dms_wire.proofs.MessageOfLaws.{message_of_octets}
 
 pub octets_fit : (bs : List ℕ) → ((i : ℕ) → get_or bs i 0 < 256) → AllBelowBase 256 bs
 octets_fit [] fit = tt
@@ -46,3 +50,20 @@ is_fault bytes (Err g) f gives h = same_fault g f (sym gives ∙ h)
 -- octets spell one message at most
 pub one_spelled : (m n : SnmpMessage) (bytes : List ℕ) → Spells m bytes → Spells n bytes → m ≡ n
 one_spelled m n bytes first second = ok_is m n (sym (message_only bytes m first) ∙ message_only bytes n second)
+
+-- a reading as an option: the message, or none
+heard_is : (r : Result Message WireFault) (read : Result SnmpMessage WireFault) → Gives snmp_message r read → option_map snmp_message (result_ok r) ≡ result_ok read
+heard_is (Ok m) read gives = ap result_ok (sym gives)
+heard_is (Err f) read gives = ap result_ok (sym gives)
+
+pub is_heard : (bytes : List ℕ) (r : Result Message WireFault) (o : Option Message) → o ≡ result_ok r → AllBelowBase 256 bytes
+    → Gives snmp_message r (message_at bytes) → option_map snmp_message o ≡ message_of bytes
+is_heard bytes r o is octets gives = ap (option_map snmp_message) is ∙ heard_is r (message_at bytes) gives ∙ sym (message_of_octets bytes octets)
+
+spelled_if : (bytes : List ℕ) (r : Result Message WireFault) → IfOk r (λ m. Spells (snmp_message m) bytes) → IfSome (result_ok r) (λ m. Spells (snmp_message m) bytes)
+spelled_if bytes (Ok m) found = found
+spelled_if bytes (Err f) found = tt
+
+pub is_heard_spelled : (bytes : List ℕ) (r : Result Message WireFault) (o : Option Message) → o ≡ result_ok r
+    → IfOk r (λ m. Spells (snmp_message m) bytes) → IfSome o (λ m. Spells (snmp_message m) bytes)
+is_heard_spelled bytes r o is found = rw is (spelled_if bytes r found)

@@ -16,5 +16,5 @@ pub use error_status::ErrorStatus;
 pub use fault::{FaultKind, TooBig, WireFault};
 pub use message::{Bind, Binds, Kind, Message, MessageParts, Out, Value};
 pub use object_identifier::{Numbers, Oid, oid_cmp};
-pub use reading::read;
+pub use reading::{heard, read};
 pub use writing::write;

@@ -45,6 +45,15 @@ impl<'a> Oid<'a> {
         name_of(content)
     }
 
+    /// The object identifier with this content, of which it is known already that it is an object identifier's: its octets are not
+    /// read again.
+    pub fn known(content: &'a [u8]) -> Oid<'a>
+        requires { (numbers : List ℕ) × IsName numbers content.now }
+        ensures { (numbers : List ℕ) → IsName numbers content.now → result ≡ numbers }
+    {
+        Oid { content }
+    }
+
     /// The content octets: the only ones that spell this object identifier.
     pub fn content(&self) -> &'a [u8]
         ensures { result.now ≡ name_octets self.now }

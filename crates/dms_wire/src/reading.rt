@@ -8,6 +8,8 @@ ghost use Rattle.std.specs.Int.Digits.{number_from_digits};
 ghost use Rattle.dms_wire.specs.Integer.{is_shortest, inverted, signed_value};
 ghost use Rattle.dms_wire.specs.Message.{SnmpMessage};
 ghost use Rattle.dms_wire.specs.Spelling.{Spells};
+ghost use Rattle.dms_wire.specs.MessageOf.{message_of};
+ghost use Rattle.std.specs.Option.{option_map};
 ghost use Rattle.dms_wire.specs.Reading.{Gives, fault, length_at, content_at, element_at, integer_value, natural_value, integer_at, name_at, value_from, behind_tag, is_value_tag, value_at, ended, members_at, binding_at, bindings_at, version_at, list_at, pdu_at, tagged_pdu_at, kind_of, inside_at, outer_content, outer_at, datagram_at, message_at};
 ghost use Rattle.dms_wire.specs.Walk.{bindings_of};
 ghost use Rattle.dms_wire.specs.View.{object_value, var_bind, snmp_message};
@@ -24,6 +26,7 @@ const MAX_INTEGER_OCTETS: usize = 5;
 /// Reads the message that the octets of a datagram spell, or says what is wrong with them: the first fault from left to
 /// right, and its place. Every accepted form of a length is read, with leading zeros too.
 pub fn read(octets: &[u8]) -> Result<Message<'_>, WireFault>
+    ensures exact { Gives snmp_message result (message_at octets.now) }
     ensures accepts { IsOk result ↔ ((m : SnmpMessage) × Spells m octets.now) }
     ensures found { IfOk result (λ m. Spells (snmp_message m) octets.now) }
     ensures only { (m : SnmpMessage) → Spells m octets.now → Gives snmp_message result (Ok m) }
@@ -36,6 +39,14 @@ pub fn read(octets: &[u8]) -> Result<Message<'_>, WireFault>
         → result ≡ Err (fault FaultKind.TrailingBytes (length front)) }
 {
     message(octets)
+}
+
+/// The message that the octets of a datagram spell, or none where they spell none: for who does not ask what is wrong with them.
+pub fn heard(datagram: &[u8]) -> Option<Message<'_>>
+    ensures message { option_map snmp_message result ≡ message_of datagram.now }
+    ensures spelled { IfSome result (λ m. Spells (snmp_message m) datagram.now) }
+{
+    read(datagram).ok()
 }
 
 fn fault_at(kind: FaultKind, place: usize) -> WireFault
