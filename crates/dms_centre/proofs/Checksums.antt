@@ -2,8 +2,8 @@
 use Rattle.std.proofs.Common.{ℕ, zero, suc, ◌-◌, ◌^◌, ◌<◌, ◌≤◌, Bool, true, false, not, List, [], ◌∷◌, ◌++◌, length, map, arith, pow-suc, pow_pos}
 use Rattle.std.proofs.lemmas.List.{length-map}
 use Rattle.std.specs.List.{flat_map}
-use Rattle.dms_table.specs.Checksum.{number, octet_bits, remainder, first_sixteen_inverted, sixteen_zeros, message_checksum}
-use Rattle.dms_table.proofs.Division.{length-divided}
+use Rattle.dms_codes.specs.Checksum.{number, octet_bits, remainder, first_sixteen_inverted, sixteen_zeros, message_checksum}
+use Rattle.dms_codes.proofs.Division.{length-divided}
 
 number_below : (count : ℕ) (bits : List Bool) → length bits ≤ count → number bits < 2 ^ count
 number_below count [] room = pow_pos count

@@ -5,8 +5,8 @@ use Rattle.std.specs.List.{AllByRecursion}
 use Rattle.std.proofs.lemmas.Bool.Decides.{nat_tests}
 use Rattle.dms_wire.specs.Message.{VarBind, SnmpMessage}
 use Rattle.dms_wire.specs.MessageOf.{message_of}
-use Rattle.dms_table.specs.declared.status.Status.TheVariants as statuses
-use Rattle.dms_table.specs.Status.{status_number}
+use Rattle.dms_codes.specs.declared.status.Status.TheVariants as statuses
+use Rattle.dms_codes.specs.Status.{status_number}
 use Rattle.dms_centre.specs.declared.ended.Ended.TheVariants as endings
 use Rattle.dms_centre.specs.declared.ended.Why.{Why}
 use Rattle.dms_centre.specs.declared.ended.Why.TheVariants as reasons
@@ -23,7 +23,7 @@ use Rattle.dms_centre.specs.Commands.{CommandModel, IsCommand, OfPublish, OfBlan
 use Rattle.dms_centre.specs.Inputs.{on_message, on_datagram, received, gives_up, older, sent_again, sends_again, on_silence, on_tick, ticked, forgets, restarted}
 use Rattle.dms_centre.specs.History.{AreSettings, Input, IsInput, OfCommand, OfDatagram, OfTick, OfRestart, History, made, move_at, after_input, after_inputs}
 use Rattle.dms_centre.specs.Requests.{IsWork, OfPublishing, OfShowing, IsRequest}
-use Rattle.dms_centre.specs.Numbers.{HasNumber, Nothing, Again, New}
+use Rattle.dms_centre.specs.RequestNumbers.{HasNumber, Nothing, Again, New}
 use Rattle.dms_centre.specs.Numbered.{IsAwaited, IsAtWork, IsNumbered, HistoryIsNumbered, Keeps}
 use Rattle.dms_centre.proofs.Lists.{either_way, by_test, on_left, at_end}
 use Rattle.dms_centre.proofs.Numbers.{request_number, requests_push, rise_push, same_push, few_push, count_more, count_of_none, below_next}

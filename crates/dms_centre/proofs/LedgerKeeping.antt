@@ -11,8 +11,8 @@ use Rattle.dms_wire.specs.declared.message.Kind.{Kind}
 use Rattle.dms_wire.specs.declared.message.Kind.TheVariants.{Get, GetNext, Response, Set}
 use Rattle.dms_wire.specs.Message.{SnmpMessage}
 use Rattle.dms_wire.specs.MessageOf.{message_of}
-use Rattle.dms_table.specs.declared.status.Status.TheVariants as statuses
-use Rattle.dms_table.specs.Status.{status_number}
+use Rattle.dms_codes.specs.declared.status.Status.TheVariants as statuses
+use Rattle.dms_codes.specs.Status.{status_number}
 use Rattle.dms_centre.specs.declared.ended.Ended.TheVariants as endings
 use Rattle.dms_centre.specs.declared.ended.Why.{Why}
 use Rattle.dms_centre.specs.declared.ended.Why.TheVariants as reasons

@@ -3,7 +3,7 @@ use Rattle.std.proofs.Common.{◌≡◌, ℕ, List, [], ◌∷◌, refl, ◌∙�
 use Rattle.std.specs.List.{AllByRecursion}
 use Rattle.dms_centre.specs.State.{SettingsModel}
 use Rattle.dms_centre.specs.History.{AreSettings, Input, IsInput, History, made, move_at, after_input, after_inputs}
-use Rattle.dms_centre.specs.Numbers.{AreRequests, NumbersRise, EqualNumbersMeanEqualOctets, ThreeSendsAtMost, Sends}
+use Rattle.dms_centre.specs.RequestNumbers.{AreRequests, NumbersRise, EqualNumbersMeanEqualOctets, ThreeSendsAtMost, Sends}
 use Rattle.dms_centre.specs.Numbered.{HistoryIsNumbered}
 use Rattle.dms_centre.proofs.Keeping.{keeps_input, numbered_made, numbered_after}
 

@@ -9,14 +9,14 @@ use Rattle.dms_wire.specs.Canonical.{value_octets, binding_octets, canonical}
 use Rattle.dms_wire.specs.MessageOf.{message_of}
 use Rattle.dms_wire.proofs.CanonicalLaws.{canonical_spells}
 use Rattle.dms_wire.proofs.MessageOfLaws.{read_is_spelled}
-use Rattle.dms_table.specs.declared.codes.Activation.{Activation}
-use Rattle.dms_table.specs.declared.codes.Order.{Order}
-use Rattle.dms_table.specs.declared.codes.Order.TheVariants.{High, Swapped}
-use Rattle.dms_table.specs.declared.names.Column.{Column}
-use Rattle.dms_table.specs.declared.names.Column.TheVariants.{MemoryType, Number, MultiString, Owner, Crc, Beacon, PixelService, RunTimePriority, Status}
-use Rattle.dms_table.specs.declared.row.RowId.{RowId}
-use Rattle.dms_table.specs.Codes.{octets_of_activation, IsActivation}
-use Rattle.dms_table.specs.Names.{below_dms, cell_name, column_number}
+use Rattle.dms_codes.specs.declared.codes.Activation.{Activation}
+use Rattle.dms_codes.specs.declared.codes.Order.{Order}
+use Rattle.dms_codes.specs.declared.codes.Order.TheVariants.{High, Swapped}
+use Rattle.dms_objects.specs.declared.column.Column.{Column}
+use Rattle.dms_objects.specs.declared.column.Column.TheVariants.{MemoryType, Number, MultiString, Owner, Crc, Beacon, PixelService, RunTimePriority, Status}
+use Rattle.dms_codes.specs.declared.row_id.RowId.{RowId}
+use Rattle.dms_codes.specs.Codes.{octets_of_activation, IsActivation}
+use Rattle.dms_objects.specs.Names.{below_dms, cell_name, column_number}
 use Rattle.dms_centre.specs.declared.step.Step.{Step}
 use Rattle.dms_centre.specs.declared.step.Step.TheVariants.{Opening, Opened, Filling, Validating, Polling, Comparing, Activating, Explaining}
 use Rattle.dms_centre.specs.State.{SettingsModel, PublicationModel, Work, Publishing}

@@ -3,8 +3,8 @@ use Rattle.std.proofs.Common.{◌≡◌, ℕ, ℤ, pos, ◌+◌, inl, inr, if◌
 use Rattle.std.specs.Ordering.{int_eq}
 use Rattle.dms_wire.specs.Message.{VarBind, SnmpMessage}
 use Rattle.dms_wire.specs.MessageOf.{message_of}
-use Rattle.dms_table.specs.declared.status.Status.TheVariants as statuses
-use Rattle.dms_table.specs.Status.{status_number}
+use Rattle.dms_codes.specs.declared.status.Status.TheVariants as statuses
+use Rattle.dms_codes.specs.Status.{status_number}
 use Rattle.dms_centre.specs.declared.ended.Why.TheVariants as reasons
 use Rattle.dms_centre.specs.declared.fault.CommandFault.{CommandFault}
 use Rattle.dms_centre.specs.declared.outcome.Outcome.TheVariants as outcomes

@@ -2,9 +2,10 @@
 use Rattle.std.specs.Prelude.{◌≡◌, ℕ, ◌<◌, ◌^◌, ◌==◌, ◌&&◌, ◌||◌, Bool, true, not, List, length, Option, Some, None, nat_le, nat_lt, if◌then◌else◌}
 use Rattle.std.specs.List.{All}
 use Rattle.std.specs.Int.Digits.{AllBelowBase}
-use Rattle.dms_table.specs.declared.codes.Activation.{Activation}
-use Rattle.dms_table.specs.Codes.{IsActivation}
-use Rattle.dms_table.specs.Rows.{longest_text, longest_owner, changeable_memory, volatile_memory, blank_memory}
+use Rattle.dms_codes.specs.declared.codes.Activation.{Activation}
+use Rattle.dms_codes.specs.Codes.{IsActivation}
+use Rattle.dms_codes.specs.Limits.{longest_text, longest_owner}
+use Rattle.dms_codes.specs.Memory.{changeable_memory, volatile_memory, blank_memory}
 use Rattle.dms_centre.specs.declared.fault.CommandFault.{CommandFault}
 use Rattle.dms_centre.specs.declared.fault.CommandFault.TheVariants as faults
 use Rattle.dms_centre.specs.declared.step.Step.TheVariants.{Opening, Activating}

@@ -3,7 +3,7 @@ use Rattle.std.specs.Prelude.{◌≡◌, ℕ, ◌<◌, ◌⊎◌, pos, List, len
 use Rattle.dms_wire.specs.declared.message.Kind.TheVariants.{Response}
 use Rattle.dms_wire.specs.Message.{SnmpMessage}
 use Rattle.dms_wire.specs.MessageOf.{message_of}
-use Rattle.dms_table.specs.declared.codes.Activation.{Activation}
+use Rattle.dms_codes.specs.declared.codes.Activation.{Activation}
 use Rattle.dms_centre.specs.declared.outcome.Outcome.{Outcome}
 use Rattle.dms_centre.specs.declared.outcome.Outcome.TheVariants.{Waiting, Accepted, Refused, NoReply, Unknown}
 use Rattle.dms_centre.specs.declared.step.Step.TheVariants.{Activating}
@@ -12,7 +12,7 @@ use Rattle.dms_centre.specs.Steps.{code_of, request_of}
 use Rattle.dms_centre.specs.Sending.{Move}
 use Rattle.dms_centre.specs.Commands.{CommandModel, refusal_of, job_of}
 use Rattle.dms_centre.specs.History.{Input, Commands, Hears, Ticks, Restarts, made, after_inputs}
-use Rattle.dms_centre.specs.Numbers.{HasNumber}
+use Rattle.dms_centre.specs.RequestNumbers.{HasNumber}
 
 -- ---- at one input
 

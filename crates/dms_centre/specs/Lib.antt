@@ -6,7 +6,7 @@ pub mod Commands
 pub mod Inputs
 pub mod History
 pub mod Requests
-pub mod Numbers
+pub mod RequestNumbers
 pub mod Numbered
 pub mod Ledger
 pub mod FaultTexts

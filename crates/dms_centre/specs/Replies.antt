@@ -5,10 +5,10 @@ use Rattle.std.specs.Cmp.Lexicographic.{pointwise}
 use Rattle.dms_wire.specs.declared.message.Kind.{Kind}
 use Rattle.dms_wire.specs.declared.message.Kind.TheVariants.{Response}
 use Rattle.dms_wire.specs.Message.{ObjectValue, integer, VarBind, SnmpMessage}
-use Rattle.dms_table.specs.declared.codes.Order.{Order}
-use Rattle.dms_table.specs.declared.status.Status.TheVariants as statuses
-use Rattle.dms_table.specs.Codes.{in_order}
-use Rattle.dms_table.specs.Status.{status_number}
+use Rattle.dms_codes.specs.declared.codes.Order.{Order}
+use Rattle.dms_codes.specs.declared.status.Status.TheVariants as statuses
+use Rattle.dms_codes.specs.Codes.{in_order}
+use Rattle.dms_codes.specs.Status.{status_number}
 use Rattle.dms_centre.specs.declared.ended.Ended.TheVariants as endings
 use Rattle.dms_centre.specs.declared.ended.Why.TheVariants.{Status, WrongStatus, StillValidating, OtherChecksum, OddReply, Cause}
 use Rattle.dms_centre.specs.declared.outcome.Outcome.{Outcome}

@@ -1,8 +1,8 @@
 -- The requests that go out, and what their values have to be for it.
 use Rattle.std.specs.Prelude.{◌≡◌, ℕ, true, List, Some}
 use Rattle.dms_wire.specs.MessageOf.{message_of}
-use Rattle.dms_table.specs.declared.codes.Activation.{Activation}
-use Rattle.dms_table.specs.Codes.{IsActivation}
+use Rattle.dms_codes.specs.declared.codes.Activation.{Activation}
+use Rattle.dms_codes.specs.Codes.{IsActivation}
 use Rattle.dms_centre.specs.declared.step.Step.{Step}
 use Rattle.dms_centre.specs.State.{SettingsModel, PublicationModel, Work, Publishing, Showing}
 use Rattle.dms_centre.specs.Steps.{request_of}

@@ -1,8 +1,8 @@
 -- What the central system keeps: its settings, its job, the request that waits for a reply, and the ledger of the codes that it sent
 -- (this profile).
 use Rattle.std.specs.Prelude.{ℕ, Bool, true, false, List, []}
-use Rattle.dms_table.specs.declared.codes.Order.{Order}
-use Rattle.dms_table.specs.declared.codes.Activation.{Activation}
+use Rattle.dms_codes.specs.declared.codes.Order.{Order}
+use Rattle.dms_codes.specs.declared.codes.Activation.{Activation}
 use Rattle.dms_centre.specs.declared.ended.Ended.{Ended}
 use Rattle.dms_centre.specs.declared.ended.Ended.TheVariants.{Never}
 use Rattle.dms_centre.specs.declared.outcome.Outcome.{Outcome}

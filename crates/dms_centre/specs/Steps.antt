@@ -3,14 +3,14 @@ use Rattle.std.specs.Prelude.{ℕ, pos, Bool, true, false, List, [], ◌∷◌}
 use Rattle.dms_wire.specs.declared.message.Kind.{Kind}
 use Rattle.dms_wire.specs.declared.message.Kind.TheVariants.{Get, Set}
 use Rattle.dms_wire.specs.Message.{ObjectValue, integer, octet_string, null, VarBind, SnmpMessage}
-use Rattle.dms_table.specs.declared.codes.Order.{Order}
-use Rattle.dms_table.specs.declared.codes.Activation.{Activation}
-use Rattle.dms_table.specs.declared.names.Column.{Column}
-use Rattle.dms_table.specs.declared.names.Column.TheVariants.{MultiString, Owner, Crc, Beacon, PixelService, RunTimePriority, Status}
-use Rattle.dms_table.specs.declared.row.RowId.{RowId}
-use Rattle.dms_table.specs.Checksum.{message_checksum}
-use Rattle.dms_table.specs.Codes.{octets_of_activation}
-use Rattle.dms_table.specs.Names.{activate_message, activate_message_error, cell_name}
+use Rattle.dms_codes.specs.declared.codes.Order.{Order}
+use Rattle.dms_codes.specs.declared.codes.Activation.{Activation}
+use Rattle.dms_objects.specs.declared.column.Column.{Column}
+use Rattle.dms_objects.specs.declared.column.Column.TheVariants.{MultiString, Owner, Crc, Beacon, PixelService, RunTimePriority, Status}
+use Rattle.dms_codes.specs.declared.row_id.RowId.{RowId}
+use Rattle.dms_codes.specs.Checksum.{message_checksum}
+use Rattle.dms_codes.specs.Codes.{octets_of_activation}
+use Rattle.dms_objects.specs.Names.{activate_message, activate_message_error, cell_name}
 use Rattle.dms_centre.specs.declared.step.Step.{Step}
 use Rattle.dms_centre.specs.declared.step.Step.TheVariants.{Opening, Opened, Filling, Validating, Polling, Comparing, Activating, Explaining}
 use Rattle.dms_centre.specs.State.{SettingsModel, Work, Publishing, Showing}

@@ -5,7 +5,7 @@ ghost use Rattle.std.specs.Prelude.{ℕ, List};
 ghost use Rattle.std.specs.List.{AllByRecursion};
 ghost use Rattle.dms_centre.specs.State.{SettingsModel};
 ghost use Rattle.dms_centre.specs.History.{AreSettings, Input, IsInput, History, made, move_at, after_input, after_inputs};
-ghost use Rattle.dms_centre.specs.Numbers.{AreRequests, NumbersRise, EqualNumbersMeanEqualOctets, ThreeSendsAtMost, Sends};
+ghost use Rattle.dms_centre.specs.RequestNumbers.{AreRequests, NumbersRise, EqualNumbersMeanEqualOctets, ThreeSendsAtMost, Sends};
 ghost use Rattle.dms_centre.specs.Numbered.{HistoryIsNumbered};
 ghost use Rattle.dms_centre.specs.Ledger.{LedgerMoves, LedgerIsSent, NumbersPutUpTheirCodes, CodesAreOrdered};
 

@@ -2,7 +2,7 @@
 use Rattle.std.proofs.Common.{◌≡◌, ◌≢◌, ℕ, ◌≤◌, List, [], ◌∷◌, ◌++◌, length, Some, refl, ap, arith}
 use Rattle.std.specs.Prelude.{codes}
 use Rattle.hex.specs.Hex.{decode_pairs}
-use Rattle.dms_table.specs.declared.status.Status.TheVariants.{Valid}
+use Rattle.dms_codes.specs.declared.status.Status.TheVariants.{Valid}
 use Rattle.dms_font.specs.Lines.{kept_lines}
 use Rattle.dms_font.specs.Words.{number_of, version_of, octets_of, word_at, keyword_at, decimal_at, SpellsDecimal}
 use Rattle.dms_font.specs.FontReading.{labelled_at, version_at, header_of, glyph_words, bitmap_of, glyph_read, glyph_added, glyphs_added, font_read}

@@ -9,10 +9,10 @@ use Rattle.dms_wire.specs.MessageOf.{message_of}
 use Rattle.dms_wire.specs.declared.message.Kind.{Kind}
 use Rattle.dms_wire.specs.declared.message.Kind.TheVariants.{Set}
 use Rattle.dms_wire.specs.Message.{ObjectValue, integer, octet_string, VarBind}
-use Rattle.dms_table.specs.declared.names.Column.{Column}
-use Rattle.dms_table.specs.declared.names.Column.TheVariants.{MultiString, RunTimePriority, Status}
-use Rattle.dms_table.specs.Names.{object_name, cell_name}
-use Rattle.dms_table.specs.Status.{status_number}
+use Rattle.dms_objects.specs.declared.column.Column.{Column}
+use Rattle.dms_objects.specs.declared.column.Column.TheVariants.{MultiString, RunTimePriority, Status}
+use Rattle.dms_objects.specs.Names.{object_name, cell_name}
+use Rattle.dms_codes.specs.Status.{status_number}
 use Rattle.dms_multi.specs.Outcomes.{outcomes_within}
 use Rattle.dms_multi.specs.TagReading.{item_at, item_after_opening, item_after_closing, tag_at, body_item, name_at, letters_name, end_name, item_of, flash_of, font_of, times_of, page_time_of}
 use Rattle.dms_multi.specs.Reading.{number_of, decimal_of, value_of, cut, version_of}
@@ -20,20 +20,21 @@ use Rattle.dms_font.specs.Glyph.{glyph_from}
 use Rattle.dms_font.specs.Font.{FontModel}
 use Rattle.dms_face.specs.Face.{FaceModel}
 use Rattle.dms_face.specs.Fit.{fault_of}
-use Rattle.dms_table.specs.declared.codes.Order.TheVariants.{High}
-use Rattle.dms_table.specs.declared.status.Status.TheVariants.{Valid}
-use Rattle.dms_table.specs.Checksum.{octet_bits}
-use Rattle.dms_table.specs.Codes.{activation_of}
+use Rattle.dms_codes.specs.declared.codes.Order.TheVariants.{High}
+use Rattle.dms_codes.specs.declared.status.Status.TheVariants.{Valid}
+use Rattle.dms_codes.specs.Checksum.{octet_bits}
+use Rattle.dms_codes.specs.Codes.{activation_of}
 use Rattle.dms_table.specs.Rows.{unused}
-use Rattle.dms_sign.specs.Objects.{name_of, instances}
+use Rattle.dms_objects.specs.Names.{name_of}
+use Rattle.dms_sign.specs.Objects.{instances}
 use Rattle.dms_sign.specs.Values.{scalar_value, value_at, value_after, minutes_left}
 use Rattle.dms_sign.specs.Values as values
-use Rattle.dms_sign.specs.Writing.{is_settable_object, object_write, cell_write, write_of}
-use Rattle.dms_sign.specs.Setting.{settable_instance, write_at, causes, assigned}
-use Rattle.dms_sign.specs.Answering.{primary, set}
+use Rattle.dms_sign.specs.Access.{is_settable_object, object_write, cell_write, write_of}
+use Rattle.dms_sign.specs.SetRequest.{settable_instance, write_at, causes, assigned}
+use Rattle.dms_sign.specs.Requests.{primary, set}
 use Rattle.dms_sign.specs.Reply.{reply_to}
 use Rattle.dms_sign.specs.Reply as sign
-use Rattle.dms_sign.specs.PuttingUp.{put_up_code}
+use Rattle.dms_sign.specs.OwnCodes.{put_up_code}
 use Rattle.dms_sign.specs.Events.{after_settling, after_duration, after_silence, after_tick, after_power_loss, after_power_return}
 use Rattle.dms_centre.specs.Steps.{request_of}
 use Rattle.dms_centre.specs.Sending.{sends}

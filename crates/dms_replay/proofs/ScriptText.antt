@@ -4,7 +4,7 @@ use Rattle.std.specs.Prelude.{codes}
 use Rattle.hex.specs.Hex.{decode_pairs}
 use Rattle.dms_font.specs.Words.{number_of}
 use Rattle.dms_font.proofs.WordLaws.{number_found}
-use Rattle.dms_table.specs.declared.codes.Order.TheVariants.{High}
+use Rattle.dms_codes.specs.declared.codes.Order.TheVariants.{High}
 use Rattle.dms_replay.specs.Event.{EventModel, sign_tick, centre_tick, to_sign, to_centre}
 use Rattle.dms_replay.specs.Fields.{SpellsFourOctets, SpellsAddressPart}
 use Rattle.dms_replay.specs.EventLine.{SpellsEvent}

@@ -1,17 +1,17 @@
 -- The parts of the headline on given runs of the bench sign, each with its witnesses.
 use Rattle.std.proofs.Common.{◌≡◌, List, [], ◌∷◌, ◌++◌, slice_get, Some, refl, arith}
 use Rattle.std.specs.Prelude.{pos, codes}
-use Rattle.dms_table.specs.declared.codes.Order.TheVariants.{High}
-use Rattle.dms_table.specs.declared.codes.Activation.{Activation}
-use Rattle.dms_table.specs.declared.status.Status.TheVariants.{Valid}
-use Rattle.dms_table.specs.Codes.{activation_of, octets_of_activation}
-use Rattle.dms_sign.specs.Answering.{primary}
+use Rattle.dms_codes.specs.declared.codes.Order.TheVariants.{High}
+use Rattle.dms_codes.specs.declared.codes.Activation.{Activation}
+use Rattle.dms_codes.specs.declared.status.Status.TheVariants.{Valid}
+use Rattle.dms_codes.specs.Codes.{activation_of, octets_of_activation}
+use Rattle.dms_sign.specs.Requests.{primary}
 use Rattle.dms_centre.specs.declared.outcome.Outcome.TheVariants.{Accepted, Refused}
 use Rattle.dms_centre.specs.State.{Entry}
 use Rattle.dms_wire.specs.declared.message.Kind.TheVariants.{Set}
 use Rattle.dms_wire.specs.Message.{octet_string, SnmpMessage}
 use Rattle.dms_wire.specs.Canonical.{canonical}
-use Rattle.dms_table.specs.Names.{activate_message}
+use Rattle.dms_objects.specs.Names.{activate_message}
 use Rattle.dms_table.specs.Rows.{RowModel}
 use Rattle.dms_centre.specs.Commands.{CommandModel, Publish}
 use Rattle.dms_replay.specs.Event.{EventModel, sign_tick, centre_tick, to_sign, to_centre}

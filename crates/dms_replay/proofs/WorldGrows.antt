@@ -1,14 +1,14 @@
 -- What was sent and what was accepted stays in its place, whatever happens later.
 use Rattle.std.proofs.Common.{◌≡◌, ℕ, zero, suc, ◌<◌, ◌≤◌, inl, inr, List, ◌++◌, Option, Some, None, slice_get, option_to_list, refl, sym, subst, arith, append-nil}
 use Rattle.std.proofs.lemmas.Bool.{cases_lt}
-use Rattle.dms_table.specs.declared.codes.Activation.{Activation}
+use Rattle.dms_codes.specs.declared.codes.Activation.{Activation}
 use Rattle.dms_sign.specs.Reply as sign_reply
 use Rattle.dms_centre.specs.State.{SettingsModel}
 use Rattle.dms_centre.specs.Sending.{Move}
 use Rattle.dms_centre.specs.Commands.{commanded}
 use Rattle.dms_centre.specs.Inputs.{received, ticked}
 use Rattle.dms_centre.specs.History.{Input, History, move_at}
-use Rattle.dms_centre.specs.Numbers.{HasNumber, Sends, Nothing, Again, New}
+use Rattle.dms_centre.specs.RequestNumbers.{HasNumber, Sends, Nothing, Again, New}
 use Rattle.dms_centre.proofs.Lists.{on_left, in_push}
 use Rattle.dms_centre.proofs.Numbers.{one_number, request_number}
 use Rattle.dms_centre.proofs.Keeping.{keeps_input}

@@ -9,11 +9,11 @@ use Rattle.dms_wire.specs.MessageOf.{message_of}
 use Rattle.dms_wire.specs.Limits.{AreBindingsInLimits}
 use Rattle.dms_wire.proofs.LimitsLaws.{spelled_in_limits}
 use Rattle.dms_wire.proofs.MessageOfLaws.{read_is_spelled}
-use Rattle.dms_table.specs.declared.codes.Activation.{Activation}
-use Rattle.dms_table.specs.Codes.{octets_of_activation, activation_of}
-use Rattle.dms_table.specs.Rows.{current_buffer, blank_memory}
+use Rattle.dms_codes.specs.declared.codes.Activation.{Activation}
+use Rattle.dms_codes.specs.Codes.{octets_of_activation, activation_of}
+use Rattle.dms_codes.specs.Memory.{current_buffer, blank_memory}
 use Rattle.dms_sign.specs.State.{SignState}
-use Rattle.dms_sign.specs.Answering.{primary}
+use Rattle.dms_sign.specs.Requests.{primary}
 use Rattle.dms_sign.specs.Reply as sign_reply
 use Rattle.dms_sign.specs.Reply.{heard}
 use Rattle.dms_sign.specs.InRange.{response_sent, IsSpelledReply}
@@ -24,7 +24,7 @@ use Rattle.dms_centre.specs.declared.outcome.Outcome.TheVariants.{Accepted, Refu
 use Rattle.dms_centre.specs.declared.step.Step.TheVariants.{Activating}
 use Rattle.dms_centre.specs.State.{Showing, Entry}
 use Rattle.dms_centre.specs.Steps.{request_of}
-use Rattle.dms_centre.specs.Numbers.{HasNumber}
+use Rattle.dms_centre.specs.RequestNumbers.{HasNumber}
 use Rattle.dms_centre.specs.Ledger.{Answers, PutsUp}
 use Rattle.dms_centre.proofs.Lists.{at_end}
 use Rattle.dms_replay.specs.Event.{EventModel, to_sign, forge_centre}

@@ -8,18 +8,19 @@ use Rattle.dms_wire.specs.Message.{VarBind, SnmpMessage}
 use Rattle.dms_face.specs.declared.defaults.Defaults.{Defaults}
 use Rattle.dms_face.specs.Face.{FaceModel}
 use Rattle.dms_face.specs.Layout.{under}
-use Rattle.dms_table.specs.declared.cause.Cause.{Cause}
-use Rattle.dms_table.specs.declared.cause.Cause.TheVariants as causes_of
-use Rattle.dms_table.specs.declared.codes.MessageId.{MessageId}
-use Rattle.dms_table.specs.declared.codes.Activation.{Activation}
-use Rattle.dms_table.specs.Status.{is_valid}
-use Rattle.dms_table.specs.Rows.{RowModel, TableModel, RowReading, row_checksum, reading, blank_reading, blank_at, rows_of, numbered, row_read, current_buffer, blank_memory}
-use Rattle.dms_table.specs.Codes.{activation_of}
-use Rattle.dms_table.specs.Deciding.{ShownModel, shown_reading, row_id, named, is_memory, has_checksum, activation_error, put_up, unless_refused, decided_on, decided}
+use Rattle.dms_table.specs.declared.activation.Cause.{Cause}
+use Rattle.dms_table.specs.declared.activation.Cause.TheVariants as causes_of
+use Rattle.dms_codes.specs.declared.codes.MessageId.{MessageId}
+use Rattle.dms_codes.specs.declared.codes.Activation.{Activation}
+use Rattle.dms_codes.specs.Status.{is_valid}
+use Rattle.dms_table.specs.Rows.{RowModel, TableModel, RowReading, row_checksum, reading, blank_reading, blank_at, rows_of, numbered, row_read}
+use Rattle.dms_codes.specs.Memory.{current_buffer, blank_memory}
+use Rattle.dms_codes.specs.Codes.{activation_of}
+use Rattle.dms_table.specs.Activation.{ShownModel, shown_reading, row_id, named, is_memory, has_checksum, activation_error, put_up, unless_refused, decided_on, decided}
 use Rattle.dms_sign.specs.State.{SignState}
-use Rattle.dms_sign.specs.Writing.{Write, SetNumber, SetCode, SetField, AskRow, Activate, SetRemaining, is_command}
-use Rattle.dms_sign.specs.Setting.{SetCause, causes, assigned}
-use Rattle.dms_sign.specs.Answering.{found_unless, as_decided, as_asked, commanded, commanded_if, writes_of, set_unless, may_write, answer_by, primary}
+use Rattle.dms_sign.specs.Access.{Write, SetNumber, SetCode, SetField, AskRow, Activate, SetRemaining, is_command}
+use Rattle.dms_sign.specs.SetRequest.{SetCause, causes, assigned}
+use Rattle.dms_sign.specs.Requests.{found_unless, as_decided, as_asked, commanded, commanded_if, writes_of, set_unless, may_write, answer_by, primary}
 use Rattle.dms_centre.proofs.Lists.{by_test}
 use Rattle.dms_replay.specs.Honest.{shown_checksum}
 

@@ -6,8 +6,8 @@ use Rattle.std.proofs.lemmas.List.Elements.{All-from_recursion}
 use Rattle.dms_face.specs.Face.{FaceModel}
 use Rattle.dms_table.specs.declared.row.Services.{Services}
 use Rattle.dms_table.specs.Rows.{RowModel, TableModel}
-use Rattle.dms_table.specs.Settling.{verdict_of, passes}
-use Rattle.dms_table.specs.Stocking.{has_ranges}
+use Rattle.dms_table.specs.Validation.{verdict_of, passes}
+use Rattle.dms_table.specs.Stock.{has_ranges}
 use Rattle.dms_sign.specs.State.{ConfigModel, start}
 use Rattle.dms_sign.specs.InRange.{IsSignInRange, IsStocked}
 use Rattle.dms_sign.proofs.InRangeStart.{made_in_range}

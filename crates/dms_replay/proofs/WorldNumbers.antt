@@ -2,7 +2,7 @@
 use Rattle.std.proofs.Common.{◌≡◌, ℕ, zero, suc, List, Option, Some, None, length, refl, sym, ◌∙◌, subst}
 use Rattle.dms_centre.specs.State.{SettingsModel, Job, Pending, Awaits}
 use Rattle.dms_centre.specs.History.{Input, History}
-use Rattle.dms_centre.specs.Numbers.{AreRequests, EqualNumbersMeanEqualOctets, ThreeSendsAtMost}
+use Rattle.dms_centre.specs.RequestNumbers.{AreRequests, EqualNumbersMeanEqualOctets, ThreeSendsAtMost}
 use Rattle.dms_centre.specs.Numbered.{IsOut, IsAwaited}
 use Rattle.dms_centre.specs.Ledger.{LedgerIsSent, NumbersPutUpTheirCodes}
 use Rattle.dms_centre.proofs.Keeping.{keeps_input}

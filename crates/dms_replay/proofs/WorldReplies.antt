@@ -11,8 +11,8 @@ use Rattle.dms_wire.specs.Response.{response_to}
 use Rattle.dms_wire.proofs.MessageOfLaws.{read_is_spelled}
 use Rattle.dms_wire.proofs.ShorterSpellings.{response_no_longer}
 use Rattle.dms_sign.specs.State.{SignState}
-use Rattle.dms_sign.specs.Setting.{too_big}
-use Rattle.dms_sign.specs.Answering.{Answer, primary}
+use Rattle.dms_sign.specs.SetRequest.{too_big}
+use Rattle.dms_sign.specs.Requests.{Answer, primary}
 use Rattle.dms_sign.specs.Reply as sign_reply
 use Rattle.dms_sign.specs.Reply.{response_of, most_octets, is_heard, heard, dropped, on_message_if}
 use Rattle.dms_sign.specs.InRange.{response_sent}

@@ -2,12 +2,12 @@
 use Rattle.std.proofs.Common.{◌≡◌, ℕ, zero, suc, ◌<◌, ◌≤◌, inl, inr, List, Some, slice_get, refl, sym, ◌∙◌, subst, arith}
 use Rattle.std.proofs.lemmas.Bool.{cases_lt}
 use Rattle.std.proofs.lemmas.Option.{same_Some}
-use Rattle.dms_table.specs.declared.codes.Activation.{Activation}
-use Rattle.dms_table.specs.Codes.{octets_of_activation}
+use Rattle.dms_codes.specs.declared.codes.Activation.{Activation}
+use Rattle.dms_codes.specs.Codes.{octets_of_activation}
 use Rattle.dms_centre.specs.declared.step.Step.TheVariants.{Activating}
 use Rattle.dms_centre.specs.State.{SettingsModel, Showing, Entry}
 use Rattle.dms_centre.specs.Steps.{request_of}
-use Rattle.dms_centre.specs.Numbers.{HasNumber}
+use Rattle.dms_centre.specs.RequestNumbers.{HasNumber}
 use Rattle.dms_centre.specs.Ledger.{PutsUp}
 use Rattle.dms_centre.proofs.Numbers.{below_next}
 use Rattle.dms_centre.proofs.LedgerLaws.{puts_up_number}

@@ -3,14 +3,14 @@ use Rattle.std.proofs.Common.{◌≡◌, ◌⊎◌, inl, inr, ℕ, zero, suc, Is
 use Rattle.dms_face.specs.declared.defaults.Defaults.{Defaults}
 use Rattle.dms_face.specs.Layout.{under}
 use Rattle.dms_face.specs.Fit.{IsGood}
-use Rattle.dms_table.specs.declared.codes.Order.{Order}
-use Rattle.dms_table.specs.declared.codes.MessageId.{MessageId}
-use Rattle.dms_table.specs.declared.codes.Activation.{Activation}
+use Rattle.dms_codes.specs.declared.codes.Order.{Order}
+use Rattle.dms_codes.specs.declared.codes.MessageId.{MessageId}
+use Rattle.dms_codes.specs.declared.codes.Activation.{Activation}
 use Rattle.dms_table.specs.Rows.{RowModel}
-use Rattle.dms_table.specs.Settling.{IsShowable}
-use Rattle.dms_table.specs.Deciding.{ShownModel, shown_row}
+use Rattle.dms_table.specs.Validation.{IsShowable}
+use Rattle.dms_table.specs.Activation.{ShownModel, shown_row}
 use Rattle.dms_sign.specs.State.{ConfigModel}
-use Rattle.dms_sign.specs.Steps.{IsSameMessage, IsRowOf, IsOwnCode, ShowsNow, stayed, came_back, blanked, activated, fell_back}
+use Rattle.dms_sign.specs.Transitions.{IsSameMessage, IsRowOf, IsOwnCode, ShowsNow, stayed, came_back, blanked, activated, fell_back}
 use Rattle.dms_sign.proofs.StepShown.{checksum_as}
 use Rattle.dms_replay.specs.Event.{EventModel}
 use Rattle.dms_replay.specs.World.{WorldModel, IsFresh, world_at}

@@ -4,7 +4,7 @@ use Rattle.std.proofs.lemmas.Bool.{and_parts}
 use Rattle.dms_face.specs.declared.defaults.Defaults.{Defaults}
 use Rattle.dms_face.specs.Face.{FaceModel, is_matrix, are_fonts, fit, is_face}
 use Rattle.dms_sign.specs.State.{ConfigModel}
-use Rattle.dms_sign.specs.Steps.{HasFitDefaults}
+use Rattle.dms_sign.specs.Transitions.{HasFitDefaults}
 use Rattle.dms_sign.proofs.StepDefaults.{received_fits, tick_fits, power_loss_fits, power_return_fits}
 use Rattle.dms_replay.specs.Event.{EventModel}
 use Rattle.dms_replay.specs.World.{WorldModel, IsFresh, world_at}

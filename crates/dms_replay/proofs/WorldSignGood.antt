@@ -4,11 +4,12 @@ use Rattle.std.specs.List.{list_all}
 use Rattle.std.proofs.lemmas.Bool.{eqb-true, and_parts}
 use Rattle.dms_face.specs.Face.{FaceModel}
 use Rattle.dms_face.specs.Layout.{under}
-use Rattle.dms_table.specs.declared.status.Status.TheVariants.{NotUsed, Valid, Validating}
+use Rattle.dms_codes.specs.declared.status.Status.TheVariants.{NotUsed, Valid, Validating}
 use Rattle.dms_table.specs.declared.row.Services.{Services}
-use Rattle.dms_table.specs.Rows.{RowModel, TableModel, unused, numbered, permanent_memory, changeable_memory, volatile_memory}
-use Rattle.dms_table.specs.Settling.{verdict_of, passes, IsShowable, CameToBeValid, was_valid, was_settled as came_settled}
-use Rattle.dms_table.specs.Stocking.{has_ranges}
+use Rattle.dms_table.specs.Rows.{RowModel, TableModel, unused, numbered}
+use Rattle.dms_codes.specs.Memory.{permanent_memory, changeable_memory, volatile_memory}
+use Rattle.dms_table.specs.Validation.{verdict_of, passes, IsShowable, CameToBeValid, was_valid, was_settled as came_settled}
+use Rattle.dms_table.specs.Stock.{has_ranges}
 use Rattle.dms_table.proofs.GoodRows.{showable}
 use Rattle.dms_sign.specs.State.{ConfigModel}
 use Rattle.dms_sign.proofs.StepRows.{good_where_passes}

@@ -1,9 +1,9 @@
 -- What is shown, what is kept, and the rows of a sign, after any events.
 use Rattle.std.proofs.Common.{◌≡◌, ◌⊎◌, inl, inr, ℕ, zero, suc, List, length, Option, refl, sym, subst, ◌∙◌, arith}
 use Rattle.dms_face.specs.declared.defaults.Defaults.{Defaults}
-use Rattle.dms_table.specs.declared.codes.Activation.{Activation}
-use Rattle.dms_table.specs.Deciding.{ShownModel}
-use Rattle.dms_sign.specs.Steps.{ShowsNow, stayed, came_back, blanked, activated, fell_back}
+use Rattle.dms_codes.specs.declared.codes.Activation.{Activation}
+use Rattle.dms_table.specs.Activation.{ShownModel}
+use Rattle.dms_sign.specs.Transitions.{ShowsNow, stayed, came_back, blanked, activated, fell_back}
 use Rattle.dms_replay.specs.Event.{EventModel}
 use Rattle.dms_replay.specs.World.{WorldModel, IsFresh, world_at}
 use Rattle.dms_replay.specs.Backed.{WereDefaults, CopiedDefaults}

@@ -1,10 +1,10 @@
 -- Each event of a world makes one step of its sign, and lists what was accepted.
 use Rattle.std.proofs.Common.{◌≡◌, ℕ, zero, suc, List, [], ◌∷◌, ◌++◌, Option, Some, None, slice_get, refl, sym, subst}
-use Rattle.dms_table.specs.declared.codes.Activation.{Activation}
+use Rattle.dms_codes.specs.declared.codes.Activation.{Activation}
 use Rattle.dms_sign.specs.State.{SignState}
 use Rattle.dms_sign.specs.Reply.{received}
 use Rattle.dms_sign.specs.Events.{after_tick, after_power_loss, after_power_return}
-use Rattle.dms_sign.specs.Steps.{IsSignStep}
+use Rattle.dms_sign.specs.Transitions.{IsSignStep}
 use Rattle.dms_sign.proofs.StepEvents.{step_none, step_received, step_tick, step_power_loss, step_power_return}
 use Rattle.dms_replay.specs.Event.{EventModel, command, sign_tick, centre_tick, to_sign, to_centre, power_lost, power_back, centre_restart, forge_sign, forge_centre}
 use Rattle.dms_replay.specs.World.{WorldModel, noted, with_sign, at_sign, at_centre, happens, happens_if, world_at}

@@ -3,7 +3,7 @@ use Rattle.std.proofs.Common.{◌≡◌, inl, inr, ℕ, zero, suc, pos, ◌<◌,
 use Rattle.std.proofs.lemmas.Option.{none-some}
 use Rattle.dms_wire.specs.Message.{SnmpMessage}
 use Rattle.dms_wire.specs.MessageOf.{message_of}
-use Rattle.dms_table.specs.declared.codes.Activation.{Activation}
+use Rattle.dms_codes.specs.declared.codes.Activation.{Activation}
 use Rattle.dms_centre.specs.declared.outcome.Outcome.{Outcome}
 use Rattle.dms_centre.specs.declared.outcome.Outcome.TheVariants.{Waiting, Accepted, Refused, NoReply, Unknown}
 use Rattle.dms_centre.specs.State.{Entry}

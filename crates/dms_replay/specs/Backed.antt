@@ -2,14 +2,15 @@
 use Rattle.std.specs.Prelude.{◌≡◌, ◌⊎◌, ℕ, ◌≤◌, List, [], length, slice_get, Option, Some}
 use Rattle.dms_face.specs.declared.defaults.Defaults.{Defaults}
 use Rattle.dms_face.specs.Layout.{under}
-use Rattle.dms_table.specs.declared.status.Status.TheVariants.{Valid}
-use Rattle.dms_table.specs.declared.codes.MessageId.{MessageId}
-use Rattle.dms_table.specs.declared.codes.Activation.{Activation}
-use Rattle.dms_table.specs.Checksum.{message_checksum}
-use Rattle.dms_table.specs.Rows.{RowModel, TableModel, rows_of, numbered, blank_memory}
-use Rattle.dms_table.specs.Settling.{IsShowable}
-use Rattle.dms_table.specs.Deciding.{ShownModel, shown_row}
-use Rattle.dms_sign.specs.Steps.{IsOwnCode}
+use Rattle.dms_codes.specs.declared.status.Status.TheVariants.{Valid}
+use Rattle.dms_codes.specs.declared.codes.MessageId.{MessageId}
+use Rattle.dms_codes.specs.declared.codes.Activation.{Activation}
+use Rattle.dms_codes.specs.Checksum.{message_checksum}
+use Rattle.dms_table.specs.Rows.{RowModel, TableModel, rows_of, numbered}
+use Rattle.dms_codes.specs.Memory.{blank_memory}
+use Rattle.dms_table.specs.Validation.{IsShowable}
+use Rattle.dms_table.specs.Activation.{ShownModel, shown_row}
+use Rattle.dms_sign.specs.Transitions.{IsOwnCode}
 use Rattle.dms_replay.specs.Event.{EventModel}
 use Rattle.dms_replay.specs.World.{WorldModel, world_at, world_after}
 

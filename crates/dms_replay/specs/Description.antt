@@ -7,10 +7,10 @@ use Rattle.dms_font.specs.Font.{FontModel}
 use Rattle.dms_font.specs.FontText.{SpellsFontLines}
 use Rattle.dms_face.specs.Face.{FaceModel, is_face, is_within}
 use Rattle.dms_table.specs.declared.row.Services.{Services}
-use Rattle.dms_table.specs.declared.status.Status.TheVariants.{Valid}
+use Rattle.dms_codes.specs.declared.status.Status.TheVariants.{Valid}
 use Rattle.dms_table.specs.Rows.{RowModel, TableModel, unused}
-use Rattle.dms_table.specs.Settling.{verdict_of, passes}
-use Rattle.dms_table.specs.Stocking.{has_ranges}
+use Rattle.dms_table.specs.Validation.{verdict_of, passes}
+use Rattle.dms_table.specs.Stock.{has_ranges}
 use Rattle.dms_sign.specs.State.{ConfigModel}
 use Rattle.dms_replay.specs.Fields.{SpellsEach, SpellsOctet, SpellsTwoOctets, SpellsFourOctets, SpellsFlag, SpellsOrder}
 

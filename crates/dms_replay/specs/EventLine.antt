@@ -1,7 +1,7 @@
 -- The lines of a script's events (this profile).
 use Rattle.std.specs.Prelude.{◌≡◌, ℕ, List, [], ◌∷◌, codes}
 use Rattle.dms_font.specs.Words.{words_of, SpellsOctets}
-use Rattle.dms_table.specs.declared.codes.Order.{Order}
+use Rattle.dms_codes.specs.declared.codes.Order.{Order}
 use Rattle.dms_centre.specs.State.{PublicationModel}
 use Rattle.dms_centre.specs.Commands.{CommandModel, Publish, Blank, Activate}
 use Rattle.dms_replay.specs.Event.{EventModel, command, sign_tick, centre_tick, to_sign, to_centre, power_lost, power_back, centre_restart, forge_sign, forge_centre}

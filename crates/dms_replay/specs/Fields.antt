@@ -3,10 +3,10 @@ use Rattle.std.specs.Prelude.{◌≡◌, ℕ, ◌==◌, ◌<◌, ◌≤◌, ◌^
 use Rattle.std.specs.List.{slice_split}
 use Rattle.hex.specs.Hex.{decode_of}
 use Rattle.dms_font.specs.Words.{SpellsNumber, SpellsDecimal}
-use Rattle.dms_table.specs.declared.codes.Order.{Order}
-use Rattle.dms_table.specs.declared.codes.Order.TheVariants.{High, Swapped}
-use Rattle.dms_table.specs.declared.codes.Activation.{Activation}
-use Rattle.dms_table.specs.Codes.{octets_of_activation, IsActivation}
+use Rattle.dms_codes.specs.declared.codes.Order.{Order}
+use Rattle.dms_codes.specs.declared.codes.Order.TheVariants.{High, Swapped}
+use Rattle.dms_codes.specs.declared.codes.Activation.{Activation}
+use Rattle.dms_codes.specs.Codes.{octets_of_activation, IsActivation}
 
 -- each of these is spelled by one of those, in order
 abbrev pub SpellsEach : {A : Type 0} → (A → List ℕ → Type 0) → List A → List (List ℕ) → Type 0

@@ -3,9 +3,10 @@ use Rattle.std.specs.Prelude.{◌≡◌, ◌≢◌, ℕ, suc, ◌<◌, IsTrue, L
 use Rattle.dms_face.specs.declared.defaults.Defaults.{Defaults}
 use Rattle.dms_face.specs.Face.{fit}
 use Rattle.dms_face.specs.Layout.{under}
-use Rattle.dms_table.specs.declared.status.Status.TheVariants.{Valid, Validating}
-use Rattle.dms_table.specs.Rows.{RowModel, IsTable, permanent_memory}
-use Rattle.dms_table.specs.Settling.{IsShowable}
+use Rattle.dms_codes.specs.declared.status.Status.TheVariants.{Valid, Validating}
+use Rattle.dms_table.specs.Rows.{RowModel, IsTable}
+use Rattle.dms_codes.specs.Memory.{permanent_memory}
+use Rattle.dms_table.specs.Validation.{IsShowable}
 use Rattle.dms_replay.specs.Event.{EventModel}
 use Rattle.dms_replay.specs.World.{WorldModel, world_at, world_after}
 use Rattle.dms_replay.specs.Backed.{stored_row}

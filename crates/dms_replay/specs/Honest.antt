@@ -1,18 +1,18 @@
 -- The ledger of a centre is honest: its requests have numbers of their own, and what it says of a code is what the sign did.
 use Rattle.std.specs.Prelude.{◌≡◌, ◌≢◌, ℕ, ℤ, pos, suc, ◌<◌, ◌≤◌, List, [], ◌∷◌, slice_get, Some, None}
 use Rattle.dms_wire.specs.Message.{SnmpMessage}
-use Rattle.dms_table.specs.declared.codes.Activation.{Activation}
-use Rattle.dms_table.specs.Checksum.{message_checksum}
-use Rattle.dms_table.specs.Codes.{octets_of_activation}
-use Rattle.dms_table.specs.Rows.{current_buffer, blank_memory}
-use Rattle.dms_table.specs.Deciding.{ShownModel}
-use Rattle.dms_sign.specs.Answering.{primary}
+use Rattle.dms_codes.specs.declared.codes.Activation.{Activation}
+use Rattle.dms_codes.specs.Checksum.{message_checksum}
+use Rattle.dms_codes.specs.Codes.{octets_of_activation}
+use Rattle.dms_codes.specs.Memory.{current_buffer, blank_memory}
+use Rattle.dms_table.specs.Activation.{ShownModel}
+use Rattle.dms_sign.specs.Requests.{primary}
 use Rattle.dms_sign.specs.Promises.{activates}
 use Rattle.dms_centre.specs.declared.outcome.Outcome.TheVariants.{Accepted, Refused}
 use Rattle.dms_centre.specs.State.{Entry}
 use Rattle.dms_centre.specs.Steps.{code_of}
 use Rattle.dms_centre.specs.Commands.{CommandModel, job_of, refusal_of}
-use Rattle.dms_centre.specs.Numbers.{HasNumber, EqualNumbersMeanEqualOctets, ThreeSendsAtMost}
+use Rattle.dms_centre.specs.RequestNumbers.{HasNumber, EqualNumbersMeanEqualOctets, ThreeSendsAtMost}
 use Rattle.dms_replay.specs.Event.{EventModel, command, to_sign}
 use Rattle.dms_replay.specs.World.{WorldModel, world_at, world_after}
 use Rattle.dms_replay.specs.Backed.{Has}

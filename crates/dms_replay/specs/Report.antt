@@ -2,10 +2,10 @@
 use Rattle.std.specs.Prelude.{ℕ, List, [], ◌∷◌, ◌++◌, length, codes, decimal, flat_map}
 use Rattle.std.specs.Fmt.{signed_decimal}
 use Rattle.hex.specs.Hex.{encode_lower}
-use Rattle.dms_table.specs.declared.codes.Order.{Order}
-use Rattle.dms_table.specs.declared.codes.Activation.{Activation}
-use Rattle.dms_table.specs.Codes.{two_octets, octets_of_activation}
-use Rattle.dms_table.specs.Deciding.{ShownModel}
+use Rattle.dms_codes.specs.declared.codes.Order.{Order}
+use Rattle.dms_codes.specs.declared.codes.Activation.{Activation}
+use Rattle.dms_codes.specs.Codes.{two_octets, octets_of_activation}
+use Rattle.dms_table.specs.Activation.{ShownModel}
 use Rattle.dms_sign.specs.Values.{minutes_left}
 use Rattle.dms_centre.specs.declared.outcome.Outcome.{Outcome}
 use Rattle.dms_centre.specs.declared.outcome.Outcome.TheVariants.{Waiting, Accepted, Refused, NoReply, Unknown}

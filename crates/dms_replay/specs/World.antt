@@ -1,6 +1,6 @@
 -- A sign and a centre, with every datagram that was ever sent between them, under any list of events.
 use Rattle.std.specs.Prelude.{◌≡◌, ℕ, zero, suc, List, [], ◌∷◌, ◌++◌, length, slice_get, Option, Some, None, option_to_list}
-use Rattle.dms_table.specs.declared.codes.Activation.{Activation}
+use Rattle.dms_codes.specs.declared.codes.Activation.{Activation}
 use Rattle.dms_table.specs.Rows.{TableModel}
 use Rattle.dms_sign.specs.State.{ConfigModel, SignState}
 use Rattle.dms_sign.specs.State as sign

@@ -7,22 +7,23 @@ use Rattle.dms_wire.specs.declared.message.Kind.{Kind}
 use Rattle.dms_wire.specs.declared.message.Kind.TheVariants.{Get, GetNext, Response, Set}
 use Rattle.dms_wire.specs.Message.{ObjectValue, octet_string, VarBind, SnmpMessage}
 use Rattle.dms_face.specs.Face.{FaceModel}
-use Rattle.dms_table.specs.declared.cause.Cause.{Cause}
-use Rattle.dms_table.specs.declared.codes.Activation.{Activation}
-use Rattle.dms_table.specs.declared.names.Column.TheVariants as columns
-use Rattle.dms_table.specs.Names.{activate_message}
+use Rattle.dms_table.specs.declared.activation.Cause.{Cause}
+use Rattle.dms_codes.specs.declared.codes.Activation.{Activation}
+use Rattle.dms_objects.specs.declared.column.Column.TheVariants as columns
+use Rattle.dms_objects.specs.Names.{activate_message}
 use Rattle.dms_table.specs.Rows.{TableModel, asked}
-use Rattle.dms_table.specs.Codes.{activation_of}
-use Rattle.dms_table.specs.Deciding.{ShownModel, decided}
-use Rattle.dms_sign.specs.declared.object.Scalar.{Scalar}
-use Rattle.dms_sign.specs.declared.object.Scalar.TheVariants.{DefaultBackgroundColor, DefaultForegroundColor, DefaultFlashOn, DefaultFlashOff, DefaultFont, DefaultJustificationLine, DefaultJustificationPage, DefaultPageOnTime, DefaultPageOffTime, ActivateMessage, MessageTimeRemaining, ShortPowerRecoveryMessage, LongPowerRecoveryMessage, ShortPowerLossTime, CommunicationsLossMessage, TimeCommLoss, PowerLossMessage, EndDurationMessage}
-use Rattle.dms_sign.specs.declared.object.Instance.{Instance}
-use Rattle.dms_sign.specs.declared.object.Instance.TheVariants.{The, Cell}
-use Rattle.dms_sign.specs.Objects.{scalar_number, name_of, instance_named}
+use Rattle.dms_codes.specs.Codes.{activation_of}
+use Rattle.dms_table.specs.Activation.{ShownModel, decided}
+use Rattle.dms_objects.specs.declared.scalar.Scalar.{Scalar}
+use Rattle.dms_objects.specs.declared.scalar.Scalar.TheVariants.{DefaultBackgroundColor, DefaultForegroundColor, DefaultFlashOn, DefaultFlashOff, DefaultFont, DefaultJustificationLine, DefaultJustificationPage, DefaultPageOnTime, DefaultPageOffTime, ActivateMessage, MessageTimeRemaining, ShortPowerRecoveryMessage, LongPowerRecoveryMessage, ShortPowerLossTime, CommunicationsLossMessage, TimeCommLoss, PowerLossMessage, EndDurationMessage}
+use Rattle.dms_objects.specs.declared.instance.Instance.{Instance}
+use Rattle.dms_objects.specs.declared.instance.Instance.TheVariants.{The, Cell}
+use Rattle.dms_objects.specs.Names.{scalar_number, name_of}
+use Rattle.dms_sign.specs.Objects.{instance_named}
 use Rattle.dms_sign.specs.State.{SignState}
-use Rattle.dms_sign.specs.Writing.{Write, SetNumber, SetCode, SetField, AskRow, Activate, SetRemaining, is_command, is_settable, octets_in, object_write, cell_write, write_of}
-use Rattle.dms_sign.specs.Setting.{SetCause, no_such_name, bad_value, general_error, if_settable, settable_instance, write_at, is_among, is_command_at, is_refused_field, cause_if, causes, assigned}
-use Rattle.dms_sign.specs.Answering.{found_unless, as_decided, as_asked, commanded, commanded_if, writes_of, set_unless, set, may_write, answer_by, primary}
+use Rattle.dms_sign.specs.Access.{Write, SetNumber, SetCode, SetField, AskRow, Activate, SetRemaining, is_command, is_settable, octets_in, object_write, cell_write, write_of}
+use Rattle.dms_sign.specs.SetRequest.{SetCause, no_such_name, bad_value, general_error, if_settable, settable_instance, write_at, is_among, is_command_at, is_refused_field, cause_if, causes, assigned}
+use Rattle.dms_sign.specs.Requests.{found_unless, as_decided, as_asked, commanded, commanded_if, writes_of, set_unless, set, may_write, answer_by, primary}
 use Rattle.dms_sign.specs.Promises.{activates, AsksFor}
 use Rattle.dms_sign.proofs.InOrder.{named_is}
 use Rattle.dms_sign.proofs.Replies.{IsCause, are_causes}

@@ -11,22 +11,23 @@ use Rattle.dms_multi.specs.TagReading.{item_at, item_after_opening, item_after_c
 use Rattle.dms_multi.specs.Reading as digits
 use Rattle.dms_face.specs.Fit.{fault_of}
 use Rattle.dms_face.proofs.Bench.{bench}
-use Rattle.dms_table.specs.declared.codes.Order.TheVariants.{High}
-use Rattle.dms_table.specs.declared.status.Status.TheVariants.{Valid}
-use Rattle.dms_table.specs.declared.names.Column.{Column}
-use Rattle.dms_table.specs.Checksum.{octet_bits}
+use Rattle.dms_codes.specs.declared.codes.Order.TheVariants.{High}
+use Rattle.dms_codes.specs.declared.status.Status.TheVariants.{Valid}
+use Rattle.dms_objects.specs.declared.column.Column.{Column}
+use Rattle.dms_codes.specs.Checksum.{octet_bits}
 use Rattle.dms_table.specs.Rows.{RowModel, TableModel, unused}
-use Rattle.dms_table.specs.Codes.{octets_of_id}
-use Rattle.dms_sign.specs.declared.object.Scalar.TheVariants.{ActivateMessage}
-use Rattle.dms_sign.specs.declared.object.Instance.{Instance}
-use Rattle.dms_sign.specs.declared.object.Instance.TheVariants.{The, Cell}
-use Rattle.dms_sign.specs.Objects.{name_of, instances}
+use Rattle.dms_codes.specs.Codes.{octets_of_id}
+use Rattle.dms_objects.specs.declared.scalar.Scalar.TheVariants.{ActivateMessage}
+use Rattle.dms_objects.specs.declared.instance.Instance.{Instance}
+use Rattle.dms_objects.specs.declared.instance.Instance.TheVariants.{The, Cell}
+use Rattle.dms_objects.specs.Names.{name_of}
+use Rattle.dms_sign.specs.Objects.{instances}
 use Rattle.dms_sign.specs.State.{ConfigModel, SignState, start}
 use Rattle.dms_sign.specs.Values.{scalar_value, value_at, value_of, value_after, bound}
-use Rattle.dms_sign.specs.PuttingUp.{put_up_code}
-use Rattle.dms_sign.specs.Writing.{is_settable_object, object_write, cell_write, write_of}
-use Rattle.dms_sign.specs.Setting.{settable_instance, write_at, causes, assigned}
-use Rattle.dms_sign.specs.Answering.{Answer, primary}
+use Rattle.dms_sign.specs.OwnCodes.{put_up_code}
+use Rattle.dms_sign.specs.Access.{is_settable_object, object_write, cell_write, write_of}
+use Rattle.dms_sign.specs.SetRequest.{settable_instance, write_at, causes, assigned}
+use Rattle.dms_sign.specs.Requests.{Answer, primary}
 use Rattle.dms_sign.specs.Reply.{Received, reply_to, received}
 use Rattle.dms_sign.specs.Events.{after_settling, after_duration, after_silence, after_tick, after_power_loss, after_power_return}
 

@@ -7,13 +7,14 @@ use Rattle.std.proofs.lemmas.Bool.{and_parts, and_from, both_ways, cond-true, co
 use Rattle.dms_wire.proofs.Elements.{chosen}
 use Rattle.std.proofs.lemmas.Cmp.{nat_list_cmp_total, nat_cmp_total, tied_itself}
 use Rattle.dms_wire.specs.NameOrder.{numbers_cmp}
-use Rattle.dms_table.specs.declared.names.Column.{Column}
-use Rattle.dms_table.specs.declared.row.RowId.{RowId}
-use Rattle.dms_table.specs.Names.{below_dms, column_number}
+use Rattle.dms_objects.specs.declared.column.Column.{Column}
+use Rattle.dms_codes.specs.declared.row_id.RowId.{RowId}
+use Rattle.dms_objects.specs.Names.{below_dms, column_number}
 use Rattle.dms_table.specs.Rows.{TableModel}
-use Rattle.dms_sign.specs.declared.object.Instance.{Instance}
-use Rattle.dms_sign.specs.declared.object.Instance.TheVariants.{The, Cell}
-use Rattle.dms_sign.specs.Objects.{name_of, before_table, after_table, columns, memories, rows_in, row_ids, cells, instances, is_before, has_name, comes_after, instance_named, next_instance, IsInstance, FirstAfter}
+use Rattle.dms_objects.specs.declared.instance.Instance.{Instance}
+use Rattle.dms_objects.specs.declared.instance.Instance.TheVariants.{The, Cell}
+use Rattle.dms_objects.specs.Names.{name_of}
+use Rattle.dms_sign.specs.Objects.{before_table, after_table, columns, memories, rows_in, row_ids, cells, instances, is_before, has_name, comes_after, instance_named, next_instance, IsInstance, FirstAfter}
 use Rattle.dms_sign.proofs.Members.{some_is}
 
 -- ---- the order of names

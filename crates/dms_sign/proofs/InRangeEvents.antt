@@ -8,12 +8,13 @@ use Rattle.dms_face.specs.Face.{FaceModel}
 use Rattle.dms_face.specs.Layout.{under}
 use Rattle.dms_face.specs.Fit.{fault_of}
 use Rattle.dms_table.specs.declared.row.Services.{Services}
-use Rattle.dms_table.specs.declared.status.Status.{Status}
-use Rattle.dms_table.specs.declared.verdict.Verdict.{Verdict}
-use Rattle.dms_table.specs.Rows.{RowModel, TableModel, longest_text, row_is_validating, interrupted, released, unused, after_power}
-use Rattle.dms_table.specs.Settling.{text_verdict, verdict_of, settled_row, settled, settling_row, verdict}
+use Rattle.dms_codes.specs.declared.status.Status.{Status}
+use Rattle.dms_table.specs.declared.validation.Verdict.{Verdict}
+use Rattle.dms_table.specs.Rows.{RowModel, TableModel, row_is_validating, interrupted, released, unused, after_power}
+use Rattle.dms_codes.specs.Limits.{longest_text}
+use Rattle.dms_table.specs.Validation.{text_verdict, verdict_of, settled_row, settled, settling_row, verdict}
 use Rattle.dms_sign.specs.State.{ReportsModel, SignState, power_recovery_mode, communications_loss_mode, power_loss_mode, end_duration_mode}
-use Rattle.dms_sign.specs.PuttingUp.{showing, put_up_code}
+use Rattle.dms_sign.specs.OwnCodes.{showing, put_up_code}
 use Rattle.dms_sign.specs.Events.{text_reports, settled_reports, after_settling, counted_down, after_duration, longest_silence, quieter, after_silence, after_tick, after_power_loss, recovery_code, restored, after_power_return}
 use Rattle.dms_sign.specs.InRange.{AreOctets, most_minutes, IsRowInRange, IsTableInRange, IsTimeInRange, AreReportsInRange, IsSignInRange}
 use Rattle.dms_sign.proofs.InRangeLists.{either, all_mapped}

@@ -14,27 +14,29 @@ use Rattle.dms_wire.specs.Limits.{IsValueInLimits, AreBindingsInLimits}
 use Rattle.dms_wire.proofs.LimitsLaws.{spelled_in_limits}
 use Rattle.dms_wire.proofs.MessageOfLaws.{read_is_spelled}
 use Rattle.dms_face.specs.Face.{FaceModel, has_font}
-use Rattle.dms_table.specs.declared.cause.Cause.{Cause}
-use Rattle.dms_table.specs.declared.names.Column.{Column}
-use Rattle.dms_table.specs.declared.names.Column.TheVariants as columns_of
-use Rattle.dms_table.specs.declared.row.RowId.{RowId}
-use Rattle.dms_table.specs.declared.status.Ask.{Ask}
-use Rattle.dms_table.specs.declared.status.Status.{Status}
-use Rattle.dms_table.specs.declared.status.Status.TheVariants as statuses
-use Rattle.dms_table.specs.Status.{next_status, is_modifying}
-use Rattle.dms_table.specs.Codes.{activation_of}
-use Rattle.dms_table.specs.Rows.{RowModel, TableModel, FieldModel, Text, Owner, Beacon, Pixel, Priority, numbered, changed_in, with_changeable, with_volatile, changed, with_status, asked_row, may_ask, asked, is_in_range, with_field, written_row, written, changeable_memory, volatile_memory, longest_text, longest_owner}
-use Rattle.dms_table.specs.Deciding.{ShownModel, seconds_of, decided}
-use Rattle.dms_sign.specs.declared.object.Scalar.{Scalar}
-use Rattle.dms_sign.specs.declared.object.Scalar.TheVariants.{SignHeightPixels, SignWidthPixels, DefaultBackgroundColor, DefaultForegroundColor, DefaultFlashOn, DefaultFlashOff, DefaultFont, DefaultJustificationLine, DefaultJustificationPage, DefaultPageOnTime, DefaultPageOffTime, ColorScheme, NumPermanentMsg, NumChangeableMsg, MaxChangeableMsg, FreeChangeableMemory, NumVolatileMsg, MaxVolatileMsg, FreeVolatileMemory, ValidateMessageError, ActivateMessage, MessageTimeRemaining, MsgTableSource, MsgRequesterId, MsgSourceMode, ShortPowerRecoveryMessage, LongPowerRecoveryMessage, ShortPowerLossTime, CommunicationsLossMessage, TimeCommLoss, PowerLossMessage, EndDurationMessage, ActivateMsgError, MultiSyntaxError, MultiSyntaxErrorPosition, ActivateErrorMsgCode}
-use Rattle.dms_sign.specs.declared.object.Instance.{Instance}
-use Rattle.dms_sign.specs.declared.object.Instance.TheVariants.{The, Cell}
-use Rattle.dms_sign.specs.Objects.{scalar_number}
+use Rattle.dms_table.specs.declared.activation.Cause.{Cause}
+use Rattle.dms_objects.specs.declared.column.Column.{Column}
+use Rattle.dms_objects.specs.declared.column.Column.TheVariants as columns_of
+use Rattle.dms_codes.specs.declared.row_id.RowId.{RowId}
+use Rattle.dms_codes.specs.declared.status.Ask.{Ask}
+use Rattle.dms_codes.specs.declared.status.Status.{Status}
+use Rattle.dms_codes.specs.declared.status.Status.TheVariants as statuses
+use Rattle.dms_codes.specs.Status.{next_status, is_modifying}
+use Rattle.dms_codes.specs.Codes.{activation_of}
+use Rattle.dms_table.specs.Rows.{RowModel, TableModel, FieldModel, Text, Owner, Beacon, Pixel, Priority, numbered, changed_in, with_changeable, with_volatile, changed, with_status, asked_row, may_ask, asked, is_in_range, with_field, written_row, written}
+use Rattle.dms_codes.specs.Memory.{changeable_memory, volatile_memory}
+use Rattle.dms_codes.specs.Limits.{longest_text, longest_owner}
+use Rattle.dms_table.specs.Activation.{ShownModel, seconds_of, decided}
+use Rattle.dms_objects.specs.declared.scalar.Scalar.{Scalar}
+use Rattle.dms_objects.specs.declared.scalar.Scalar.TheVariants.{SignHeightPixels, SignWidthPixels, DefaultBackgroundColor, DefaultForegroundColor, DefaultFlashOn, DefaultFlashOff, DefaultFont, DefaultJustificationLine, DefaultJustificationPage, DefaultPageOnTime, DefaultPageOffTime, ColorScheme, NumPermanentMsg, NumChangeableMsg, MaxChangeableMsg, FreeChangeableMemory, NumVolatileMsg, MaxVolatileMsg, FreeVolatileMemory, ValidateMessageError, ActivateMessage, MessageTimeRemaining, MsgTableSource, MsgRequesterId, MsgSourceMode, ShortPowerRecoveryMessage, LongPowerRecoveryMessage, ShortPowerLossTime, CommunicationsLossMessage, TimeCommLoss, PowerLossMessage, EndDurationMessage, ActivateMsgError, MultiSyntaxError, MultiSyntaxErrorPosition, ActivateErrorMsgCode}
+use Rattle.dms_objects.specs.declared.instance.Instance.{Instance}
+use Rattle.dms_objects.specs.declared.instance.Instance.TheVariants.{The, Cell}
+use Rattle.dms_objects.specs.Names.{scalar_number}
 use Rattle.dms_sign.specs.State.{ReportsModel, SignState, end_duration_mode}
-use Rattle.dms_sign.specs.PuttingUp.{showing, put_up_code}
-use Rattle.dms_sign.specs.Writing.{Write, SetNumber, SetCode, SetField, AskRow, Activate, SetRemaining, is_command, number_in, octets_in, font_in, ask_of, object_write, cell_write, write_of}
-use Rattle.dms_sign.specs.Setting.{SetCause, settable_instance, write_at, causes, given, is_same, number_for, code_for, with_write, with_writes, assigned}
-use Rattle.dms_sign.specs.Answering.{found_unless, has_no_value, is_last, as_decided, as_asked, with_remaining, commanded, commanded_if, writes_of, command_index, set_unless, may_write, answer_by, primary}
+use Rattle.dms_sign.specs.OwnCodes.{showing, put_up_code}
+use Rattle.dms_sign.specs.Access.{Write, SetNumber, SetCode, SetField, AskRow, Activate, SetRemaining, is_command, number_in, octets_in, font_in, ask_of, object_write, cell_write, write_of}
+use Rattle.dms_sign.specs.SetRequest.{SetCause, settable_instance, write_at, causes, given, is_same, number_for, code_for, with_write, with_writes, assigned}
+use Rattle.dms_sign.specs.Requests.{found_unless, has_no_value, is_last, as_decided, as_asked, with_remaining, commanded, commanded_if, writes_of, command_index, set_unless, may_write, answer_by, primary}
 use Rattle.dms_sign.specs.Reply.{is_heard, dropped, heard, on_message, on_message_if, received}
 use Rattle.dms_sign.specs.InRange.{AreOctets, AreOctetsUpTo, IsRowInRange, IsTableInRange, AreReportsInRange, IsSignInRange, IsBindingInLimits}
 use Rattle.dms_sign.proofs.InRangeLists.{either, if_either, if_mapped, if_then, if_or, if_found, if_at, all_filtered}

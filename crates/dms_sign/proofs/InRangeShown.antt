@@ -8,18 +8,20 @@ use Rattle.dms_face.specs.declared.multi_fault.MultiFault.{MultiFault}
 use Rattle.dms_face.specs.Face.{FaceModel}
 use Rattle.dms_face.specs.Layout.{under}
 use Rattle.dms_face.specs.Fit.{fault_of}
-use Rattle.dms_table.specs.declared.codes.Order.{Order}
-use Rattle.dms_table.specs.declared.codes.Order.TheVariants.{High, Swapped}
-use Rattle.dms_table.specs.declared.codes.MessageId.{MessageId}
-use Rattle.dms_table.specs.declared.codes.Activation.{Activation}
-use Rattle.dms_table.specs.declared.cause.Cause.{Cause}
-use Rattle.dms_table.specs.declared.cause.Cause.TheVariants as causes
-use Rattle.dms_table.specs.Status.{is_valid}
-use Rattle.dms_table.specs.Rows.{TableModel, RowReading, current_buffer, longest_text}
-use Rattle.dms_table.specs.Codes.{number_at, id_of, activation_of, octets_of_id, octets_of_activation, IsMessageId}
-use Rattle.dms_table.specs.Deciding.{ShownModel, is_memory, named, row_id, has_checksum, text_error, activation_error, cause_number, seconds_of, put_up, unless_refused, decided_on, decided}
+use Rattle.dms_codes.specs.declared.codes.Order.{Order}
+use Rattle.dms_codes.specs.declared.codes.Order.TheVariants.{High, Swapped}
+use Rattle.dms_codes.specs.declared.codes.MessageId.{MessageId}
+use Rattle.dms_codes.specs.declared.codes.Activation.{Activation}
+use Rattle.dms_table.specs.declared.activation.Cause.{Cause}
+use Rattle.dms_table.specs.declared.activation.Cause.TheVariants as causes
+use Rattle.dms_codes.specs.Status.{is_valid}
+use Rattle.dms_table.specs.Rows.{TableModel, RowReading}
+use Rattle.dms_codes.specs.Memory.{current_buffer}
+use Rattle.dms_codes.specs.Limits.{longest_text}
+use Rattle.dms_codes.specs.Codes.{number_at, id_of, activation_of, octets_of_id, octets_of_activation, IsMessageId}
+use Rattle.dms_table.specs.Activation.{ShownModel, is_memory, named, row_id, has_checksum, text_error, activation_error, cause_number, seconds_of, put_up, unless_refused, decided_on, decided}
 use Rattle.dms_sign.specs.State.{ReportsModel, SignState, no_address, blank_shown}
-use Rattle.dms_sign.specs.PuttingUp.{showing, with_fault, with_cause, refused_reports, with_refused_code, own_activation, put_up_as_decided, staying, put_up_code}
+use Rattle.dms_sign.specs.OwnCodes.{showing, with_fault, with_cause, refused_reports, with_refused_code, own_activation, put_up_as_decided, staying, put_up_code}
 use Rattle.dms_sign.specs.InRange.{AreOctets, AreDefaultsInRange, IsTableInRange, IsTimeInRange, IsShownInRange, AreReportsInRange, IsSignInRange}
 use Rattle.dms_sign.proofs.InRangeLists.{either, if_either, if_mapped, all_append}
 use Rattle.dms_sign.proofs.InRangeValues.{IsReadingInRange, in_order_small, id_below, message_in_range}

@@ -9,8 +9,9 @@ use Rattle.dms_face.specs.Face.{FaceModel, is_matrix, is_within, are_fonts, fit,
 use Rattle.dms_table.specs.declared.stock.Permanent.{Permanent}
 use Rattle.dms_table.specs.declared.stock.Stock.{Stock}
 use Rattle.dms_table.specs.declared.stock.TableFault.{TableFault}
-use Rattle.dms_table.specs.Rows.{RowModel, TableModel, unused, longest_text, longest_owner}
-use Rattle.dms_table.specs.Stocking.{permanent_row, has_ranges, are_counts, stock_fault, table_of}
+use Rattle.dms_table.specs.Rows.{RowModel, TableModel, unused}
+use Rattle.dms_codes.specs.Limits.{longest_text, longest_owner}
+use Rattle.dms_table.specs.Stock.{permanent_row, has_ranges, are_counts, stock_fault, table_of}
 use Rattle.dms_table.proofs.Stands.{all_ranges}
 use Rattle.dms_sign.specs.State.{ConfigModel, power_recovery_mode, blank_code, start}
 use Rattle.dms_sign.specs.InRange.{AreOctets, IsConfigInRange, AreDefaultsInRange, IsRowInRange, IsTableInRange, IsSignInRange, IsStocked, IsMadeOfOctets}

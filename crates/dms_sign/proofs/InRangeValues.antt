@@ -8,26 +8,29 @@ use Rattle.std.proofs.Math.Nat.{pow-suc}
 use Rattle.std.proofs.lemmas.Bool.{and_parts}
 use Rattle.std.proofs.lemmas.List.Sums.{count_by-le-length}
 use Rattle.dms_wire.specs.Limits.{IsNameInLimits, IsValueInLimits}
-use Rattle.dms_table.specs.declared.codes.Order.{Order}
-use Rattle.dms_table.specs.declared.codes.Order.TheVariants.{High, Swapped}
-use Rattle.dms_table.specs.declared.codes.MessageId.{MessageId}
-use Rattle.dms_table.specs.declared.names.Column.{Column}
-use Rattle.dms_table.specs.declared.names.Column.TheVariants as columns_of
-use Rattle.dms_table.specs.declared.row.RowId.{RowId}
-use Rattle.dms_table.specs.declared.status.Status.{Status}
-use Rattle.dms_table.specs.declared.status.Status.TheVariants as statuses
-use Rattle.dms_table.specs.Checksum.{number, checksum, remainder, first_sixteen_inverted, sixteen_zeros, octet_bits}
-use Rattle.dms_table.specs.Status.{status_number, is_valid, is_not_used}
-use Rattle.dms_table.specs.Codes.{two_octets, octets_of_checksum, octets_of_id, in_order, IsMessageId}
-use Rattle.dms_table.specs.Names.{below_dms, object_name, cell_name, column_number}
-use Rattle.dms_table.specs.Rows.{RowModel, TableModel, RowReading, reading, blank_reading, blank, blank_at, numbered, rows_of, row_read, row_checksum, longest_text, permanent_memory, changeable_memory, volatile_memory, current_buffer, blank_memory}
-use Rattle.dms_table.specs.Deciding.{ShownModel, shown_row, shown_reading, message_at}
-use Rattle.dms_table.proofs.Division.{length-divided}
-use Rattle.dms_sign.specs.declared.object.Scalar.{Scalar}
-use Rattle.dms_sign.specs.declared.object.Scalar.TheVariants.{SignHeightPixels, SignWidthPixels, DefaultBackgroundColor, DefaultForegroundColor, DefaultFlashOn, DefaultFlashOff, DefaultFont, DefaultJustificationLine, DefaultJustificationPage, DefaultPageOnTime, DefaultPageOffTime, ColorScheme, NumPermanentMsg, NumChangeableMsg, MaxChangeableMsg, FreeChangeableMemory, NumVolatileMsg, MaxVolatileMsg, FreeVolatileMemory, ValidateMessageError, ActivateMessage, MessageTimeRemaining, MsgTableSource, MsgRequesterId, MsgSourceMode, ShortPowerRecoveryMessage, LongPowerRecoveryMessage, ShortPowerLossTime, CommunicationsLossMessage, TimeCommLoss, PowerLossMessage, EndDurationMessage, ActivateMsgError, MultiSyntaxError, MultiSyntaxErrorPosition, ActivateErrorMsgCode}
-use Rattle.dms_sign.specs.declared.object.Instance.{Instance}
-use Rattle.dms_sign.specs.declared.object.Instance.TheVariants.{The, Cell}
-use Rattle.dms_sign.specs.Objects.{scalar_number, name_of, before_table, after_table, columns, numbers_to, memories, rows_in, row_ids, cells, instances, instance_named, next_instance, IsInstance}
+use Rattle.dms_codes.specs.declared.codes.Order.{Order}
+use Rattle.dms_codes.specs.declared.codes.Order.TheVariants.{High, Swapped}
+use Rattle.dms_codes.specs.declared.codes.MessageId.{MessageId}
+use Rattle.dms_objects.specs.declared.column.Column.{Column}
+use Rattle.dms_objects.specs.declared.column.Column.TheVariants as columns_of
+use Rattle.dms_codes.specs.declared.row_id.RowId.{RowId}
+use Rattle.dms_codes.specs.declared.status.Status.{Status}
+use Rattle.dms_codes.specs.declared.status.Status.TheVariants as statuses
+use Rattle.dms_codes.specs.Checksum.{number, checksum, remainder, first_sixteen_inverted, sixteen_zeros, octet_bits}
+use Rattle.dms_codes.specs.Status.{status_number, is_valid, is_not_used}
+use Rattle.dms_codes.specs.Codes.{two_octets, octets_of_checksum, octets_of_id, in_order, IsMessageId}
+use Rattle.dms_objects.specs.Names.{below_dms, object_name, cell_name, column_number}
+use Rattle.dms_table.specs.Rows.{RowModel, TableModel, RowReading, reading, blank_reading, blank, blank_at, numbered, rows_of, row_read, row_checksum}
+use Rattle.dms_codes.specs.Limits.{longest_text}
+use Rattle.dms_codes.specs.Memory.{permanent_memory, changeable_memory, volatile_memory, current_buffer, blank_memory}
+use Rattle.dms_table.specs.Activation.{ShownModel, shown_row, shown_reading, message_at}
+use Rattle.dms_codes.proofs.Division.{length-divided}
+use Rattle.dms_objects.specs.declared.scalar.Scalar.{Scalar}
+use Rattle.dms_objects.specs.declared.scalar.Scalar.TheVariants.{SignHeightPixels, SignWidthPixels, DefaultBackgroundColor, DefaultForegroundColor, DefaultFlashOn, DefaultFlashOff, DefaultFont, DefaultJustificationLine, DefaultJustificationPage, DefaultPageOnTime, DefaultPageOffTime, ColorScheme, NumPermanentMsg, NumChangeableMsg, MaxChangeableMsg, FreeChangeableMemory, NumVolatileMsg, MaxVolatileMsg, FreeVolatileMemory, ValidateMessageError, ActivateMessage, MessageTimeRemaining, MsgTableSource, MsgRequesterId, MsgSourceMode, ShortPowerRecoveryMessage, LongPowerRecoveryMessage, ShortPowerLossTime, CommunicationsLossMessage, TimeCommLoss, PowerLossMessage, EndDurationMessage, ActivateMsgError, MultiSyntaxError, MultiSyntaxErrorPosition, ActivateErrorMsgCode}
+use Rattle.dms_objects.specs.declared.instance.Instance.{Instance}
+use Rattle.dms_objects.specs.declared.instance.Instance.TheVariants.{The, Cell}
+use Rattle.dms_objects.specs.Names.{scalar_number, name_of}
+use Rattle.dms_sign.specs.Objects.{before_table, after_table, columns, numbers_to, memories, rows_in, row_ids, cells, instances, instance_named, next_instance, IsInstance}
 use Rattle.dms_sign.specs.State.{SignState}
 use Rattle.dms_sign.specs.Values.{number_value, minutes_left, scalar_value, cell_value, value_at, value_of, bound, binding_at, value_after}
 use Rattle.dms_sign.specs.InRange.{IsRowInRange, IsTableInRange, IsTimeInRange, IsShownInRange, IsSignInRange, IsBindingInLimits}

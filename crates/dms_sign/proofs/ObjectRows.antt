@@ -1,12 +1,13 @@
 -- The walk over a small sign, computed.
 use Rattle.std.proofs.Common.{◌≡◌, false, [], ◌∷◌, Some, None, refl}
-use Rattle.dms_table.specs.declared.codes.Order.TheVariants.{High}
-use Rattle.dms_table.specs.declared.names.Column.TheVariants.{Number, MultiString, Status}
-use Rattle.dms_table.specs.Names.{below_dms}
+use Rattle.dms_codes.specs.declared.codes.Order.TheVariants.{High}
+use Rattle.dms_objects.specs.declared.column.Column.TheVariants.{Number, MultiString, Status}
+use Rattle.dms_objects.specs.Names.{below_dms}
 use Rattle.dms_table.specs.Rows.{TableModel, unused}
-use Rattle.dms_sign.specs.declared.object.Scalar.TheVariants.{SignHeightPixels, ValidateMessageError, ActivateMessage, CommunicationsLossMessage, ActivateErrorMsgCode}
-use Rattle.dms_sign.specs.declared.object.Instance.TheVariants.{The, Cell}
-use Rattle.dms_sign.specs.Objects.{name_of, instances, instance_named, next_instance}
+use Rattle.dms_objects.specs.declared.scalar.Scalar.TheVariants.{SignHeightPixels, ValidateMessageError, ActivateMessage, CommunicationsLossMessage, ActivateErrorMsgCode}
+use Rattle.dms_objects.specs.declared.instance.Instance.TheVariants.{The, Cell}
+use Rattle.dms_objects.specs.Names.{name_of}
+use Rattle.dms_sign.specs.Objects.{instances, instance_named, next_instance}
 
 -- two changeable rows, a volatile one and a permanent one
 abbrev pub table : TableModel

@@ -7,22 +7,23 @@ use Rattle.dms_wire.specs.Message.{VarBind, SnmpMessage}
 use Rattle.dms_wire.specs.MessageOf.{message_of}
 use Rattle.dms_face.specs.Face.{FaceModel}
 use Rattle.dms_face.specs.Layout.{under}
-use Rattle.dms_table.specs.declared.cause.Cause.{Cause}
-use Rattle.dms_table.specs.declared.codes.MessageId.{MessageId}
-use Rattle.dms_table.specs.declared.row.RowId.{RowId}
-use Rattle.dms_table.specs.declared.status.Ask.{Ask}
+use Rattle.dms_table.specs.declared.activation.Cause.{Cause}
+use Rattle.dms_codes.specs.declared.codes.MessageId.{MessageId}
+use Rattle.dms_codes.specs.declared.row_id.RowId.{RowId}
+use Rattle.dms_codes.specs.declared.status.Ask.{Ask}
 use Rattle.dms_table.specs.declared.stock.Stock.{Stock}
-use Rattle.dms_table.specs.Rows.{RowModel, TableModel, FieldModel, changeable_memory, volatile_memory, with_changeable, with_volatile, changed_in, changed, may_ask, asked_row, asked, written_row, written, after_power, IsTable}
-use Rattle.dms_table.specs.Settling.{settled}
-use Rattle.dms_table.specs.Stocking.{table_of}
-use Rattle.dms_table.specs.Codes.{activation_of, id_of}
-use Rattle.dms_table.specs.Deciding.{ShownModel, decided}
+use Rattle.dms_table.specs.Rows.{RowModel, TableModel, FieldModel, with_changeable, with_volatile, changed_in, changed, may_ask, asked_row, asked, written_row, written, after_power, IsTable}
+use Rattle.dms_codes.specs.Memory.{changeable_memory, volatile_memory}
+use Rattle.dms_table.specs.Validation.{settled}
+use Rattle.dms_table.specs.Stock.{table_of}
+use Rattle.dms_codes.specs.Codes.{activation_of, id_of}
+use Rattle.dms_table.specs.Activation.{ShownModel, decided}
 use Rattle.dms_table.proofs.OneRow.{count, one_asked_changeable, one_asked_volatile, none_more_written, none_settled, none_interrupted, none_released, none_unused}
 use Rattle.dms_sign.specs.State.{ConfigModel, SignState, start}
-use Rattle.dms_sign.specs.PuttingUp.{put_up_as_decided, staying, own_activation, put_up_code}
-use Rattle.dms_sign.specs.Writing.{Write, SetNumber, SetCode, SetField, AskRow, Activate, SetRemaining, is_command}
-use Rattle.dms_sign.specs.Setting.{SetCause, with_write, with_writes, causes, assigned}
-use Rattle.dms_sign.specs.Answering.{found_unless, as_decided, as_asked, with_remaining, commanded, commanded_if, writes_of, set_unless, may_write, answer_by, primary}
+use Rattle.dms_sign.specs.OwnCodes.{put_up_as_decided, staying, own_activation, put_up_code}
+use Rattle.dms_sign.specs.Access.{Write, SetNumber, SetCode, SetField, AskRow, Activate, SetRemaining, is_command}
+use Rattle.dms_sign.specs.SetRequest.{SetCause, with_write, with_writes, causes, assigned}
+use Rattle.dms_sign.specs.Requests.{found_unless, as_decided, as_asked, with_remaining, commanded, commanded_if, writes_of, set_unless, may_write, answer_by, primary}
 use Rattle.dms_sign.specs.Reply.{is_heard, heard, dropped, on_message_if, received}
 use Rattle.dms_sign.specs.Events.{after_settling, counted_down, after_duration, longest_silence, quieter, after_silence, after_tick, recovery_code, restored, after_power_loss, after_power_return}
 

@@ -13,14 +13,14 @@ use Rattle.dms_wire.specs.Canonical.{canonical}
 use Rattle.dms_wire.specs.Response.{response_to}
 use Rattle.dms_wire.proofs.MessageOfLaws.{read_is_spelled}
 use Rattle.dms_wire.proofs.ShorterSpellings.{response_no_longer}
-use Rattle.dms_table.specs.declared.cause.Cause.{Cause}
+use Rattle.dms_table.specs.declared.activation.Cause.{Cause}
 use Rattle.dms_table.specs.Rows.{TableModel, asked}
-use Rattle.dms_table.specs.Codes.{activation_of}
-use Rattle.dms_table.specs.Deciding.{ShownModel, decided}
+use Rattle.dms_codes.specs.Codes.{activation_of}
+use Rattle.dms_table.specs.Activation.{ShownModel, decided}
 use Rattle.dms_sign.specs.State.{SignState}
-use Rattle.dms_sign.specs.Writing.{Write, SetNumber, SetCode, SetField, AskRow, Activate, SetRemaining, is_command}
-use Rattle.dms_sign.specs.Setting.{SetCause, too_big, general_error, is_command_at, tests_at, cause_if, causes_at, causes_behind, causes, assigned}
-use Rattle.dms_sign.specs.Answering.{Answer, refused, granted, as_decided, as_asked, commanded, commanded_if, with_remaining, command_index, writes_of, set_unless, may_write, answer_by, primary}
+use Rattle.dms_sign.specs.Access.{Write, SetNumber, SetCode, SetField, AskRow, Activate, SetRemaining, is_command}
+use Rattle.dms_sign.specs.SetRequest.{SetCause, too_big, general_error, is_command_at, tests_at, cause_if, causes_at, causes_behind, causes, assigned}
+use Rattle.dms_sign.specs.Requests.{Answer, refused, granted, as_decided, as_asked, commanded, commanded_if, with_remaining, command_index, writes_of, set_unless, may_write, answer_by, primary}
 use Rattle.dms_sign.specs.Reply.{response_of, most_octets, reply_to, is_heard, heard, dropped, on_message_if, received}
 use Rattle.dms_sign.specs.Promises.{IsResponseTo, IsReplyTo}
 

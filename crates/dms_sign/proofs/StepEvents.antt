@@ -7,20 +7,20 @@ use Rattle.dms_wire.specs.Message.{VarBind, SnmpMessage}
 use Rattle.dms_wire.specs.MessageOf.{message_of}
 use Rattle.dms_face.specs.declared.defaults.Defaults.{Defaults}
 use Rattle.dms_face.specs.Layout.{under}
-use Rattle.dms_table.specs.declared.cause.Cause.{Cause}
-use Rattle.dms_table.specs.declared.codes.MessageId.{MessageId}
-use Rattle.dms_table.specs.declared.codes.Activation.{Activation}
-use Rattle.dms_table.specs.Codes.{activation_of, id_of}
+use Rattle.dms_table.specs.declared.activation.Cause.{Cause}
+use Rattle.dms_codes.specs.declared.codes.MessageId.{MessageId}
+use Rattle.dms_codes.specs.declared.codes.Activation.{Activation}
+use Rattle.dms_codes.specs.Codes.{activation_of, id_of}
 use Rattle.dms_table.specs.Rows.{TableModel, asked, after_power}
-use Rattle.dms_table.specs.Deciding.{ShownModel, seconds_of, decided}
+use Rattle.dms_table.specs.Activation.{ShownModel, seconds_of, decided}
 use Rattle.dms_sign.specs.State.{ConfigModel, FallbacksModel, SignState, power_recovery_mode, communications_loss_mode, power_loss_mode, end_duration_mode}
-use Rattle.dms_sign.specs.PuttingUp.{showing, put_up_code}
-use Rattle.dms_sign.specs.Writing.{Write, SetNumber, SetCode, SetField, AskRow, Activate, SetRemaining, is_command}
-use Rattle.dms_sign.specs.Setting.{SetCause, causes, assigned}
-use Rattle.dms_sign.specs.Answering.{Answer, found_unless, as_decided, as_asked, with_remaining, commanded, commanded_if, writes_of, set_unless, may_write, answer_by, primary}
+use Rattle.dms_sign.specs.OwnCodes.{showing, put_up_code}
+use Rattle.dms_sign.specs.Access.{Write, SetNumber, SetCode, SetField, AskRow, Activate, SetRemaining, is_command}
+use Rattle.dms_sign.specs.SetRequest.{SetCause, causes, assigned}
+use Rattle.dms_sign.specs.Requests.{Answer, found_unless, as_decided, as_asked, with_remaining, commanded, commanded_if, writes_of, set_unless, may_write, answer_by, primary}
 use Rattle.dms_sign.specs.Reply.{is_heard, heard, dropped, on_message_if, received}
 use Rattle.dms_sign.specs.Events.{after_settling, counted_down, after_duration, longest_silence, quieter, after_silence, after_tick, recovery_code, restored, after_power_loss, after_power_return}
-use Rattle.dms_sign.specs.Steps.{TableStep, IsSameMessage, IsBlankedUnder, IsRowOf, IsOwnCode, ShowsNow, stayed, came_back, blanked, activated, fell_back, IsSignStep}
+use Rattle.dms_sign.specs.Transitions.{TableStep, IsSameMessage, IsBlankedUnder, IsRowOf, IsOwnCode, ShowsNow, stayed, came_back, blanked, activated, fell_back, IsSignStep}
 use Rattle.dms_sign.proofs.StepRows.{KeepsRows, rows_same, rows_then, step_kept, asked_keeps, writes_keep, after_power_keeps, settled_step}
 use Rattle.dms_sign.proofs.StepShown.{same_as, same_then, blank_as, row_as, Displays, still, empty, of_row, decided_displays, StaysBehind, PutsUp, code_puts_up}
 

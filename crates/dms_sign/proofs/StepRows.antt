@@ -6,20 +6,21 @@ use Rattle.dms_face.specs.declared.multi_fault.MultiFault.{MultiFault}
 use Rattle.dms_face.specs.Face.{FaceModel}
 use Rattle.dms_face.specs.Fit.{IsGood, fault_of}
 use Rattle.dms_face.proofs.GoodLaws.{faultless_law}
-use Rattle.dms_table.specs.declared.row.RowId.{RowId}
+use Rattle.dms_codes.specs.declared.row_id.RowId.{RowId}
 use Rattle.dms_table.specs.declared.row.Services.{Services}
-use Rattle.dms_table.specs.declared.status.Ask.{Ask}
-use Rattle.dms_table.specs.declared.status.Ask.TheVariants as asks
-use Rattle.dms_table.specs.declared.status.Status.{Status}
-use Rattle.dms_table.specs.declared.status.Status.TheVariants.{NotUsed, Modifying, Validating, Valid, Error}
-use Rattle.dms_table.specs.declared.verdict.Verdict.{Verdict}
-use Rattle.dms_table.specs.Status.{next_status, is_modifying}
-use Rattle.dms_table.specs.Rows.{RowModel, TableModel, FieldModel, Text, Owner, Beacon, Pixel, Priority, unused, rows_of, numbered, blank_at, permanent_memory, changeable_memory, volatile_memory, blank_memory, changed_in, with_changeable, with_volatile, changed, with_status, asked_row, may_ask, asked, is_in_range, with_field, written_row, written, row_is_validating, interrupted, released, after_power}
-use Rattle.dms_table.specs.Settling.{text_verdict, verdict_of, passes, settled, CameToBeValid, was_valid, ValidRowsAreGood}
+use Rattle.dms_codes.specs.declared.status.Ask.{Ask}
+use Rattle.dms_codes.specs.declared.status.Ask.TheVariants as asks
+use Rattle.dms_codes.specs.declared.status.Status.{Status}
+use Rattle.dms_codes.specs.declared.status.Status.TheVariants.{NotUsed, Modifying, Validating, Valid, Error}
+use Rattle.dms_table.specs.declared.validation.Verdict.{Verdict}
+use Rattle.dms_codes.specs.Status.{next_status, is_modifying}
+use Rattle.dms_table.specs.Rows.{RowModel, TableModel, FieldModel, Text, Owner, Beacon, Pixel, Priority, unused, rows_of, numbered, blank_at, changed_in, with_changeable, with_volatile, changed, with_status, asked_row, may_ask, asked, is_in_range, with_field, written_row, written, row_is_validating, interrupted, released, after_power}
+use Rattle.dms_codes.specs.Memory.{permanent_memory, changeable_memory, volatile_memory, blank_memory}
+use Rattle.dms_table.specs.Validation.{text_verdict, verdict_of, passes, settled, CameToBeValid, was_valid, ValidRowsAreGood}
 use Rattle.dms_table.proofs.GoodRows.{settled_rows_are_good}
-use Rattle.dms_sign.specs.Writing.{Write, SetNumber, SetCode, SetField, AskRow, Activate, SetRemaining}
-use Rattle.dms_sign.specs.Setting.{with_write, with_writes}
-use Rattle.dms_sign.specs.Steps.{TableStep}
+use Rattle.dms_sign.specs.Access.{Write, SetNumber, SetCode, SetField, AskRow, Activate, SetRemaining}
+use Rattle.dms_sign.specs.SetRequest.{with_write, with_writes}
+use Rattle.dms_sign.specs.Transitions.{TableStep}
 
 -- ---- tables in which no row becomes valid
 

@@ -8,20 +8,21 @@ use Rattle.dms_face.specs.Face.{FaceModel}
 use Rattle.dms_face.specs.Layout.{under}
 use Rattle.dms_face.specs.Fit.{IsGood, fault_of}
 use Rattle.dms_face.proofs.GoodLaws.{faultless_law}
-use Rattle.dms_table.specs.declared.cause.Cause.{Cause}
-use Rattle.dms_table.specs.declared.cause.Cause.TheVariants as causes
-use Rattle.dms_table.specs.declared.codes.MessageId.{MessageId}
-use Rattle.dms_table.specs.declared.codes.Activation.{Activation}
-use Rattle.dms_table.specs.declared.status.Status.{Status}
-use Rattle.dms_table.specs.declared.status.Status.TheVariants.{NotUsed, Modifying, Validating, Valid, Error}
-use Rattle.dms_table.specs.Status.{is_valid}
-use Rattle.dms_table.specs.Checksum.{message_checksum}
-use Rattle.dms_table.specs.Codes.{id_of}
-use Rattle.dms_table.specs.Rows.{RowModel, TableModel, RowReading, blank, rows_of, numbered, blank_at, reading, blank_reading, row_checksum, current_buffer, blank_memory}
-use Rattle.dms_table.specs.Deciding.{ShownModel, shown_reading, is_memory, named, seconds_of, central_mode, unless_refused, decided}
+use Rattle.dms_table.specs.declared.activation.Cause.{Cause}
+use Rattle.dms_table.specs.declared.activation.Cause.TheVariants as causes
+use Rattle.dms_codes.specs.declared.codes.MessageId.{MessageId}
+use Rattle.dms_codes.specs.declared.codes.Activation.{Activation}
+use Rattle.dms_codes.specs.declared.status.Status.{Status}
+use Rattle.dms_codes.specs.declared.status.Status.TheVariants.{NotUsed, Modifying, Validating, Valid, Error}
+use Rattle.dms_codes.specs.Status.{is_valid}
+use Rattle.dms_codes.specs.Checksum.{message_checksum}
+use Rattle.dms_codes.specs.Codes.{id_of}
+use Rattle.dms_table.specs.Rows.{RowModel, TableModel, RowReading, blank, rows_of, numbered, blank_at, reading, blank_reading, row_checksum}
+use Rattle.dms_codes.specs.Memory.{current_buffer, blank_memory}
+use Rattle.dms_table.specs.Activation.{ShownModel, shown_reading, is_memory, named, seconds_of, central_mode, unless_refused, decided}
 use Rattle.dms_sign.specs.State.{SignState}
-use Rattle.dms_sign.specs.PuttingUp.{own_activation, put_up_as_decided, staying, put_up_code}
-use Rattle.dms_sign.specs.Steps.{IsSameMessage, IsBlankedUnder, IsRowOf}
+use Rattle.dms_sign.specs.OwnCodes.{own_activation, put_up_as_decided, staying, put_up_code}
+use Rattle.dms_sign.specs.Transitions.{IsSameMessage, IsBlankedUnder, IsRowOf}
 
 -- ---- one message
 

@@ -2,15 +2,15 @@
 use Rattle.std.proofs.Common.{◌≡◌, ◌⊎◌, inl, inr, ◌↔◌, ℕ, zero, suc, ◌-◌, ◌<◌, ◌≤◌, Bool, true, false, cond, nat_le, ◌==◌, ◌&&◌, List, [], ◌∷◌, ◌++◌, map, length, flat_map, Option, Some, None, slice_get, IsSome, is_some, option_map, refl, sym, ap, subst, ◌∙◌, arith, true≢false}
 use Rattle.std.specs.List.{range_with_len}
 use Rattle.std.proofs.lemmas.Bool.{eqb-true, eqb-false, and_parts, and_from, leb-true, le-leb, ne_eqb}
-use Rattle.dms_table.specs.declared.names.Column.{Column}
-use Rattle.dms_table.specs.declared.names.Column.TheVariants.{MemoryType, Number, MultiString, Owner, Crc, Beacon, PixelService, RunTimePriority, Status}
-use Rattle.dms_table.specs.declared.row.RowId.{RowId}
+use Rattle.dms_objects.specs.declared.column.Column.{Column}
+use Rattle.dms_objects.specs.declared.column.Column.TheVariants.{MemoryType, Number, MultiString, Owner, Crc, Beacon, PixelService, RunTimePriority, Status}
+use Rattle.dms_codes.specs.declared.row_id.RowId.{RowId}
 use Rattle.dms_table.specs.Rows.{RowModel, TableModel, row_read, blank, numbered, reading, rows_of, blank_at, blank_reading}
-use Rattle.dms_table.specs.Deciding.{ShownModel, message_at, shown_reading}
-use Rattle.dms_sign.specs.declared.object.Scalar.{Scalar}
-use Rattle.dms_sign.specs.declared.object.Scalar.TheVariants.{SignHeightPixels, SignWidthPixels, DefaultBackgroundColor, DefaultForegroundColor, DefaultFlashOn, DefaultFlashOff, DefaultFont, DefaultJustificationLine, DefaultJustificationPage, DefaultPageOnTime, DefaultPageOffTime, ColorScheme, NumPermanentMsg, NumChangeableMsg, MaxChangeableMsg, FreeChangeableMemory, NumVolatileMsg, MaxVolatileMsg, FreeVolatileMemory, ValidateMessageError, ActivateMessage, MessageTimeRemaining, MsgTableSource, MsgRequesterId, MsgSourceMode, ShortPowerRecoveryMessage, LongPowerRecoveryMessage, ShortPowerLossTime, CommunicationsLossMessage, TimeCommLoss, PowerLossMessage, EndDurationMessage, ActivateMsgError, MultiSyntaxError, MultiSyntaxErrorPosition, ActivateErrorMsgCode}
-use Rattle.dms_sign.specs.declared.object.Instance.{Instance}
-use Rattle.dms_sign.specs.declared.object.Instance.TheVariants.{The, Cell}
+use Rattle.dms_table.specs.Activation.{ShownModel, message_at, shown_reading}
+use Rattle.dms_objects.specs.declared.scalar.Scalar.{Scalar}
+use Rattle.dms_objects.specs.declared.scalar.Scalar.TheVariants.{SignHeightPixels, SignWidthPixels, DefaultBackgroundColor, DefaultForegroundColor, DefaultFlashOn, DefaultFlashOff, DefaultFont, DefaultJustificationLine, DefaultJustificationPage, DefaultPageOnTime, DefaultPageOffTime, ColorScheme, NumPermanentMsg, NumChangeableMsg, MaxChangeableMsg, FreeChangeableMemory, NumVolatileMsg, MaxVolatileMsg, FreeVolatileMemory, ValidateMessageError, ActivateMessage, MessageTimeRemaining, MsgTableSource, MsgRequesterId, MsgSourceMode, ShortPowerRecoveryMessage, LongPowerRecoveryMessage, ShortPowerLossTime, CommunicationsLossMessage, TimeCommLoss, PowerLossMessage, EndDurationMessage, ActivateMsgError, MultiSyntaxError, MultiSyntaxErrorPosition, ActivateErrorMsgCode}
+use Rattle.dms_objects.specs.declared.instance.Instance.{Instance}
+use Rattle.dms_objects.specs.declared.instance.Instance.TheVariants.{The, Cell}
 use Rattle.dms_sign.specs.Objects.{before_table, after_table, columns, memories, rows_in, row_ids, cells, instances, IsInstance}
 use Rattle.dms_sign.proofs.Members.{In, some_is, in_left, in_right, in_either, in_map, of_map, in_flat, of_flat, in_range, of_range}
 

@@ -4,8 +4,8 @@ use Rattle.std.specs.Prelude.{pos, codes}
 use Rattle.dms_wire.specs.declared.message.Kind.TheVariants.{Set}
 use Rattle.dms_wire.specs.Message.{integer, octet_string}
 use Rattle.dms_face.proofs.Bench.{bench}
-use Rattle.dms_sign.specs.declared.object.Scalar.TheVariants.{MessageTimeRemaining, ShortPowerLossTime, ActivateMessage, ActivateMsgError, ActivateErrorMsgCode, EndDurationMessage}
-use Rattle.dms_sign.specs.declared.object.Instance.TheVariants.{The}
+use Rattle.dms_objects.specs.declared.scalar.Scalar.TheVariants.{MessageTimeRemaining, ShortPowerLossTime, ActivateMessage, ActivateMsgError, ActivateErrorMsgCode, EndDurationMessage}
+use Rattle.dms_objects.specs.declared.instance.Instance.TheVariants.{The}
 use Rattle.dms_sign.specs.State.{SignState}
 use Rattle.dms_sign.proofs.BenchSign.{octets_of, lettered_sign, number, octets, code, answer, told, after_set, reads, later, seen, letter_a, blank_one}
 

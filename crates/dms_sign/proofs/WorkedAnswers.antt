@@ -2,10 +2,10 @@
 use Rattle.std.proofs.Common.{◌≡◌, ℕ, List, [], ◌∷◌, Some, refl}
 use Rattle.std.specs.Prelude.{pos, codes}
 use Rattle.dms_wire.specs.Message.{integer}
-use Rattle.dms_table.specs.declared.codes.Order.TheVariants.{Swapped}
-use Rattle.dms_table.specs.declared.names.Column.TheVariants.{Crc}
-use Rattle.dms_sign.specs.declared.object.Scalar.TheVariants.{ShortPowerLossTime}
-use Rattle.dms_sign.specs.declared.object.Instance.TheVariants.{The}
+use Rattle.dms_codes.specs.declared.codes.Order.TheVariants.{Swapped}
+use Rattle.dms_objects.specs.declared.column.Column.TheVariants.{Crc}
+use Rattle.dms_objects.specs.declared.scalar.Scalar.TheVariants.{ShortPowerLossTime}
+use Rattle.dms_objects.specs.declared.instance.Instance.TheVariants.{The}
 use Rattle.dms_sign.specs.Reply.{dropped}
 use Rattle.dms_sign.proofs.BenchSign.{octets_of, bench_table, bench_sign, cell, number, datagram, answer, told, after_set, reads}
 

@@ -3,11 +3,11 @@ use Rattle.std.proofs.Common.{◌≡◌, ℕ, List, [], ◌∷◌, Some, refl, m
 use Rattle.std.specs.Prelude.{pos, codes}
 use Rattle.dms_wire.specs.declared.message.Kind.TheVariants.{Set}
 use Rattle.dms_wire.specs.Message.{VarBind, integer}
-use Rattle.dms_table.specs.declared.status.Status.TheVariants.{Modifying}
-use Rattle.dms_table.specs.declared.names.Column.TheVariants.{Status}
+use Rattle.dms_codes.specs.declared.status.Status.TheVariants.{Modifying}
+use Rattle.dms_objects.specs.declared.column.Column.TheVariants.{Status}
 use Rattle.dms_table.specs.Rows.{unused}
-use Rattle.dms_sign.specs.declared.object.Scalar.TheVariants.{DefaultBackgroundColor, DefaultForegroundColor, DefaultFlashOn, DefaultFlashOff, DefaultFont, DefaultJustificationLine, DefaultJustificationPage, DefaultPageOnTime, DefaultPageOffTime, ActivateMsgError, MultiSyntaxError, MultiSyntaxErrorPosition, LongPowerRecoveryMessage}
-use Rattle.dms_sign.specs.declared.object.Instance.TheVariants.{The}
+use Rattle.dms_objects.specs.declared.scalar.Scalar.TheVariants.{DefaultBackgroundColor, DefaultForegroundColor, DefaultFlashOn, DefaultFlashOff, DefaultFont, DefaultJustificationLine, DefaultJustificationPage, DefaultPageOnTime, DefaultPageOffTime, ActivateMsgError, MultiSyntaxError, MultiSyntaxErrorPosition, LongPowerRecoveryMessage}
+use Rattle.dms_objects.specs.declared.instance.Instance.TheVariants.{The}
 use Rattle.dms_sign.specs.State.{SignState}
 use Rattle.dms_sign.proofs.BenchSign.{octets_of, bench_sign, with_changeable_rows, lettered_sign, valid_row, cell, number, octets, code, datagram, answer, told, after_set, reads, later, without_power, with_power, seen, blank_one}
 

@@ -3,8 +3,8 @@ use Rattle.std.proofs.Common.{◌≡◌, [], ◌∷◌, Some, None, refl}
 use Rattle.std.specs.Prelude.{codes}
 use Rattle.dms_wire.specs.declared.message.Kind.TheVariants.{GetNext}
 use Rattle.dms_wire.specs.Message.{null}
-use Rattle.dms_sign.specs.declared.object.Scalar.TheVariants.{ShortPowerLossTime, CommunicationsLossMessage, TimeCommLoss, EndDurationMessage}
-use Rattle.dms_sign.specs.declared.object.Instance.TheVariants.{The}
+use Rattle.dms_objects.specs.declared.scalar.Scalar.TheVariants.{ShortPowerLossTime, CommunicationsLossMessage, TimeCommLoss, EndDurationMessage}
+use Rattle.dms_objects.specs.declared.instance.Instance.TheVariants.{The}
 use Rattle.dms_sign.specs.State.{SignState, blank_code}
 use Rattle.dms_sign.specs.Values.{bound}
 use Rattle.dms_sign.specs.Reply.{dropped}

@@ -9,11 +9,12 @@ use Rattle.dms_wire.specs.Canonical.{short_length, element, integer_octets, name
 use Rattle.dms_wire.specs.Response.{response_to}
 use Rattle.dms_wire.proofs.Shortest.{element_length, length-positive_more, length-positive_small}
 use Rattle.dms_table.specs.Rows.{unused}
-use Rattle.dms_sign.specs.Objects.{name_of, instances}
+use Rattle.dms_objects.specs.Names.{name_of}
+use Rattle.dms_sign.specs.Objects.{instances}
 use Rattle.dms_sign.specs.State.{SignState}
 use Rattle.dms_sign.specs.Values.{value_at, value_after}
-use Rattle.dms_sign.specs.Setting.{too_big}
-use Rattle.dms_sign.specs.Answering.{Answer, refused, primary}
+use Rattle.dms_sign.specs.SetRequest.{too_big}
+use Rattle.dms_sign.specs.Requests.{Answer, refused, primary}
 use Rattle.dms_sign.specs.Reply.{response_of, reply_to, on_message}
 use Rattle.dms_sign.proofs.BenchSign.{octets_of, bench_sign, with_changeable_rows, valid_row, datagram}
 

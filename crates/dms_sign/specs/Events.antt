@@ -2,11 +2,11 @@
 use Rattle.std.specs.Prelude.{ℕ, ◌+◌, ◌-◌, ◌*◌, ◌==◌, ◌&&◌, true, false, List, Option, Some, None, nat_lt, nat_le, if◌then◌else◌}
 use Rattle.dms_face.specs.declared.multi_fault.MultiFault.{MultiFault}
 use Rattle.dms_face.specs.Layout.{under}
-use Rattle.dms_table.specs.declared.verdict.Verdict.{Verdict}
+use Rattle.dms_table.specs.declared.validation.Verdict.{Verdict}
 use Rattle.dms_table.specs.Rows.{after_power}
-use Rattle.dms_table.specs.Settling.{settled, verdict}
+use Rattle.dms_table.specs.Validation.{settled, verdict}
 use Rattle.dms_sign.specs.State.{SignState, ReportsModel, power_recovery_mode, communications_loss_mode, power_loss_mode, end_duration_mode}
-use Rattle.dms_sign.specs.PuttingUp.{showing, with_fault, put_up_code}
+use Rattle.dms_sign.specs.OwnCodes.{showing, with_fault, put_up_code}
 
 -- ---- a second
 

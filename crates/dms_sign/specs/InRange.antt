@@ -10,13 +10,14 @@ use Rattle.dms_wire.specs.MessageOf.{message_of}
 use Rattle.dms_wire.specs.Canonical.{canonical}
 use Rattle.dms_wire.specs.Response.{response_to}
 use Rattle.dms_face.specs.declared.defaults.Defaults.{Defaults}
-use Rattle.dms_table.specs.Codes.{IsMessageId}
-use Rattle.dms_table.specs.Rows.{RowModel, TableModel, unused, longest_text, longest_owner}
-use Rattle.dms_table.specs.Stocking.{has_ranges}
-use Rattle.dms_table.specs.Deciding.{ShownModel, shown_row}
+use Rattle.dms_codes.specs.Codes.{IsMessageId}
+use Rattle.dms_table.specs.Rows.{RowModel, TableModel, unused}
+use Rattle.dms_codes.specs.Limits.{longest_text, longest_owner}
+use Rattle.dms_table.specs.Stock.{has_ranges}
+use Rattle.dms_table.specs.Activation.{ShownModel, shown_row}
 use Rattle.dms_sign.specs.State.{ConfigModel, FallbacksModel, ReportsModel, SignState}
-use Rattle.dms_sign.specs.Setting.{too_big}
-use Rattle.dms_sign.specs.Answering.{Answer, primary}
+use Rattle.dms_sign.specs.SetRequest.{too_big}
+use Rattle.dms_sign.specs.Requests.{Answer, primary}
 use Rattle.dms_sign.specs.Reply.{response_of, most_octets}
 
 -- ---- parts

@@ -1,12 +1,12 @@
 pub mod Objects
 pub mod State
 pub mod Values
-pub mod PuttingUp
-pub mod Writing
-pub mod Setting
-pub mod Answering
+pub mod OwnCodes
+pub mod Access
+pub mod SetRequest
+pub mod Requests
 pub mod Reply
 pub mod Events
 pub mod Promises
 pub mod InRange
-pub mod Steps
+pub mod Transitions

@@ -4,61 +4,16 @@ use Rattle.std.specs.List.{find, flat_map, range_with_len}
 use Rattle.std.specs.Cmp.Lexicographic.{pointwise}
 use Rattle.std.specs.Ordering.{is_lt}
 use Rattle.dms_wire.specs.NameOrder.{numbers_cmp}
-use Rattle.dms_table.specs.declared.names.Column.{Column}
-use Rattle.dms_table.specs.declared.names.Column.TheVariants.{MemoryType, Number, MultiString, Owner, Crc, Beacon, PixelService, RunTimePriority, Status}
-use Rattle.dms_table.specs.declared.row.RowId.{RowId}
-use Rattle.dms_table.specs.Names.{object_name, cell_name}
-use Rattle.dms_table.specs.Rows.{TableModel, permanent_memory, changeable_memory, volatile_memory, current_buffer, blank_memory}
-use Rattle.dms_sign.specs.declared.object.Scalar.{Scalar}
-use Rattle.dms_sign.specs.declared.object.Scalar.TheVariants.{SignHeightPixels, SignWidthPixels, DefaultBackgroundColor, DefaultForegroundColor, DefaultFlashOn, DefaultFlashOff, DefaultFont, DefaultJustificationLine, DefaultJustificationPage, DefaultPageOnTime, DefaultPageOffTime, ColorScheme, NumPermanentMsg, NumChangeableMsg, MaxChangeableMsg, FreeChangeableMemory, NumVolatileMsg, MaxVolatileMsg, FreeVolatileMemory, ValidateMessageError, ActivateMessage, MessageTimeRemaining, MsgTableSource, MsgRequesterId, MsgSourceMode, ShortPowerRecoveryMessage, LongPowerRecoveryMessage, ShortPowerLossTime, CommunicationsLossMessage, TimeCommLoss, PowerLossMessage, EndDurationMessage, ActivateMsgError, MultiSyntaxError, MultiSyntaxErrorPosition, ActivateErrorMsgCode}
-use Rattle.dms_sign.specs.declared.object.Instance.{Instance}
-use Rattle.dms_sign.specs.declared.object.Instance.TheVariants.{The, Cell}
-
--- ---- names
-
--- the number of an object below dms: its group, and its number there
-abbrev pub scalar_number : Scalar → ℕ × ℕ
-scalar_number SignHeightPixels = (2, 3)
-scalar_number SignWidthPixels = (2, 4)
-scalar_number DefaultBackgroundColor = (4, 1)
-scalar_number DefaultForegroundColor = (4, 2)
-scalar_number DefaultFlashOn = (4, 3)
-scalar_number DefaultFlashOff = (4, 4)
-scalar_number DefaultFont = (4, 5)
-scalar_number DefaultJustificationLine = (4, 6)
-scalar_number DefaultJustificationPage = (4, 7)
-scalar_number DefaultPageOnTime = (4, 8)
-scalar_number DefaultPageOffTime = (4, 9)
-scalar_number ColorScheme = (4, 11)
-scalar_number NumPermanentMsg = (5, 1)
-scalar_number NumChangeableMsg = (5, 2)
-scalar_number MaxChangeableMsg = (5, 3)
-scalar_number FreeChangeableMemory = (5, 4)
-scalar_number NumVolatileMsg = (5, 5)
-scalar_number MaxVolatileMsg = (5, 6)
-scalar_number FreeVolatileMemory = (5, 7)
-scalar_number ValidateMessageError = (5, 9)
-scalar_number ActivateMessage = (6, 3)
-scalar_number MessageTimeRemaining = (6, 4)
-scalar_number MsgTableSource = (6, 5)
-scalar_number MsgRequesterId = (6, 6)
-scalar_number MsgSourceMode = (6, 7)
-scalar_number ShortPowerRecoveryMessage = (6, 8)
-scalar_number LongPowerRecoveryMessage = (6, 9)
-scalar_number ShortPowerLossTime = (6, 10)
-scalar_number CommunicationsLossMessage = (6, 12)
-scalar_number TimeCommLoss = (6, 13)
-scalar_number PowerLossMessage = (6, 14)
-scalar_number EndDurationMessage = (6, 15)
-scalar_number ActivateMsgError = (6, 17)
-scalar_number MultiSyntaxError = (6, 18)
-scalar_number MultiSyntaxErrorPosition = (6, 19)
-scalar_number ActivateErrorMsgCode = (6, 24)
-
--- an object has the instance 0; a column's instances are named by the rows
-unfoldable pub name_of : Instance → List ℕ
-name_of (The object) = object_name (scalar_number object).0 (scalar_number object).1
-name_of (Cell column row) = cell_name column row
+use Rattle.dms_objects.specs.declared.column.Column.{Column}
+use Rattle.dms_objects.specs.declared.column.Column.TheVariants.{MemoryType, Number, MultiString, Owner, Crc, Beacon, PixelService, RunTimePriority, Status}
+use Rattle.dms_codes.specs.declared.row_id.RowId.{RowId}
+use Rattle.dms_objects.specs.Names.{name_of}
+use Rattle.dms_table.specs.Rows.{TableModel}
+use Rattle.dms_codes.specs.Memory.{permanent_memory, changeable_memory, volatile_memory, current_buffer, blank_memory}
+use Rattle.dms_objects.specs.declared.scalar.Scalar.{Scalar}
+use Rattle.dms_objects.specs.declared.scalar.Scalar.TheVariants.{SignHeightPixels, SignWidthPixels, DefaultBackgroundColor, DefaultForegroundColor, DefaultFlashOn, DefaultFlashOff, DefaultFont, DefaultJustificationLine, DefaultJustificationPage, DefaultPageOnTime, DefaultPageOffTime, ColorScheme, NumPermanentMsg, NumChangeableMsg, MaxChangeableMsg, FreeChangeableMemory, NumVolatileMsg, MaxVolatileMsg, FreeVolatileMemory, ValidateMessageError, ActivateMessage, MessageTimeRemaining, MsgTableSource, MsgRequesterId, MsgSourceMode, ShortPowerRecoveryMessage, LongPowerRecoveryMessage, ShortPowerLossTime, CommunicationsLossMessage, TimeCommLoss, PowerLossMessage, EndDurationMessage, ActivateMsgError, MultiSyntaxError, MultiSyntaxErrorPosition, ActivateErrorMsgCode}
+use Rattle.dms_objects.specs.declared.instance.Instance.{Instance}
+use Rattle.dms_objects.specs.declared.instance.Instance.TheVariants.{The, Cell}
 
 -- ---- the instances of a sign
 

@@ -6,10 +6,10 @@ use Rattle.dms_wire.specs.Message.{SnmpMessage}
 use Rattle.dms_wire.specs.MessageOf.{message_of}
 use Rattle.dms_wire.specs.Canonical.{canonical}
 use Rattle.dms_wire.specs.Response.{response_to}
-use Rattle.dms_table.specs.declared.codes.Activation.{Activation}
+use Rattle.dms_codes.specs.declared.codes.Activation.{Activation}
 use Rattle.dms_sign.specs.State.{SignState}
-use Rattle.dms_sign.specs.Setting.{too_big}
-use Rattle.dms_sign.specs.Answering.{Answer, is_community, primary}
+use Rattle.dms_sign.specs.SetRequest.{too_big}
+use Rattle.dms_sign.specs.Requests.{Answer, is_community, primary}
 
 -- ---- replies
 

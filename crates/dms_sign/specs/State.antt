@@ -2,9 +2,10 @@
 use Rattle.std.specs.Prelude.{ℕ, Bool, true, List, [], ◌∷◌, replicate, None}
 use Rattle.dms_face.specs.declared.defaults.Defaults.{Defaults}
 use Rattle.dms_face.specs.Face.{FaceModel}
-use Rattle.dms_table.specs.declared.codes.MessageId.{MessageId}
-use Rattle.dms_table.specs.Rows.{TableModel, blank_memory}
-use Rattle.dms_table.specs.Deciding.{ShownModel}
+use Rattle.dms_codes.specs.declared.codes.MessageId.{MessageId}
+use Rattle.dms_table.specs.Rows.{TableModel}
+use Rattle.dms_codes.specs.Memory.{blank_memory}
+use Rattle.dms_table.specs.Activation.{ShownModel}
 
 -- ---- states
 

@@ -1,19 +1,22 @@
 -- What the objects of a sign read (NTCIP 1203, each by its name).
 use Rattle.std.specs.Prelude.{ℕ, pos, ◌+◌, ◌*◌, ◌/◌, List, Option, Some, None, option_map, option_and_then}
 use Rattle.dms_wire.specs.Message.{ObjectValue, integer, octet_string, ip_address, VarBind}
-use Rattle.dms_table.specs.declared.codes.Order.{Order}
-use Rattle.dms_table.specs.declared.names.Column.{Column}
-use Rattle.dms_table.specs.declared.names.Column.TheVariants as columns
-use Rattle.dms_table.specs.declared.row.RowId.{RowId}
-use Rattle.dms_table.specs.Status.{status_number}
-use Rattle.dms_table.specs.Codes.{in_order, octets_of_id}
-use Rattle.dms_table.specs.Rows.{TableModel, RowReading, permanent_memory, changeable_memory, volatile_memory, valid_count, unused_count, row_count, longest_text}
-use Rattle.dms_table.specs.Deciding.{message_at}
-use Rattle.dms_sign.specs.declared.object.Scalar.{Scalar}
-use Rattle.dms_sign.specs.declared.object.Scalar.TheVariants.{SignHeightPixels, SignWidthPixels, DefaultBackgroundColor, DefaultForegroundColor, DefaultFlashOn, DefaultFlashOff, DefaultFont, DefaultJustificationLine, DefaultJustificationPage, DefaultPageOnTime, DefaultPageOffTime, ColorScheme, NumPermanentMsg, NumChangeableMsg, MaxChangeableMsg, FreeChangeableMemory, NumVolatileMsg, MaxVolatileMsg, FreeVolatileMemory, ValidateMessageError, ActivateMessage, MessageTimeRemaining, MsgTableSource, MsgRequesterId, MsgSourceMode, ShortPowerRecoveryMessage, LongPowerRecoveryMessage, ShortPowerLossTime, CommunicationsLossMessage, TimeCommLoss, PowerLossMessage, EndDurationMessage, ActivateMsgError, MultiSyntaxError, MultiSyntaxErrorPosition, ActivateErrorMsgCode}
-use Rattle.dms_sign.specs.declared.object.Instance.{Instance}
-use Rattle.dms_sign.specs.declared.object.Instance.TheVariants.{The, Cell}
-use Rattle.dms_sign.specs.Objects.{name_of, instance_named, next_instance}
+use Rattle.dms_codes.specs.declared.codes.Order.{Order}
+use Rattle.dms_objects.specs.declared.column.Column.{Column}
+use Rattle.dms_objects.specs.declared.column.Column.TheVariants as columns
+use Rattle.dms_codes.specs.declared.row_id.RowId.{RowId}
+use Rattle.dms_codes.specs.Status.{status_number}
+use Rattle.dms_codes.specs.Codes.{in_order, octets_of_id}
+use Rattle.dms_table.specs.Rows.{TableModel, RowReading, valid_count, unused_count, row_count}
+use Rattle.dms_codes.specs.Memory.{permanent_memory, changeable_memory, volatile_memory}
+use Rattle.dms_codes.specs.Limits.{longest_text}
+use Rattle.dms_table.specs.Activation.{message_at}
+use Rattle.dms_objects.specs.declared.scalar.Scalar.{Scalar}
+use Rattle.dms_objects.specs.declared.scalar.Scalar.TheVariants.{SignHeightPixels, SignWidthPixels, DefaultBackgroundColor, DefaultForegroundColor, DefaultFlashOn, DefaultFlashOff, DefaultFont, DefaultJustificationLine, DefaultJustificationPage, DefaultPageOnTime, DefaultPageOffTime, ColorScheme, NumPermanentMsg, NumChangeableMsg, MaxChangeableMsg, FreeChangeableMemory, NumVolatileMsg, MaxVolatileMsg, FreeVolatileMemory, ValidateMessageError, ActivateMessage, MessageTimeRemaining, MsgTableSource, MsgRequesterId, MsgSourceMode, ShortPowerRecoveryMessage, LongPowerRecoveryMessage, ShortPowerLossTime, CommunicationsLossMessage, TimeCommLoss, PowerLossMessage, EndDurationMessage, ActivateMsgError, MultiSyntaxError, MultiSyntaxErrorPosition, ActivateErrorMsgCode}
+use Rattle.dms_objects.specs.declared.instance.Instance.{Instance}
+use Rattle.dms_objects.specs.declared.instance.Instance.TheVariants.{The, Cell}
+use Rattle.dms_objects.specs.Names.{name_of}
+use Rattle.dms_sign.specs.Objects.{instance_named, next_instance}
 use Rattle.dms_sign.specs.State.{SignState}
 
 abbrev pub number_value : ℕ → ObjectValue

@@ -2,8 +2,7 @@
 #![tactic(auto)]
 
 pub mod laws;
-pub mod object;
 pub mod range_laws;
 pub mod step_laws;
 
-pub use object::{Instance, Scalar};
+pub use dms_objects::{Instance, Scalar};

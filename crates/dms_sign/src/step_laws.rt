@@ -4,7 +4,7 @@ ghost use Rattle.std.specs.Prelude.{ℕ, List, None};
 ghost use Rattle.dms_sign.specs.State.{SignState};
 ghost use Rattle.dms_sign.specs.Reply.{received};
 ghost use Rattle.dms_sign.specs.Events.{after_tick, after_power_loss, after_power_return};
-ghost use Rattle.dms_sign.specs.Steps.{IsSignStep, HasFitDefaults};
+ghost use Rattle.dms_sign.specs.Transitions.{IsSignStep, HasFitDefaults};
 
 /// Whatever comes to a sign makes one step of it: rows become valid where they can be shown, and what comes up is blank, or a valid
 /// row whose checksum stands in the code that was accepted, or in one of the sign's own.

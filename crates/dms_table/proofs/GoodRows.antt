@@ -4,14 +4,15 @@ use Rattle.std.specs.Prelude.{option_map}
 use Rattle.std.proofs.lemmas.Option.{slice_get-map, slice_get_within, get_or_from_slice_get}
 use Rattle.dms_face.specs.Face.{FaceModel}
 use Rattle.dms_face.specs.Fit.{IsGood, fault_of}
-use Rattle.dms_table.specs.declared.codes.Order.{Order}
-use Rattle.dms_table.specs.declared.status.Status.{Status}
-use Rattle.dms_table.specs.declared.status.Status.TheVariants.{NotUsed, Modifying, Validating, Valid, Error}
+use Rattle.dms_codes.specs.declared.codes.Order.{Order}
+use Rattle.dms_codes.specs.declared.status.Status.{Status}
+use Rattle.dms_codes.specs.declared.status.Status.TheVariants.{NotUsed, Modifying, Validating, Valid, Error}
 use Rattle.dms_table.specs.declared.row.Services.{Services}
-use Rattle.dms_table.specs.declared.verdict.Verdict.{Verdict}
-use Rattle.dms_table.specs.Status.{is_validating}
-use Rattle.dms_table.specs.Rows.{RowModel, TableModel, row_is_validating, numbered, blank_at, permanent_memory, changeable_memory, volatile_memory, blank_memory}
-use Rattle.dms_table.specs.Settling.{text_verdict, verdict_of, passes, settled_row, settled, IsShowable, CameToBeValid, was_valid, was_settled, ValidRowsAreGood}
+use Rattle.dms_table.specs.declared.validation.Verdict.{Verdict}
+use Rattle.dms_codes.specs.Status.{is_validating}
+use Rattle.dms_table.specs.Rows.{RowModel, TableModel, row_is_validating, numbered, blank_at}
+use Rattle.dms_codes.specs.Memory.{permanent_memory, changeable_memory, volatile_memory, blank_memory}
+use Rattle.dms_table.specs.Validation.{text_verdict, verdict_of, passes, settled_row, settled, IsShowable, CameToBeValid, was_valid, was_settled, ValidRowsAreGood}
 
 -- a row that passes has a good text
 abbrev IsFound : Services → FaceModel → RowModel → Type 0

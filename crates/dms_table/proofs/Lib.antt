@@ -2,8 +2,3 @@ pub mod GoodRows
 pub mod Stands
 pub mod Settlement
 pub mod OneRow
-pub mod Loops
-pub mod Bits
-pub mod Division
-pub mod Places
-pub mod Remainders

@@ -6,14 +6,14 @@ use Rattle.std.proofs.lemmas.List.Sums.{sum_by-set, sum_by-cons}
 use Rattle.std.proofs.Math.Seq.{take-append_seam}
 use Rattle.std.proofs.lemmas.Option.{slice_get_within, get_or_from_slice_get}
 use Rattle.dms_table.specs.declared.row.Refused.{Refused}
-use Rattle.dms_table.specs.declared.status.Status.{Status}
-use Rattle.dms_table.specs.declared.status.Status.TheVariants.{NotUsed, Modifying, Validating, Valid, Error}
-use Rattle.dms_table.specs.declared.status.Ask.{Ask}
-use Rattle.dms_table.specs.declared.status.Ask.TheVariants as asks
-use Rattle.dms_table.specs.Status.{next_status, is_validate, is_validating, is_modifying}
+use Rattle.dms_codes.specs.declared.status.Status.{Status}
+use Rattle.dms_codes.specs.declared.status.Status.TheVariants.{NotUsed, Modifying, Validating, Valid, Error}
+use Rattle.dms_codes.specs.declared.status.Ask.{Ask}
+use Rattle.dms_codes.specs.declared.status.Ask.TheVariants as asks
+use Rattle.dms_codes.specs.Status.{next_status, is_validate, is_validating, is_modifying}
 use Rattle.dms_face.specs.Face.{FaceModel}
 use Rattle.dms_table.specs.declared.row.Services.{Services}
-use Rattle.dms_table.specs.Settling.{passes, verdict_of, settled_row}
+use Rattle.dms_table.specs.Validation.{passes, verdict_of, settled_row}
 use Rattle.dms_table.specs.Rows.{RowModel, TableModel, FieldModel, Text, Owner, Beacon, Pixel, Priority, row_is_validating, unused, may_ask, changed_in, asked_row, written_row, is_in_range, with_status, with_field, interrupted, released}
 
 -- how many rows are being validated

@@ -4,11 +4,11 @@ use Rattle.std.specs.Prelude.{option_map}
 use Rattle.std.specs.Option.{option_or}
 use Rattle.std.proofs.lemmas.List.Folds.{find-append}
 use Rattle.dms_face.specs.Face.{FaceModel}
-use Rattle.dms_table.specs.declared.codes.Order.{Order}
+use Rattle.dms_codes.specs.declared.codes.Order.{Order}
 use Rattle.dms_table.specs.declared.row.Services.{Services}
-use Rattle.dms_table.specs.declared.verdict.Verdict.{Verdict}
+use Rattle.dms_table.specs.declared.validation.Verdict.{Verdict}
 use Rattle.dms_table.specs.Rows.{RowModel, TableModel, row_is_validating}
-use Rattle.dms_table.specs.Settling.{settled_row, settled, verdict_of, verdict}
+use Rattle.dms_table.specs.Validation.{settled_row, settled, verdict_of, verdict}
 
 pub settled_is : (face : FaceModel) (table : TableModel) (permanent changeable volatile xs ys : List RowModel) (services : Services) (order : Order)
     → record { permanent = permanent; changeable = changeable; volatile = volatile; services = services; order = order } ≡ table

@@ -8,12 +8,12 @@ use Rattle.dms_table.specs.declared.stock.TableFault.TheVariants as faults
 use Rattle.dms_table.specs.declared.row.Services.{Services}
 use Rattle.dms_table.specs.declared.stock.Permanent.{Permanent}
 use Rattle.dms_table.specs.declared.stock.Stock.{Stock}
-use Rattle.dms_table.specs.Settling.{verdict_of, passes, IsShowable}
-use Rattle.dms_table.specs.Stocking.{permanent_row, services_of, has_ranges, may_not_stand, are_counts, permanent_fault, stock_fault, table_of, HasGoodText, PermanentRowsAreGood}
+use Rattle.dms_table.specs.Validation.{verdict_of, passes, IsShowable}
+use Rattle.dms_table.specs.Stock.{permanent_row, services_of, has_ranges, may_not_stand, are_counts, permanent_fault, stock_fault, table_of, HasGoodText, PermanentRowsAreGood}
 use Rattle.std.proofs.lemmas.List.Elements.{All-cons}
 use Rattle.dms_face.specs.Fit.{IsGood}
 use Rattle.dms_table.specs.Rows.{TableModel}
-use Rattle.dms_table.proofs.Loops.{none_passes}
+use Rattle.dms_codes.proofs.Loops.{none_passes}
 use Rattle.dms_table.proofs.GoodRows.{showable}
 
 none_mapped : {A B : Type 0} (f : A → B) (o : Option A) → option_map f o ≡ None → o ≡ None

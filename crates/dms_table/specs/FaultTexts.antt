@@ -2,8 +2,8 @@
 use Rattle.std.specs.Prelude.{ℕ, List, ◌++◌, Option, Some, None, codes, decimal}
 use Rattle.dms_table.specs.declared.stock.TableFault.{TableFault}
 use Rattle.dms_table.specs.declared.stock.TableFault.TheVariants as faults
-use Rattle.dms_table.specs.declared.cause.Cause.{Cause}
-use Rattle.dms_table.specs.declared.cause.Cause.TheVariants as causes
+use Rattle.dms_table.specs.declared.activation.Cause.{Cause}
+use Rattle.dms_table.specs.declared.activation.Cause.TheVariants as causes
 
 abbrev pub refused_text : List ℕ
 refused_text = codes "the row does not take this now"

@@ -1,12 +1,8 @@
-pub mod Checksum
-pub mod Codes
-pub mod Names
-pub mod Register
-pub mod Status
 pub mod Rows
-pub mod RowsView
-pub mod Settling
-pub mod Validating
-pub mod Stocking
-pub mod Deciding
+pub mod Validation
+pub mod Stock
+pub mod Activation
 pub mod FaultTexts
+-- what the code's values are in these, and what only proofs go through
+pub mod RowsView
+pub mod ValidatorView

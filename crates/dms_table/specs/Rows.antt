@@ -1,14 +1,16 @@
 -- The message table: its rows, and what asking, writing and a loss of power make of them (NTCIP 1203, dmsMessageTable).
 use Rattle.std.specs.Prelude.{ℕ, ◌+◌, ◌-◌, ◌≤◌, ◌==◌, ◌&&◌, ◌||◌, Bool, not, if◌then◌else◌, List, [], length, map, count_by, Option, Some, None, option_map, option_and_then, slice_get, slice_set, nat_le}
 use Rattle.std.specs.List.{list_any}
-use Rattle.dms_table.specs.declared.status.Status.{Status}
-use Rattle.dms_table.specs.declared.status.Status.TheVariants.{NotUsed, Modifying, Valid}
-use Rattle.dms_table.specs.declared.status.Ask.{Ask}
-use Rattle.dms_table.specs.declared.codes.Order.{Order}
-use Rattle.dms_table.specs.declared.row.RowId.{RowId}
+use Rattle.dms_codes.specs.declared.status.Status.{Status}
+use Rattle.dms_codes.specs.declared.status.Status.TheVariants.{NotUsed, Modifying, Valid}
+use Rattle.dms_codes.specs.declared.status.Ask.{Ask}
+use Rattle.dms_codes.specs.declared.codes.Order.{Order}
+use Rattle.dms_codes.specs.declared.row_id.RowId.{RowId}
 use Rattle.dms_table.specs.declared.row.Services.{Services}
-use Rattle.dms_table.specs.Checksum.{message_checksum}
-use Rattle.dms_table.specs.Status.{next_status, is_not_used, is_modifying, is_validating, is_valid, is_validate}
+use Rattle.dms_codes.specs.Checksum.{message_checksum}
+use Rattle.dms_codes.specs.Memory.{permanent_memory, changeable_memory, volatile_memory, blank_memory}
+use Rattle.dms_codes.specs.Limits.{longest_text, longest_owner}
+use Rattle.dms_codes.specs.Status.{next_status, is_not_used, is_modifying, is_validating, is_valid, is_validate}
 
 -- ---- rows
 
@@ -35,24 +37,6 @@ unused = record { text = []; owner = []; beacon = 0; pixel = 0; priority = 1; st
 -- The blank message of a number: it shows nothing.
 abbrev pub blank : ℕ → RowModel
 blank number = record { text = []; owner = []; beacon = 0; pixel = 0; priority = number; status = Valid }
-
--- ---- types of memory
-
-abbrev pub permanent_memory : ℕ
-permanent_memory = 2
-
-abbrev pub changeable_memory : ℕ
-changeable_memory = 3
-
-abbrev pub volatile_memory : ℕ
-volatile_memory = 4
-
--- what is shown
-abbrev pub current_buffer : ℕ
-current_buffer = 5
-
-abbrev pub blank_memory : ℕ
-blank_memory = 7
 
 -- the rows of a type of memory; blank messages are not kept
 abbrev pub rows_of : TableModel → ℕ → List RowModel
@@ -158,12 +142,6 @@ pub data FieldModel : Type 0 where
   Beacon : ℕ → FieldModel
   Pixel : ℕ → FieldModel
   Priority : ℕ → FieldModel
-
-abbrev pub longest_text : ℕ
-longest_text = 512
-
-abbrev pub longest_owner : ℕ
-longest_owner = 127
 
 abbrev pub is_in_range : FieldModel → Bool
 is_in_range (Text octets) = nat_le (length octets) longest_text

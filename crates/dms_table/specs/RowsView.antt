@@ -3,7 +3,8 @@ use Rattle.std.specs.Prelude.{◌≤◌, length}
 use Rattle.dms_table.specs.declared.row.Field.{Field}
 use Rattle.dms_table.specs.declared.row.Field.TheVariants as fields
 use Rattle.dms_table.specs.declared.row.RowView.{RowView}
-use Rattle.dms_table.specs.Rows.{RowReading, FieldModel, Text, Owner, Beacon, Pixel, Priority, longest_text, longest_owner}
+use Rattle.dms_table.specs.Rows.{RowReading, FieldModel, Text, Owner, Beacon, Pixel, Priority}
+use Rattle.dms_codes.specs.Limits.{longest_text, longest_owner}
 
 abbrev pub field_of : Field → FieldModel
 field_of (fields.Text octets) = Text octets.now

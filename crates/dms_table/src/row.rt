@@ -2,33 +2,19 @@
 
 ghost use Rattle.std.specs.Prelude.{◌≡◌, ◌≤◌, [], Some, None, OnOk, OnErr, IfSome, IsTrue, length, option_map};
 ghost use Rattle.dms_table.specs.Rows.{unused, interrupted, is_in_range, with_field, with_status, asked_row, written_row, blank_at, blank_reading, reading, row_is_validating};
-ghost use Rattle.dms_table.specs.Status.{is_valid, is_not_used};
+ghost use Rattle.dms_codes.specs.Status.{is_valid, is_not_used};
 ghost use Rattle.dms_face.specs.Face.{fit};
-ghost use Rattle.dms_table.specs.Validating.{settled_by, verdict_if, IsJudged};
-ghost use Rattle.dms_table.specs.Stocking.{permanent_row, has_ranges};
+ghost use Rattle.dms_table.specs.ValidatorView.{settled_by, verdict_if, IsJudged};
+ghost use Rattle.dms_table.specs.Stock.{permanent_row, has_ranges};
 ghost use Rattle.dms_table.specs.RowsView.{field_of, reading_of, IsShort};
 
-use crate::checksum::crc;
-use crate::status::{Ask, Status};
 use crate::stock::Permanent;
-use crate::verdict::{Validator, Verdict};
+use crate::validation::{Validator, Verdict};
 use arrayvec::ArrayVec;
+use dms_codes::{Ask, MAX_OWNER, MAX_TEXT, Status, crc};
 use std::error::Error;
 use std::fmt;
 use std::marker::Model;
-
-/// The most octets of a text.
-pub const MAX_TEXT: usize = 512;
-
-/// The most octets of an owner.
-pub const MAX_OWNER: usize = 127;
-
-/// Names a row by its type of memory and its number in it, from 1.
-#[derive(Clone, Copy, Debug, PartialEq, Eq)]
-pub struct RowId {
-    pub memory: u8,
-    pub number: u16,
-}
 
 /// What a sign has.
 #[derive(Clone, Copy, Debug, PartialEq, Eq)]

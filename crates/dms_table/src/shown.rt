@@ -2,14 +2,11 @@
 
 ghost use Rattle.std.specs.Prelude.{◌≡◌};
 ghost use Rattle.dms_table.specs.RowsView.{reading_of, IsShort};
-ghost use Rattle.dms_table.specs.Deciding.{shown_reading, seconds_of, put_up};
+ghost use Rattle.dms_table.specs.Activation.{shown_reading, seconds_of, put_up};
 
-use crate::checksum::crc;
-use crate::codes::{Activation, MessageId};
-use crate::memory;
-use crate::row::{MAX_OWNER, MAX_TEXT, RowView, copy_of};
-use crate::status::Status;
+use crate::row::{RowView, copy_of};
 use arrayvec::ArrayVec;
+use dms_codes::{Activation, MAX_OWNER, MAX_TEXT, MessageId, Status, crc, memory};
 use dms_face::Defaults;
 use std::marker::Model;
 
@@ -37,7 +34,7 @@ pub struct Shown {
 }
 
 impl Model for Shown {
-    ghost use Rattle.dms_table.specs.Deciding.{ShownModel};
+    ghost use Rattle.dms_table.specs.Activation.{ShownModel};
 
     ghost Value = { ShownModel };
 

@@ -3,12 +3,12 @@
 ghost use Rattle.std.specs.Prelude.{◌≡◌, IsTrue, IfNone, IfOk, All, map, replicate, position};
 ghost use Rattle.dms_face.specs.Face.{fit};
 ghost use Rattle.dms_table.specs.Rows.{unused};
-ghost use Rattle.dms_table.specs.Stocking.{HasGoodText, are_counts, permanent_row, has_ranges, may_stand, may_not_stand, stock_fault, services_of};
-ghost use Rattle.dms_table.specs.Validating.{face_of};
+ghost use Rattle.dms_table.specs.Stock.{HasGoodText, are_counts, permanent_row, has_ranges, may_stand, may_not_stand, stock_fault, services_of};
+ghost use Rattle.dms_table.specs.ValidatorView.{face_of};
 
-use crate::codes::Order;
-use crate::row::{MAX_OWNER, MAX_TEXT, Row, Services};
-use crate::verdict::Validator;
+use crate::row::{Row, Services};
+use crate::validation::Validator;
+use dms_codes::{MAX_OWNER, MAX_TEXT, Order};
 use dms_face::Face;
 use std::alloc::{AllocError, Global};
 use std::error::Error;
@@ -147,7 +147,7 @@ pub enum TableFault {
 
 impl TableFault {
     ghost use Rattle.std.specs.Prelude.{◌≡◌};
-    ghost use Rattle.dms_table.specs.Stocking.{fault_number};
+    ghost use Rattle.dms_table.specs.Stock.{fault_number};
 
     /// The fault's number.
     pub fn number(self) -> u8

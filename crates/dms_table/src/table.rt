@@ -5,23 +5,21 @@ ghost use Rattle.std.specs.Option.{option_copied};
 ghost use Rattle.std.specs.List.{list_any};
 ghost use Rattle.dms_table.specs.Rows.{row_is_validating, rows_of, numbered, row_read, valid_count, unused_count, row_count, may_ask, changed_in, asked_row, asked, written_row, written, interrupted, released, after_power, IsTable, TableModel, FieldModel};
 ghost use Rattle.dms_table.specs.RowsView.{field_of, reading_of, IsShort};
-ghost use Rattle.dms_table.specs.declared.row.RowId.{RowId};
-ghost use Rattle.dms_table.specs.declared.status.Ask.{Ask};
+ghost use Rattle.dms_codes.specs.declared.row_id.RowId.{RowId};
+ghost use Rattle.dms_codes.specs.declared.status.Ask.{Ask};
 ghost use Rattle.dms_face.specs.Face.{FaceModel, fit};
 ghost use Rattle.dms_face.specs.Layout.{under};
-ghost use Rattle.dms_table.specs.Settling.{settled, verdict, ValidRowsAreGood};
-ghost use Rattle.dms_table.specs.Validating.{settled_by, verdict_by, IsJudged};
-ghost use Rattle.dms_table.specs.Stocking.{permanent_row, has_ranges, stock_fault, table_of, IsFirstFault, PermanentRowsAreGood, KeepsPermanentRows};
-ghost use Rattle.dms_table.specs.Deciding.{is_memory, named, activation_error, unless_refused, decided};
+ghost use Rattle.dms_table.specs.Validation.{settled, verdict, ValidRowsAreGood};
+ghost use Rattle.dms_table.specs.ValidatorView.{settled_by, verdict_by, IsJudged};
+ghost use Rattle.dms_table.specs.Stock.{permanent_row, has_ranges, stock_fault, table_of, IsFirstFault, PermanentRowsAreGood, KeepsPermanentRows};
+ghost use Rattle.dms_table.specs.Activation.{is_memory, named, activation_error, unless_refused, decided};
 
-use crate::cause::Cause;
-use crate::codes::{Activation, MessageId, Order};
-use crate::memory;
-use crate::row::{Field, Refused, Row, RowId, RowView, Services};
+use crate::activation::Cause;
+use crate::row::{Field, Refused, Row, RowView, Services};
 use crate::shown::Shown;
-use crate::status::{Ask, Status};
 use crate::stock::{Stock, TableFault, permanent_rows, unused_rows};
-use crate::verdict::{Validator, Verdict};
+use crate::validation::{Validator, Verdict};
+use dms_codes::{Activation, Ask, MessageId, Order, RowId, Status, memory};
 use dms_face::{Defaults, Face, check_with};
 use std::alloc::{AllocError, Global};
 use std::marker::Model;
@@ -209,91 +207,6 @@ impl Table {
     }
 }
 
-impl Table {
-    /// What a code puts up, or why it is refused. Nothing changes.
-    pub fn decide(
-        &self,
-        face: &Face,
-        defaults: &Defaults,
-        code: &Activation,
-        shown: &Shown,
-    ) -> Result<Shown, Cause>
-        requires { IsTrue (fit face.now.fonts defaults.now) }
-        ensures { result ≡ decided face.now defaults.now self.now shown.now code.now }
-    {
-        if !is_memory(code.id.memory) {
-            return Err(Cause::MemoryType);
-        }
-        match self.named(shown, &code.id) {
-            None => Err(Cause::Number),
-            Some(row) => {
-                judge(face, defaults, code, shown, &row)?;
-                Ok(shown.after(code, &row, defaults))
-            }
-        }
-    }
-
-    /// The row that a code names; that of the current buffer is what is shown.
-    fn named<'a>(&'a self, shown: &'a Shown, id: &MessageId) -> Option<RowView<'a>>
-        ensures read { option_map reading_of result ≡ named self.now shown.now id.now }
-        ensures short { IfSome result (λ view. IsShort view) }
-    {
-        if id.memory != memory::CURRENT_BUFFER {
-            return self.row(RowId {
-                memory: id.memory,
-                number: id.number,
-            });
-        }
-        if id.number == 1 {
-            Some(shown.view())
-        } else {
-            None
-        }
-    }
-}
-
-fn is_memory(kind: u8) -> bool
-    ensures { result ≡ is_memory kind }
-{
-    matches!(
-        kind,
-        memory::PERMANENT
-            | memory::CHANGEABLE
-            | memory::VOLATILE
-            | memory::CURRENT_BUFFER
-            | memory::BLANK
-    )
-}
-
-/// Refuses a code of this row for the first cause that there is.
-fn judge(
-    face: &Face,
-    defaults: &Defaults,
-    code: &Activation,
-    shown: &Shown,
-    row: &RowView<'_>,
-) -> Result<(), Cause>
-    requires { IsTrue (fit face.now.fonts defaults.now) }
-    ensures { result ≡ unless_refused tt (activation_error (under face.now defaults.now) shown.now code.now (reading_of row.now)) }
-{
-    if row.status != Status::Valid {
-        return Err(Cause::Status);
-    }
-    if code.id.memory != memory::BLANK && code.id.crc != row.checksum {
-        return Err(Cause::Checksum);
-    }
-    if code.priority < shown.priority {
-        return Err(Cause::Priority);
-    }
-    if code.id.memory == memory::CURRENT_BUFFER {
-        return Ok(());
-    }
-    match check_with(face, defaults, row.text) {
-        Ok(_) => Ok(()),
-        Err(fault) => Err(Cause::Syntax(fault)),
-    }
-}
-
 /// The row of a number, from 1.
 fn numbered(rows: &[Row], number: u16) -> Option<&Row>
     ensures { option_copied result ≡ numbered rows.now number }
@@ -364,12 +277,3 @@ fn settle_all(rows: &mut [Row], validator: &Validator<'_>) -> Option<Verdict>
     }
     verdict
 }
-
-/// What a table does leaves its permanent rows as they are, so they stay good on the face that it was made for.
-pub fn permanent_rows_stay()
-    ensures asked { (old new : TableModel) (id : RowId) (ask : Ask) → asked old id ask ≡ Some new → KeepsPermanentRows old new }
-    ensures written { (old new : TableModel) (id : RowId) (field : FieldModel) → written old id field ≡ Some new → KeepsPermanentRows old new }
-    ensures settled { (face : FaceModel) (table : TableModel) → KeepsPermanentRows table (settled face table) }
-    ensures after_power { (table : TableModel) → KeepsPermanentRows table (after_power table) }
-    ensures good { (face : FaceModel) (old new : TableModel) → KeepsPermanentRows old new → PermanentRowsAreGood face old → PermanentRowsAreGood face new }
-{}

@@ -2,8 +2,8 @@
 //! is made of.
 
 use crate::{
-    Activation, Ask, Cause, Column, Field, MessageId, Order, Permanent, Refused, RowId, Shown,
-    Status, Stock, Table, TableFault, Verdict,
+    Activation, Ask, Cause, Field, MessageId, Order, Permanent, Refused, RowId, Shown, Status,
+    Stock, Table, TableFault, Verdict,
 };
 use arrayvec::ArrayVec;
 use dms_face::{Defaults, Face, Font, MultiFault, MultiFaultCode};
@@ -444,22 +444,4 @@ fn counts(rt: HostRuntime) -> Result<(), Fail> {
         }
     }
     Ok(())
-}
-
-#[test]
-fn columns(rt: HostRuntime) {
-    let numbers = [
-        (Column::MemoryType, 1),
-        (Column::Number, 2),
-        (Column::MultiString, 3),
-        (Column::Owner, 4),
-        (Column::Crc, 5),
-        (Column::Beacon, 6),
-        (Column::PixelService, 7),
-        (Column::RunTimePriority, 8),
-        (Column::Status, 9),
-    ];
-    for (column, number) in numbers {
-        assert_eq!(rt; column.number(), number, "{column:?}");
-    }
 }

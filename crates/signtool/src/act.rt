@@ -7,7 +7,7 @@ use crate::bench_sign::bench_face;
 use crate::command_line::{Call, CodeWords};
 use crate::sign::{Receipt, Sign};
 use dms_face::{MultiFault, Page, PagesFault, check, pages};
-use dms_table::{Activation, MessageId, Order, crc};
+use dms_codes::{Activation, MessageId, Order, crc};
 use dms_wire::Out;
 use hex::FromHexError;
 use std::alloc::Global;

@@ -1,8 +1,8 @@
 use Rattle.std.proofs.Common.{◌≡◌, false, not, All, ap, subst, sym, ◌∙◌, arith}
 use Rattle.std.proofs.lemmas.List.{take_all}
-use Rattle.dms_table.specs.Validating.{face_of}
-use Rattle.dms_table.specs.Stocking.{may_not_stand, HasGoodText}
-use Rattle.dms_table.proofs.Loops.{all_more, found_at, found_nowhere}
+use Rattle.dms_table.specs.ValidatorView.{face_of}
+use Rattle.dms_table.specs.Stock.{may_not_stand, HasGoodText}
+use Rattle.dms_codes.proofs.Loops.{all_more, found_at, found_nowhere}
 use Rattle.dms_table.proofs.stock.first_that_may_not_stand.Goals as goal
 
 pub loop-place-preserved : goal.loop-place-preserved

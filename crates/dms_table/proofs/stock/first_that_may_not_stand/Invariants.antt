@@ -1,6 +1,6 @@
 use Rattle.std.proofs.Common.{◌≡◌, false, take, All}
-use Rattle.dms_table.specs.Validating.{face_of}
-use Rattle.dms_table.specs.Stocking.{may_not_stand, HasGoodText}
+use Rattle.dms_table.specs.ValidatorView.{face_of}
+use Rattle.dms_table.specs.Stock.{may_not_stand, HasGoodText}
 use Rattle.dms_table.proofs.stock.first_that_may_not_stand.Given as goal
 
 abbrev pub invariant-loop-place : goal.invariant-loop-place

@@ -1,5 +1,5 @@
 use Rattle.std.proofs.Common.{◌≡◌, map, take}
-use Rattle.dms_table.specs.Stocking.{permanent_row}
+use Rattle.dms_table.specs.Stock.{permanent_row}
 use Rattle.dms_table.proofs.stock.permanent_rows.Given as goal
 
 abbrev pub invariant-loop-message : goal.invariant-loop-message

@@ -1,6 +1,6 @@
 use Rattle.std.proofs.Common.{◌∙◌, arith}
 use Rattle.dms_table.specs.Rows.{interrupted}
-use Rattle.dms_table.proofs.Loops.{mapped_more, mapped_all}
+use Rattle.dms_codes.proofs.Loops.{mapped_more, mapped_all}
 use Rattle.dms_table.proofs.table.interrupt_all.Goals as goal
 
 pub loop-row-preserved : goal.loop-row-preserved

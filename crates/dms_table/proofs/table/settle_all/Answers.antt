@@ -1,7 +1,7 @@
 use Rattle.std.proofs.Common.{◌∙◌, subst, arith}
 use Rattle.dms_table.specs.Rows.{row_is_validating}
-use Rattle.dms_table.specs.Validating.{settled_by, verdict_by, IsJudged}
-use Rattle.dms_table.proofs.Loops.{mapped_more, mapped_all, next_is, found_more, all_more}
+use Rattle.dms_table.specs.ValidatorView.{settled_by, verdict_by, IsJudged}
+use Rattle.dms_codes.proofs.Loops.{mapped_more, mapped_all, next_is, found_more, all_more}
 use Rattle.dms_table.proofs.table.settle_all.Goals as goal
 
 pub loop-row-preserved : goal.loop-row-preserved

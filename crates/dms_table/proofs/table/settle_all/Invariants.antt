@@ -1,8 +1,8 @@
 use Rattle.std.proofs.Common.{◌≡◌, All, find, take}
 use Rattle.std.specs.Prelude.{option_map}
 use Rattle.dms_table.specs.Rows.{row_is_validating}
-use Rattle.dms_table.specs.Validating.{settled_by, verdict_by, IsJudged}
-use Rattle.dms_table.proofs.Loops.{mapped_up_to}
+use Rattle.dms_table.specs.ValidatorView.{settled_by, verdict_by, IsJudged}
+use Rattle.dms_codes.proofs.Loops.{mapped_up_to}
 use Rattle.dms_table.proofs.table.settle_all.Given as goal
 
 abbrev pub invariant-loop-row : goal.invariant-loop-row

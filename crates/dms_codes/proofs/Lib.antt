@@ -1,0 +1,5 @@
+pub mod Loops
+pub mod Bits
+pub mod Division
+pub mod Places
+pub mod Remainders

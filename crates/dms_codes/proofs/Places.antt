@@ -1,0 +1,49 @@
+-- The octets of a code, place by place.
+use Rattle.std.proofs.Common.{◌≡◌, ℕ, suc, ◌/◌, ◌%◌, List, [], ◌∷◌, ◌++◌, length, get_or, take, drop, refl, ap, sym, ◌∙◌, rules}
+use Rattle.std.proofs.lemmas.Slice.Eq.{text_from_reads}
+use Rattle.dms_codes.specs.declared.codes.Order.{Order}
+use Rattle.dms_codes.specs.declared.codes.Order.TheVariants.{High, Swapped}
+use Rattle.dms_codes.specs.declared.codes.MessageId.{MessageId}
+use Rattle.dms_codes.specs.declared.codes.Activation.{Activation}
+use Rattle.dms_codes.specs.Codes.{two_octets, octets_of_checksum, octets_of_id, octets_of_activation}
+
+length-octets_of_checksum : (order : Order) (n : ℕ) → length (octets_of_checksum order n) ≡ 2
+length-octets_of_checksum High n = refl
+length-octets_of_checksum Swapped n = refl
+
+length-octets_of_id : (order : Order) (id : MessageId) → length (octets_of_id order id) ≡ 5
+length-octets_of_id order id = ap (λ n. suc (suc (suc n))) (length-octets_of_checksum order id.crc)
+
+abbrev first_four : List ℕ → List ℕ
+first_four xs = get_or xs 0 0 ∷ get_or xs 1 0 ∷ get_or xs 2 0 ∷ get_or xs 3 0 ∷ []
+
+abbrev first_five : List ℕ → List ℕ
+first_five xs = get_or xs 0 0 ∷ get_or xs 1 0 ∷ get_or xs 2 0 ∷ get_or xs 3 0 ∷ get_or xs 4 0 ∷ []
+
+pub all_four : (xs : List ℕ) → length xs ≡ 4 → xs ≡ first_four xs
+all_four xs h = text_from_reads xs (first_four xs) h (search rules)
+
+all_five : (xs : List ℕ) → length xs ≡ 5 → xs ≡ first_five xs
+all_five xs h = text_from_reads xs (first_five xs) h (search rules)
+
+-- an activation written place by place
+pub written : (order : Order) (a : Activation) (minutes id : List ℕ) → length a.address ≡ 4 → minutes ≡ two_octets a.minutes → id ≡ octets_of_id order a.id
+    → get_or minutes 0 0 ∷ get_or minutes 1 0 ∷ a.priority ∷ (first_five id ++ first_four a.address) ≡ octets_of_activation order a
+written order a minutes id four p q =
+    let five : length id ≡ 5 = ap length q ∙ length-octets_of_id order a.id in
+    ap (λ octets. get_or octets 0 0 ∷ get_or octets 1 0 ∷ a.priority ∷ (first_five id ++ first_four a.address)) p
+    ∙ ap (λ octets. a.minutes / 256 ∷ a.minutes % 256 ∷ a.priority ∷ (octets ++ first_four a.address)) (sym (all_five id five) ∙ q)
+    ∙ ap (λ octets. a.minutes / 256 ∷ a.minutes % 256 ∷ a.priority ∷ (octets_of_id order a.id ++ octets)) (sym (all_four a.address four))
+
+-- an activation read place by place
+pub read_back : (order : Order) (minutes : ℕ) (id : MessageId) (octets : List ℕ) → length octets ≡ 12
+    → minutes / 256 ≡ get_or octets 0 0 → minutes % 256 ≡ get_or octets 1 0 → octets_of_id order id ≡ take 5 (drop 3 octets)
+    → minutes / 256 ∷ minutes % 256 ∷ get_or octets 2 0 ∷ (octets_of_id order id ++ get_or octets 8 0 ∷ get_or octets 9 0 ∷ get_or octets 10 0 ∷ get_or octets 11 0 ∷ []) ≡ octets
+read_back order minutes id octets twelve high low p =
+    let place = λ (i : ℕ). get_or octets i 0 in
+    let address = place 8 ∷ place 9 ∷ place 10 ∷ place 11 ∷ [] in
+    let all : octets ≡ place 0 ∷ place 1 ∷ place 2 ∷ place 3 ∷ place 4 ∷ place 5 ∷ place 6 ∷ place 7 ∷ address = text_from_reads octets _ twelve (search rules) in
+    ap (λ n. n ∷ minutes % 256 ∷ place 2 ∷ (octets_of_id order id ++ address)) high
+    ∙ ap (λ n. place 0 ∷ n ∷ place 2 ∷ (octets_of_id order id ++ address)) low
+    ∙ ap (λ five. place 0 ∷ place 1 ∷ place 2 ∷ (five ++ address)) (p ∙ ap (λ octets. take 5 (drop 3 octets)) all)
+    ∙ sym all

@@ -1,0 +1,141 @@
+//! The codes that name a message and put one up, and their octets.
+
+ghost use Rattle.std.specs.Prelude.{◌≡◌};
+ghost use Rattle.dms_codes.specs.declared.codes.MessageId.{MessageId};
+ghost use Rattle.dms_codes.specs.declared.codes.Activation.{Activation};
+
+/// Which octet of a checksum a code has first: makers differ.
+#[derive(Clone, Copy, Debug, PartialEq, Eq)]
+pub enum Order {
+    /// The high octet.
+    High,
+    /// The low octet.
+    Swapped,
+}
+
+/// Names a message by its row of the table and its checksum (MessageIDCode).
+#[derive(Clone, Copy, Debug, PartialEq, Eq)]
+pub struct MessageId {
+    /// The type of the memory that holds the message.
+    pub memory: u8,
+    /// The message's number in that memory.
+    pub number: u16,
+    /// The checksum itself, whatever the order of its octets.
+    pub crc: u16,
+}
+
+/// Puts a message up (MessageActivationCode).
+#[derive(Clone, Copy, Debug, PartialEq, Eq)]
+pub struct Activation {
+    /// How long the message is shown; 65535 is without end.
+    pub minutes: u16,
+    pub priority: u8,
+    pub id: MessageId,
+    /// The network address of the one who puts it up.
+    pub address: [u8; 4],
+}
+
+impl Order {
+    ghost use Rattle.std.specs.Prelude.{◌≡◌};
+    ghost use Rattle.dms_codes.specs.Codes.{octets_of_checksum, in_order, number_at};
+
+    /// The two octets of a checksum.
+    fn octets(self, crc: u16) -> [u8; 2]
+        ensures { result ≡ octets_of_checksum self crc }
+    {
+        let [high, low] = crc.to_be_bytes();
+        match self {
+            Order::High => [high, low],
+            Order::Swapped => [low, high],
+        }
+    }
+
+    /// The checksum that has these two octets.
+    fn checksum(self, octets: [u8; 2]) -> u16
+        ensures spelled { octets_of_checksum self result ≡ octets }
+        ensures value { result ≡ in_order self (number_at octets 0) }
+    {
+        match self {
+            Order::High => u16::from_be_bytes(octets),
+            Order::Swapped => u16::from_le_bytes(octets),
+        }
+    }
+}
+
+impl MessageId {
+    ghost use Rattle.std.specs.Prelude.{◌≡◌, ◌↔◌, length, IsSome, IfSome};
+    ghost use Rattle.dms_codes.specs.Codes.{octets_of_id, id_of, IsMessageId};
+
+    pub fn to_bytes(&self, order: Order) -> [u8; 5]
+        ensures { result ≡ octets_of_id order self.now }
+    {
+        let [number_high, number_low] = self.number.to_be_bytes();
+        let [crc_first, crc_second] = order.octets(self.crc);
+        [self.memory, number_high, number_low, crc_first, crc_second]
+    }
+
+    /// None only where the length is wrong.
+    pub fn from_bytes(order: Order, octets: &[u8]) -> Option<Self>
+        ensures five { IsSome result ↔ (length octets.now ≡ 5) }
+        ensures spelled { IfSome result (λ id. octets_of_id order id ≡ octets.now) }
+        ensures value { IfSome result (λ id. id ≡ id_of order octets.now) }
+        ensures back { (id : MessageId) → IsMessageId id → octets.now ≡ octets_of_id order id → result ≡ Some id }
+    {
+        match octets {
+            &[memory, number_high, number_low, crc_first, crc_second] => Some(MessageId {
+                memory,
+                number: u16::from_be_bytes([number_high, number_low]),
+                crc: order.checksum([crc_first, crc_second]),
+            }),
+            _ => None,
+        }
+    }
+}
+
+impl Activation {
+    ghost use Rattle.std.specs.Prelude.{◌≡◌, ◌↔◌, length, IsSome, IfSome};
+    ghost use Rattle.dms_codes.specs.Codes.{octets_of_activation, activation_of, IsActivation};
+
+    pub fn to_bytes(&self, order: Order) -> [u8; 12]
+        ensures { result ≡ octets_of_activation order self.now }
+    {
+        let [minutes_high, minutes_low] = self.minutes.to_be_bytes();
+        let [memory, number_high, number_low, crc_first, crc_second] = self.id.to_bytes(order);
+        let [a, b, c, d] = self.address;
+        [
+            minutes_high,
+            minutes_low,
+            self.priority,
+            memory,
+            number_high,
+            number_low,
+            crc_first,
+            crc_second,
+            a,
+            b,
+            c,
+            d,
+        ]
+    }
+
+    /// None only where the length is wrong.
+    pub fn from_bytes(order: Order, octets: &[u8]) -> Option<Self>
+        ensures twelve { IsSome result ↔ (length octets.now ≡ 12) }
+        ensures spelled { IfSome result (λ a. octets_of_activation order a ≡ octets.now) }
+        ensures value { IfSome result (λ a. a ≡ activation_of order octets.now) }
+        ensures back { (a : Activation) → IsActivation a → octets.now ≡ octets_of_activation order a → result ≡ Some a }
+    {
+        match octets {
+            &[minutes_high, minutes_low, priority, ref id @ .., a, b, c, d] => Some(Activation {
+                minutes: u16::from_be_bytes([minutes_high, minutes_low]),
+                priority,
+                id: MessageId::from_bytes(order, id)?,
+                address: [a, b, c, d],
+            }),
+            _ => None,
+        }
+    }
+}
+
+#[cfg(test)]
+mod tests;

@@ -1,0 +1,10 @@
+//! The objects of a sign (NTCIP 1203, dms): the columns of dmsMessageTable and the objects with one instance, and their names.
+#![tactic(auto)]
+
+pub mod column;
+pub mod instance;
+pub mod scalar;
+
+pub use column::Column;
+pub use instance::Instance;
+pub use scalar::Scalar;

@@ -1,0 +1,147 @@
+-- What a SET writes, what keeps it from doing so, and the state in which all that it assigns is assigned at once.
+use Rattle.std.specs.Prelude.{ℕ, ◌+◌, ◌==◌, ◌&&◌, ◌||◌, Bool, false, not, if◌then◌else◌, List, [], ◌∷◌, ◌++◌, length, nat_eq, filter_map, Option, Some, None, is_none, option_map, option_and_then, unwrap_or}
+use Rattle.std.specs.List.{list_any}
+use Rattle.std.specs.Cmp.Lexicographic.{pointwise}
+use Rattle.dms_wire.specs.Message.{VarBind}
+use Rattle.dms_codes.specs.Status.{is_modifying}
+use Rattle.dms_table.specs.Rows.{TableModel, RowReading, row_read, written}
+use Rattle.dms_objects.specs.declared.scalar.Scalar.{Scalar}
+use Rattle.dms_objects.specs.declared.scalar.Scalar.TheVariants.{DefaultBackgroundColor, DefaultForegroundColor, DefaultFlashOn, DefaultFlashOff, DefaultFont, DefaultJustificationLine, DefaultJustificationPage, DefaultPageOnTime, DefaultPageOffTime, ShortPowerRecoveryMessage, LongPowerRecoveryMessage, ShortPowerLossTime, CommunicationsLossMessage, TimeCommLoss, PowerLossMessage, EndDurationMessage}
+use Rattle.dms_objects.specs.declared.instance.Instance.{Instance}
+use Rattle.dms_objects.specs.Names.{scalar_number}
+use Rattle.dms_sign.specs.Objects.{instance_named}
+use Rattle.dms_sign.specs.State.{SignState}
+use Rattle.dms_sign.specs.Access.{Write, SetNumber, SetCode, SetField, is_command, is_settable, write_of}
+
+-- ---- error statuses (RFC 1157, 4.1.1)
+
+abbrev pub no_error : ℕ
+no_error = 0
+
+abbrev pub too_big : ℕ
+too_big = 1
+
+abbrev pub no_such_name : ℕ
+no_such_name = 2
+
+abbrev pub bad_value : ℕ
+bad_value = 3
+
+abbrev pub general_error : ℕ
+general_error = 5
+
+-- ---- what keeps a SET from writing
+
+abbrev pub if_settable : Instance → Option Instance
+if_settable i = if is_settable i then Some i else None
+
+-- the instance of a name, where it can be set
+unfoldable pub settable_instance : SignState → List ℕ → Option Instance
+settable_instance s name = option_and_then if_settable (instance_named s.table name)
+
+-- what a binding writes
+unfoldable pub write_at : SignState → VarBind → Option Write
+write_at s binding = option_and_then (λ i. write_of s.config.face i binding.value) (settable_instance s binding.name)
+
+-- a name is that of one of these bindings
+abbrev pub is_among : List ℕ → List VarBind → Bool
+is_among name bindings = list_any (λ (binding : VarBind). pointwise nat_eq binding.name name) bindings
+
+-- a binding is a command
+abbrev pub is_command_at : SignState → VarBind → Bool
+is_command_at s binding = unwrap_or (option_map is_command (write_at s binding)) false
+
+abbrev pub reads_modifying : RowReading → Bool
+reads_modifying reading = is_modifying reading.row.status
+
+-- a write to a field of a row that is not being modified
+abbrev pub is_refused_field : TableModel → Write → Bool
+is_refused_field table (SetField id field) = not (unwrap_or (option_map reads_modifying (row_read table id)) false)
+is_refused_field table _ = false
+
+-- why a SET is refused: the index of a binding, from 1, and an error status
+pub record SetCause : Type 0 where
+  pub index : ℕ
+  pub status : ℕ
+
+-- What is wrong with a binding behind others, in order (this profile): the name is not there or not to be set, for the community that
+-- reads none is; the value; the name was given before; a second command; a field of a row that is not being modified.
+abbrev pub tests_at : SignState → Bool → List VarBind → VarBind → List (Bool × ℕ)
+tests_at s may_write before binding =
+    (not may_write || is_none (settable_instance s binding.name), no_such_name)
+    ∷ (is_none (write_at s binding), bad_value)
+    ∷ (is_among binding.name before, general_error)
+    ∷ (is_command_at s binding && list_any (is_command_at s) before, general_error)
+    ∷ (unwrap_or (option_map (is_refused_field s.table) (write_at s binding)) false, general_error)
+    ∷ []
+
+abbrev pub cause_if : ℕ → Bool × ℕ → Option SetCause
+cause_if index test = if test.0 then Some (record { index = index; status = test.1 }) else None
+
+abbrev pub causes_at : SignState → Bool → List VarBind → VarBind → List SetCause
+causes_at s may_write before binding = filter_map (cause_if (length before + 1)) (tests_at s may_write before binding)
+
+-- why these bindings are refused behind others, all of it in order; each is judged on the state before the SET
+abbrev pub causes_behind : SignState → Bool → List VarBind → List VarBind → List SetCause
+causes_behind s may_write before [] = []
+causes_behind s may_write before (binding ∷ more) = causes_at s may_write before binding ++ causes_behind s may_write (before ++ binding ∷ []) more
+
+-- All that a SET is refused for; the first of it is told.
+unfoldable pub causes : SignState → Bool → List VarBind → List SetCause
+causes s may_write bindings = causes_behind s may_write [] bindings
+
+-- ---- assignment
+
+-- the value that these give, the last of it where there are more, or else the old one: a SET that is not refused names no object twice
+abbrev pub given : {A B : Type 0} → (A → Option B) → List A → B → B
+given pick [] old = old
+given pick (x ∷ xs) old = given pick xs (unwrap_or (pick x) old)
+
+-- two objects are one: they have one number
+abbrev pub is_same : Scalar → Scalar → Bool
+is_same a b = (scalar_number a).0 == (scalar_number b).0 && (scalar_number a).1 == (scalar_number b).1
+
+-- what a write gives to an object
+abbrev pub number_for : Scalar → Write → Option ℕ
+number_for object (SetNumber other number) = if is_same object other then Some number else None
+number_for object _ = None
+
+abbrev pub code_for : Scalar → Write → Option (List ℕ)
+code_for object (SetCode other octets) = if is_same object other then Some octets else None
+code_for object _ = None
+
+-- the table with a field written, where its row takes it
+abbrev pub with_write : TableModel → Write → TableModel
+with_write table (SetField id field) = unwrap_or (written table id field) table
+with_write table _ = table
+
+abbrev pub with_writes : TableModel → List Write → TableModel
+with_writes table [] = table
+with_writes table (write ∷ writes) = with_writes (with_write table write) writes
+
+-- The state with all values assigned at once: no write depends on another, since no object and no field is named twice. Commands
+-- assign nothing.
+unfoldable pub assigned : SignState → List Write → SignState
+assigned s writes = record s {
+  table = with_writes s.table writes;
+  fallbacks = record {
+    short_power_recovery = given (code_for ShortPowerRecoveryMessage) writes s.fallbacks.short_power_recovery;
+    long_power_recovery = given (code_for LongPowerRecoveryMessage) writes s.fallbacks.long_power_recovery;
+    power_loss = given (code_for PowerLossMessage) writes s.fallbacks.power_loss;
+    end_duration = given (code_for EndDurationMessage) writes s.fallbacks.end_duration;
+    communications_loss = given (code_for CommunicationsLossMessage) writes s.fallbacks.communications_loss;
+  };
+  short_power_loss_time = given (number_for ShortPowerLossTime) writes s.short_power_loss_time;
+  time_comm_loss = given (number_for TimeCommLoss) writes s.time_comm_loss;
+  defaults = record {
+    background = given (number_for DefaultBackgroundColor) writes s.defaults.background;
+    foreground = given (number_for DefaultForegroundColor) writes s.defaults.foreground;
+    flash_on = given (number_for DefaultFlashOn) writes s.defaults.flash_on;
+    flash_off = given (number_for DefaultFlashOff) writes s.defaults.flash_off;
+    font = given (number_for DefaultFont) writes s.defaults.font;
+    line = given (number_for DefaultJustificationLine) writes s.defaults.line;
+    page = given (number_for DefaultJustificationPage) writes s.defaults.page;
+    on = given (number_for DefaultPageOnTime) writes s.defaults.on;
+    off = given (number_for DefaultPageOffTime) writes s.defaults.off;
+  };
+}

@@ -1,7 +1,0 @@
-use Rattle.std.proofs.Common.{take, flat_map}
-use Rattle.dms_table.specs.Checksum.{octet_bits}
-use Rattle.dms_table.specs.Register.{TakesIn}
-use Rattle.dms_table.proofs.checksum.crc.Given as goal
-
-abbrev pub invariant-loop-octet : goal.invariant-loop-octet
-invariant-loop-octet l = TakesIn (flat_map octet_bits (take l.octet-index l.text)) 65535 l.register

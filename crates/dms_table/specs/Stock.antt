@@ -1,0 +1,75 @@
+-- What a table is made of.
+use Rattle.std.specs.Prelude.{◌≡◌, ℕ, ◌+◌, ◌&&◌, Bool, not, if◌then◌else◌, length, map, replicate, Option, Some, None, option_map, nat_le, position, All}
+use Rattle.dms_face.specs.Face.{FaceModel}
+use Rattle.dms_face.specs.Fit.{IsGood}
+use Rattle.dms_codes.specs.declared.status.Status.TheVariants.{Valid}
+use Rattle.dms_table.specs.declared.row.Services.{Services}
+use Rattle.dms_table.specs.declared.stock.Permanent.{Permanent}
+use Rattle.dms_table.specs.declared.stock.Stock.{Stock}
+use Rattle.dms_table.specs.declared.stock.TableFault.{TableFault}
+use Rattle.dms_table.specs.declared.stock.TableFault.TheVariants as faults
+use Rattle.dms_table.specs.Rows.{RowModel, TableModel, unused}
+use Rattle.dms_codes.specs.Limits.{longest_text, longest_owner}
+use Rattle.dms_table.specs.Validation.{verdict_of, passes, IsShowable}
+
+abbrev pub permanent_row : Permanent → RowModel
+permanent_row message = record { text = message.text.now; owner = message.owner.now; beacon = message.beacon; pixel = message.pixel; priority = message.priority; status = Valid }
+
+abbrev pub services_of : Stock → Services
+services_of stock = record { beacon = stock.beacon; pixel = stock.pixel }
+
+abbrev pub has_ranges : RowModel → Bool
+has_ranges row = nat_le (length row.text) longest_text && nat_le (length row.owner) longest_owner && nat_le row.beacon 1 && nat_le row.pixel 1 && nat_le 1 row.priority && nat_le row.priority 255
+
+-- a permanent row is one that could be validated
+abbrev pub may_stand : Services → FaceModel → Permanent → Bool
+may_stand services face message = has_ranges (permanent_row message) && passes (verdict_of services face (permanent_row message))
+
+-- one that may not stand
+abbrev pub may_not_stand : Services → FaceModel → Permanent → Bool
+may_not_stand services face message = not (may_stand services face message)
+
+abbrev pub HasGoodText : FaceModel → Permanent → Type 0
+HasGoodText face message = IsGood face message.text.now
+
+-- at most 16 permanent, 64 changeable and 16 volatile rows
+abbrev pub are_counts : Stock → Bool
+are_counts stock = nat_le (length stock.permanent.now) 16 && nat_le stock.changeable 64 && nat_le stock.volatile 16
+
+abbrev pub table_of : Stock → TableModel
+table_of stock = record {
+  permanent = map permanent_row stock.permanent.now;
+  changeable = replicate stock.changeable unused;
+  volatile = replicate stock.volatile unused;
+  services = services_of stock;
+  order = stock.order;
+}
+
+-- the permanent row at this place may not stand; the first has the number 1
+abbrev pub permanent_fault : ℕ → TableFault
+permanent_fault place = faults.Permanent (place + 1)
+
+-- the first thing that is wrong with a stock
+abbrev pub stock_fault : FaceModel → Stock → Option TableFault
+stock_fault face stock =
+    if are_counts stock then option_map permanent_fault (position (may_not_stand (services_of stock) face) stock.permanent.now)
+    else Some faults.Counts
+
+-- Where there is nothing wrong with a stock, memory may be wanting.
+abbrev pub IsFirstFault : Option TableFault → TableFault → Type 0
+IsFirstFault None fault = fault ≡ faults.Memory
+IsFirstFault (Some first) fault = fault ≡ first
+
+abbrev pub fault_number : TableFault → ℕ
+fault_number faults.Counts = 1
+fault_number (faults.Permanent number) = 2
+fault_number faults.Memory = 3
+
+-- each permanent row can be shown
+abbrev pub PermanentRowsAreGood : FaceModel → TableModel → Type 0
+PermanentRowsAreGood face table = All (IsShowable table.services face) table.permanent
+
+-- the permanent rows stay as they are, and so does what the sign has
+pub record KeepsPermanentRows (old new : TableModel) : Type 0 where
+  pub rows : new.permanent ≡ old.permanent
+  pub services : new.services ≡ old.services

@@ -1,0 +1,155 @@
+//! What a code activates, and why one is refused.
+
+ghost use Rattle.std.specs.Prelude.{◌≡◌, IsTrue, IfSome, option_map};
+ghost use Rattle.dms_face.specs.Face.{fit};
+ghost use Rattle.dms_face.specs.Layout.{under};
+ghost use Rattle.dms_table.specs.RowsView.{reading_of, IsShort};
+ghost use Rattle.dms_table.specs.Activation.{is_memory, named, activation_error, unless_refused, decided};
+
+use crate::row::RowView;
+use crate::shown::Shown;
+use crate::table::Table;
+use dms_codes::{Activation, MessageId, RowId, Status, memory};
+use dms_face::{Defaults, Face, MultiFault, check_with};
+use std::error::Error;
+use std::fmt;
+
+/// What keeps a code from putting its message up: the values of dmsActivateMsgError.
+#[derive(Clone, Copy, Debug, PartialEq, Eq)]
+pub enum Cause {
+    /// No type of memory.
+    MemoryType,
+    /// No row of this number.
+    Number,
+    /// The row is not valid.
+    Status,
+    /// The row has another checksum.
+    Checksum,
+    /// What is shown has a higher priority.
+    Priority,
+    /// The text does not fit.
+    Syntax(MultiFault),
+}
+
+impl Cause {
+    ghost use Rattle.std.specs.Prelude.{◌≡◌};
+    ghost use Rattle.dms_table.specs.Activation.{cause_number};
+
+    /// The cause's number in dmsActivateMsgError.
+    pub fn number(self) -> u8
+        ensures { result ≡ cause_number self }
+    {
+        match self {
+            Cause::Priority => 3,
+            Cause::Status => 4,
+            Cause::MemoryType => 5,
+            Cause::Number => 6,
+            Cause::Checksum => 7,
+            Cause::Syntax(_) => 8,
+        }
+    }
+}
+
+impl fmt::Display for Cause {
+    ghost use Rattle.dms_table.specs.FaultTexts.{cause_text};
+
+    ghost output = { cause_text };
+
+    fn fmt<W: fmt::Write>(&self, f: &mut fmt::Formatter<W>) -> fmt::Result {
+        match self {
+            Cause::MemoryType => f.write_str("no type of memory"),
+            Cause::Number => f.write_str("no such row"),
+            Cause::Status => f.write_str("the row is not valid"),
+            Cause::Checksum => f.write_str("another checksum"),
+            Cause::Priority => f.write_str("what is shown has a higher priority"),
+            Cause::Syntax(fault) => write!(f, "{fault}"),
+        }
+    }
+}
+
+impl Error for Cause {}
+
+impl Table {
+    /// What a code puts up, or why it is refused. Nothing changes.
+    pub fn decide(
+        &self,
+        face: &Face,
+        defaults: &Defaults,
+        code: &Activation,
+        shown: &Shown,
+    ) -> Result<Shown, Cause>
+        requires { IsTrue (fit face.now.fonts defaults.now) }
+        ensures { result ≡ decided face.now defaults.now self.now shown.now code.now }
+    {
+        if !is_memory(code.id.memory) {
+            return Err(Cause::MemoryType);
+        }
+        match self.named(shown, &code.id) {
+            None => Err(Cause::Number),
+            Some(row) => {
+                judge(face, defaults, code, shown, &row)?;
+                Ok(shown.after(code, &row, defaults))
+            }
+        }
+    }
+
+    /// The row that a code names; that of the current buffer is what is shown.
+    fn named<'a>(&'a self, shown: &'a Shown, id: &MessageId) -> Option<RowView<'a>>
+        ensures read { option_map reading_of result ≡ named self.now shown.now id.now }
+        ensures short { IfSome result (λ view. IsShort view) }
+    {
+        if id.memory != memory::CURRENT_BUFFER {
+            return self.row(RowId {
+                memory: id.memory,
+                number: id.number,
+            });
+        }
+        if id.number == 1 {
+            Some(shown.view())
+        } else {
+            None
+        }
+    }
+}
+
+fn is_memory(kind: u8) -> bool
+    ensures { result ≡ is_memory kind }
+{
+    matches!(
+        kind,
+        memory::PERMANENT
+            | memory::CHANGEABLE
+            | memory::VOLATILE
+            | memory::CURRENT_BUFFER
+            | memory::BLANK
+    )
+}
+
+/// Refuses a code of this row for the first cause that there is.
+fn judge(
+    face: &Face,
+    defaults: &Defaults,
+    code: &Activation,
+    shown: &Shown,
+    row: &RowView<'_>,
+) -> Result<(), Cause>
+    requires { IsTrue (fit face.now.fonts defaults.now) }
+    ensures { result ≡ unless_refused tt (activation_error (under face.now defaults.now) shown.now code.now (reading_of row.now)) }
+{
+    if row.status != Status::Valid {
+        return Err(Cause::Status);
+    }
+    if code.id.memory != memory::BLANK && code.id.crc != row.checksum {
+        return Err(Cause::Checksum);
+    }
+    if code.priority < shown.priority {
+        return Err(Cause::Priority);
+    }
+    if code.id.memory == memory::CURRENT_BUFFER {
+        return Ok(());
+    }
+    match check_with(face, defaults, row.text) {
+        Ok(_) => Ok(()),
+        Err(fault) => Err(Cause::Syntax(fault)),
+    }
+}

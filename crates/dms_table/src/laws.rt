@@ -1,0 +1,18 @@
+//! Laws over the definitions of specs/ alone, stated as functions with nothing to run.
+
+ghost use Rattle.std.specs.Prelude.{◌≡◌, Some};
+ghost use Rattle.dms_codes.specs.declared.row_id.RowId.{RowId};
+ghost use Rattle.dms_codes.specs.declared.status.Ask.{Ask};
+ghost use Rattle.dms_face.specs.Face.{FaceModel};
+ghost use Rattle.dms_table.specs.Rows.{asked, written, after_power, TableModel, FieldModel};
+ghost use Rattle.dms_table.specs.Validation.{settled};
+ghost use Rattle.dms_table.specs.Stock.{PermanentRowsAreGood, KeepsPermanentRows};
+
+/// What a table does leaves its permanent rows as they are, so they stay good on the face that it was made for.
+pub fn permanent_rows_stay()
+    ensures asked { (old new : TableModel) (id : RowId) (ask : Ask) → asked old id ask ≡ Some new → KeepsPermanentRows old new }
+    ensures written { (old new : TableModel) (id : RowId) (field : FieldModel) → written old id field ≡ Some new → KeepsPermanentRows old new }
+    ensures settled { (face : FaceModel) (table : TableModel) → KeepsPermanentRows table (settled face table) }
+    ensures after_power { (table : TableModel) → KeepsPermanentRows table (after_power table) }
+    ensures good { (face : FaceModel) (old new : TableModel) → KeepsPermanentRows old new → PermanentRowsAreGood face old → PermanentRowsAreGood face new }
+{}
