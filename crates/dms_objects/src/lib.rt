@@ -4,6 +4,8 @@
 pub mod column;
 pub mod instance;
 pub mod scalar;
+#[cfg(test)]
+mod tests;
 
 pub use column::Column;
 pub use instance::Instance;
