@@ -3,6 +3,7 @@
 
 pub mod column;
 pub mod instance;
+pub mod laws;
 pub mod scalar;
 #[cfg(test)]
 mod tests;

@@ -8,7 +8,6 @@ ghost use Rattle.dms_wire.specs.Canonical.{canonical};
 ghost use Rattle.dms_wire.specs.Response.{response_to};
 ghost use Rattle.dms_objects.specs.declared.column.Column.{Column};
 ghost use Rattle.dms_codes.specs.declared.row_id.RowId.{RowId};
-ghost use Rattle.dms_objects.specs.Names.{activate_message, activate_message_error, cell_name};
 ghost use Rattle.dms_codes.specs.declared.codes.Activation.{Activation};
 ghost use Rattle.dms_codes.specs.Codes.{activation_of};
 ghost use Rattle.dms_table.specs.Rows.{TableModel, IsTable};
@@ -17,23 +16,14 @@ ghost use Rattle.dms_table.specs.Stock.{table_of};
 ghost use Rattle.dms_table.specs.Activation.{ShownModel, message_at};
 ghost use Rattle.dms_objects.specs.declared.instance.Instance.{Instance};
 ghost use Rattle.dms_objects.specs.declared.scalar.Scalar.{Scalar};
-ghost use Rattle.dms_objects.specs.declared.scalar.Scalar.TheVariants.{ActivateMessage, ActivateMsgError};
-ghost use Rattle.dms_objects.specs.declared.instance.Instance.TheVariants.{The, Cell};
 ghost use Rattle.dms_objects.specs.Names.{name_of};
+ghost use Rattle.dms_objects.specs.declared.instance.Instance.TheVariants.{The, Cell};
 ghost use Rattle.dms_sign.specs.Objects.{instance_named, next_instance, IsInstance, FirstAfter};
 ghost use Rattle.dms_sign.specs.State.{ConfigModel, SignState, start};
 ghost use Rattle.dms_sign.specs.Requests.{primary};
 ghost use Rattle.dms_sign.specs.Reply.{reply_to, received};
 ghost use Rattle.dms_sign.specs.Events.{after_tick, after_power_loss, after_power_return};
 ghost use Rattle.dms_sign.specs.Promises.{IsReplyTo, AsksFor, activates};
-
-/// The names that the central system uses are those of these objects.
-#[tactic(auto, unfolding(crate::specs::Objects::name_of))]
-pub fn names_are_shared()
-    ensures activate { name_of (The ActivateMessage) ≡ activate_message }
-    ensures error { name_of (The ActivateMsgError) ≡ activate_message_error }
-    ensures cell { (column : Column) (row : RowId) → name_of (Cell column row) ≡ cell_name column row }
-{}
 
 /// Each object has its instance, and each column one for each row that can be read, and for no other row.
 pub fn each_has_its_instances()
