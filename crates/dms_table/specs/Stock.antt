@@ -1,5 +1,6 @@
 -- What a table is made of.
 use Rattle.std.specs.Prelude.{◌≡◌, ℕ, ◌+◌, ◌&&◌, Bool, not, if◌then◌else◌, length, map, replicate, Option, Some, None, option_map, nat_le, position, All}
+use Rattle.std.specs.Int.Digits.{AllBelowBase}
 use Rattle.dms_face.specs.Face.{FaceModel}
 use Rattle.dms_face.specs.Fit.{IsGood}
 use Rattle.dms_codes.specs.declared.status.Status.TheVariants.{Valid}
@@ -73,3 +74,8 @@ PermanentRowsAreGood face table = All (IsShowable table.services face) table.per
 pub record KeepsPermanentRows (old new : TableModel) : Type 0 where
   pub rows : new.permanent ≡ old.permanent
   pub services : new.services ≡ old.services
+
+-- the text and the owner of a row are octets
+pub record HasOctets (row : RowModel) : Type 0 where
+  pub text : AllBelowBase 256 row.text
+  pub owner : AllBelowBase 256 row.owner

@@ -1,11 +1,12 @@
 //! Rows of the table.
 
-ghost use Rattle.std.specs.Prelude.{◌≡◌, ◌≤◌, [], Some, None, OnOk, OnErr, IfSome, IsTrue, length, option_map};
+ghost use Rattle.std.specs.Prelude.{◌≡◌, ◌≤◌, [], Some, None, OnOk, OnErr, IfSome, IsTrue, length, option_map, is_some};
+ghost use Rattle.std.specs.Int.Digits.{AllBelowBase};
 ghost use Rattle.dms_table.specs.Rows.{unused, interrupted, is_in_range, with_field, with_status, asked_row, written_row, blank_at, blank_reading, reading, row_is_validating};
 ghost use Rattle.dms_codes.specs.Status.{is_valid, is_not_used};
 ghost use Rattle.dms_face.specs.Face.{fit};
 ghost use Rattle.dms_table.specs.ValidatorView.{settled_by, verdict_if, IsJudged};
-ghost use Rattle.dms_table.specs.Stock.{permanent_row, has_ranges};
+ghost use Rattle.dms_table.specs.Stock.{permanent_row, has_ranges, HasOctets};
 ghost use Rattle.dms_table.specs.RowsView.{field_of, reading_of, IsShort};
 
 use crate::stock::Permanent;
@@ -99,7 +100,8 @@ impl Row {
     /// A row that the sign is made with.
     pub(crate) fn permanent(message: &Permanent<'_>) -> Row
         requires { IsTrue (has_ranges (permanent_row message.now)) }
-        ensures { result ≡ permanent_row message.now }
+        ensures row { result ≡ permanent_row message.now }
+        ensures octets { HasOctets result }
     {
         Row {
             text: copy_of(message.text),
@@ -153,6 +155,13 @@ impl Row {
         } else {
             0
         }
+    }
+
+    /// Whether the row may be asked this.
+    pub(crate) fn takes(&self, ask: Ask) -> bool
+        ensures { result ≡ is_some (asked_row ask self.now) }
+    {
+        self.status.next(ask).is_some()
     }
 
     /// Asks the row.
@@ -285,7 +294,8 @@ impl<'a> Field<'a> {
 /// A copy of these octets.
 pub(crate) fn copy_of<const N: usize>(octets: &[u8]) -> ArrayVec<u8, N>
     requires { length octets.now ≤ N }
-    ensures { result.items ≡ octets.now }
+    ensures copied { result.items ≡ octets.now }
+    ensures octets { AllBelowBase 256 octets.now }
 {
     let mut copy = ArrayVec::new();
     let _ = copy.try_extend_from_slice(octets);

@@ -58,6 +58,24 @@ impl Shown {
         }
     }
 
+    /// A copy.
+    pub fn again(&self) -> Shown
+        ensures { result ≡ self.now }
+    {
+        Shown {
+            text: copy_of(self.text.as_slice()),
+            owner: copy_of(self.owner.as_slice()),
+            beacon: self.beacon,
+            pixel: self.pixel,
+            priority: self.priority,
+            source: self.source,
+            mode: self.mode,
+            address: self.address,
+            remaining: self.remaining,
+            defaults: self.defaults,
+        }
+    }
+
     fn checksum(&self) -> u16
         ensures { result ≡ (shown_reading self.now).checksum }
     {

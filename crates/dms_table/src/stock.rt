@@ -3,7 +3,7 @@
 ghost use Rattle.std.specs.Prelude.{◌≡◌, IsTrue, IfNone, IfOk, All, map, replicate, position};
 ghost use Rattle.dms_face.specs.Face.{fit};
 ghost use Rattle.dms_table.specs.Rows.{unused};
-ghost use Rattle.dms_table.specs.Stock.{HasGoodText, are_counts, permanent_row, has_ranges, may_stand, may_not_stand, stock_fault, services_of};
+ghost use Rattle.dms_table.specs.Stock.{HasGoodText, are_counts, permanent_row, has_ranges, may_stand, may_not_stand, stock_fault, services_of, HasOctets};
 ghost use Rattle.dms_table.specs.ValidatorView.{face_of};
 
 use crate::row::{Row, Services};
@@ -114,7 +114,8 @@ pub(crate) fn permanent_rows(
     messages: &[Permanent<'_>],
 ) -> Result<Vec<Row>, AllocError>
     requires { All (λ message. IsTrue (has_ranges (permanent_row message))) messages.now }
-    ensures { IfOk result (λ rows. rows.items ≡ map permanent_row messages.now) }
+    ensures rows { IfOk result (λ rows. rows.items ≡ map permanent_row messages.now) }
+    ensures octets { IfOk result (λ rows. All HasOctets rows.items) }
 {
     let mut rows = Vec::with_capacity(alloc, messages.len())?;
     for message in messages {

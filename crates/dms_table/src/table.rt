@@ -1,6 +1,6 @@
 //! The message table.
 
-ghost use Rattle.std.specs.Prelude.{◌≡◌, map, find, All, IsTrue, IfOk, IfErr, OnOk, OnErr, Some, None, IfSome, option_map};
+ghost use Rattle.std.specs.Prelude.{◌≡◌, map, find, All, IsTrue, IfOk, IfErr, OnOk, OnErr, Some, None, IfSome, option_map, is_some};
 ghost use Rattle.std.specs.Option.{option_copied};
 ghost use Rattle.std.specs.List.{list_any};
 ghost use Rattle.dms_table.specs.Rows.{row_is_validating, rows_of, numbered, row_read, valid_count, unused_count, row_count, may_ask, changed_in, asked_row, asked, written_row, written, interrupted, released, after_power, IsTable, TableModel, FieldModel};
@@ -11,7 +11,7 @@ ghost use Rattle.dms_face.specs.Face.{FaceModel, fit};
 ghost use Rattle.dms_face.specs.Layout.{under};
 ghost use Rattle.dms_table.specs.Validation.{settled, verdict, ValidRowsAreGood};
 ghost use Rattle.dms_table.specs.ValidatorView.{settled_by, verdict_by, IsJudged};
-ghost use Rattle.dms_table.specs.Stock.{permanent_row, has_ranges, stock_fault, table_of, IsFirstFault, PermanentRowsAreGood, KeepsPermanentRows};
+ghost use Rattle.dms_table.specs.Stock.{permanent_row, has_ranges, stock_fault, table_of, IsFirstFault, PermanentRowsAreGood, KeepsPermanentRows, HasOctets};
 ghost use Rattle.dms_table.specs.Activation.{is_memory, named, activation_error, unless_refused, decided};
 
 use crate::activation::Cause;
@@ -50,6 +50,7 @@ impl Table {
         ensures made { IfOk result (λ table. table ≡ table_of stock.entry) }
         ensures faultless { OnOk result (stock_fault face.now stock.entry ≡ None) }
         ensures good { IfOk result (λ table. PermanentRowsAreGood face.now table) }
+        ensures octets { IfOk result (λ table. All HasOctets table.permanent) }
         ensures fault { IfErr result (λ fault. IsFirstFault (stock_fault face.now stock.entry) fault) }
     {
         if let Some(fault) = stock.fault(face) {
@@ -63,7 +64,8 @@ impl Table {
 
     fn of_stock(alloc: Global, stock: &Stock<'_>) -> Result<Table, AllocError>
         requires { All (λ message. IsTrue (has_ranges (permanent_row message))) stock.now.permanent.now }
-        ensures { IfOk result (λ table. table ≡ table_of stock.now) }
+        ensures made { IfOk result (λ table. table ≡ table_of stock.now) }
+        ensures octets { IfOk result (λ table. All HasOctets table.permanent) }
     {
         Ok(Table {
             permanent: permanent_rows(alloc, stock.permanent)?,
@@ -151,6 +153,18 @@ impl Table {
                 && !is_any_validating(self.volatile.as_slice())
     }
 
+    /// Whether `ask` would take this now.
+    pub fn takes(&self, id: RowId, ask: Ask) -> bool
+        ensures { result ≡ is_some (asked self.now id ask) }
+    {
+        self.may_ask(ask)
+            && match id.memory {
+                memory::CHANGEABLE => takes_in(self.changeable.as_slice(), id.number, ask),
+                memory::VOLATILE => takes_in(self.volatile.as_slice(), id.number, ask),
+                _ => false,
+            }
+    }
+
     /// Asks a row for another status.
     pub fn ask(&mut self, id: RowId, ask: Ask) -> Result<(), Refused>
         ensures ok { OnOk result (asked self.old id ask ≡ Some self.new) }
@@ -219,6 +233,15 @@ fn is_any_validating(rows: &[Row]) -> bool
     ensures { result ≡ list_any row_is_validating rows.now }
 {
     rows.iter().any(|row| row.is_validating())
+}
+
+fn takes_in(rows: &[Row], number: u16, ask: Ask) -> bool
+    ensures { result ≡ is_some (changed_in rows.now number (asked_row ask)) }
+{
+    match numbered(rows, number) {
+        Some(row) => row.takes(ask),
+        None => false,
+    }
 }
 
 fn ask_in(rows: &mut [Row], number: u16, ask: Ask) -> Result<(), Refused>

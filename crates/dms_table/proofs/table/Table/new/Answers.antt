@@ -7,4 +7,4 @@ of_stock-requires c = all_ranges c.args.face.now c.args.stock (sym c.fault.ensur
 
 pub returns-in-Ok-clause-good : goal.returns-in-Ok-clause-good
 returns-in-Ok-clause-good c =
-    permanent_rows_are_good c.args.face.now c.args.stock c.in-Ok.table (sym c.fault.ensures.first ∙ c.in_default.is) c.in_default.ensures.good c.in-Ok.ensures
+    permanent_rows_are_good c.args.face.now c.args.stock c.in-Ok.table (sym c.fault.ensures.first ∙ c.in_default.is) c.in_default.ensures.good c.in-Ok.ensures.made
