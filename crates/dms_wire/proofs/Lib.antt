@@ -19,6 +19,7 @@ pub mod CanonicalLaws
 pub mod LimitsLaws
 pub mod MessageOfLaws
 pub mod Shortest
+pub mod Prefixes
 pub mod Writes
 pub mod FewBindings
 pub mod Rows

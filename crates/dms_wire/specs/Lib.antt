@@ -9,11 +9,13 @@ pub mod Spelling
 pub mod Limits
 pub mod Canonical
 pub mod Response
+pub mod Written
 pub mod NameReading
 pub mod NameWalk
 pub mod Reading
 pub mod MessageOf
 pub mod Walk
+pub mod Prefix
 pub mod View
 pub mod PduView
 pub mod FaultText

@@ -1,9 +1,10 @@
 -- What the code's messages say.
-use Rattle.std.specs.Prelude.{map}
+use Rattle.std.specs.Prelude.{List, map}
 use Rattle.dms_wire.specs.declared.message.Value.{Value}
 use Rattle.dms_wire.specs.declared.message.Value.TheVariants.{Integer, Octets, Null, Name, Address, Counter, Gauge, Ticks, Opaque}
 use Rattle.dms_wire.specs.declared.message.Bind.{Bind}
 use Rattle.dms_wire.specs.declared.message.Message.{Message}
+use Rattle.dms_wire.specs.declared.message.Header.{Header}
 use Rattle.dms_wire.specs.declared.message.MessageParts.{MessageParts}
 use Rattle.dms_wire.specs.Message.{ObjectValue, integer, octet_string, null, object_identifier, ip_address, counter, gauge, time_ticks, opaque, VarBind, SnmpMessage}
 
@@ -26,3 +27,6 @@ snmp_message m = record { community = m.community.now; kind = m.kind; request = 
 
 abbrev pub snmp_message_of_parts : MessageParts → SnmpMessage
 snmp_message_of_parts p = record { community = p.community.now; kind = p.kind; request = p.request; status = p.status; index = p.index; bindings = map var_bind p.binds.now }
+
+abbrev pub message_around : Header → List VarBind → SnmpMessage
+message_around h bindings = record { community = h.community.now; kind = h.kind; request = h.request; status = h.status; index = h.index; bindings = bindings }

@@ -14,7 +14,7 @@ mod writing;
 
 pub use error_status::ErrorStatus;
 pub use fault::{FaultKind, TooBig, WireFault};
-pub use message::{Bind, Binds, Kind, Message, MessageParts, Out, Value};
+pub use message::{Bind, Binds, Header, Kind, Message, MessageParts, Out, Value};
 pub use object_identifier::{Numbers, Oid, oid_cmp};
 pub use reading::{heard, read};
-pub use writing::write;
+pub use writing::{BindingOctets, write, write_around, write_response};

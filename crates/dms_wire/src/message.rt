@@ -1,7 +1,12 @@
 //! Messages, their bindings and values, over the octets of a datagram.
 
-ghost use Rattle.std.specs.Prelude.{◌≡◌};
+ghost use Rattle.std.specs.Prelude.{◌≡◌, List};
+ghost use Rattle.dms_wire.specs.ErrorStatus.{error_status_number};
+ghost use Rattle.dms_wire.specs.Message.{VarBind};
+ghost use Rattle.dms_wire.specs.Response.{response_with};
+ghost use Rattle.dms_wire.specs.View.{message_around, snmp_message};
 
+use crate::error_status::ErrorStatus;
 use crate::object_identifier::Oid;
 use crate::reading::first_binding;
 use arrayvec::ArrayVec;
@@ -102,6 +107,35 @@ pub struct Message<'a> {
     /// The error-index.
     pub index: i64,
     pub binds: Binds<'a>,
+}
+
+impl<'a> Message<'a> {
+    /// What the Response to this message says beside its bindings: it repeats the community and the request-id.
+    pub fn response(&self, status: ErrorStatus, index: u32) -> Header<'a>
+        ensures { (bindings : List VarBind) → message_around result bindings
+            ≡ response_with (snmp_message self.now) (error_status_number status) index bindings }
+    {
+        Header {
+            community: self.community,
+            kind: Kind::Response,
+            request: self.request,
+            status: i64::from(status.number()),
+            index: i64::from(index),
+        }
+    }
+}
+
+/// What a message says beside its bindings.
+#[derive(Drop)]
+pub struct Header<'a> {
+    pub community: &'a [u8],
+    pub kind: Kind,
+    /// The request-id.
+    pub request: i64,
+    /// The error-status.
+    pub status: i64,
+    /// The error-index: the number of the binding that is at fault, from 1, or 0.
+    pub index: i64,
 }
 
 /// A message to write: as `Message`, with its bindings in a slice.

@@ -5,12 +5,20 @@ ghost use Rattle.std.specs.Int.Digits.{digits_of};
 ghost use Rattle.arrayvec.specs.ArrayVec.{array_vec_len};
 ghost use Rattle.dms_wire.specs.Integer.{inverted};
 ghost use Rattle.dms_wire.specs.Spelling.{tag_of};
-ghost use Rattle.dms_wire.specs.View.{object_value, var_bind, snmp_message_of_parts};
-ghost use Rattle.dms_wire.specs.Canonical.{short_length, element, positive_octets, integer_octets, name_octets, value_octets, binding_octets, numbers_octets, pdu_octets, canonical};
+ghost use Rattle.dms_wire.specs.View.{object_value, var_bind, message_around, snmp_message, snmp_message_of_parts};
+ghost use Rattle.dms_wire.specs.Canonical.{short_length, element, positive_octets, integer_octets, name_octets, value_octets, binding_octets, numbers_octets, canonical};
+ghost use Rattle.std.specs.Prelude.{List};
+ghost use Rattle.dms_wire.specs.ErrorStatus.{error_status_number};
+ghost use Rattle.dms_wire.specs.Message.{VarBind};
+ghost use Rattle.dms_wire.specs.Response.{response_to};
+ghost use Rattle.dms_wire.specs.Prefix.{pdu_size, content_size, message_size, pdu_prefix, message_prefix, prefix};
+ghost use Rattle.dms_wire.specs.Written.{octets_of_bindings, IsWritten};
 
+use crate::error_status::ErrorStatus;
 use crate::fault::TooBig;
-use crate::message::{Bind, Kind, MAX_DATAGRAM, MessageParts, Out, Value};
+use crate::message::{Bind, Binds, Header, Kind, MAX_DATAGRAM, Message, MessageParts, Out, Value};
 use crate::tag;
+use std::marker::Model;
 
 /// How many octets a number not below 0 takes.
 #[inline]
@@ -314,18 +322,6 @@ fn put_bindings(out: &mut Out, bindings: &[Bind<'_>])
     }
 }
 
-/// Writes the list of bindings, of which the content takes `size` octets.
-#[inline]
-#[tactic(auto, using(crate::proofs::Shortest::nested_steps))]
-fn put_binding_list(out: &mut Out, bindings: &[Bind<'_>], size: usize)
-    requires bindings { size ≡ length (flat_map binding_octets (map var_bind bindings.now)) }
-    requires room { array_vec_len out.old + length (element 48 (flat_map binding_octets (map var_bind bindings.now))) ≤ 1472 }
-    ensures { out.new.items ≡ out.old.items ++ element 48 (flat_map binding_octets (map var_bind bindings.now)) }
-{
-    put_head(out, tag::SEQUENCE, size);
-    put_bindings(out, bindings);
-}
-
 /// The tag of a PDU.
 #[inline]
 fn tag_of_pdu(kind: Kind) -> u8
@@ -342,139 +338,203 @@ fn tag_of_pdu(kind: Kind) -> u8
 /// How many octets the request-id, the error-status and the error-index take.
 #[inline]
 #[tactic(auto, using(crate::proofs::Shortest::sizes), unfolding(crate::specs::Canonical::numbers_octets))]
-fn size_of_numbers(parts: &MessageParts<'_>) -> usize
-    ensures exact { result ≡ length (numbers_octets (snmp_message_of_parts parts.now)) }
+fn size_of_numbers(header: &Header<'_>) -> usize
+    ensures exact { result ≡ length (numbers_octets (message_around header.now [])) }
     ensures small { result < 60 }
 {
-    size_of_integer(&parts.request) + size_of_integer(&parts.status) + size_of_integer(&parts.index)
+    size_of_integer(&header.request)
+        + size_of_integer(&header.status)
+        + size_of_integer(&header.index)
 }
 
 /// Writes the request-id, the error-status and the error-index.
 #[tactic(auto, using(crate::proofs::Shortest::element_steps), unfolding(crate::specs::Canonical::numbers_octets))]
-fn put_numbers(out: &mut Out, parts: &MessageParts<'_>)
-    requires { array_vec_len out.old + length (numbers_octets (snmp_message_of_parts parts.now)) ≤ 1472 }
-    ensures { out.new.items ≡ out.old.items ++ numbers_octets (snmp_message_of_parts parts.now) }
+fn put_numbers(out: &mut Out, header: &Header<'_>)
+    requires { array_vec_len out.old + length (numbers_octets (message_around header.now [])) ≤ 1472 }
+    ensures { out.new.items ≡ out.old.items ++ numbers_octets (message_around header.now []) }
 {
-    put_integer(out, &parts.request);
-    put_integer(out, &parts.status);
-    put_integer(out, &parts.index);
+    put_integer(out, &header.request);
+    put_integer(out, &header.status);
+    put_integer(out, &header.index);
 }
 
-/// How many octets the content of the PDU takes, of which the bindings take `size`.
+/// How many octets the content of the PDU takes, around bindings of `size` octets.
 #[inline]
-#[tactic(auto, using(crate::proofs::Shortest::sizes), unfolding(crate::specs::Canonical::pdu_octets))]
-fn size_of_pdu_content(parts: &MessageParts<'_>, size: usize) -> usize
-    requires bindings { size ≡ length (flat_map binding_octets (map var_bind parts.now.binds.now)) }
-    requires limit { size ≤ 1472 }
-    ensures exact { result ≡ length (pdu_octets (snmp_message_of_parts parts.now)) }
+fn size_of_pdu_content(header: &Header<'_>, size: usize) -> usize
+    requires { size ≤ 1472 }
+    ensures exact { result ≡ pdu_size (message_around header.now []) size }
     ensures small { result < 2 ^ 11 }
 {
-    size_of_numbers(parts) + size_of_element(size)
+    size_of_numbers(header) + size_of_element(size)
 }
 
-/// Writes the content of the PDU, of which the bindings take `size` octets.
-#[inline]
-#[tactic(auto, using(crate::proofs::Shortest::element_steps), unfolding(crate::specs::Canonical::pdu_octets))]
-fn put_pdu_content(out: &mut Out, parts: &MessageParts<'_>, size: usize)
-    requires bindings { size ≡ length (flat_map binding_octets (map var_bind parts.now.binds.now)) }
-    requires room { array_vec_len out.old + length (pdu_octets (snmp_message_of_parts parts.now)) ≤ 1472 }
-    ensures { out.new.items ≡ out.old.items ++ pdu_octets (snmp_message_of_parts parts.now) }
-{
-    put_numbers(out, parts);
-    put_binding_list(out, parts.binds, size);
-}
-
-/// Writes the PDU, of which the bindings take `size` octets.
-#[inline]
-#[tactic(auto, using(crate::proofs::Shortest::nested_steps))]
-fn put_pdu(out: &mut Out, parts: &MessageParts<'_>, size: usize)
-    requires bindings { size ≡ length (flat_map binding_octets (map var_bind parts.now.binds.now)) }
-    requires limit { size ≤ 1472 }
-    requires room { array_vec_len out.old + length (element (tag_of parts.now.kind) (pdu_octets (snmp_message_of_parts parts.now))) ≤ 1472 }
-    ensures { out.new.items ≡ out.old.items ++ element (tag_of parts.now.kind) (pdu_octets (snmp_message_of_parts parts.now)) }
-{
-    let content = size_of_pdu_content(parts, size);
-    put_head(out, tag_of_pdu(parts.kind), content);
-    put_pdu_content(out, parts, size);
-}
-
-/// How many octets the content of the message takes, of which the bindings take `size`.
+/// How many octets the content of the message takes, around a PDU of which the content takes `pdu` octets.
 #[inline]
 #[tactic(auto, using(crate::proofs::Shortest::sizes))]
-fn size_of_message_content(parts: &MessageParts<'_>, size: usize) -> usize
-    requires bindings { size ≡ length (flat_map binding_octets (map var_bind parts.now.binds.now)) }
-    requires limit { size ≤ 1472 }
-    requires community { length parts.now.community.now ≤ 1472 }
-    ensures exact { result ≡ length (element 2 (0 ∷ []) ++ element 4 parts.now.community.now ++ element (tag_of parts.now.kind) (pdu_octets (snmp_message_of_parts parts.now))) }
+fn size_of_message_content(header: &Header<'_>, pdu: usize) -> usize
+    requires pdu { pdu < 2 ^ 11 }
+    requires community { length header.now.community.now ≤ 1472 }
+    ensures exact { result ≡ content_size (message_around header.now []) pdu }
     ensures small { result < 2 ^ 12 }
 {
-    size_of_octets(&[0])
-        + size_of_octets(parts.community)
-        + size_of_element(size_of_pdu_content(parts, size))
+    3 + size_of_octets(header.community) + size_of_element(pdu)
 }
 
-/// Writes the version, which is 0, and the community.
+/// Writes what stands before the PDU's content: the version, which is 0, the community and the PDU's tag and length.
 #[inline]
-#[tactic(auto, using(crate::proofs::Shortest::element_steps))]
-fn put_opening(out: &mut Out, community: &[u8])
-    requires { array_vec_len out.old + length (element 2 (0 ∷ []) ++ element 4 community.now) ≤ 1472 }
-    ensures { out.new.items ≡ out.old.items ++ (element 2 (0 ∷ []) ++ element 4 community.now) }
+#[tactic(auto, using(crate::proofs::Prefixes::prefix_steps))]
+fn put_message_prefix(out: &mut Out, header: &Header<'_>, pdu: usize)
+    requires { array_vec_len out.old + content_size (message_around header.now []) pdu ≤ 1472 }
+    ensures { out.new.items ≡ out.old.items ++ message_prefix (message_around header.now []) pdu }
 {
     put_octets(out, tag::INTEGER, &[0]);
-    put_octets(out, tag::OCTET_STRING, community);
+    put_octets(out, tag::OCTET_STRING, header.community);
+    put_head(out, tag_of_pdu(header.kind), pdu);
 }
 
-/// Writes the content of the message, of which the bindings take `size` octets.
+/// Writes what stands before the bindings in the PDU's content: the three numbers, and the list's tag and length.
 #[inline]
 #[tactic(auto, using(crate::proofs::Shortest::element_steps))]
-fn put_message_content(out: &mut Out, parts: &MessageParts<'_>, size: usize)
-    requires bindings { size ≡ length (flat_map binding_octets (map var_bind parts.now.binds.now)) }
-    requires limit { size ≤ 1472 }
-    requires room { array_vec_len out.old + length (element 2 (0 ∷ []) ++ element 4 parts.now.community.now ++ element (tag_of parts.now.kind) (pdu_octets (snmp_message_of_parts parts.now))) ≤ 1472 }
-    ensures { out.new.items ≡ out.old.items ++ (element 2 (0 ∷ []) ++ element 4 parts.now.community.now ++ element (tag_of parts.now.kind) (pdu_octets (snmp_message_of_parts parts.now))) }
+fn put_pdu_prefix(out: &mut Out, header: &Header<'_>, size: usize)
+    requires { array_vec_len out.old + pdu_size (message_around header.now []) size ≤ 1472 }
+    ensures { out.new.items ≡ out.old.items ++ pdu_prefix (message_around header.now []) size }
 {
-    put_opening(out, parts.community);
-    put_pdu(out, parts, size);
+    put_numbers(out, header);
+    put_head(out, tag::SEQUENCE, size);
 }
 
-/// Writes a message, of which the bindings take `size` octets.
-#[inline]
-#[tactic(auto, using(crate::proofs::Shortest::nested_steps), unfolding(crate::specs::Canonical::canonical))]
-fn put_message(out: &mut Out, parts: &MessageParts<'_>, size: usize)
-    requires bindings { size ≡ length (flat_map binding_octets (map var_bind parts.now.binds.now)) }
-    requires limit { size ≤ 1472 }
-    requires room { array_vec_len out.old + length (canonical (snmp_message_of_parts parts.now)) ≤ 1472 }
-    ensures { out.new.items ≡ out.old.items ++ canonical (snmp_message_of_parts parts.now) }
+/// Writes what stands before bindings of `size` octets over what `out` holds, or nothing where the message would have more
+/// than 1,472 octets.
+#[tactic(auto, using(crate::proofs::Prefixes::prefix_steps))]
+fn begin(header: &Header<'_>, size: usize, out: &mut Out) -> Result<(), TooBig>
+    requires { size ≤ 1472 }
+    ensures ok { OnOk result (out.new.items ≡ prefix (message_around header.now []) size) }
+    ensures fits { OnOk result (message_size (message_around header.now []) size ≤ 1472) }
+    ensures room { OnOk result (array_vec_len out.new + size ≤ 1472) }
+    ensures empty { OnErr result (out.new.items ≡ []) }
+    ensures too_big { OnErr result (1472 < message_size (message_around header.now []) size) }
 {
-    put_head(out, tag::SEQUENCE, size_of_message_content(parts, size));
-    put_message_content(out, parts, size);
-}
-
-/// How many octets the bindings take, where the message is no larger than a datagram.
-#[tactic(auto, using(crate::proofs::Shortest::sizes), unfolding(crate::specs::Canonical::canonical, crate::specs::Canonical::pdu_octets))]
-fn measure(parts: &MessageParts<'_>) -> Result<usize, TooBig>
-    ensures ok { IfOk result (λ n. (n ≡ length (flat_map binding_octets (map var_bind parts.now.binds.now))) × (n ≤ 1472)) }
-    ensures fits { OnOk result (length (canonical (snmp_message_of_parts parts.now)) ≤ 1472) }
-    ensures too_big { OnErr result (1472 < length (canonical (snmp_message_of_parts parts.now))) }
-{
-    let size = size_of_bindings(parts.binds)?;
-    if parts.community.len() > MAX_DATAGRAM
-        || size_of_element(size_of_message_content(parts, size)) > MAX_DATAGRAM
-    {
+    out.clear();
+    if header.community.len() > MAX_DATAGRAM {
         return Err(TooBig);
     }
-    Ok(size)
+    let pdu = size_of_pdu_content(header, size);
+    let content = size_of_message_content(header, pdu);
+    if size_of_element(content) > MAX_DATAGRAM {
+        return Err(TooBig);
+    }
+    put_head(out, tag::SEQUENCE, content);
+    put_message_prefix(out, header, pdu);
+    put_pdu_prefix(out, header, size);
+    Ok(())
 }
 
 /// Writes the shortest spelling of a message over what `out` holds: each length in its shortest form, each number
 /// without needless octets (X.690, 8.1.3 and 8.3). Where that is more than 1,472 octets, `out` is left empty.
 pub fn write(parts: &MessageParts<'_>, out: &mut Out) -> Result<(), TooBig>
-    ensures ok { OnOk result (out.new.items ≡ canonical (snmp_message_of_parts parts.now)) }
-    ensures fits { IsOk result ↔ (length (canonical (snmp_message_of_parts parts.now)) ≤ 1472) }
-    ensures too_big { OnErr result (out.new.items ≡ []) }
+    ensures { IsWritten result out.new.items (canonical (snmp_message_of_parts parts.now)) }
 {
     out.clear();
-    let size = measure(parts)?;
-    put_message(out, parts, size);
+    let header = Header {
+        community: parts.community,
+        kind: parts.kind,
+        request: parts.request,
+        status: parts.status,
+        index: parts.index,
+    };
+    let size = size_of_bindings(parts.binds)?;
+    begin(&header, size, out)?;
+    put_bindings(out, parts.binds);
     Ok(())
+}
+
+/// The octets of bindings to write, one binding after the other, in their shortest spelling: who has each binding only for a
+/// moment writes them with no array of bindings. Bindings of more than 1,472 octets are none that fit a message: then no octet
+/// is kept, and `write_around` refuses them. A contract sees the octets, or none (`octets_of_bindings`).
+#[derive(Drop)]
+pub struct BindingOctets {
+    octets: Out,
+    /// Whether the bindings have more octets than a datagram.
+    too_big: bool,
+}
+
+impl Model for BindingOctets {
+    ghost use Rattle.std.specs.Prelude.{ℕ, List, Option, Some, None, if◌then◌else◌};
+
+    ghost Value = { Option (List ℕ) };
+
+    ghost view = { λ a. if a.too_big then None else Some a.octets.items };
+}
+
+impl BindingOctets {
+    /// No bindings.
+    pub fn new() -> Self
+        ensures { result ≡ octets_of_bindings [] }
+    {
+        BindingOctets {
+            octets: Out::new(),
+            too_big: false,
+        }
+    }
+
+    /// One binding more.
+    pub fn push(&mut self, binding: &Bind<'_>)
+        ensures { (bindings : List VarBind) → self.old ≡ octets_of_bindings bindings
+            → self.new ≡ octets_of_bindings (bindings ++ var_bind binding.now ∷ []) }
+    {
+        if self.too_big {
+            return;
+        }
+        match size_of_binding(binding) {
+            Ok(size) if size <= self.octets.remaining_capacity() => put_binding(
+                &mut self.octets,
+                binding,
+            ),
+            _ => self.too_big = true,
+        }
+    }
+
+    /// The bindings that are left of those of a message that was read.
+    pub fn of(binds: Binds<'_>) -> Self
+        ensures { result ≡ octets_of_bindings binds.entry }
+    {
+        let mut octets = BindingOctets::new();
+        let mut rest = binds;
+        while let Some(binding) = rest.next() {
+            octets.push(&binding);
+        }
+        octets
+    }
+}
+
+/// As `write`, with the bindings' octets in place of the bindings.
+pub fn write_around(
+    header: &Header<'_>,
+    octets: &BindingOctets,
+    out: &mut Out,
+) -> Result<(), TooBig>
+    ensures { (bindings : List VarBind) → octets.now ≡ octets_of_bindings bindings
+        → IsWritten result out.new.items (canonical (message_around header.now bindings)) }
+{
+    out.clear();
+    if octets.too_big {
+        return Err(TooBig);
+    }
+    begin(header, octets.octets.len(), out)?;
+    put_content(out, &octets.octets);
+    Ok(())
+}
+
+/// Writes the Response to a message that was read, with this error-status and error-index, and with the bindings of the message
+/// (RFC 1157, 4.1.2: "identical to the message"), as `write` does.
+pub fn write_response(
+    message: &Message<'_>,
+    status: ErrorStatus,
+    index: u32,
+    out: &mut Out,
+) -> Result<(), TooBig>
+    ensures { IsWritten result out.new.items (canonical (response_to (snmp_message message.now) (error_status_number status) index)) }
+{
+    let octets = BindingOctets::of(message.binds.again());
+    write_around(&message.response(status, index), &octets, out)
 }
