@@ -8,7 +8,7 @@ ghost use Rattle.dms_wire.specs.Spelling.{Spells};
 
 use dms_codes::crc;
 use dms_face::{Cell, Defaults, Face, Font, Page, check, pages};
-use dms_font::lines::Lines;
+use dms_text::Lines;
 use dms_wire::{Bind, MessageParts, Oid, Out, Value, read, write};
 use std::alloc::Global;
 use std::array;

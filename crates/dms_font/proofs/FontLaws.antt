@@ -7,8 +7,11 @@ use Rattle.std.proofs.lemmas.Option.{cond_some, same_Some}
 use Rattle.std.proofs.lemmas.List.{append-nil}
 use Rattle.std.proofs.lemmas.List.Folds.{list_any-append}
 use Rattle.std.specs.Str.Lines.{lines}
-use Rattle.dms_font.specs.Lines.{NumberedLine, lines_left}
-use Rattle.dms_font.specs.Words.{words_of, is_end, SpellsDecimal, SpellsVersion, SpellsOctets}
+use Rattle.dms_text.specs.Lines.{NumberedLine, lines_left}
+use Rattle.dms_text.specs.Words.{words_of}
+use Rattle.dms_text.specs.Reading.{is_end}
+use Rattle.dms_text.specs.Numbers.{SpellsDecimal, SpellsVersion}
+use Rattle.dms_text.specs.Octets.{SpellsOctets}
 use Rattle.dms_font.specs.Glyph.{GlyphModel, glyph_from}
 use Rattle.dms_font.specs.Font.{FontModel, has_glyph, are_distinct}
 use Rattle.dms_font.specs.FontText.{SpellsHeader, SpellsGlyph, SpellsGlyphs, SpellsFont}
@@ -16,9 +19,10 @@ use Rattle.dms_font.specs.FontReading.{labelled_at, version_at, header_of, Glyph
 use Rattle.dms_font.specs.declared.fault.FontFaultKind.{FontFaultKind}
 use Rattle.dms_font.specs.declared.fault.FontFaultKind.TheVariants.{Header, Glyph, Bitmap, Twice, TooMany}
 use Rattle.dms_font.specs.declared.fault.FontFault.{FontFault}
-use Rattle.dms_font.proofs.WordLaws.{begun, goes_on, word_found, word_only, keyword_found, keyword_only, decimal_found, decimal_only, version_found, version_only, octets_found, octets_only, octets_some}
+use Rattle.dms_text.proofs.WordLaws.{begun, goes_on, word_found, word_only, keyword_found, keyword_only, decimal_found, decimal_only, octets_found, octets_only, octets_some}
+use Rattle.dms_text.proofs.NumberLaws.{version_found, version_only}
 use Rattle.dms_font.proofs.RowLaws.{rows_found, rows_only}
-use Rattle.dms_font.proofs.LineFilter.{octets_of_lines, octets-numbered}
+use Rattle.dms_text.proofs.LineFilter.{octets_of_lines, octets-numbered}
 
 -- ---- the first line
 
@@ -72,7 +76,7 @@ last_version_only : (number : ℕ) (word : List ℕ) → SpellsVersion number wo
 unfolding version_at
 last_version_only number word spelled =
     goes_on _ _ _ (keyword_only (codes "version") (word ∷ []) (omega arith))
-    ∙ goes_on _ _ _ (word_only word [] spelled.spelled.some)
+    ∙ goes_on _ _ _ (word_only word [] spelled.spelled.numeral.0)
     ∙ version_only number word spelled
 
 pub header_found : (words : List (List ℕ)) (font : FontModel) → header_of words ≡ Some font → SpellsHeader font words × (font.glyphs ≡ [])

@@ -1,9 +1,4 @@
-pub mod Splits
-pub mod LineLaws
 pub mod Pictures
-pub mod Numbers
-pub mod WordLaws
 pub mod RowLaws
-pub mod LineFilter
 pub mod FontLaws
 pub mod Promises

@@ -1,7 +1,8 @@
 -- Reading a font from the front of its text: the font, or the first fault and its line.
 use Rattle.std.specs.Prelude.{ℕ, ◌+◌, ◌*◌, ◌/◌, ◌==◌, Bool, if◌then◌else◌, List, [], ◌∷◌, ◌++◌, length, codes, nat_le, Option, Some, None, Result, Ok, Err}
-use Rattle.dms_font.specs.Lines.{NumberedLine, TextLeft, lines_left, number_behind}
-use Rattle.dms_font.specs.Words.{words_of, word_at, keyword_at, decimal_at, is_end, version_of, octets_of, ◌>>=◌}
+use Rattle.dms_text.specs.Lines.{NumberedLine, TextLeft, lines_left, number_after}
+use Rattle.dms_text.specs.Words.{words_of}
+use Rattle.dms_text.specs.Reading.{word_at, keyword_at, decimal_at, is_end, version_of, octets_of, ◌>>=◌}
 use Rattle.dms_font.specs.Glyph.{GlyphModel, glyph_from}
 use Rattle.dms_font.specs.Font.{FontModel, has_glyph}
 use Rattle.dms_font.specs.declared.fault.FontFaultKind.{FontFaultKind}
@@ -112,4 +113,4 @@ whole text = record { number = 1; text = text }
 
 -- the font of a text
 unfoldable pub font_read : List ℕ → Result FontModel FontFault
-font_read text = font_of_lines (number_behind (whole text)) (lines_left (whole text))
+font_read text = font_of_lines (number_after (whole text)) (lines_left (whole text))

@@ -1,7 +1,9 @@
 -- Fonts as text: a line `font N height H space C line L version V`, then a line `glyph CHARACTER WIDTH BITS` for each character.
 use Rattle.std.specs.Prelude.{◌≡◌, ℕ, ◌≤◌, IsTrue, List, [], ◌∷◌, length, codes}
-use Rattle.dms_font.specs.Lines.{kept_lines}
-use Rattle.dms_font.specs.Words.{words_of, SpellsDecimal, SpellsVersion, SpellsOctets}
+use Rattle.dms_text.specs.Lines.{kept_lines}
+use Rattle.dms_text.specs.Words.{words_of}
+use Rattle.dms_text.specs.Numbers.{SpellsDecimal, SpellsVersion}
+use Rattle.dms_text.specs.Octets.{SpellsOctets}
 use Rattle.dms_font.specs.Glyph.{GlyphModel, SpellsRows}
 use Rattle.dms_font.specs.Font.{FontModel, are_distinct}
 

@@ -1,10 +1,8 @@
-pub mod Lines
-pub mod LinesView
-pub mod Words
-pub mod WordsView
+-- what a reader must believe: a font, its pictures, and the text that spells it (this profile)
 pub mod Glyph
 pub mod Font
 pub mod FontText
+pub mod Fault
+-- reading from the front, which names the first fault; `font_found` and `font_only` in proofs/ join it to the above
 pub mod FontReading
 pub mod FontView
-pub mod Fault

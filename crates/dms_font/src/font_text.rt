@@ -2,8 +2,8 @@
 //! character.
 
 ghost use Rattle.std.specs.Prelude.{◌≡◌, ◌*◌, ◌≤◌, ◌⊎◌, length, option_map, IfOk, IfErr, OnOk, OnErr};
-ghost use Rattle.dms_font.specs.Lines.{lines_left};
-ghost use Rattle.dms_font.specs.Words.{words_of};
+ghost use Rattle.dms_text.specs.Lines.{lines_left};
+ghost use Rattle.dms_text.specs.Words.{words_of};
 ghost use Rattle.dms_font.specs.Glyph.{GlyphModel};
 ghost use Rattle.dms_font.specs.Font.{FontModel};
 ghost use Rattle.dms_font.specs.FontText.{SpellsFont};
@@ -13,8 +13,7 @@ ghost use Rattle.dms_font.specs.FontView.{glyph_line, GivesOrMemory, ReadsOrMemo
 use crate::fault::{FontFault, FontFaultKind};
 use crate::font::{Font, MAX_GLYPHS, has_glyph};
 use crate::glyph::Glyph;
-use crate::lines::Lines;
-use crate::words::{Words, octets, version};
+use dms_text::{Lines, Words, octets, version};
 use std::alloc::Global;
 
 /// What a character's line says.

@@ -1,15 +1,12 @@
-//! Fonts as text: lines, words, pictures of characters.
+//! Fonts and the pictures of their characters, and fonts as text.
 #![tactic(auto)]
 
 pub mod fault;
 pub mod font;
 mod font_text;
 pub mod glyph;
-pub mod lines;
-mod parts;
 #[cfg(test)]
 mod tests;
-pub mod words;
 
 pub use fault::{FontFault, FontFaultKind};
 pub use font::Font;

@@ -16,7 +16,8 @@ use Rattle.dms_multi.specs.declared.value.TwoTimes.{TwoTimes}
 use Rattle.dms_multi.specs.Grammar.{Word, Times, LaterTime, FontValue, FlashTimes, TagBody}
 use Rattle.dms_multi.specs.TagReading.{times_of, name_at, lit_first, dark_first, flash_of, page_time_of, item_alone, item_of, body_in, body_item}
 use Rattle.dms_multi.proofs.Cuts.{IsFree, free_append}
-use Rattle.dms_multi.proofs.Values.{chosen, mapped_some, number_found, number_again, value_found, value_again, free_digits, free_value, times_found, one_letter, times_again, font_found, font_again}
+use Rattle.dms_text.proofs.NumberLaws.{number_found, number_only}
+use Rattle.dms_multi.proofs.Values.{chosen, mapped_some, value_found, value_again, free_digits, free_value, times_found, one_letter, times_again, font_found, font_again}
 use Rattle.dms_multi.proofs.Tags.{spelling, HasName, name_found, name_again}
 
 -- ---- what is found is spelled so
@@ -119,7 +120,7 @@ flash_dark lit dark value times =
 
 named : (item : Item) (body : List ℕ) → TagBody item body → IsNamed item body
 unfolding item_of page_time_of
-named (Char c) body b = named_by Hc (Char c) body b.front b.back b.first b.parts (ap (option_map Char) (number_again 16 4 c b.back b.second))
+named (Char c) body b = named_by Hc (Char c) body b.front b.back b.first b.parts (ap (option_map Char) (number_only 16 4 c b.back b.second))
 named (Background colour) body b = elim b.first [
   | inl cb ↦ named_by Cb (Background colour) body b.front b.back cb b.parts (ap (option_map Background) (value_again 0 9 colour b.back b.second))
   | inr pb ↦ named_by Pb (Background colour) body b.front b.back pb b.parts (ap (option_map Background) (value_again 0 9 colour b.back b.second))
@@ -166,11 +167,11 @@ free_times letter high first second text test times = free_parts text times.fron
 
 free_font : (font : Option (ℕ × Option ℕ)) (text : List ℕ) → FontValue font text → IsFree 93 text
 free_font None text nothing = subst (IsFree 93) (sym nothing) tt
-free_font (Some (n, None)) text number = free_digits 10 93 text (omega arith) number.digits.numeral.1
+free_font (Some (n, None)) text number = free_digits 10 93 text (omega arith) number.spelled.numeral.1
 free_font (Some (n, Some version)) text parts =
     let tail = parts.second in
-    free_parts text parts.front parts.back parts.parts (free_digits 10 93 parts.front (omega arith) parts.first.digits.numeral.1)
-    (free_parts parts.back tail.front tail.back tail.parts (subst (IsFree 93) (sym tail.first) (refl, tt)) (free_digits 16 93 tail.back (omega arith) tail.second.0.numeral.1))
+    free_parts text parts.front parts.back parts.parts (free_digits 10 93 parts.front (omega arith) parts.first.spelled.numeral.1)
+    (free_parts parts.back tail.front tail.back tail.parts (subst (IsFree 93) (sym tail.first) (refl, tt)) (free_digits 16 93 tail.back (omega arith) tail.second.spelled.numeral.1))
 
 free_flash : (first : Lead) (lit dark : Option ℕ) (text : List ℕ) → FlashTimes first lit dark text → IsFree 93 text
 free_flash Lit lit dark text (inl nothing) = subst (IsFree 93) (sym nothing.2) tt

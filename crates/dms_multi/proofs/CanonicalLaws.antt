@@ -10,21 +10,22 @@ use Rattle.std.proofs.lemmas.Fmt.{decimal_is_IsNumeral, length-decimal-le, digit
 use Rattle.std.proofs.lemmas.List.{length-drop}
 use Rattle.std.proofs.lemmas.List.Folds.{length-flat_map-take}
 use Rattle.std.proofs.lemmas.List.Elements.{All-head, All-tail}
+use Rattle.dms_text.specs.Numbers.{SpellsNumber, SpellsDecimal, SpellsVersion}
 use Rattle.dms_multi.specs.declared.item.Item.{Item}
 use Rattle.dms_multi.specs.declared.item.Item.TheVariants.{Char, Background, Foreground, Font, FlashOn, FlashEnd, JustLine, JustPage, NewLine, NewPage, PageTime}
 use Rattle.dms_multi.specs.declared.item.Lead.{Lead}
 use Rattle.dms_multi.specs.declared.item.Lead.TheVariants.{Lit, Dark}
 use Rattle.dms_multi.specs.Range.{IsWithin}
 use Rattle.dms_multi.specs.Item.{IsFontInRange, IsInRange}
-use Rattle.dms_multi.specs.Grammar.{Digits, Number, Value, LaterTime, Times, FontValue, FlashTimes, TagBody, plain, ItemSpells, TextSpells}
+use Rattle.dms_multi.specs.Grammar.{Value, LaterTime, Times, FontValue, FlashTimes, TagBody, plain, ItemSpells, TextSpells}
 use Rattle.dms_multi.specs.Canonical.{value_text, later_time_text, hexadecimal_text, leading_zeros, font_text, flash_text, body_text, tag_text, item_text, text_of}
 use Rattle.dms_multi.proofs.Digits.{digits_dropped}
 
-number_spelled : (low high n : ℕ) → low ≤ n → n ≤ high → high ≤ 255 → Number low high n (decimal n)
+number_spelled : (low high n : ℕ) → low ≤ n → n ≤ high → high ≤ 255 → SpellsDecimal low high n (decimal n)
 number_spelled low high n least greatest small =
     let numeral = decimal_is_IsNumeral n (omega arith) in
     record {
-      digits = record { numeral = numeral.0; few = length-decimal-le 5 n (omega arith) (omega arith) (omega arith); value = sym numeral.1 };
+      spelled = record { numeral = numeral.0; few = length-decimal-le 5 n (omega arith) (omega arith) (omega arith); value = sym numeral.1 };
       least = least;
       greatest = greatest;
     }
@@ -46,7 +47,7 @@ glyph_value : (upper : Bool) (d : ℕ) → d < 16 → digit_value (digit_glyph u
 glyph_value true d small = grind (arith, nat_tests)
 glyph_value false d small = grind (arith, nat_tests)
 
-four_spelled : (n : ℕ) → n < 2 ^ 16 → Digits 16 4 n (hexadecimal_text false n) × (length (hexadecimal_text false n) ≡ 4)
+four_spelled : (n : ℕ) → n < 2 ^ 16 → SpellsVersion n (hexadecimal_text false n)
 four_spelled n small =
     let a : n / 4096 < 16 = omega arith in
     let b : n / 256 % 16 < 16 = omega arith in
@@ -56,16 +57,17 @@ four_spelled n small =
     let vb = glyph_value false (n / 256 % 16) b in
     let vc = glyph_value false (n / 16 % 16) c in
     let vd = glyph_value false (n % 16) d in
-    let number : n ≡ digits_value 16 (hexadecimal_text false n) = rw (va, vb, vc, vd) (omega arith) in (
-      record {
+    let number : n ≡ digits_value 16 (hexadecimal_text false n) = rw (va, vb, vc, vd) (omega arith) in
+    record {
+      spelled = record {
         numeral = (omega arith, (omega (arith, va), (omega (arith, vb), (omega (arith, vc), (omega (arith, vd), tt)))));
         few = omega arith;
         value = number;
-      },
-      refl,
-    )
+      };
+      four = refl;
+    }
 
-capital_spelled : (n : ℕ) → n < 2 ^ 16 → Digits 16 4 n (digits 16 true n)
+capital_spelled : (n : ℕ) → n < 2 ^ 16 → SpellsNumber 16 4 n (digits 16 true n)
 capital_spelled n small =
     let numeral = digits_is_IsNumeral 16 true (omega arith) (omega arith) n (omega arith) in
     let dropped : length (digits 16 true n) ≡ 4 - leading_zeros n = ap length (digits_dropped n small) ∙ length-drop (leading_zeros n) (hexadecimal_text true n) in

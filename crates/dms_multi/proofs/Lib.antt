@@ -3,7 +3,6 @@ pub mod Digits
 pub mod CanonicalLaws
 pub mod Cuts
 pub mod ItemLaws
-pub mod Numbers
 pub mod ReadLaws
 pub mod Readings
 pub mod Tags

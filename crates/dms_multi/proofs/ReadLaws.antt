@@ -12,7 +12,8 @@ use Rattle.dms_multi.specs.declared.item.Lead.TheVariants.{Lit, Dark}
 use Rattle.dms_multi.specs.declared.spots.Spot.{Spot}
 use Rattle.dms_multi.specs.Range.{IsWithin}
 use Rattle.dms_multi.specs.Item.{IsFontInRange, IsInRange}
-use Rattle.dms_multi.specs.Grammar.{Digits, Value, LaterTime, FontValue, FlashTimes, TagBody, IsPlain, ItemSpells, TextSpells, IsSyntaxFault, ReadsAs, outcomes, IsReading}
+use Rattle.dms_text.specs.Numbers.{SpellsNumber}
+use Rattle.dms_multi.specs.Grammar.{Value, LaterTime, FontValue, FlashTimes, TagBody, IsPlain, ItemSpells, TextSpells, IsSyntaxFault, ReadsAs, outcomes, IsReading}
 use Rattle.dms_multi.specs.Outcomes.{outcomes_of, items_in, fault_in, items_of, syntax_fault}
 use Rattle.dms_multi.proofs.ItemLaws.{one_list}
 use Rattle.dms_multi.proofs.Readings.{text_of_spots, is_reading}
@@ -78,7 +79,7 @@ later_within : (letter : List ℕ) (high : ℕ) (time : Option ℕ) (text : List
 later_within letter high time text (inl later) = value_within 0 high time later.back later.second
 later_within letter high time text (inr nothing) = subst (IsWithin 0 high) (sym nothing.0) tt
 
-digits_within : (n : ℕ) (text : List ℕ) → Digits 16 4 n text → n ≤ 65535
+digits_within : (n : ℕ) (text : List ℕ) → SpellsNumber 16 4 n text → n ≤ 65535
 digits_within n text digits =
     let some : 0 < 16 = omega arith in
     let most : 16 ^ length text ≤ 16 ^ 4 = pow-le-pow_right {n = 16} some {i = length text} {j = 4} digits.few in
@@ -88,7 +89,7 @@ font_within : (font : Option (ℕ × Option ℕ)) (text : List ℕ) → FontValu
 font_within None text nothing = tt
 font_within (Some (n, None)) text number = (number.least, number.greatest, tt)
 font_within (Some (n, Some version)) text parts =
-    let small : version ≤ 65535 = digits_within version _ parts.second.second.0 in
+    let small : version ≤ 65535 = digits_within version _ parts.second.second.spelled in
     let none : 0 ≤ version = omega arith in
     (parts.first.least, parts.first.greatest, (none, small))
 

@@ -6,9 +6,12 @@ use Rattle.std.specs.List.{list_all}
 use Rattle.std.specs.Str.Parse.{AllDigits}
 use Rattle.std.proofs.lemmas.Bool.{eqb-true, eq-eqb, lt-ltb, le-leb, ltb-true, leb-true, and_from, and_parts, ne_eqb}
 use Rattle.std.proofs.lemmas.Bool.Decides.{nat_tests}
-use Rattle.dms_multi.specs.Reading.{cut, number_of, within, decimal_of, value_of, version_of}
+use Rattle.dms_text.specs.Numbers.{SpellsNumber, SpellsDecimal}
+use Rattle.dms_text.specs.Reading.{number_of, within}
+use Rattle.dms_text.proofs.NumberLaws.{number_found, number_only, version_found, version_only}
+use Rattle.dms_multi.specs.Reading.{cut, decimal_of, value_of}
 use Rattle.dms_multi.specs.TagReading.{time_pair, times_in, times_of, font_pair, font_in, font_of}
-use Rattle.dms_multi.specs.Grammar.{Digits, Number, Value, Times, FontValue, Word}
+use Rattle.dms_multi.specs.Grammar.{Value, Times, FontValue, Word}
 use Rattle.dms_multi.specs.declared.value.TwoTimes.{TwoTimes}
 use Rattle.dms_multi.proofs.Cuts.{IsFree, IsCut, cut_again, cut_free, cut_found}
 
@@ -21,54 +24,28 @@ chosen_some : {A : Type 0} {x z : A} (b : Bool) → cond b (Some x) None ≡ Som
 chosen_some true e = (refl, cc)
 chosen_some false e = absurd cc
 
--- ---- digits
+-- ---- numbers
 
-digits_each : (base : ℕ) (text : List ℕ) → list_all (λ c. is_digit c base) text ≡ true → AllDigits base text
-digits_each base [] e = tt
-digits_each base (c ∷ cs) e = let both = and_parts _ _ e in (ltb-true _ _ both.0, digits_each base cs both.1)
-
-digits_test : (base : ℕ) (text : List ℕ) → AllDigits base text → list_all (λ c. is_digit c base) text ≡ true
-digits_test base [] all = refl
-digits_test base (c ∷ cs) all = and_from _ _ (lt-ltb _ _ all.0) (digits_test base cs all.1)
-
-pub number_found : (base most n : ℕ) (text : List ℕ) → number_of base most text ≡ Some n → Digits base most n text
-unfolding number_of
-number_found base most n text e =
-    let found = chosen_some _ e in
-    let tests = and_parts _ _ found.0 in
-    let others = and_parts _ _ tests.1 in
-    record {
-      numeral = (ltb-true _ _ tests.0, digits_each base text others.1);
-      few = leb-true _ _ others.0;
-      value = sym found.1;
-    }
-
-pub number_again : (base most n : ℕ) (text : List ℕ) → Digits base most n text → number_of base most text ≡ Some n
-unfolding number_of
-number_again base most n text d =
-    let tests = and_from _ _ (lt-ltb _ _ d.numeral.0) (and_from _ _ (le-leb _ _ d.few) (digits_test base text d.numeral.1)) in
-    rw tests (ap Some (sym d.value))
-
-decimal_in : (low high n : ℕ) (text : List ℕ) (o : Option ℕ) → ((m : ℕ) → o ≡ Some m → Digits 10 5 m text) → option_and_then (within low high) o ≡ Some n → Number low high n text
+decimal_in : (low high n : ℕ) (text : List ℕ) (o : Option ℕ) → ((m : ℕ) → o ≡ Some m → SpellsNumber 10 5 m text) → option_and_then (within low high) o ≡ Some n → SpellsDecimal low high n text
 decimal_in low high n text None digits e = absurd cc
 decimal_in low high n text (Some m) digits e =
     let found = chosen_some _ e in
     let tests = and_parts (leb low m) (leb m high) found.0 in
     record {
-      digits = subst (λ (k : ℕ). Digits 10 5 k text) found.1 (digits m refl);
+      spelled = subst (λ (k : ℕ). SpellsNumber 10 5 k text) found.1 (digits m refl);
       least = omega (arith, leb-true low m tests.0, found.1);
       greatest = omega (arith, leb-true m high tests.1, found.1);
     }
 
-pub decimal_found : (low high n : ℕ) (text : List ℕ) → decimal_of low high text ≡ Some n → Number low high n text
+pub decimal_found : (low high n : ℕ) (text : List ℕ) → decimal_of low high text ≡ Some n → SpellsDecimal low high n text
 unfolding decimal_of
 decimal_found low high n text e = decimal_in low high n text (number_of 10 5 text) (λ m. number_found 10 5 m text) e
 
-pub decimal_again : (low high n : ℕ) (text : List ℕ) → Number low high n text → decimal_of low high text ≡ Some n
+pub decimal_again : (low high n : ℕ) (text : List ℕ) → SpellsDecimal low high n text → decimal_of low high text ≡ Some n
 unfolding decimal_of
 decimal_again low high n text d =
     let tests = and_from _ _ (le-leb _ _ d.least) (le-leb _ _ d.greatest) in
-    ap (option_and_then (within low high)) (number_again 10 5 n text d.digits) ∙ rw tests refl
+    ap (option_and_then (within low high)) (number_only 10 5 n text d.spelled) ∙ rw tests refl
 
 -- ---- values
 
@@ -76,7 +53,7 @@ pub mapped_some : {A B : Type 0} (f : A → B) (o : Option A) (y : B) → option
 mapped_some f None y e = absurd cc
 mapped_some f (Some x) y e = (x, refl, cc)
 
-value_some : (low high : ℕ) (v : Option ℕ) (n : ℕ) (text : List ℕ) → Number low high n text → Some n ≡ v → Value low high v text
+value_some : (low high : ℕ) (v : Option ℕ) (n : ℕ) (text : List ℕ) → SpellsDecimal low high n text → Some n ≡ v → Value low high v text
 value_some low high v n text number e = subst (λ (w : Option ℕ). Value low high w text) e number
 
 pub value_found : (low high : ℕ) (v : Option ℕ) (text : List ℕ) → value_of low high text ≡ Some v → Value low high v text
@@ -89,7 +66,7 @@ value_found low high v (c ∷ cs) e =
 pub value_again : (low high : ℕ) (v : Option ℕ) (text : List ℕ) → Value low high v text → value_of low high text ≡ Some v
 unfolding value_of
 value_again low high None text nothing = ap (value_of low high) nothing
-value_again low high (Some n) [] number = absurd (omega (arith, number.digits.numeral.0))
+value_again low high (Some n) [] number = absurd (omega (arith, number.spelled.numeral.0))
 value_again low high (Some n) (c ∷ cs) number = ap (option_map Some) (decimal_again low high n (c ∷ cs) number)
 
 -- ---- letters
@@ -110,7 +87,7 @@ free_digits base letter (c ∷ cs) large all =
 
 pub free_value : (letter low high : ℕ) (v : Option ℕ) (text : List ℕ) → 10 ≤ digit_value letter → Value low high v text → IsFree letter text
 free_value letter low high None text large nothing = subst (IsFree letter) (sym nothing) tt
-free_value letter low high (Some n) text large number = free_digits 10 letter text large number.digits.numeral.1
+free_value letter low high (Some n) text large number = free_digits 10 letter text large number.spelled.numeral.1
 
 -- ---- two times
 
@@ -164,17 +141,6 @@ times_again letter high first second text large times =
 
 -- ---- fonts
 
-version_found : (v : ℕ) (text : List ℕ) → version_of text ≡ Some v → Digits 16 4 v text × (length text ≡ 4)
-unfolding version_of
-version_found v text e = elim (chosen (eqb (length text) 4) e) [
-  | inl four ↦ (number_found 16 4 v text four.1, eqb-true _ _ four.0)
-  | inr other ↦ absurd (let never : None ≡ Some v = other.1 in cc)
-]
-
-version_again : (v : ℕ) (text : List ℕ) → Digits 16 4 v text → length text ≡ 4 → version_of text ≡ Some v
-unfolding version_of
-version_again v text digits four = rw (eq-eqb _ _ four) (number_again 16 4 v text digits)
-
 versioned_some : (a b : Option ℕ) (v : Option (ℕ × Option ℕ)) → font_pair a b ≡ Some v → (n version : ℕ) × (a ≡ Some n) × (b ≡ Some version) × (Some (n, Some version) ≡ v)
 versioned_some None b v e = absurd cc
 versioned_some (Some n) None v e = absurd cc
@@ -212,11 +178,11 @@ font_some (c ∷ cs) some = refl
 pub font_again : (v : Option (ℕ × Option ℕ)) (text : List ℕ) → FontValue v text → font_of text ≡ Some v
 font_again None text nothing = ap font_of nothing ∙ (unfold font_of in refl)
 font_again (Some (n, None)) text number =
-    font_some text number.digits.numeral.0 ∙ rw (cut_free 44 text (free_digits 10 44 text (omega arith) number.digits.numeral.1), decimal_again 1 255 n text number) refl
+    font_some text number.spelled.numeral.0 ∙ rw (cut_free 44 text (free_digits 10 44 text (omega arith) number.spelled.numeral.1), decimal_again 1 255 n text number) refl
 font_again (Some (n, Some version)) text parts =
     let number = parts.first in
     let tail = parts.second in
     let whole : text ≡ parts.front ++ 44 ∷ tail.back = parts.parts ∙ ap (λ t. parts.front ++ t) (tail.parts ∙ ap (λ t. t ++ tail.back) tail.first) in
-    let some : 0 < length text = rw whole (rw length-append (omega (arith, number.digits.numeral.0))) in
-    let there : cut 44 text ≡ Some (parts.front, tail.back) = ap (cut 44) whole ∙ cut_again 44 44 parts.front tail.back (free_digits 10 44 parts.front (omega arith) number.digits.numeral.1) refl in
-    font_some text some ∙ rw (there, decimal_again 1 255 n parts.front number, version_again version tail.back tail.second.0 tail.second.1) refl
+    let some : 0 < length text = rw whole (rw length-append (omega (arith, number.spelled.numeral.0))) in
+    let there : cut 44 text ≡ Some (parts.front, tail.back) = ap (cut 44) whole ∙ cut_again 44 44 parts.front tail.back (free_digits 10 44 parts.front (omega arith) number.spelled.numeral.1) refl in
+    font_some text some ∙ rw (there, decimal_again 1 255 n parts.front number, version_only version tail.back tail.second) refl

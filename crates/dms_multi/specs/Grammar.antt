@@ -1,7 +1,7 @@
 -- Which octets spell an item of MULTI, the markup of a sign's message (NTCIP 1203), and where a text goes wrong.
 use Rattle.std.specs.Prelude.{◌≡◌, ◌↔◌, ℕ, ◌+◌, ◌≤◌, ◌==◌, ◌⊎◌, ◌||◌, Bool, if◌then◌else◌, List, [], ◌∷◌, ◌++◌, length, take, drop, map, Option, Some, None, Result, Ok, Err, codes}
 use Rattle.std.specs.Str.{str_to_ascii_lowercase}
-use Rattle.std.specs.Str.Parse.{IsNumeral, digits_value}
+use Rattle.dms_text.specs.Numbers.{SpellsNumber, SpellsDecimal, SpellsVersion}
 use Rattle.dms_multi.specs.declared.item.Item.{Item}
 use Rattle.dms_multi.specs.declared.item.Item.TheVariants.{Char, Background, Foreground, Font, FlashOn, FlashEnd, JustLine, JustPage, NewLine, NewPage, PageTime}
 use Rattle.dms_multi.specs.declared.item.Lead.{Lead}
@@ -42,24 +42,12 @@ Exactly octets text = text ≡ octets
 abbrev pub Word : List ℕ → List ℕ → Type 0
 Word word text = str_to_ascii_lowercase text ≡ word
 
--- one to `most` digits of the base, leading zeros allowed
-pub record Digits (base most n : ℕ) (text : List ℕ) : Type 0 where
-  pub numeral : IsNumeral base text
-  pub few : length text ≤ most
-  pub value : n ≡ digits_value base text
-
 -- ---- values
 
--- a decimal number from low to high, in one to five digits
-pub record Number (low high n : ℕ) (text : List ℕ) : Type 0 where
-  pub digits : Digits 10 5 n text
-  pub least : low ≤ n
-  pub greatest : n ≤ high
-
--- a number from low to high; where it is missing, nothing stands
+-- a number from low to high, in one to five decimal digits; where it is missing, nothing stands
 abbrev pub Value : ℕ → ℕ → Option ℕ → List ℕ → Type 0
 Value low high None = Nothing
-Value low high (Some n) = Number low high n
+Value low high (Some n) = SpellsDecimal low high n
 
 -- a time behind a letter, or neither
 abbrev pub LaterTime : List ℕ → ℕ → Option ℕ → List ℕ → Type 0
@@ -72,8 +60,8 @@ Times letter high first second = Value 0 high first ⨾ LaterTime letter high se
 -- a font's number, and perhaps behind a comma the four hexadecimal digits of its version
 abbrev pub FontValue : Option (ℕ × Option ℕ) → List ℕ → Type 0
 FontValue None = Nothing
-FontValue (Some (n, None)) = Number 1 255 n
-FontValue (Some (n, Some version)) = Number 1 255 n ⨾ (Exactly (codes ",") ⨾ (λ text. Digits 16 4 version text × (length text ≡ 4)))
+FontValue (Some (n, None)) = SpellsDecimal 1 255 n
+FontValue (Some (n, Some version)) = SpellsDecimal 1 255 n ⨾ (Exactly (codes ",") ⨾ SpellsVersion version)
 
 -- a flash: no times, or two of which that behind `t` is the lit and that behind `o` the dark one
 abbrev pub FlashTimes : Lead → Option ℕ → Option ℕ → List ℕ → Type 0
@@ -84,7 +72,7 @@ FlashTimes Dark lit dark text = (Word (codes "o") ⨾ Times (codes "t") 99 dark 
 
 -- what stands between a tag's brackets
 abbrev pub TagBody : Item → List ℕ → Type 0
-TagBody (Char c) = Word (codes "hc") ⨾ Digits 16 4 c
+TagBody (Char c) = Word (codes "hc") ⨾ SpellsNumber 16 4 c
 TagBody (Background colour) = (Word (codes "cb") or Word (codes "pb")) ⨾ Value 0 9 colour
 TagBody (Foreground colour) = Word (codes "cf") ⨾ Value 0 9 colour
 TagBody (Font font) = Word (codes "fo") ⨾ FontValue font

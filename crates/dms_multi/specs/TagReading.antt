@@ -2,7 +2,8 @@
 use Rattle.std.specs.Prelude.{◌≡◌, ℕ, ◌==◌, ◌&&◌, if◌then◌else◌, List, [], ◌∷◌, Option, Some, None, Result, Ok, Err, option_map, ok_or}
 use Rattle.std.specs.Char.{to_ascii_lowercase}
 use Rattle.std.specs.Borrow.{Bor}
-use Rattle.dms_multi.specs.Reading.{value_of, decimal_of, number_of, cut, version_of}
+use Rattle.dms_text.specs.Reading.{number_of, version_of}
+use Rattle.dms_multi.specs.Reading.{value_of, decimal_of, cut}
 use Rattle.dms_multi.specs.declared.value.TwoTimes.{TwoTimes}
 use Rattle.dms_multi.specs.declared.fault.FaultCode.{FaultCode}
 use Rattle.dms_multi.specs.declared.fault.FaultCode.TheVariants.{UnsupportedTag, UnsupportedTagValue}

@@ -1,7 +1,10 @@
 //! The values of tags: numbers, times and fonts.
-ghost use Rattle.std.specs.Prelude.{◌≡◌, ◌≤◌, ◌<◌, ◌^◌, IfSome, option_map, position};
-ghost use Rattle.dms_multi.specs.Reading.{number_of, decimal_of, value_of, is_letter, cut, halves, version_of};
+ghost use Rattle.std.specs.Prelude.{◌≡◌, option_map, position};
+ghost use Rattle.dms_text.specs.Reading.{number_of};
+ghost use Rattle.dms_multi.specs.Reading.{decimal_of, value_of, is_letter, cut, halves};
 ghost use Rattle.dms_multi.specs.TagReading.{time_pair, times_of, font_pair, font_of};
+
+use dms_text::{number, version};
 
 /// Two times, either of which may be missing.
 #[derive(Clone, Copy)]
@@ -10,35 +13,13 @@ pub(crate) struct TwoTimes {
     pub second: Option<u8>,
 }
 
-/// The number that one to `most` digits of the base spell.
-#[tactic(auto, unfolding(crate::specs::Reading::number_of))]
-pub(crate) fn number(digits: &[u8], base: u32, most: usize) -> Option<u32>
-    requires least_base { 2 ≤ base }
-    requires greatest_base { base ≤ 16 }
-    requires short { most ≤ 5 }
-    ensures exact { result ≡ number_of base most digits.now }
-    ensures below { IfSome result (λ value. value < 16 ^ most) }
-{
-    if digits.is_empty() || digits.len() > most {
-        return None;
-    }
-    let mut value = 0;
-    for octet in digits {
-        let Some(digit) = char::from(*octet).to_digit(base) else {
-            return None;
-        };
-        value = value * base + digit;
-    }
-    Some(value)
-}
-
 /// The number from `low` to `high` that one to five decimal digits spell.
 #[tactic(auto, unfolding(crate::specs::Reading::decimal_of))]
 fn decimal(digits: &[u8], low: u8, high: u8) -> Option<u8>
     ensures { result ≡ decimal_of low high digits.now }
 {
     match number(digits, 10, 5) {
-        Some(value) if u32::from(low) <= value && value <= u32::from(high) => Some(value as u8),
+        Some(value) if u64::from(low) <= value && value <= u64::from(high) => Some(value as u8),
         _ => None,
     }
 }
@@ -95,17 +76,6 @@ pub(crate) fn hexadecimal(digits: &[u8]) -> Option<u16>
     ensures { result ≡ number_of 16 4 digits.now }
 {
     number(digits, 16, 4).map(|value| value as u16)
-}
-
-#[tactic(auto, unfolding(crate::specs::Reading::version_of))]
-fn version(digits: &[u8]) -> Option<u16>
-    ensures { result ≡ version_of digits.now }
-{
-    if digits.len() == 4 {
-        hexadecimal(digits)
-    } else {
-        None
-    }
 }
 
 /// A font's number and version, or neither.

@@ -3,11 +3,12 @@ use Rattle.std.proofs.Common.{◌≡◌, ◌≢◌, ℕ, ◌≤◌, List, [], �
 use Rattle.std.specs.Prelude.{codes}
 use Rattle.hex.specs.Hex.{decode_pairs}
 use Rattle.dms_codes.specs.declared.status.Status.TheVariants.{Valid}
-use Rattle.dms_font.specs.Lines.{kept_lines}
-use Rattle.dms_font.specs.Words.{number_of, version_of, octets_of, word_at, keyword_at, decimal_at, SpellsDecimal}
+use Rattle.dms_text.specs.Lines.{kept_lines}
+use Rattle.dms_text.specs.Reading.{number_of, version_of, octets_of, word_at, keyword_at, decimal_at}
+use Rattle.dms_text.specs.Numbers.{SpellsDecimal}
 use Rattle.dms_font.specs.FontReading.{labelled_at, version_at, header_of, glyph_words, bitmap_of, glyph_read, glyph_added, glyphs_added, font_read}
 use Rattle.dms_font.specs.FontText.{SpellsFont}
-use Rattle.dms_font.proofs.WordLaws.{number_found}
+use Rattle.dms_text.proofs.NumberLaws.{number_found}
 use Rattle.dms_font.proofs.FontLaws.{font_found}
 use Rattle.dms_replay.specs.Fields.{SpellsOctet, SpellsFourOctets}
 use Rattle.dms_replay.specs.Description.{SpellsSign, SpellsFonts, no_font, one_more, CanBeMade, SpellsPermanent, SpellsDefaults}

@@ -2,8 +2,8 @@
 use Rattle.std.proofs.Common.{◌≡◌, ℕ, ◌≤◌, ◌<◌, ◌^◌, List, [], ◌∷◌, ◌++◌, length, Some, refl, arith}
 use Rattle.std.specs.Prelude.{codes}
 use Rattle.hex.specs.Hex.{decode_pairs}
-use Rattle.dms_font.specs.Words.{number_of}
-use Rattle.dms_font.proofs.WordLaws.{number_found}
+use Rattle.dms_text.specs.Reading.{number_of}
+use Rattle.dms_text.proofs.NumberLaws.{number_found}
 use Rattle.dms_codes.specs.declared.codes.Order.TheVariants.{High}
 use Rattle.dms_replay.specs.Event.{EventModel, sign_tick, centre_tick, to_sign, to_centre}
 use Rattle.dms_replay.specs.Fields.{SpellsFourOctets, SpellsAddressPart}

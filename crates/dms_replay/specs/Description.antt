@@ -2,7 +2,8 @@
 use Rattle.std.specs.Prelude.{◌≡◌, ◌≢◌, ℕ, ◌&&◌, ◌≤◌, IsTrue, Bool, List, [], ◌∷◌, ◌++◌, length, codes, replicate}
 use Rattle.std.specs.List.{list_all}
 use Rattle.dms_face.specs.declared.defaults.Defaults.{Defaults}
-use Rattle.dms_font.specs.Words.{words_of, SpellsOctets}
+use Rattle.dms_text.specs.Words.{words_of}
+use Rattle.dms_text.specs.Octets.{SpellsOctets}
 use Rattle.dms_font.specs.Font.{FontModel}
 use Rattle.dms_font.specs.FontText.{SpellsFontLines}
 use Rattle.dms_face.specs.Face.{FaceModel, is_face, is_within}

@@ -1,6 +1,7 @@
 -- The lines of a script's events (this profile).
 use Rattle.std.specs.Prelude.{◌≡◌, ℕ, List, [], ◌∷◌, codes}
-use Rattle.dms_font.specs.Words.{words_of, SpellsOctets}
+use Rattle.dms_text.specs.Words.{words_of}
+use Rattle.dms_text.specs.Octets.{SpellsOctets}
 use Rattle.dms_codes.specs.declared.codes.Order.{Order}
 use Rattle.dms_centre.specs.State.{PublicationModel}
 use Rattle.dms_centre.specs.Commands.{CommandModel, Publish, Blank, Activate}

@@ -1,6 +1,6 @@
 -- Scripts: a sign, then what happens, an event a line (this profile).
 use Rattle.std.specs.Prelude.{◌≡◌, ℕ, ◌≤◌, List, [], ◌∷◌, ◌++◌, length, codes}
-use Rattle.dms_font.specs.Lines.{kept_lines}
+use Rattle.dms_text.specs.Lines.{kept_lines}
 use Rattle.dms_replay.specs.Event.{EventModel}
 use Rattle.dms_replay.specs.Fields.{SpellsEach}
 use Rattle.dms_replay.specs.EventLine.{SpellsEvent}

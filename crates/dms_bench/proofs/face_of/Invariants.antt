@@ -1,5 +1,5 @@
 use Rattle.std.proofs.Common.{length}
-use Rattle.dms_font.specs.Lines.{lines_left}
+use Rattle.dms_text.specs.Lines.{lines_left}
 use Rattle.dms_bench.proofs.face_of.Given as goal
 
 abbrev pub decreases-loop-line : goal.decreases-loop-line

@@ -1,5 +1,5 @@
 use Rattle.std.proofs.Common.{◌≡◌, length}
-use Rattle.dms_font.specs.Lines.{lines_left}
+use Rattle.dms_text.specs.Lines.{lines_left}
 use Rattle.dms_font.specs.FontReading.{glyphs_added}
 use Rattle.dms_font.proofs.font_text.with_glyphs.Given as goal
 

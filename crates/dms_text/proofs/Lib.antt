@@ -1,0 +1,6 @@
+pub mod Splits
+pub mod LineLaws
+pub mod DigitsRead
+pub mod NumberLaws
+pub mod WordLaws
+pub mod LineFilter

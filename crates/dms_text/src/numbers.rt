@@ -1,0 +1,48 @@
+//! The numbers that words spell.
+
+ghost use Rattle.std.specs.Prelude.{◌≡◌, ◌^◌, ◌<◌, ◌≤◌, IfSome};
+ghost use Rattle.dms_text.specs.Reading.{number_of, within, version_of};
+
+/// The number that one to `most` digits of the base spell, leading zeros and letters in either case allowed.
+#[tactic(auto, unfolding(crate::specs::Reading::number_of))]
+pub fn number(word: &[u8], base: u32, most: usize) -> Option<u64>
+    requires least_base { 2 ≤ base }
+    requires greatest_base { base ≤ 16 }
+    requires few { most ≤ 15 }
+    ensures value { result ≡ number_of base most word.now }
+    ensures below { IfSome result (λ number. number < 16 ^ most) }
+{
+    if word.is_empty() || word.len() > most {
+        return None;
+    }
+    let mut number = 0;
+    for octet in word {
+        let digit = char::from(*octet).to_digit(base)?;
+        number = number * base as u64 + digit as u64;
+    }
+    Some(number)
+}
+
+/// The number, where it is from `low` to `high`.
+pub(crate) fn within(number: u64, low: u64, high: u64) -> Option<u64>
+    ensures value { result ≡ within low high number }
+    ensures small { IfSome result (λ x. x ≤ high) }
+{
+    if low <= number && number <= high {
+        Some(number)
+    } else {
+        None
+    }
+}
+
+/// The number that just four hexadecimal digits spell: a font's version.
+#[tactic(auto, unfolding(crate::specs::Reading::version_of))]
+pub fn version(word: &[u8]) -> Option<u16>
+    ensures { result ≡ version_of word.now }
+{
+    if word.len() == 4 {
+        number(word, 16, 4).map(|version| version as u16)
+    } else {
+        None
+    }
+}
