@@ -4,10 +4,12 @@
 pub mod column;
 pub mod instance;
 pub mod laws;
+pub mod name;
 pub mod scalar;
 #[cfg(test)]
 mod tests;
 
 pub use column::Column;
 pub use instance::Instance;
+pub use name::Name;
 pub use scalar::Scalar;

@@ -1,5 +1,8 @@
 //! The objects of a sign that have one instance, by their names in NTCIP 1203.
 
+ghost use Rattle.std.specs.Prelude.{◌≡◌};
+ghost use Rattle.dms_objects.specs.Names.{scalar_number};
+
 /// An object that has one instance, in the order of names.
 #[derive(Clone, Copy, Debug, PartialEq, Eq)]
 pub enum Scalar {
@@ -75,4 +78,50 @@ pub enum Scalar {
     MultiSyntaxErrorPosition,
     /// dmsActivateErrorMsgCode: the code of the last activation that failed, 12 octets
     ActivateErrorMsgCode,
+}
+
+impl Scalar {
+    /// The object's number below dms: its group, and its number there.
+    pub fn number(self) -> (u8, u8)
+        ensures { result ≡ scalar_number self }
+    {
+        match self {
+            Scalar::SignHeightPixels => (2, 3),
+            Scalar::SignWidthPixels => (2, 4),
+            Scalar::DefaultBackgroundColor => (4, 1),
+            Scalar::DefaultForegroundColor => (4, 2),
+            Scalar::DefaultFlashOn => (4, 3),
+            Scalar::DefaultFlashOff => (4, 4),
+            Scalar::DefaultFont => (4, 5),
+            Scalar::DefaultJustificationLine => (4, 6),
+            Scalar::DefaultJustificationPage => (4, 7),
+            Scalar::DefaultPageOnTime => (4, 8),
+            Scalar::DefaultPageOffTime => (4, 9),
+            Scalar::ColorScheme => (4, 11),
+            Scalar::NumPermanentMsg => (5, 1),
+            Scalar::NumChangeableMsg => (5, 2),
+            Scalar::MaxChangeableMsg => (5, 3),
+            Scalar::FreeChangeableMemory => (5, 4),
+            Scalar::NumVolatileMsg => (5, 5),
+            Scalar::MaxVolatileMsg => (5, 6),
+            Scalar::FreeVolatileMemory => (5, 7),
+            Scalar::ValidateMessageError => (5, 9),
+            Scalar::ActivateMessage => (6, 3),
+            Scalar::MessageTimeRemaining => (6, 4),
+            Scalar::MsgTableSource => (6, 5),
+            Scalar::MsgRequesterId => (6, 6),
+            Scalar::MsgSourceMode => (6, 7),
+            Scalar::ShortPowerRecoveryMessage => (6, 8),
+            Scalar::LongPowerRecoveryMessage => (6, 9),
+            Scalar::ShortPowerLossTime => (6, 10),
+            Scalar::CommunicationsLossMessage => (6, 12),
+            Scalar::TimeCommLoss => (6, 13),
+            Scalar::PowerLossMessage => (6, 14),
+            Scalar::EndDurationMessage => (6, 15),
+            Scalar::ActivateMsgError => (6, 17),
+            Scalar::MultiSyntaxError => (6, 18),
+            Scalar::MultiSyntaxErrorPosition => (6, 19),
+            Scalar::ActivateErrorMsgCode => (6, 24),
+        }
+    }
 }

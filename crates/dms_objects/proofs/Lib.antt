@@ -1,0 +1,2 @@
+pub mod SubIdentifiers
+pub mod NameLaws

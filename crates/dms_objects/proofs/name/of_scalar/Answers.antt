@@ -1,0 +1,5 @@
+use Rattle.dms_objects.proofs.NameLaws.{object_named}
+use Rattle.dms_objects.proofs.name.of_scalar.Goals as goal
+
+pub invariant_of-result : goal.invariant_of-result
+invariant_of-result c = object_named c.args.object _ c.kept.result.items c.number-group.ensures c.kept.ensures
