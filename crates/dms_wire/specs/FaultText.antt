@@ -1,8 +1,19 @@
--- What a fault prints.
+-- The numbers and the texts of faults (this profile).
 use Rattle.std.specs.Prelude.{ℕ, List, ◌++◌, codes, decimal}
 use Rattle.dms_wire.specs.declared.fault.FaultKind.{FaultKind}
 use Rattle.dms_wire.specs.declared.fault.FaultKind.TheVariants.{Truncated, BadTag, BadLength, LengthPast, BadInteger, BadName, BadVersion, TrailingBytes, TooLong}
 use Rattle.dms_wire.specs.declared.fault.WireFault.{WireFault}
+
+abbrev pub kind_number : FaultKind → ℕ
+kind_number Truncated = 1
+kind_number BadTag = 2
+kind_number BadLength = 3
+kind_number LengthPast = 4
+kind_number BadInteger = 5
+kind_number BadName = 6
+kind_number BadVersion = 7
+kind_number TrailingBytes = 8
+kind_number TooLong = 9
 
 abbrev pub kind_text : FaultKind → List ℕ
 kind_text Truncated = codes "truncated"

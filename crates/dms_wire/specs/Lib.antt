@@ -4,6 +4,7 @@ pub mod Length
 pub mod Integer
 pub mod ObjectIdentifier
 pub mod NameOrder
+pub mod NameText
 pub mod Ber
 pub mod Spelling
 pub mod Limits

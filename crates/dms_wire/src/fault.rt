@@ -1,5 +1,8 @@
 //! What is wrong with a datagram.
 
+ghost use Rattle.std.specs.Prelude.{◌≡◌};
+ghost use Rattle.dms_wire.specs.FaultText.{kind_number};
+
 use std::error::Error;
 use std::fmt;
 
@@ -24,6 +27,25 @@ pub enum FaultKind {
     TrailingBytes,
     /// A datagram over 1,472 octets.
     TooLong,
+}
+
+impl FaultKind {
+    /// The number that stands for it, 1 to 9, in the order above.
+    pub fn number(self) -> u8
+        ensures { result ≡ kind_number self }
+    {
+        match self {
+            FaultKind::Truncated => 1,
+            FaultKind::BadTag => 2,
+            FaultKind::BadLength => 3,
+            FaultKind::LengthPast => 4,
+            FaultKind::BadInteger => 5,
+            FaultKind::BadName => 6,
+            FaultKind::BadVersion => 7,
+            FaultKind::TrailingBytes => 8,
+            FaultKind::TooLong => 9,
+        }
+    }
 }
 
 impl fmt::Display for FaultKind {

@@ -28,7 +28,7 @@ pub enum Kind {
 }
 
 /// The value of an object (RFC 1155, 3.2).
-#[derive(Default, Drop)]
+#[derive(Debug, Default, PartialEq, Eq, Drop)]
 pub enum Value<'a> {
     /// From -2^31 to 2^32 - 1 in what is read.
     Integer(i64),
@@ -45,14 +45,14 @@ pub enum Value<'a> {
 }
 
 /// A binding: an object's name and its value.
-#[derive(Default, Drop)]
+#[derive(Debug, Default, PartialEq, Eq, Drop)]
 pub struct Bind<'a> {
     pub name: Oid<'a>,
     pub value: Value<'a>,
 }
 
 /// The bindings of a message, over its octets: an iterator, which a contract sees as the list of what is left.
-#[derive(Drop)]
+#[derive(Debug, Drop)]
 pub struct Binds<'a> {
     pub(crate) content: &'a [u8],
 }
@@ -96,7 +96,7 @@ impl<'a> Iterator for Binds<'a> {
 }
 
 /// A message that was read, over the octets of its datagram.
-#[derive(Drop)]
+#[derive(Debug, Drop)]
 pub struct Message<'a> {
     pub community: &'a [u8],
     pub kind: Kind,
@@ -126,7 +126,7 @@ impl<'a> Message<'a> {
 }
 
 /// What a message says beside its bindings.
-#[derive(Drop)]
+#[derive(Debug, PartialEq, Eq, Drop)]
 pub struct Header<'a> {
     pub community: &'a [u8],
     pub kind: Kind,
@@ -139,7 +139,7 @@ pub struct Header<'a> {
 }
 
 /// A message to write: as `Message`, with its bindings in a slice.
-#[derive(Drop)]
+#[derive(Debug, Drop)]
 pub struct MessageParts<'a> {
     pub community: &'a [u8],
     pub kind: Kind,

@@ -12,13 +12,14 @@ ghost use Rattle.dms_wire.specs.NameOrder.{numbers_cmp};
 ghost use Rattle.dms_wire.specs.Canonical.{name_octets};
 
 use std::cmp::Ordering;
+use std::fmt;
 use std::marker::Model;
 
 /// The most sub-identifiers of an object identifier.
 const MAX_SUB_IDENTIFIERS: usize = 127;
 
 /// An object identifier, over its content octets. A contract sees the list of its numbers: 2 to 128 of them, each below 2^32.
-#[derive(Drop)]
+#[derive(Debug, Drop)]
 pub struct Oid<'a> {
     pub(crate) content: &'a [u8],
 }
@@ -95,6 +96,26 @@ impl<'a> IntoIterator for &Oid<'a> {
     }
 }
 
+/// The numbers with a dot between them.
+impl fmt::Display for Oid<'_> {
+    ghost use Rattle.std.specs.Prelude.{Some};
+    ghost use Rattle.dms_wire.specs.NameText.{dotted};
+
+    ghost output = { λ numbers. Some (dotted numbers) };
+
+    fn fmt<W: fmt::Write>(&self, f: &mut fmt::Formatter<W>) -> fmt::Result {
+        let mut rest = self.numbers();
+        let Some(first) = rest.next() else {
+            return Ok(());
+        };
+        write!(f, "{first}")?;
+        while let Some(number) = rest.next() {
+            write!(f, ".{number}")?;
+        }
+        Ok(())
+    }
+}
+
 /// 0.0, which names nothing (zeroDotZero).
 impl Default for Oid<'_> {
     ghost is_default = { λ name. name ≡ 0 ∷ 0 ∷ [] };
@@ -106,7 +127,7 @@ impl Default for Oid<'_> {
 }
 
 /// The numbers of an object identifier, in order: an iterator, which a contract sees as the list of those that are left.
-#[derive(Drop)]
+#[derive(Debug, Drop)]
 pub struct Numbers<'a> {
     rest: &'a [u8],
     /// Whether the first sub-identifier, which is two numbers, was read.

@@ -451,7 +451,7 @@ pub fn write(parts: &MessageParts<'_>, out: &mut Out) -> Result<(), TooBig>
 /// The octets of bindings to write, one binding after the other, in their shortest spelling: who has each binding only for a
 /// moment writes them with no array of bindings. Bindings of more than 1,472 octets are none that fit a message: then no octet
 /// is kept, and `write_around` refuses them. A contract sees the octets, or none (`octets_of_bindings`).
-#[derive(Drop)]
+#[derive(Debug, Drop)]
 pub struct BindingOctets {
     octets: Out,
     /// Whether the bindings have more octets than a datagram.
