@@ -1,7 +1,8 @@
--- What signs are made with: a matrix, its fonts, and what holds where a text says nothing else.
-use Rattle.std.specs.Prelude.{ℕ, ◌==◌, ◌&&◌, Bool, true, not, if◌then◌else◌, List, [], ◌∷◌, length, nat_le, Option, Result, Ok, Err}
+-- What signs are made with: a matrix, its fonts, and what holds where a text says nothing else (NTCIP 1203, sign configuration, font and
+-- MULTI objects; the greatest numbers are of this profile).
+use Rattle.std.specs.Prelude.{All, IsTrue, ℕ, ◌==◌, ◌&&◌, Bool, true, not, if◌then◌else◌, List, [], ◌∷◌, length, nat_le, Option, Result, Ok, Err}
 use Rattle.std.specs.List.{find, list_any}
-use Rattle.dms_font.specs.Font.{FontModel}
+use Rattle.dms_font.specs.Font.{FontModel, IsFont}
 use Rattle.dms_face.specs.declared.defaults.Defaults.{Defaults}
 use Rattle.dms_face.specs.declared.fault.FaceFault.{FaceFault}
 use Rattle.dms_face.specs.declared.fault.FaceFault.TheVariants.{Size, Fonts, Default}
@@ -45,6 +46,11 @@ fit fonts defaults =
 
 abbrev pub is_face : FaceModel → Bool
 is_face face = is_matrix face.width face.height && are_fonts face.fonts && fit face.fonts face.defaults
+
+-- what holds of every face that was made: also its fonts are within their limits
+pub record IsFace (face : FaceModel) : Type 0 where
+  pub is_face : IsTrue (is_face face)
+  pub fonts : All IsFont face.fonts
 
 -- the face, or the first thing that is wrong with it
 abbrev pub checked : FaceModel → Result FaceModel FaceFault

@@ -1,16 +1,18 @@
 //! The face of a sign: its matrix, its fonts and its defaults.
 
-ghost use Rattle.std.specs.Prelude.{◌≡◌, ◌≤◌, IsTrue, ◌↔◌};
+ghost use Rattle.std.specs.Prelude.{◌≡◌, ◌≤◌, IsTrue, ◌↔◌, All};
 ghost use Rattle.std.specs.Option.{option_copied};
-ghost use Rattle.dms_face.specs.Face.{font_in, font_of, has_font, have_own_numbers, is_within, is_matrix, are_fonts, fit, checked};
+ghost use Rattle.dms_font.specs.Font.{IsFont};
+ghost use Rattle.dms_face.specs.Face.{font_in, font_of, has_font, have_own_numbers, is_within, is_matrix, are_fonts, fit, checked, IsFace};
 
 use crate::defaults::Defaults;
 use crate::fault::FaceFault;
 use dms_font::Font;
+use dms_font::laws::fonts_are_within_their_limits;
 use std::marker::Model;
 
 /// What a sign is made with.
-#[derive(Drop)]
+#[derive(Debug, Drop)]
 pub struct Face {
     width: u16,
     height: u16,
@@ -19,15 +21,14 @@ pub struct Face {
 }
 
 impl Model for Face {
-    ghost use Rattle.std.specs.Prelude.{IsTrue};
-    ghost use Rattle.dms_face.specs.Face.{FaceModel, is_face};
+    ghost use Rattle.dms_face.specs.Face.{FaceModel, IsFace};
 
     ghost Value = { FaceModel };
 
     ghost view = { λ f. record { width = f.width; height = f.height; fonts = f.fonts.items; defaults = f.defaults } };
 
-    ghost invariant = { λ f. IsTrue (is_face
-        (record { width = f.width; height = f.height; fonts = f.fonts.items; defaults = f.defaults })) };
+    ghost invariant = { λ f. IsFace
+        (record { width = f.width; height = f.height; fonts = f.fonts.items; defaults = f.defaults }) };
 }
 
 impl Face {
@@ -59,7 +60,14 @@ impl Face {
         })
     }
 
-    /// The columns of the matrix.
+    /// The face is within its limits.
+    pub(crate) fn limits(&self)
+        ensures { IsFace self.now }
+    {
+        let _ = &self.width;
+    }
+
+    /// The columns of the matrix, 1 to 256.
     pub fn width(&self) -> u16
         ensures value { result ≡ self.now.width }
         ensures most { result ≤ 256 }
@@ -67,7 +75,7 @@ impl Face {
         self.width
     }
 
-    /// The rows of the matrix.
+    /// The rows of the matrix, 1 to 64.
     pub fn height(&self) -> u16
         ensures value { result ≡ self.now.height }
         ensures most { result ≤ 64 }
@@ -83,11 +91,18 @@ impl Face {
         self.defaults
     }
 
+    /// The fonts of the face, one to four, in the order in which it was made with them.
+    pub fn fonts(&self) -> &[Font]
+        ensures { result.now ≡ self.now.fonts }
+    {
+        self.fonts.as_slice()
+    }
+
     /// The font of a number, where the face has it.
     pub fn font(&self, number: u8) -> Option<&Font>
         ensures { option_copied result ≡ font_of self.now number }
     {
-        find_font(self.fonts.as_slice(), number)
+        find_font(self.fonts(), number)
     }
 }
 
@@ -96,7 +111,7 @@ impl Defaults {
     pub fn fits(&self, face: &Face) -> bool
         ensures { IsTrue result ↔ IsTrue (fit face.now.fonts self.now) }
     {
-        self.fit(face.fonts.as_slice())
+        self.fit(face.fonts())
     }
 
     fn fit(&self, fonts: &[Font]) -> bool
@@ -135,16 +150,21 @@ fn find_font(fonts: &[Font], number: u8) -> Option<&Font>
 }
 
 fn are_fonts(fonts: &[Font]) -> bool
-    ensures { result ≡ are_fonts fonts.now }
+    ensures value { result ≡ are_fonts fonts.now }
+    ensures limits { IsTrue result → All IsFont fonts.now }
 {
     1 <= fonts.len() && fonts.len() <= 4 && have_own_numbers(fonts)
 }
 
 fn have_own_numbers(fonts: &[Font]) -> bool
-    ensures { result ≡ have_own_numbers fonts.now }
+    ensures value { result ≡ have_own_numbers fonts.now }
+    ensures limits { IsTrue result → All IsFont fonts.now }
 {
     match fonts.split_first() {
         None => true,
-        Some((font, others)) => !has_font(others, font.number()) && have_own_numbers(others),
+        Some((font, others)) => {
+            fonts_are_within_their_limits(font);
+            !has_font(others, font.number()) && have_own_numbers(others)
+        }
     }
 }

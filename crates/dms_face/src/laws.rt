@@ -1,10 +1,19 @@
 //! Laws of texts and where they stand, each the contract of a function that does nothing.
 
 ghost use Rattle.std.specs.Prelude.{◌≡◌, ◌↔◌, ℕ, if◌then◌else◌, List, [], ◌∷◌, ◌++◌, Some, None};
-ghost use Rattle.dms_face.specs.Face.{FaceModel};
+ghost use Rattle.dms_face.specs.Face.{FaceModel, IsFace};
 ghost use Rattle.dms_face.specs.Layout.{Turn, layout_of};
 ghost use Rattle.dms_face.specs.Fit.{fits, Fits, code_of, fault_of, IsGood};
 ghost use Rattle.dms_face.specs.OnePass.{local_fault};
+
+use crate::face::Face;
+
+/// Every face is within its limits: its matrix, its fonts with all their characters, and its defaults.
+pub fn faces_are_within_their_limits(face: &Face)
+    ensures { IsFace face.now }
+{
+    face.limits();
+}
 
 /// Behind a front that fits, the open line and the open page alone tell whether one turn more fits, and its fault.
 ///

@@ -225,7 +225,7 @@ eqb_comm a b = elim (cases_Bool (a == b)) [
 ]
 
 -- a character more
-distinct_push : (glyphs : List GlyphModel) (glyph : GlyphModel) → are_distinct (glyphs ++ glyph ∷ []) ≡ (are_distinct glyphs && not (has_glyph glyphs glyph.character))
+pub distinct_push : (glyphs : List GlyphModel) (glyph : GlyphModel) → are_distinct (glyphs ++ glyph ∷ []) ≡ (are_distinct glyphs && not (has_glyph glyphs glyph.character))
 distinct_push [] glyph = refl
 distinct_push (first ∷ glyphs) glyph =
     let any : has_glyph (glyphs ++ glyph ∷ []) first.character ≡ (has_glyph glyphs first.character || ((glyph.character == first.character) || false)) =

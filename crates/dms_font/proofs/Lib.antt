@@ -2,3 +2,5 @@ pub mod Pictures
 pub mod RowLaws
 pub mod FontLaws
 pub mod Promises
+pub mod GlyphSearch
+pub mod Limits

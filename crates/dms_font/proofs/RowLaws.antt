@@ -7,7 +7,7 @@ use Rattle.dms_font.specs.Glyph.{octet_bits, bits_of, joined, rows_of, SpellsRow
 use Rattle.dms_font.specs.FontReading.{are_enough}
 use Rattle.dms_font.proofs.Pictures.{length-rows_of}
 
-length-bits_of : (octets : List ℕ) → length (bits_of octets) ≡ 8 * length octets
+pub length-bits_of : (octets : List ℕ) → length (bits_of octets) ≡ 8 * length octets
 length-bits_of [] = refl
 length-bits_of (octet ∷ octets) = omega (arith, length-append (octet_bits octet) (bits_of octets), length-bits_of octets)
 
@@ -21,7 +21,7 @@ rows_and_rest width (suc height) bits =
     ∙ sym (append_assoc (take width bits) (joined (rows_of width height (drop width bits))) (drop (height * width) (drop width bits)))
     ∙ ap (λ rest. (take width bits ++ joined (rows_of width height (drop width bits))) ++ rest) behind
 
-widths_of : (width height : ℕ) (bits : List Bool) → height * width ≤ length bits → AllByRecursion (λ row. length row ≡ width) (rows_of width height bits)
+pub widths_of : (width height : ℕ) (bits : List Bool) → height * width ≤ length bits → AllByRecursion (λ row. length row ≡ width) (rows_of width height bits)
 widths_of width zero bits room = tt
 widths_of width (suc height) bits room =
     let all : suc height * width ≡ width + height * width = omega arith in

@@ -1,5 +1,5 @@
--- A character's picture.
-use Rattle.std.specs.Prelude.{◌≡◌, ℕ, zero, suc, ◌/◌, ◌%◌, ◌^◌, ◌==◌, ◌<◌, Bool, false, map, List, [], ◌∷◌, ◌++◌, length, take, drop, slice_index_or}
+-- A character's picture (NTCIP 1203, characterBitmap).
+use Rattle.std.specs.Prelude.{◌≡◌, ℕ, zero, suc, ◌/◌, ◌%◌, ◌^◌, ◌==◌, ◌<◌, ◌≤◌, ◌*◌, Bool, false, map, List, [], ◌∷◌, ◌++◌, length, take, drop, slice_index_or}
 use Rattle.std.specs.List.{flat_map, AllByRecursion}
 
 -- a character, the width of its picture, and the picture's rows from the top, each from the left
@@ -40,3 +40,12 @@ rows_of width (suc height) bits = take width bits ∷ rows_of width height (drop
 -- the picture that octets are
 abbrev pub glyph_from : ℕ → ℕ → ℕ → List ℕ → GlyphModel
 glyph_from character width height octets = record { character = character; width = width; rows = rows_of width height (bits_of octets) }
+
+-- what the code keeps of a picture: octets enough for its bits, and its limits
+pub record IsPicture (character width height : ℕ) (octets : List ℕ) : Type 0 where
+  pub room : width * height ≤ 8 * length octets
+  pub least_character : 1 ≤ character
+  pub least_width : 1 ≤ width
+  pub greatest_width : width ≤ 32
+  pub least_height : 1 ≤ height
+  pub greatest_height : height ≤ 32

@@ -1,17 +1,17 @@
 //! Fonts as text: a line `font N height H space C line L version V`, then a line `glyph CHARACTER WIDTH BITS` for each
 //! character.
 
-ghost use Rattle.std.specs.Prelude.{◌≡◌, ◌*◌, ◌≤◌, ◌⊎◌, length, option_map, IfOk, IfErr, OnOk, OnErr};
+ghost use Rattle.std.specs.Prelude.{◌≡◌, ◌*◌, ◌≤◌, ◌⊎◌, length, option_map, IfSome, IfOk, IfErr, OnOk, OnErr};
 ghost use Rattle.dms_text.specs.Lines.{lines_left};
 ghost use Rattle.dms_text.specs.Words.{words_of};
 ghost use Rattle.dms_font.specs.Glyph.{GlyphModel};
-ghost use Rattle.dms_font.specs.Font.{FontModel};
+ghost use Rattle.dms_font.specs.Font.{FontModel, IsGlyph};
 ghost use Rattle.dms_font.specs.FontText.{SpellsFont};
 ghost use Rattle.dms_font.specs.FontReading.{labelled_at, version_at, header_of, glyph_words, are_enough, bitmap_read, glyph_read, glyph_added, glyphs_added, font_read, fault, placed};
 ghost use Rattle.dms_font.specs.FontView.{glyph_line, GivesOrMemory, ReadsOrMemory};
 
 use crate::fault::{FontFault, FontFaultKind};
-use crate::font::{Font, MAX_GLYPHS, has_glyph};
+use crate::font::{Font, MAX_GLYPHS, has_glyph, set_place};
 use crate::glyph::Glyph;
 use dms_text::{Lines, Words, octets, version};
 use std::alloc::Global;
@@ -27,7 +27,9 @@ pub(crate) struct GlyphLine<'a> {
 /// A word that tells what the number behind it is, and that number.
 #[tactic(auto, unfolding(crate::specs::FontReading::labelled_at))]
 fn labelled<'a>(words: Words<'a>, label: &[u8], low: u8, high: u8) -> Option<(u8, Words<'a>)>
-    ensures { result ≡ labelled_at label.now low high words.entry }
+    ensures value { result ≡ labelled_at label.now low high words.entry }
+    ensures least { IfSome result (λ x. low ≤ x.0) }
+    ensures greatest { IfSome result (λ x. x.0 ≤ high) }
 {
     let (number, rest) = words.keyword(label)?.decimal(5, low as u64, high as u64)?;
     Some((number as u8, rest))
@@ -43,7 +45,10 @@ fn last_version(words: Words<'_>) -> Option<u16>
 
 #[tactic(auto, unfolding(crate::specs::FontReading::glyph_words))]
 fn glyph_line(line: &[u8]) -> Option<GlyphLine<'_>>
-    ensures { option_map glyph_line result ≡ glyph_words (words_of line.now) }
+    ensures words { option_map glyph_line result ≡ glyph_words (words_of line.now) }
+    ensures character { IfSome result (λ said. 1 ≤ said.character) }
+    ensures least_width { IfSome result (λ said. 1 ≤ said.width) }
+    ensures greatest_width { IfSome result (λ said. said.width ≤ 32) }
 {
     let words = Words::of(line).keyword(b"glyph")?;
     let (character, words) = words.decimal(5, 1, 65535)?;
@@ -82,7 +87,10 @@ fn are_enough(width: u8, height: u8, bits: &[u8]) -> bool
 /// The character of a line, in a font of this height.
 #[tactic(auto, unfolding(crate::specs::FontReading::glyph_read))]
 fn glyph(alloc: Global, height: u8, line: &[u8]) -> Result<Glyph, FontFaultKind>
-    ensures { GivesOrMemory (λ (glyph : GlyphModel). glyph) result (glyph_read height line.now) }
+    requires least { 1 ≤ height }
+    requires greatest { height ≤ 32 }
+    ensures read { GivesOrMemory (λ (glyph : GlyphModel). glyph) result (glyph_read height line.now) }
+    ensures limits { IfOk result (IsGlyph height) }
 {
     let Some(said) = glyph_line(line) else {
         return Err(FontFaultKind::Glyph);
@@ -134,6 +142,7 @@ impl Font {
             line_spacing,
             version,
             glyphs: Vec::new(alloc),
+            places: [0; 256],
         })
     }
 
@@ -152,8 +161,13 @@ impl Font {
         if self.glyphs.len() >= MAX_GLYPHS {
             return Err(FontFaultKind::TooMany);
         }
+        let character = glyph.character();
+        let place = self.glyphs.len() as u8;
         match self.glyphs.push(glyph) {
-            Ok(()) => Ok(()),
+            Ok(()) => {
+                set_place(&mut self.places, character, place);
+                Ok(())
+            }
             Err(_) => Err(FontFaultKind::Memory),
         }
     }

@@ -5,6 +5,7 @@ pub mod fault;
 pub mod font;
 mod font_text;
 pub mod glyph;
+pub mod laws;
 #[cfg(test)]
 mod tests;
 

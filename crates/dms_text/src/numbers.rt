@@ -26,7 +26,8 @@ pub fn number(word: &[u8], base: u32, most: usize) -> Option<u64>
 /// The number, where it is from `low` to `high`.
 pub(crate) fn within(number: u64, low: u64, high: u64) -> Option<u64>
     ensures value { result ≡ within low high number }
-    ensures small { IfSome result (λ x. x ≤ high) }
+    ensures least { IfSome result (λ x. low ≤ x) }
+    ensures greatest { IfSome result (λ x. x ≤ high) }
 {
     if low <= number && number <= high {
         Some(number)

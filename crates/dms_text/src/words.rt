@@ -79,7 +79,8 @@ impl<'a> Words<'a> {
     pub fn decimal(self, most: usize, low: u64, high: u64) -> Option<(u64, Words<'a>)>
         requires { most ≤ 15 }
         ensures value { result ≡ decimal_at most low high self.entry }
-        ensures small { IfSome result (λ x. x.0 ≤ high) }
+        ensures least { IfSome result (λ x. low ≤ x.0) }
+        ensures greatest { IfSome result (λ x. x.0 ≤ high) }
     {
         let (word, rest) = self.next_word()?;
         let number = number(word, 10, most)?;

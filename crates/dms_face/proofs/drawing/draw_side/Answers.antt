@@ -41,7 +41,7 @@ loop-character-preserved c =
     ∙ ap (λ n. c.args.first + n - (character_block x).size) own.size in
     let low : c.saturating_sub-y.result ≡ c.args.bottom - x.style.font.height =
     c.saturating_sub-y.ensures
-    ∙ ap (λ n. c.args.bottom - n) (c.from-in-loop-character.ensures ∙ c.height.ensures ∙ ap (λ (it : Character). it.style.font.height) c.character.view_is) in
+    ∙ ap (λ n. c.args.bottom - n) (c.from-in-loop-character.ensures ∙ c.height.ensures.value ∙ ap (λ (it : Character). it.style.font.height) c.character.view_is) in
     let face = c.args.face.now in
     let long : length c.draw_character.new.cells ≡ length c.loop-character.cells = omega arith in (
       sums_more_of character_block c.args.side i xs x c.with-run.result below is here own,

@@ -25,10 +25,10 @@ returns c =
     let inside : c.args.column < glyph.width = omega (arith, c.from.ensures, c.if-column-from.false) in
     let below : c.args.row < glyph.height = omega (arith, c.from-else-column-from.ensures, c.if-row-from.false) in
     let place = c.args.row * glyph.width + c.args.column in
-    let within : place / 8 < length glyph.bits.items = omega (arith, c.self.invariant, mul-add-lt c.args.row glyph.width c.args.column glyph.height below inside) in
+    let within : place / 8 < length glyph.bits.items = omega (arith, c.self.invariant.room, mul-add-lt c.args.row glyph.width c.args.column glyph.height below inside) in
     let same : (c.args.row * c.from-2.result + c.args.column) / 8 ≡ place / 8 = ap (λ w. (c.args.row * w + c.args.column) / 8) c.from-2.ensures in
     let read : c.index.result.now ≡ get_or glyph.bits.items (place / 8) 0 =
     get_or_read glyph.bits.items (place / 8) c.index.result.now within (c.index.ensures ∙ ap (λ k. get_or glyph.bits.items k c.index.result.now) same) 0 in
     ap (λ w. bit_and (c.index.result.now / 2 ^ (7 - (c.args.row * w + c.args.column) % 8)) 1 == 1) c.from-2.ensures
-    ∙ lit_inside glyph.character glyph.width glyph.height glyph.bits.items c.args.column c.args.row c.index.result.now inside below c.self.invariant read
+    ∙ lit_inside glyph.character glyph.width glyph.height glyph.bits.items c.args.column c.args.row c.index.result.now inside below c.self.invariant.room read
     ∙ ap (λ g. lit_at g c.args.column c.args.row) c.self.view_is

@@ -1,0 +1,40 @@
+-- What is read of a font is within its limits.
+use Rattle.std.proofs.Common.{◌≡◌, ℕ, ◌<◌, ◌≤◌, ◌*◌, ◌&&◌, false, true, not, List, [], ◌∷◌, ◌++◌, length, Ok, All, refl, ap, sym, ◌∙◌, arith, length-append}
+use Rattle.std.proofs.lemmas.Bool.{and_from}
+use Rattle.std.proofs.lemmas.List.Elements.{All-push}
+use Rattle.dms_font.specs.Glyph.{GlyphModel, IsPicture, bits_of, glyph_from}
+use Rattle.dms_font.specs.Font.{FontModel, IsGlyph, IsFont, has_glyph}
+use Rattle.dms_font.proofs.Pictures.{length-rows_of}
+use Rattle.dms_font.proofs.RowLaws.{length-bits_of, widths_of}
+use Rattle.dms_font.proofs.FontLaws.{distinct_push}
+
+-- a picture of enough octets
+pub picture_is_glyph : (character width height : ℕ) (octets : List ℕ) → IsPicture character width height octets → character ≤ 65535 → IsGlyph height (glyph_from character width height octets)
+picture_is_glyph character width height octets is greatest =
+    let same : height * width ≡ width * height = omega arith in
+    record {
+      least_character = is.least_character;
+      greatest_character = greatest;
+      least_width = is.least_width;
+      greatest_width = is.greatest_width;
+      height_is = length-rows_of width height (bits_of octets);
+      width_is = widths_of width height (bits_of octets) (omega (arith, is.room, length-bits_of octets));
+    }
+
+pub ruleset limits = (picture_is_glyph)
+
+-- a character more
+pub with_one_more : (font : FontModel) (glyph : GlyphModel) → IsFont font → IsGlyph font.height glyph → has_glyph font.glyphs glyph.character ≡ false → length font.glyphs < 255
+    → IsFont (record font { glyphs = font.glyphs ++ glyph ∷ [] })
+with_one_more font glyph is one new room = record {
+  least_number = is.least_number;
+  greatest_number = is.greatest_number;
+  least_height = is.least_height;
+  greatest_height = is.greatest_height;
+  character_spacing = is.character_spacing;
+  line_spacing = is.line_spacing;
+  version = is.version;
+  glyphs = All-push (IsGlyph font.height) font.glyphs glyph is.glyphs one;
+  few = omega (arith, room, length-append font.glyphs (glyph ∷ []));
+  distinct = distinct_push font.glyphs glyph ∙ and_from _ _ is.distinct (ap not new);
+}
