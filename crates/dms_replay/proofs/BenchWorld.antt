@@ -4,6 +4,7 @@ use Rattle.std.specs.Prelude.{pos, map, codes, unwrap_or, replicate}
 use Rattle.std.specs.Fmt.{digits}
 use Rattle.std.specs.Result.{result_ok}
 use Rattle.hex.specs.Hex.{encode_with, decode_pairs, decode_of}
+use Rattle.dms_wire.specs.ErrorStatus.{error_status_number}
 use Rattle.dms_wire.specs.Canonical.{element, integer_octets, name_octets, binding_octets, numbers_octets, pdu_octets, canonical}
 use Rattle.dms_wire.specs.MessageOf.{message_of}
 use Rattle.dms_wire.specs.declared.message.Kind.{Kind}
@@ -172,7 +173,7 @@ seen world = record {
 -- what a SET by the community that may write is answered: its status and index
 unfoldable pub told : WorldModel → List VarBind → ℕ × ℕ
 unfolding after
-told world bindings = ((set world.sign true bindings).status, (set world.sign true bindings).index)
+told world bindings = (error_status_number (set world.sign true bindings).status, (set world.sign true bindings).index)
 
 -- what is told of activations and texts: dmsActivateMsgError, dmsMultiSyntaxError and its position
 abbrev pub errors : WorldModel → List ℕ

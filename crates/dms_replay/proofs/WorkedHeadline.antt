@@ -1,6 +1,7 @@
 -- The parts of the headline on given runs of the bench sign, each with its witnesses.
 use Rattle.std.proofs.Common.{◌≡◌, List, [], ◌∷◌, ◌++◌, slice_get, Some, refl, arith}
 use Rattle.std.specs.Prelude.{pos, codes}
+use Rattle.dms_wire.specs.declared.error_status.ErrorStatus.TheVariants.{GenErr}
 use Rattle.dms_codes.specs.declared.codes.Order.TheVariants.{High}
 use Rattle.dms_codes.specs.declared.codes.Activation.{Activation}
 use Rattle.dms_codes.specs.declared.status.Status.TheVariants.{Valid}
@@ -109,7 +110,7 @@ unfolding after hex
 first_accepted = refl
 
 -- the second is refused, since its message is up by then
-second_refused : (primary (world_at bench twice 2).sign asked_twice).status ≡ 5
+second_refused : (primary (world_at bench twice 2).sign asked_twice).status ≡ GenErr
 unfolding after hex
 second_refused = refl
 

@@ -3,6 +3,9 @@ use Rattle.std.proofs.Common.{◌≡◌, ◌≢◌, ℕ, zero, suc, ◌<◌, ◌
 use Rattle.std.specs.Prelude.{ℤ, pos}
 use Rattle.std.specs.List.{Contains}
 use Rattle.std.proofs.lemmas.Option.{same_Some}
+use Rattle.dms_wire.specs.ErrorStatus.{error_status_number}
+use Rattle.dms_wire.specs.declared.error_status.ErrorStatus.{ErrorStatus}
+use Rattle.dms_wire.specs.declared.error_status.ErrorStatus.TheVariants.{NoError, TooBig, NoSuchName, BadValue, GenErr}
 use Rattle.dms_wire.specs.declared.message.Kind.TheVariants.{Set}
 use Rattle.dms_wire.specs.Message.{SnmpMessage, VarBind, octet_string}
 use Rattle.dms_wire.specs.MessageOf.{message_of}
@@ -75,7 +78,7 @@ record WasAnswered (world : WorldModel) (events : List EventModel) (count number
   handed : slice_get (world_at world events before).to_sign place ≡ Some datagram
   puts_up : PutsUp world.centre.settings number code datagram
   heard_is : sign_reply.received (world_at world events before).sign datagram ≡ heard (world_at world events before).sign (request_for world number code)
-  status_is : pos (primary (world_at world events before).sign (request_for world number code)).status ≡ status
+  status_is : pos (error_status_number (primary (world_at world events before).sign (request_for world number code)).status) ≡ status
 
 -- each datagram that the centre had sent with this number puts this code up
 abbrev AllPutUp : WorldModel → List EventModel → ℕ → ℕ → Activation → Type 0
@@ -189,8 +192,19 @@ only_one : (one other : List ℕ) → Contains (activates one ∷ []) (activates
 only_one one other (zero, within, same) = let values : octet_string one ≡ octet_string other = ap (λ (b : VarBind). b.value) same in cc values
 only_one one other (suc place, within, same) = absurd (omega (arith, within))
 
-status_zero : (status : ℕ) → pos status ≡ pos 0 → status ≡ 0
-status_zero status e = cc e
+number_zero : (n : ℕ) → pos n ≡ pos 0 → n ≡ 0
+number_zero n e = cc e
+
+-- only noError has the number 0
+no_error_is : (status : ErrorStatus) → error_status_number status ≡ 0 → status ≡ NoError
+no_error_is NoError e = refl
+no_error_is TooBig e = absurd (omega arith)
+no_error_is NoSuchName e = absurd (omega arith)
+no_error_is BadValue e = absurd (omega arith)
+no_error_is GenErr e = absurd (omega arith)
+
+status_zero : (status : ErrorStatus) → pos (error_status_number status) ≡ pos 0 → status ≡ NoError
+status_zero status e = no_error_is status (number_zero (error_status_number status) e)
 
 -- an activation is accepted for what it says
 record IsTaken (world : WorldModel) (s : SignState) (number : ℕ) (code taken : Activation) : Type 0 where
@@ -198,7 +212,7 @@ record IsTaken (world : WorldModel) (s : SignState) (number : ℕ) (code taken :
   same : octets_of_activation world.sign.table.order taken ≡ octets_for world code
 
 is_taken : (world : WorldModel) (s : SignState) (number : ℕ) (code : Activation) (datagram : List ℕ) → s.table.order ≡ world.sign.table.order
-    → PutsUp world.centre.settings number code datagram → (primary s (request_for world number code)).status ≡ 0
+    → PutsUp world.centre.settings number code datagram → (primary s (request_for world number code)).status ≡ NoError
     → IsTaken world s number code (activation_of world.sign.table.order (octets_for world code))
 is_taken world s number code datagram order up none =
     let request : SnmpMessage = request_for world number code in
@@ -259,7 +273,7 @@ was_accepted : (world : WorldModel) (events : List EventModel) → IsFresh world
 unfolding delivered
 was_accepted world events fresh are entry was =
     let s : SignState = (world_at world events was.before).sign in
-    let none : (primary s (request_for world entry.number entry.code)).status ≡ 0 = status_zero _ was.status_is in
+    let none : (primary s (request_for world entry.number entry.code)).status ≡ NoError = status_zero _ was.status_is in
     let taken : Activation = activation_of world.sign.table.order (octets_for world entry.code) in
     let is : IsTaken world s entry.number entry.code taken =
     is_taken world s entry.number entry.code was.datagram (sound_at world events fresh was.before).order was.puts_up none in

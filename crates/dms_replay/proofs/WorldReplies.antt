@@ -3,6 +3,7 @@ use Rattle.std.proofs.Common.{◌≡◌, ℕ, zero, suc, ◌<◌, ◌≤◌, ◌
 use Rattle.std.specs.Prelude.{pos, nat_le}
 use Rattle.std.proofs.lemmas.Bool.{le-leb}
 use Rattle.std.proofs.lemmas.Option.{none-some}
+use Rattle.dms_wire.specs.ErrorStatus.{error_status_number}
 use Rattle.dms_wire.specs.declared.message.Kind.TheVariants.{Set}
 use Rattle.dms_wire.specs.Message.{SnmpMessage}
 use Rattle.dms_wire.specs.MessageOf.{message_of}
@@ -11,7 +12,7 @@ use Rattle.dms_wire.specs.Response.{response_to}
 use Rattle.dms_wire.proofs.MessageOfLaws.{read_is_spelled}
 use Rattle.dms_wire.proofs.ShorterSpellings.{response_no_longer}
 use Rattle.dms_sign.specs.State.{SignState}
-use Rattle.dms_sign.specs.SetRequest.{too_big}
+use Rattle.dms_sign.specs.Reply.{too_big}
 use Rattle.dms_sign.specs.Requests.{Answer, primary}
 use Rattle.dms_sign.specs.Reply as sign_reply
 use Rattle.dms_sign.specs.Reply.{response_of, most_octets, is_heard, heard, dropped, on_message_if}
@@ -40,20 +41,20 @@ heard_message s datagram reply m e spelled =
 
 -- ---- the status that a reply tells
 
-status_by : (m : SnmpMessage) (a : Answer) (b : Bool) → b ≡ true → (cond b (response_of m a) (response_to m too_big 0)).status ≡ pos a.status
+status_by : (m : SnmpMessage) (a : Answer) (b : Bool) → b ≡ true → (cond b (response_of m a) (response_to m too_big 0)).status ≡ pos (error_status_number a.status)
 status_by m a true e = refl
 status_by m a false e = absurd (cc)
 
 -- of a SET of one binding it is that of what is answered
 pub status_told : (s : SignState) (m : SnmpMessage) (datagram : List ℕ) → message_of datagram ≡ Some m → m.kind ≡ Set → length m.bindings ≡ 1
-    → (response_sent m (primary s m)).status ≡ pos (primary s m).status
+    → (response_sent m (primary s m)).status ≡ pos (error_status_number (primary s m).status)
 status_told s m datagram spelled set one =
     let a : Answer = primary s m in
     let is = is_set_answer s m set in
     let spells = (read_is_spelled datagram m).0 spelled in
-    let shorter : length (canonical (response_to m a.status a.index)) ≤ length datagram =
-    response_no_longer m datagram a.status a.index spells (omega (arith, is.status)) (omega (arith, is.index)) in
-    let same : response_of m a ≡ response_to m a.status a.index = ap (λ bindings. record (response_to m a.status a.index) { bindings = bindings }) is.echo in
+    let shorter : length (canonical (response_to m (error_status_number a.status) a.index)) ≤ length datagram =
+    response_no_longer m datagram (error_status_number a.status) a.index spells (omega (arith, is.status)) (omega (arith, is.index)) in
+    let same : response_of m a ≡ response_to m (error_status_number a.status) a.index = ap (λ bindings. record (response_to m (error_status_number a.status) a.index) { bindings = bindings }) is.echo in
     let fits : length (canonical (response_of m a)) ≤ 1472 = omega (arith, spells.size, ap (λ x. length (canonical x)) same) in
     status_by m a (nat_le (length (canonical (response_of m a))) most_octets) (le-leb (length (canonical (response_of m a))) 1472 fits)
 

@@ -1,5 +1,6 @@
 -- The ledger of a centre is honest: its requests have numbers of their own, and what it says of a code is what the sign did.
 use Rattle.std.specs.Prelude.{◌≡◌, ◌≢◌, ℕ, ℤ, pos, suc, ◌<◌, ◌≤◌, List, [], ◌∷◌, slice_get, Some, None}
+use Rattle.dms_wire.specs.ErrorStatus.{error_status_number}
 use Rattle.dms_wire.specs.Message.{SnmpMessage}
 use Rattle.dms_codes.specs.declared.codes.Activation.{Activation}
 use Rattle.dms_codes.specs.Checksum.{message_checksum}
@@ -74,7 +75,7 @@ pub record WasAccepted (world : WorldModel) (events : List EventModel) (entry : 
 pub record WasRefused (world : WorldModel) (events : List EventModel) (entry : Entry) (status : ℤ) : Type 0 where
   pub before : ℕ
   pub delivered : WasDelivered world events entry.number before
-  pub status_is : pos (primary (world_at world events before).sign delivered.has_number.message).status ≡ status
+  pub status_is : pos (error_status_number (primary (world_at world events before).sign delivered.has_number.message).status) ≡ status
 
 -- each entry that is accepted
 abbrev pub AcceptedWasAccepted : WorldModel → List EventModel → Type 0

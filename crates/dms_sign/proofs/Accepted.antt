@@ -5,6 +5,8 @@ use Rattle.std.specs.List.{cons_option, list_any, AllByRecursion, Contains}
 use Rattle.std.proofs.lemmas.Bool.{and_parts, leb-true}
 use Rattle.dms_wire.specs.declared.message.Kind.{Kind}
 use Rattle.dms_wire.specs.declared.message.Kind.TheVariants.{Get, GetNext, Response, Set}
+use Rattle.dms_wire.specs.declared.error_status.ErrorStatus.{ErrorStatus}
+use Rattle.dms_wire.specs.declared.error_status.ErrorStatus.TheVariants.{NoError, NoSuchName, BadValue, GenErr}
 use Rattle.dms_wire.specs.Message.{ObjectValue, octet_string, VarBind, SnmpMessage}
 use Rattle.dms_face.specs.Face.{FaceModel}
 use Rattle.dms_table.specs.declared.activation.Cause.{Cause}
@@ -22,7 +24,7 @@ use Rattle.dms_objects.specs.Names.{scalar_number, name_of}
 use Rattle.dms_sign.specs.Objects.{instance_named}
 use Rattle.dms_sign.specs.State.{SignState}
 use Rattle.dms_sign.specs.Access.{Write, SetNumber, SetCode, SetField, AskRow, Activate, SetRemaining, is_command, is_settable, octets_in, object_write, cell_write, write_of}
-use Rattle.dms_sign.specs.SetRequest.{SetCause, no_such_name, bad_value, general_error, if_settable, settable_instance, write_at, is_among, is_command_at, is_refused_field, cause_if, causes, assigned}
+use Rattle.dms_sign.specs.SetRequest.{SetCause, if_settable, settable_instance, write_at, is_among, is_command_at, is_refused_field, cause_if, causes, assigned}
 use Rattle.dms_sign.specs.Requests.{found_unless, as_decided, as_asked, commanded, commanded_if, writes_of, set_unless, set, may_write, answer_by, primary}
 use Rattle.dms_sign.specs.Promises.{activates, AsksFor}
 use Rattle.dms_sign.proofs.InOrder.{named_is}
@@ -144,7 +146,7 @@ record IsAccepting (s : SignState) (activation : Activation) (write : Write) : T
 
 decided_accepts : (old new : SignState) (bindings : List VarBind) (index : ℕ) (octets : List ℕ) (r : Result ShownModel Cause) (a : Activation)
     → (as_decided old new bindings index octets r).accepted ≡ Some a
-    → ((as_decided old new bindings index octets r).status ≡ 0) × IsAccepting old a (Activate octets)
+    → ((as_decided old new bindings index octets r).status ≡ NoError) × IsAccepting old a (Activate octets)
 decided_accepts old new bindings index octets (Ok shown) a e = (refl, record { octets = octets; write_is = refl; is = cc })
 decided_accepts old new bindings index octets (Err cause) a e = absurd (cc)
 
@@ -154,7 +156,7 @@ asked_accepts old new bindings index None a e = cc
 asked_accepts old new bindings index (Some table) a e = cc
 
 commanded_accepts : (old new : SignState) (bindings : List VarBind) (index : ℕ) (write : Write) (a : Activation)
-    → (commanded old new bindings index write).accepted ≡ Some a → ((commanded old new bindings index write).status ≡ 0) × IsAccepting old a write
+    → (commanded old new bindings index write).accepted ≡ Some a → ((commanded old new bindings index write).status ≡ NoError) × IsAccepting old a write
 commanded_accepts old new bindings index (AskRow id ask) a e = absurd (asked_accepts old new bindings index (asked new.table id ask) a e)
 commanded_accepts old new bindings index (Activate octets) a e =
     decided_accepts old new bindings index octets (decided new.config.face new.defaults new.table new.shown (activation_of old.table.order octets)) a e
@@ -170,14 +172,14 @@ record AcceptedBy (s : SignState) (activation : Activation) (o : Option Write) :
   accepting : IsAccepting s activation write
 
 if_accepts : (old new : SignState) (bindings : List VarBind) (index : ℕ) (o : Option Write) (a : Activation)
-    → (commanded_if old new bindings index o).accepted ≡ Some a → ((commanded_if old new bindings index o).status ≡ 0) × AcceptedBy old a o
+    → (commanded_if old new bindings index o).accepted ≡ Some a → ((commanded_if old new bindings index o).status ≡ NoError) × AcceptedBy old a o
 if_accepts old new bindings index None a e = absurd (cc)
 if_accepts old new bindings index (Some write) a e =
     let done = commanded_accepts old new bindings index write a e in (done.0, record { write = write; command = refl; accepting = done.1 })
 
 set_accepts : (s : SignState) (bindings : List VarBind) (found : List SetCause) (a : Activation)
     → (set_unless s bindings found).accepted ≡ Some a
-    → ((set_unless s bindings found).status ≡ 0) × AcceptedBy s a (find is_command (writes_of s bindings))
+    → ((set_unless s bindings found).status ≡ NoError) × AcceptedBy s a (find is_command (writes_of s bindings))
 set_accepts s bindings [] a e = if_accepts s (assigned s (writes_of s bindings)) bindings _ (find is_command (writes_of s bindings)) a e
 set_accepts s bindings (cause ∷ more) a e = absurd (cc)
 
@@ -222,14 +224,14 @@ found_accepts s bindings found None a e = cc
 found_accepts s bindings found (Some index) a e = cc
 
 answer_accepts : (s : SignState) (m : SnmpMessage) (kind : Kind) (a : Activation) → (answer_by s m kind).accepted ≡ Some a
-    → ((answer_by s m kind).status ≡ 0) × AsksFor s m a
+    → ((answer_by s m kind).status ≡ NoError) × AsksFor s m a
 answer_accepts s m Get a e = absurd (found_accepts s m.bindings _ _ a e)
 answer_accepts s m GetNext a e = absurd (found_accepts s m.bindings _ _ a e)
 answer_accepts s m Response a e = absurd (cc)
 answer_accepts s m Set a e = let done = set_accepts s m.bindings (causes s (may_write s m) m.bindings) a e in (done.0, asks_for s m a done.1)
 
 pub accepted_was_asked_for : (s : SignState) (m : SnmpMessage) (a : Activation) → (primary s m).accepted ≡ Some a
-    → ((primary s m).status ≡ 0) × AsksFor s m a
+    → ((primary s m).status ≡ NoError) × AsksFor s m a
 unfolding primary
 accepted_was_asked_for s m a e = answer_accepts s m m.kind a e
 
@@ -264,44 +266,44 @@ what_is_written s octets (Some write) is some =
     let object : at.instance ≡ The ActivateMessage = only_activate at.instance at.named in
     ap Some (activate_writes s.config.face octets write (rw object at at.writes))
 
-second_passes : (one two : Bool) (m n index : ℕ) (tests : List (Bool × ℕ)) (more : List SetCause)
+second_passes : (one two : Bool) (m n : ErrorStatus) (index : ℕ) (tests : List (Bool × ErrorStatus)) (more : List SetCause)
     → filter_map (cause_if index) ((one, m) ∷ (two, n) ∷ tests) ++ more ≡ [] → two ≡ false
 second_passes true two m n index tests more e = absurd (cc)
 second_passes false true m n index tests more e = absurd (cc)
 second_passes false false m n index tests more e = refl
 
 -- the tests behind the first two, of a binding that stands first
-abbrev later_tests : SignState → VarBind → List (Bool × ℕ)
+abbrev later_tests : SignState → VarBind → List (Bool × ErrorStatus)
 later_tests s binding =
-    (is_among binding.name [], general_error) ∷ (is_command_at s binding && list_any (is_command_at s) [], general_error)
-    ∷ (unwrap_or (option_map (is_refused_field s.table) (write_at s binding)) false, general_error) ∷ []
+    (is_among binding.name [], GenErr) ∷ (is_command_at s binding && list_any (is_command_at s) [], GenErr)
+    ∷ (unwrap_or (option_map (is_refused_field s.table) (write_at s binding)) false, GenErr) ∷ []
 
 writes_without_cause : (s : SignState) (writing : Bool) (binding : VarBind) → causes s writing (binding ∷ []) ≡ []
     → is_none (write_at s binding) ≡ false
 unfolding causes
 writes_without_cause s writing binding e =
-    second_passes (not writing || is_none (settable_instance s binding.name)) (is_none (write_at s binding)) no_such_name bad_value 1 (later_tests s binding) [] e
+    second_passes (not writing || is_none (settable_instance s binding.name)) (is_none (write_at s binding)) NoSuchName BadValue 1 (later_tests s binding) [] e
 
 decided_succeeds : (old new : SignState) (bindings : List VarBind) (index : ℕ) (octets : List ℕ) (r : Result ShownModel Cause)
-    → (as_decided old new bindings index octets r).status ≡ 0
+    → (as_decided old new bindings index octets r).status ≡ NoError
     → (as_decided old new bindings index octets r).accepted ≡ Some (activation_of old.table.order octets)
 decided_succeeds old new bindings index octets (Ok shown) e = refl
-decided_succeeds old new bindings index octets (Err cause) e = absurd (omega arith)
+decided_succeeds old new bindings index octets (Err cause) e = absurd (cc)
 
 if_succeeds : (old new : SignState) (bindings : List VarBind) (index : ℕ) (octets : List ℕ) (o : Option Write) → o ≡ Some (Activate octets)
-    → (commanded_if old new bindings index o).status ≡ 0
+    → (commanded_if old new bindings index o).status ≡ NoError
     → (commanded_if old new bindings index o).accepted ≡ Some (activation_of old.table.order octets)
 if_succeeds old new bindings index octets o is =
     subst
-    (λ x. (commanded_if old new bindings index x).status ≡ 0 → (commanded_if old new bindings index x).accepted ≡ Some (activation_of old.table.order octets))
+    (λ x. (commanded_if old new bindings index x).status ≡ NoError → (commanded_if old new bindings index x).accepted ≡ Some (activation_of old.table.order octets))
     (sym is)
     (decided_succeeds old new bindings index octets (decided new.config.face new.defaults new.table new.shown (activation_of old.table.order octets)))
 
 one_succeeds : (s : SignState) (writing : Bool) (octets : List ℕ) (found : List SetCause)
     → causes s writing (activates octets ∷ []) ≡ found → AllByRecursion (IsCause 1) found
-    → (set_unless s (activates octets ∷ []) found).status ≡ 0
+    → (set_unless s (activates octets ∷ []) found).status ≡ NoError
     → (set_unless s (activates octets ∷ []) found).accepted ≡ Some (activation_of s.table.order octets)
-one_succeeds s writing octets (cause ∷ more) are each e = absurd (omega (arith, each.0.fails))
+one_succeeds s writing octets (cause ∷ more) are each e = absurd (each.0.fails e)
 one_succeeds s writing octets [] are each e =
     let written : write_at s (activates octets) ≡ Some (Activate octets) =
     what_is_written s octets (write_at s (activates octets)) refl (writes_without_cause s writing (activates octets) are) in
@@ -309,26 +311,26 @@ one_succeeds s writing octets [] are each e =
     (ap (λ o. find is_command (cons_option o [])) written) e
 
 set_succeeds : (s : SignState) (writing : Bool) (octets : List ℕ) (bindings : List VarBind) → bindings ≡ activates octets ∷ []
-    → (set s writing bindings).status ≡ 0 → (set s writing bindings).accepted ≡ Some (activation_of s.table.order octets)
+    → (set s writing bindings).status ≡ NoError → (set s writing bindings).accepted ≡ Some (activation_of s.table.order octets)
 set_succeeds s writing octets bindings is =
     subst
-    (λ x. (set s writing x).status ≡ 0 → (set s writing x).accepted ≡ Some (activation_of s.table.order octets))
+    (λ x. (set s writing x).status ≡ NoError → (set s writing x).accepted ≡ Some (activation_of s.table.order octets))
     (sym is)
     (one_succeeds s writing octets (causes s writing (activates octets ∷ [])) refl (are_causes s writing (activates octets ∷ [])))
 
 answer_succeeds : (s : SignState) (m : SnmpMessage) (octets : List ℕ) (kind : Kind) → kind ≡ Set → m.bindings ≡ activates octets ∷ []
-    → (answer_by s m kind).status ≡ 0 → (answer_by s m kind).accepted ≡ Some (activation_of s.table.order octets)
+    → (answer_by s m kind).status ≡ NoError → (answer_by s m kind).accepted ≡ Some (activation_of s.table.order octets)
 answer_succeeds s m octets Set is one e = set_succeeds s (may_write s m) octets m.bindings one e
 answer_succeeds s m octets Get is one e = absurd (cc)
 answer_succeeds s m octets GetNext is one e = absurd (cc)
 answer_succeeds s m octets Response is one e = absurd (cc)
 
 success_is_accepted : (s : SignState) (m : SnmpMessage) (octets : List ℕ) → m.kind ≡ Set → m.bindings ≡ activates octets ∷ []
-    → (primary s m).status ≡ 0 → (primary s m).accepted ≡ Some (activation_of s.table.order octets)
+    → (primary s m).status ≡ NoError → (primary s m).accepted ≡ Some (activation_of s.table.order octets)
 unfolding primary
 success_is_accepted s m octets is one e = answer_succeeds s m octets m.kind is one e
 
 pub accepted_where_no_error : (s : SignState) (m : SnmpMessage) (octets : List ℕ) → m.kind ≡ Set → m.bindings ≡ activates octets ∷ []
-    → ((primary s m).status ≡ 0) ↔ ((primary s m).accepted ≡ Some (activation_of s.table.order octets))
+    → ((primary s m).status ≡ NoError) ↔ ((primary s m).accepted ≡ Some (activation_of s.table.order octets))
 accepted_where_no_error s m octets is one =
     (success_is_accepted s m octets is one, λ e. (accepted_was_asked_for s m (activation_of s.table.order octets) e).0)

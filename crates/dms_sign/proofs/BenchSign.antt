@@ -1,6 +1,7 @@
 -- The sign of the worked examples, what is asked of it, and what is seen of it.
 use Rattle.std.proofs.Common.{ℕ, zero, suc, true, false, List, [], ◌∷◌, ◌+◌, ◌-◌, ◌*◌, Option, None, if◌then◌else◌}
 use Rattle.std.specs.Prelude.{pos, codes, nat_lt}
+use Rattle.dms_wire.specs.ErrorStatus.{error_status_number}
 use Rattle.dms_wire.specs.declared.message.Kind.{Kind}
 use Rattle.dms_wire.specs.declared.message.Kind.TheVariants.{Set}
 use Rattle.dms_wire.specs.Message.{ObjectValue, integer, octet_string, VarBind, SnmpMessage}
@@ -106,7 +107,7 @@ answer s kind bindings = primary s (request kind bindings)
 
 -- the status and the index that a SET is answered
 abbrev pub told : SignState → List VarBind → ℕ × ℕ
-told s bindings = ((answer s Set bindings).status, (answer s Set bindings).index)
+told s bindings = (error_status_number (answer s Set bindings).status, (answer s Set bindings).index)
 
 abbrev pub after_set : SignState → List VarBind → SignState
 after_set s bindings = (answer s Set bindings).after

@@ -5,6 +5,9 @@ use Rattle.std.specs.Option.{IfSome}
 use Rattle.std.specs.List.{AllByRecursion, position_from}
 use Rattle.dms_wire.specs.declared.message.Kind.{Kind}
 use Rattle.dms_wire.specs.declared.message.Kind.TheVariants.{Get, GetNext, Response, Set}
+use Rattle.dms_wire.specs.declared.error_status.ErrorStatus.{ErrorStatus}
+use Rattle.dms_wire.specs.declared.error_status.ErrorStatus.TheVariants.{NoError, NoSuchName, GenErr}
+use Rattle.dms_wire.specs.ErrorStatus.{error_status_number}
 use Rattle.dms_wire.specs.Message.{VarBind, SnmpMessage}
 use Rattle.dms_wire.specs.MessageOf.{message_of}
 use Rattle.dms_wire.specs.Limits.{IsValueInLimits, AreBindingsInLimits, IsMessageInLimits}
@@ -23,7 +26,8 @@ use Rattle.dms_table.specs.Activation.{ShownModel, decided}
 use Rattle.dms_sign.specs.State.{SignState}
 use Rattle.dms_sign.specs.Values.{value_of, value_after}
 use Rattle.dms_sign.specs.Access.{Write, SetNumber, SetCode, SetField, AskRow, Activate, SetRemaining, is_command}
-use Rattle.dms_sign.specs.SetRequest.{SetCause, too_big, is_command_at, tests_at, cause_if, causes_at, causes_behind, causes, assigned}
+use Rattle.dms_sign.specs.SetRequest.{SetCause, is_command_at, tests_at, cause_if, causes_at, causes_behind, causes, assigned}
+use Rattle.dms_sign.specs.Reply.{too_big}
 use Rattle.dms_sign.specs.Requests.{Answer, refused, granted, found_unless, has_no_value, with_value, get, is_last, next_after, get_next, as_decided, as_asked, with_remaining, commanded, commanded_if, writes_of, command_index, set_unless, may_write, answer_by, primary}
 use Rattle.dms_sign.specs.Reply.{response_of, most_octets, reply_to, is_heard, dropped, heard, on_message_if, received}
 use Rattle.dms_sign.specs.InRange.{IsSignInRange, IsBindingInLimits, response_sent, IsSpelledReply}
@@ -32,14 +36,14 @@ use Rattle.dms_sign.proofs.InRangeValues.{value_of_within, value_after_within}
 
 -- an answer to these bindings that can be said in a message
 pub record IsAnswerInLimits (bindings : List VarBind) (a : Answer) : Type 0 where
-  pub status : a.status < 128
+  pub status : error_status_number a.status < 128
   pub index : a.index ≤ length bindings
   pub within : AreBindingsInLimits a.bindings
 
 granted_within : (s : SignState) (bindings found : List VarBind) → AreBindingsInLimits found → IsAnswerInLimits bindings (granted s found)
 granted_within s bindings found within = record { status = omega arith; index = omega arith; within = within }
 
-refused_within : (s : SignState) (bindings : List VarBind) (status index : ℕ) → status < 128 → index ≤ length bindings → AreBindingsInLimits bindings
+refused_within : (s : SignState) (bindings : List VarBind) (status : ErrorStatus) (index : ℕ) → error_status_number status < 128 → index ≤ length bindings → AreBindingsInLimits bindings
     → IsAnswerInLimits bindings (refused s bindings status index)
 refused_within s bindings status index small few within = record { status = small; index = few; within = within }
 
@@ -48,7 +52,7 @@ refused_within s bindings status index small few within = record { status = smal
 found_within : (s : SignState) (bindings found : List VarBind) (o : Option ℕ) → IfSome o (λ place. place < 1 + length bindings)
     → AreBindingsInLimits bindings → AreBindingsInLimits found → IsAnswerInLimits bindings (found_unless s bindings found o)
 found_within s bindings found None few within values = granted_within s bindings found values
-found_within s bindings found (Some index) few within values = refused_within s bindings 2 index (omega arith) (omega arith) within
+found_within s bindings found (Some index) few within values = refused_within s bindings NoSuchName index (omega arith) (omega arith) within
 
 values_within : (s : SignState) (bindings : List VarBind) → IsSignInRange s → AreBindingsInLimits bindings
     → AreBindingsInLimits (map (with_value s) bindings)
@@ -85,7 +89,7 @@ as_decided_within old new bindings index octets (Err cause) few within = record 
 
 as_asked_within : (old new : SignState) (bindings : List VarBind) (index : ℕ) (o : Option TableModel) → index ≤ length bindings
     → AreBindingsInLimits bindings → IsAnswerInLimits bindings (as_asked old new bindings index o)
-as_asked_within old new bindings index None few within = refused_within old bindings 5 index (omega arith) few within
+as_asked_within old new bindings index None few within = refused_within old bindings GenErr index (omega arith) few within
 as_asked_within old new bindings index (Some table) few within = granted_within (record new { table = table }) bindings bindings within
 
 commanded_within : (old new : SignState) (bindings : List VarBind) (index : ℕ) (w : Write) → index ≤ length bindings
@@ -109,16 +113,16 @@ commanded_if_within old new bindings index (Some command) few within = commanded
 -- a cause among at most so many bindings
 pub record IsSmallCause (most : ℕ) (cause : SetCause) : Type 0 where
   pub index : cause.index ≤ most
-  pub status : cause.status < 128
+  pub status : error_status_number cause.status < 128
 
-cause_small : (most place : ℕ) (test : Bool × ℕ) → place ≤ most → test.1 < 128 → IfSome (cause_if place test) (IsSmallCause most)
+cause_small : (most place : ℕ) (test : Bool × ErrorStatus) → place ≤ most → error_status_number test.1 < 128 → IfSome (cause_if place test) (IsSmallCause most)
 cause_small most place (true, status) few small = record { index = few; status = small }
 cause_small most place (false, status) few small = tt
 
 causes_at_small : (s : SignState) (may : Bool) (before : List VarBind) (binding : VarBind) (most : ℕ) → length before + 1 ≤ most
     → AllByRecursion (IsSmallCause most) (causes_at s may before binding)
 causes_at_small s may before binding most few =
-    all_filtered (λ (test : Bool × ℕ). test.1 < 128) (IsSmallCause most) (cause_if (length before + 1)) (tests_at s may before binding)
+    all_filtered (λ (test : Bool × ErrorStatus). error_status_number test.1 < 128) (IsSmallCause most) (cause_if (length before + 1)) (tests_at s may before binding)
     (λ test small. cause_small most (length before + 1) test few small)
     (omega arith, (omega arith, (omega arith, (omega arith, (omega arith, tt)))))
 
@@ -167,11 +171,11 @@ pub response_within : (m : SnmpMessage) (a : Answer) → IsMessageInLimits m →
     → IsMessageInLimits (response_of m a)
 response_within m a is few within =
     let index : a.index ≤ length m.bindings = within.index in
-    let status : a.status < 128 = within.status in
+    let status : error_status_number a.status < 128 = within.status in
     record {
       community = is.community;
       request = is.request;
-      status = lt-ltb a.status (2 ^ 32) (omega arith);
+      status = lt-ltb (error_status_number a.status) (2 ^ 32) (omega arith);
       index = lt-ltb a.index (2 ^ 32) (omega arith);
       bindings = within.within;
     }

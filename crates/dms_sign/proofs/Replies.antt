@@ -6,6 +6,9 @@ use Rattle.std.proofs.lemmas.Bool.{and_parts, le-leb}
 use Rattle.std.proofs.lemmas.List.{length-append}
 use Rattle.dms_wire.specs.declared.message.Kind.{Kind}
 use Rattle.dms_wire.specs.declared.message.Kind.TheVariants.{Set}
+use Rattle.dms_wire.specs.declared.error_status.ErrorStatus.{ErrorStatus}
+use Rattle.dms_wire.specs.declared.error_status.ErrorStatus.TheVariants.{NoError, GenErr}
+use Rattle.dms_wire.specs.ErrorStatus.{error_status_number}
 use Rattle.dms_wire.specs.Message.{VarBind, SnmpMessage}
 use Rattle.dms_wire.specs.MessageOf.{message_of}
 use Rattle.dms_wire.specs.Spelling.{Spells}
@@ -19,7 +22,8 @@ use Rattle.dms_codes.specs.Codes.{activation_of}
 use Rattle.dms_table.specs.Activation.{ShownModel, decided}
 use Rattle.dms_sign.specs.State.{SignState}
 use Rattle.dms_sign.specs.Access.{Write, SetNumber, SetCode, SetField, AskRow, Activate, SetRemaining, is_command}
-use Rattle.dms_sign.specs.SetRequest.{SetCause, too_big, general_error, is_command_at, tests_at, cause_if, causes_at, causes_behind, causes, assigned}
+use Rattle.dms_sign.specs.SetRequest.{SetCause, is_command_at, tests_at, cause_if, causes_at, causes_behind, causes, assigned}
+use Rattle.dms_sign.specs.Reply.{too_big}
 use Rattle.dms_sign.specs.Requests.{Answer, refused, granted, as_decided, as_asked, commanded, commanded_if, with_remaining, command_index, writes_of, set_unless, may_write, answer_by, primary}
 use Rattle.dms_sign.specs.Reply.{response_of, most_octets, reply_to, is_heard, heard, dropped, on_message_if, received}
 use Rattle.dms_sign.specs.Promises.{IsResponseTo, IsReplyTo}
@@ -59,18 +63,18 @@ names_its_request s datagram reply e = message_reply s datagram reply (message_o
 -- it repeats the bindings, and its status and index are small
 pub record IsSetAnswer (bindings : List VarBind) (a : Answer) : Type 0 where
   pub echo : a.bindings ≡ bindings
-  pub status : a.status ≤ 5
+  pub status : error_status_number a.status ≤ 5
   pub index : a.index ≤ length bindings
-  pub success : a.status ≡ 0 → a.index ≡ 0
+  pub success : a.status ≡ NoError → a.index ≡ 0
 
 pub record IsCause (most : ℕ) (cause : SetCause) : Type 0 where
-  pub fails : 0 < cause.status
-  pub status : cause.status ≤ 5
+  pub fails : cause.status ≡ NoError → ⊥
+  pub status : error_status_number cause.status ≤ 5
   pub index : cause.index ≤ most
 
-refused_is : (s : SignState) (bindings : List VarBind) (status index : ℕ) → 0 < status → status ≤ 5 → index ≤ length bindings
+refused_is : (s : SignState) (bindings : List VarBind) (status : ErrorStatus) (index : ℕ) → (status ≡ NoError → ⊥) → error_status_number status ≤ 5 → index ≤ length bindings
     → IsSetAnswer bindings (refused s bindings status index)
-refused_is s bindings status index fails small within = record { echo = refl; status = small; index = within; success = λ none. absurd (omega arith) }
+refused_is s bindings status index fails small within = record { echo = refl; status = small; index = within; success = λ none. absurd (fails none) }
 
 granted_is : (s : SignState) (bindings : List VarBind) → IsSetAnswer bindings (granted s bindings)
 granted_is s bindings = record { echo = refl; status = omega arith; index = omega arith; success = λ none. refl }
@@ -79,11 +83,11 @@ decided_is : (old new : SignState) (bindings : List VarBind) (index : ℕ) (octe
     → IsSetAnswer bindings (as_decided old new bindings index octets r)
 decided_is old new bindings index octets (Ok shown) within = record { echo = refl; status = omega arith; index = omega arith; success = λ none. refl }
 decided_is old new bindings index octets (Err cause) within =
-    record { echo = refl; status = omega arith; index = within; success = λ none. absurd (omega arith) }
+    record { echo = refl; status = omega arith; index = within; success = λ none. absurd (cc) }
 
 asked_is : (old new : SignState) (bindings : List VarBind) (index : ℕ) (o : Option TableModel) → index ≤ length bindings
     → IsSetAnswer bindings (as_asked old new bindings index o)
-asked_is old new bindings index None within = refused_is old bindings general_error index (omega arith) (omega arith) within
+asked_is old new bindings index None within = refused_is old bindings GenErr index (λ none. cc) (omega arith) within
 asked_is old new bindings index (Some table) within = granted_is (record new { table = table }) bindings
 
 commanded_is : (old new : SignState) (bindings : List VarBind) (index : ℕ) (write : Write) → index ≤ length bindings
@@ -116,16 +120,16 @@ both P [] ys front back = back
 both P (x ∷ xs) ys front back = (front.0, both P xs ys front.1 back)
 
 -- tests have statuses of errors
-abbrev IsTest : Bool × ℕ → Type 0
-IsTest test = (0 < test.1) × (test.1 ≤ 5)
+abbrev IsTest : Bool × ErrorStatus → Type 0
+IsTest test = (test.1 ≡ NoError → ⊥) × (error_status_number test.1 ≤ 5)
 
-held_if : (most index : ℕ) (b : Bool) (status : ℕ) (tests : List (Bool × ℕ)) → index ≤ most → 0 < status → status ≤ 5
+held_if : (most index : ℕ) (b : Bool) (status : ErrorStatus) (tests : List (Bool × ErrorStatus)) → index ≤ most → (status ≡ NoError → ⊥) → error_status_number status ≤ 5
     → AllByRecursion (IsCause most) (filter_map (cause_if index) tests)
     → AllByRecursion (IsCause most) (filter_map (cause_if index) ((b, status) ∷ tests))
 held_if most index true status tests within fails small rest = (record { fails = fails; status = small; index = within }, rest)
 held_if most index false status tests within fails small rest = rest
 
-held : (most index : ℕ) (tests : List (Bool × ℕ)) → index ≤ most → AllByRecursion IsTest tests
+held : (most index : ℕ) (tests : List (Bool × ErrorStatus)) → index ≤ most → AllByRecursion IsTest tests
     → AllByRecursion (IsCause most) (filter_map (cause_if index) tests)
 held most index [] within each = tt
 held most index (test ∷ tests) within each = held_if most index test.0 test.1 tests within each.0.0 each.0.1 (held most index tests within each.1)
@@ -134,7 +138,7 @@ are_causes_at : (s : SignState) (writing : Bool) (before : List VarBind) (bindin
     → AllByRecursion (IsCause most) (causes_at s writing before binding)
 are_causes_at s writing before binding most within =
     held most (length before + 1) (tests_at s writing before binding) within
-    ((omega arith, omega arith), ((omega arith, omega arith), ((omega arith, omega arith), ((omega arith, omega arith), ((omega arith, omega arith), tt)))))
+    ((λ none. cc, omega arith), ((λ none. cc, omega arith), ((λ none. cc, omega arith), ((λ none. cc, omega arith), ((λ none. cc, omega arith), tt)))))
 
 are_causes_behind : (s : SignState) (writing : Bool) (before bindings : List VarBind) (most : ℕ) → length before + length bindings ≤ most
     → AllByRecursion (IsCause most) (causes_behind s writing before bindings)
@@ -178,25 +182,25 @@ unfolding reply_to
 reply_if m a fits =
     ap (λ b. cond b (canonical (response_of m a)) (canonical (response_to m too_big 0))) (le-leb (length (canonical (response_of m a))) 1472 fits)
 
-echoes : (m : SnmpMessage) (a : Answer) → a.bindings ≡ m.bindings → response_of m a ≡ response_to m a.status a.index
-echoes m a same = ap (λ bindings. record (response_to m a.status a.index) { bindings = bindings }) same
+echoes : (m : SnmpMessage) (a : Answer) → a.bindings ≡ m.bindings → response_of m a ≡ response_to m (error_status_number a.status) a.index
+echoes m a same = ap (λ bindings. record (response_to m (error_status_number a.status) a.index) { bindings = bindings }) same
 
 not_replaced : (m : SnmpMessage) (datagram : List ℕ) (a : Answer) → Spells m datagram → IsSetAnswer m.bindings a → a.index < 128
-    → reply_to m a ≡ canonical (response_to m a.status a.index)
+    → reply_to m a ≡ canonical (response_to m (error_status_number a.status) a.index)
 not_replaced m datagram a spells is small =
-    let shorter : length (canonical (response_to m a.status a.index)) ≤ length datagram =
-    response_no_longer m datagram a.status a.index spells (omega (arith, is.status)) small in
-    let same : canonical (response_of m a) ≡ canonical (response_to m a.status a.index) = ap canonical (echoes m a is.echo) in
+    let shorter : length (canonical (response_to m (error_status_number a.status) a.index)) ≤ length datagram =
+    response_no_longer m datagram (error_status_number a.status) a.index spells (omega (arith, is.status)) small in
+    let same : canonical (response_of m a) ≡ canonical (response_to m (error_status_number a.status) a.index) = ap canonical (echoes m a is.echo) in
     reply_if m a (omega (arith, spells.size, ap length same)) ∙ same
 
 pub one_binding_fits : (s : SignState) (m : SnmpMessage) (datagram : List ℕ) → message_of datagram ≡ Some m → m.kind ≡ Set → length m.bindings ≡ 1
-    → reply_to m (primary s m) ≡ canonical (response_to m (primary s m).status (primary s m).index)
+    → reply_to m (primary s m) ≡ canonical (response_to m (error_status_number (primary s m).status) (primary s m).index)
 one_binding_fits s m datagram spelled is one =
     let answer : IsSetAnswer m.bindings (primary s m) = is_set_answer s m is in
     not_replaced m datagram (primary s m) ((read_is_spelled datagram m).0 spelled) answer (omega (arith, answer.index))
 
-pub success_fits : (s : SignState) (m : SnmpMessage) (datagram : List ℕ) → message_of datagram ≡ Some m → m.kind ≡ Set → (primary s m).status ≡ 0
-    → reply_to m (primary s m) ≡ canonical (response_to m (primary s m).status (primary s m).index)
+pub success_fits : (s : SignState) (m : SnmpMessage) (datagram : List ℕ) → message_of datagram ≡ Some m → m.kind ≡ Set → (primary s m).status ≡ NoError
+    → reply_to m (primary s m) ≡ canonical (response_to m (error_status_number (primary s m).status) (primary s m).index)
 success_fits s m datagram spelled is done =
     let answer : IsSetAnswer m.bindings (primary s m) = is_set_answer s m is in
     not_replaced m datagram (primary s m) ((read_is_spelled datagram m).0 spelled) answer (omega (arith, answer.success done))

@@ -1,6 +1,7 @@
 -- Codes that put messages up on the bench sign, and what ends them, computed.
 use Rattle.std.proofs.Common.{◌≡◌, ℕ, List, [], ◌∷◌, Some, None, refl}
 use Rattle.std.specs.Prelude.{pos, codes}
+use Rattle.dms_wire.specs.ErrorStatus.{error_status_number}
 use Rattle.dms_wire.specs.declared.message.Kind.TheVariants.{Set}
 use Rattle.dms_wire.specs.Message.{integer, octet_string}
 use Rattle.dms_face.proofs.Bench.{bench}
@@ -142,7 +143,7 @@ stays_at_once = refl
 
 -- the status that a code is answered, and dmsActivateMsgError after it
 abbrev judged : List ℕ → ℕ × ℕ
-judged twelve = ((answer lettered Set (code twelve ∷ [])).status, (after_set lettered (code twelve ∷ [])).reports.activate_error)
+judged twelve = (error_status_number (answer lettered Set (code twelve ∷ [])).status, (after_set lettered (code twelve ∷ [])).reports.activate_error)
 
 -- memory type 6
 no_such_memory : judged (codes "ffffff060001000000000000") ≡ (5, 5)

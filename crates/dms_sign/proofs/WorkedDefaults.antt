@@ -1,6 +1,7 @@
 -- Defaults that are written on the bench sign, computed.
 use Rattle.std.proofs.Common.{◌≡◌, ℕ, List, [], ◌∷◌, Some, refl, map}
 use Rattle.std.specs.Prelude.{pos, codes}
+use Rattle.dms_wire.specs.ErrorStatus.{error_status_number}
 use Rattle.dms_wire.specs.declared.message.Kind.TheVariants.{Set}
 use Rattle.dms_wire.specs.Message.{VarBind, integer}
 use Rattle.dms_codes.specs.declared.status.Status.TheVariants.{Modifying}
@@ -163,7 +164,7 @@ stays_valid = refl
 
 -- the status that a SET of one default is answered
 abbrev statuses : List VarBind → List ℕ
-statuses bindings = map (λ binding. (answer bench_sign Set (binding ∷ [])).status) bindings
+statuses bindings = map (λ binding. error_status_number (answer bench_sign Set (binding ∷ [])).status) bindings
 
 -- out of range, or not a font of the face: badValue
 bad_values : statuses

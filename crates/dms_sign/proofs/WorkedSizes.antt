@@ -2,6 +2,7 @@
 use Rattle.std.proofs.Common.{◌≡◌, ◌∙◌, ℕ, ℤ, zero, suc, ◌+◌, ◌/◌, ◌≤◌, ◌<◌, List, [], ◌∷◌, ◌++◌, Some, refl, ap, ap₂, replicate, length, length-append, arith}
 use Rattle.std.specs.Prelude.{pos, codes}
 use Rattle.std.specs.List.{flat_map}
+use Rattle.dms_wire.specs.declared.error_status.ErrorStatus.TheVariants.{NoSuchName}
 use Rattle.dms_wire.specs.declared.message.Kind.TheVariants.{GetNext}
 use Rattle.dms_wire.specs.Message.{null, VarBind, SnmpMessage}
 use Rattle.dms_wire.specs.Spelling.{tag_of}
@@ -13,7 +14,7 @@ use Rattle.dms_objects.specs.Names.{name_of}
 use Rattle.dms_sign.specs.Objects.{instances}
 use Rattle.dms_sign.specs.State.{SignState}
 use Rattle.dms_sign.specs.Values.{value_at, value_after}
-use Rattle.dms_sign.specs.SetRequest.{too_big}
+use Rattle.dms_sign.specs.Reply.{too_big}
 use Rattle.dms_sign.specs.Requests.{Answer, refused, primary}
 use Rattle.dms_sign.specs.Reply.{response_of, reply_to, on_message}
 use Rattle.dms_sign.proofs.BenchSign.{octets_of, bench_sign, with_changeable_rows, valid_row, datagram}
@@ -121,16 +122,16 @@ unfolding element integer_octets
 request_size = size_of many 12 1437 (numbers_size many 4 1 1 (four_octets 2147483647 (omega arith) (omega arith)) refl refl) many_octets
 
 -- after 2.5 comes nothing: noSuchName, index 205
-nothing_after_the_last : primary bench_sign many ≡ refused bench_sign many_names 2 205
+nothing_after_the_last : primary bench_sign many ≡ refused bench_sign many_names NoSuchName 205
 unfolding instances name_of value_at value_after primary
 nothing_after_the_last = refl
 
 -- this would need 1,473 octets
-refusal_size : length (canonical (response_of many (refused bench_sign many_names 2 205))) ≡ 1473
+refusal_size : length (canonical (response_of many (refused bench_sign many_names NoSuchName 205))) ≡ 1473
 unfolding element integer_octets
 refusal_size =
-    size_of (response_of many (refused bench_sign many_names 2 205)) 13 1437
-    (numbers_size (response_of many (refused bench_sign many_names 2 205)) 4 1 2 (four_octets 2147483647 (omega arith) (omega arith)) refl refl) many_octets
+    size_of (response_of many (refused bench_sign many_names NoSuchName 205)) 13 1437
+    (numbers_size (response_of many (refused bench_sign many_names NoSuchName 205)) 4 1 2 (four_octets 2147483647 (omega arith) (omega arith)) refl refl) many_octets
 
 -- a reply of more octets is replaced
 replaced : (m : SnmpMessage) (answer : Answer) → length (canonical (response_of m answer)) ≡ 1473 → reply_to m answer ≡ canonical (response_to m too_big 0)
@@ -139,7 +140,7 @@ replaced m answer size = rw size refl
 
 -- so it is: tooBig, index 0
 many_names_are_too_big : (on_message bench_sign many).reply ≡ Some (canonical (response_to many too_big 0))
-many_names_are_too_big = ap Some (ap (reply_to many) nothing_after_the_last ∙ replaced many (refused bench_sign many_names 2 205) refusal_size)
+many_names_are_too_big = ap Some (ap (reply_to many) nothing_after_the_last ∙ replaced many (refused bench_sign many_names NoSuchName 205) refusal_size)
 
 -- which has 1,472 octets
 reply_size : length (canonical (response_to many too_big 0)) ≡ 1472

@@ -16,7 +16,7 @@ use Rattle.dms_codes.specs.Limits.{longest_text, longest_owner}
 use Rattle.dms_table.specs.Stock.{has_ranges}
 use Rattle.dms_table.specs.Activation.{ShownModel, shown_row}
 use Rattle.dms_sign.specs.State.{ConfigModel, FallbacksModel, ReportsModel, SignState}
-use Rattle.dms_sign.specs.SetRequest.{too_big}
+use Rattle.dms_sign.specs.Reply.{too_big}
 use Rattle.dms_sign.specs.Requests.{Answer, primary}
 use Rattle.dms_sign.specs.Reply.{response_of, most_octets}
 

@@ -2,20 +2,24 @@
 use Rattle.std.specs.Prelude.{ℕ, ◌&&◌, ◌||◌, Bool, true, false, if◌then◌else◌, List, length, nat_le, Option, Some, None}
 use Rattle.dms_wire.specs.declared.message.Kind.{Kind}
 use Rattle.dms_wire.specs.declared.message.Kind.TheVariants.{Get, GetNext, Response, Set}
+use Rattle.dms_wire.specs.declared.error_status.ErrorStatus.TheVariants.{TooBig}
+use Rattle.dms_wire.specs.ErrorStatus.{error_status_number}
 use Rattle.dms_wire.specs.Message.{SnmpMessage}
 use Rattle.dms_wire.specs.MessageOf.{message_of}
 use Rattle.dms_wire.specs.Canonical.{canonical}
 use Rattle.dms_wire.specs.Response.{response_to}
 use Rattle.dms_codes.specs.declared.codes.Activation.{Activation}
 use Rattle.dms_sign.specs.State.{SignState}
-use Rattle.dms_sign.specs.SetRequest.{too_big}
 use Rattle.dms_sign.specs.Requests.{Answer, is_community, primary}
 
 -- ---- replies
 
 -- the Response that says it
 abbrev pub response_of : SnmpMessage → Answer → SnmpMessage
-response_of m answer = record (response_to m answer.status answer.index) { bindings = answer.bindings }
+response_of m answer = record (response_to m (error_status_number answer.status) answer.index) { bindings = answer.bindings }
+
+abbrev pub too_big : ℕ
+too_big = error_status_number TooBig
 
 abbrev pub most_octets : ℕ
 most_octets = 1472

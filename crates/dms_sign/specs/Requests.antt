@@ -4,6 +4,8 @@ use Rattle.std.specs.List.{position_from}
 use Rattle.std.specs.Cmp.Lexicographic.{pointwise}
 use Rattle.dms_wire.specs.declared.message.Kind.{Kind}
 use Rattle.dms_wire.specs.declared.message.Kind.TheVariants.{Get, GetNext, Response, Set}
+use Rattle.dms_wire.specs.declared.error_status.ErrorStatus.{ErrorStatus}
+use Rattle.dms_wire.specs.declared.error_status.ErrorStatus.TheVariants.{NoError, NoSuchName, GenErr}
 use Rattle.dms_wire.specs.Message.{VarBind, SnmpMessage}
 use Rattle.dms_codes.specs.declared.codes.Activation.{Activation}
 use Rattle.dms_table.specs.declared.activation.Cause.{Cause}
@@ -14,29 +16,29 @@ use Rattle.dms_sign.specs.State.{SignState, end_duration_mode}
 use Rattle.dms_sign.specs.Values.{value_of, value_after}
 use Rattle.dms_sign.specs.OwnCodes.{showing, with_refused_code, put_up_code}
 use Rattle.dms_sign.specs.Access.{Write, SetNumber, SetCode, SetField, AskRow, Activate, SetRemaining, is_command}
-use Rattle.dms_sign.specs.SetRequest.{SetCause, no_error, no_such_name, general_error, is_command_at, write_at, causes, assigned}
+use Rattle.dms_sign.specs.SetRequest.{SetCause, is_command_at, write_at, causes, assigned}
 
 -- what is answered: status, index and bindings; the state after it; and the activation that was accepted
 pub record Answer : Type 0 where
-  pub status : ℕ
+  pub status : ErrorStatus
   pub index : ℕ
   pub bindings : List VarBind
   pub after : SignState
   pub accepted : Option Activation
 
 -- an error repeats the bindings of the request
-abbrev pub refused : SignState → List VarBind → ℕ → ℕ → Answer
+abbrev pub refused : SignState → List VarBind → ErrorStatus → ℕ → Answer
 refused s bindings status index = record { status = status; index = index; bindings = bindings; after = s; accepted = None }
 
 abbrev pub granted : SignState → List VarBind → Answer
-granted s bindings = record { status = no_error; index = 0; bindings = bindings; after = s; accepted = None }
+granted s bindings = record { status = NoError; index = 0; bindings = bindings; after = s; accepted = None }
 
 -- ---- reading (RFC 1157, 4.1.2 and 4.1.3)
 
 -- the bindings that were found, unless one at this index was not
 abbrev pub found_unless : SignState → List VarBind → List VarBind → Option ℕ → Answer
 found_unless s bindings found None = granted s found
-found_unless s bindings found (Some index) = refused s bindings no_such_name index
+found_unless s bindings found (Some index) = refused s bindings NoSuchName index
 
 abbrev pub has_no_value : SignState → VarBind → Bool
 has_no_value s binding = is_none (value_of s binding.name)
@@ -64,16 +66,16 @@ activated s octets shown = record (showing s shown) { reports = record s.reports
 
 abbrev pub as_decided : SignState → SignState → List VarBind → ℕ → List ℕ → Result ShownModel Cause → Answer
 as_decided old new bindings index octets (Ok shown) = record {
-  status = no_error;
+  status = NoError;
   index = 0;
   bindings = bindings;
   after = activated new octets shown;
   accepted = Some (activation_of old.table.order octets);
 }
-as_decided old new bindings index octets (Err cause) = refused (with_refused_code old cause octets) bindings general_error index
+as_decided old new bindings index octets (Err cause) = refused (with_refused_code old cause octets) bindings GenErr index
 
 abbrev pub as_asked : SignState → SignState → List VarBind → ℕ → Option TableModel → Answer
-as_asked old new bindings index None = refused old bindings general_error index
+as_asked old new bindings index None = refused old bindings GenErr index
 as_asked old new bindings index (Some table) = granted (record new { table = table }) bindings
 
 -- Where no time remains the end of the duration has come (NTCIP 1203, dmsMessageTimeRemaining).

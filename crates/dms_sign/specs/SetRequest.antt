@@ -2,6 +2,8 @@
 use Rattle.std.specs.Prelude.{ℕ, ◌+◌, ◌==◌, ◌&&◌, ◌||◌, Bool, false, not, if◌then◌else◌, List, [], ◌∷◌, ◌++◌, length, nat_eq, filter_map, Option, Some, None, is_none, option_map, option_and_then, unwrap_or}
 use Rattle.std.specs.List.{list_any}
 use Rattle.std.specs.Cmp.Lexicographic.{pointwise}
+use Rattle.dms_wire.specs.declared.error_status.ErrorStatus.{ErrorStatus}
+use Rattle.dms_wire.specs.declared.error_status.ErrorStatus.TheVariants.{NoSuchName, BadValue, GenErr}
 use Rattle.dms_wire.specs.Message.{VarBind}
 use Rattle.dms_codes.specs.Status.{is_modifying}
 use Rattle.dms_table.specs.Rows.{TableModel, RowReading, row_read, written}
@@ -12,23 +14,6 @@ use Rattle.dms_objects.specs.Names.{scalar_number}
 use Rattle.dms_sign.specs.Objects.{instance_named}
 use Rattle.dms_sign.specs.State.{SignState}
 use Rattle.dms_sign.specs.Access.{Write, SetNumber, SetCode, SetField, is_command, is_settable, write_of}
-
--- ---- error statuses (RFC 1157, 4.1.1)
-
-abbrev pub no_error : ℕ
-no_error = 0
-
-abbrev pub too_big : ℕ
-too_big = 1
-
-abbrev pub no_such_name : ℕ
-no_such_name = 2
-
-abbrev pub bad_value : ℕ
-bad_value = 3
-
-abbrev pub general_error : ℕ
-general_error = 5
 
 -- ---- what keeps a SET from writing
 
@@ -62,20 +47,20 @@ is_refused_field table _ = false
 -- why a SET is refused: the index of a binding, from 1, and an error status
 pub record SetCause : Type 0 where
   pub index : ℕ
-  pub status : ℕ
+  pub status : ErrorStatus
 
 -- What is wrong with a binding behind others, in order (this profile): the name is not there or not to be set, for the community that
 -- reads none is; the value; the name was given before; a second command; a field of a row that is not being modified.
-abbrev pub tests_at : SignState → Bool → List VarBind → VarBind → List (Bool × ℕ)
+abbrev pub tests_at : SignState → Bool → List VarBind → VarBind → List (Bool × ErrorStatus)
 tests_at s may_write before binding =
-    (not may_write || is_none (settable_instance s binding.name), no_such_name)
-    ∷ (is_none (write_at s binding), bad_value)
-    ∷ (is_among binding.name before, general_error)
-    ∷ (is_command_at s binding && list_any (is_command_at s) before, general_error)
-    ∷ (unwrap_or (option_map (is_refused_field s.table) (write_at s binding)) false, general_error)
+    (not may_write || is_none (settable_instance s binding.name), NoSuchName)
+    ∷ (is_none (write_at s binding), BadValue)
+    ∷ (is_among binding.name before, GenErr)
+    ∷ (is_command_at s binding && list_any (is_command_at s) before, GenErr)
+    ∷ (unwrap_or (option_map (is_refused_field s.table) (write_at s binding)) false, GenErr)
     ∷ []
 
-abbrev pub cause_if : ℕ → Bool × ℕ → Option SetCause
+abbrev pub cause_if : ℕ → Bool × ErrorStatus → Option SetCause
 cause_if index test = if test.0 then Some (record { index = index; status = test.1 }) else None
 
 abbrev pub causes_at : SignState → Bool → List VarBind → VarBind → List SetCause

@@ -2,6 +2,8 @@
 
 ghost use Rattle.std.specs.Prelude.{◌≡◌, ◌↔◌, ℕ, List, [], ◌∷◌, length, Some, IsSome};
 ghost use Rattle.dms_wire.specs.declared.message.Kind.TheVariants.{Set};
+ghost use Rattle.dms_wire.specs.declared.error_status.ErrorStatus.TheVariants.{NoError};
+ghost use Rattle.dms_wire.specs.ErrorStatus.{error_status_number};
 ghost use Rattle.dms_wire.specs.Message.{SnmpMessage};
 ghost use Rattle.dms_wire.specs.MessageOf.{message_of};
 ghost use Rattle.dms_wire.specs.Canonical.{canonical};
@@ -50,22 +52,22 @@ pub fn replies_name_their_request()
 /// binding.
 pub fn one_binding_set_is_never_too_big()
     ensures { (s : SignState) (m : SnmpMessage) (datagram : List ℕ) → message_of datagram ≡ Some m → m.kind ≡ Set → length m.bindings ≡ 1
-        → reply_to m (primary s m) ≡ canonical (response_to m (primary s m).status (primary s m).index) }
+        → reply_to m (primary s m) ≡ canonical (response_to m (error_status_number (primary s m).status) (primary s m).index) }
 {}
 
 /// Nor is a SET that succeeds.
 pub fn no_success_is_replaced()
-    ensures { (s : SignState) (m : SnmpMessage) (datagram : List ℕ) → message_of datagram ≡ Some m → m.kind ≡ Set → (primary s m).status ≡ 0
-        → reply_to m (primary s m) ≡ canonical (response_to m (primary s m).status (primary s m).index) }
+    ensures { (s : SignState) (m : SnmpMessage) (datagram : List ℕ) → message_of datagram ≡ Some m → m.kind ≡ Set → (primary s m).status ≡ NoError
+        → reply_to m (primary s m) ≡ canonical (response_to m (error_status_number (primary s m).status) (primary s m).index) }
 {}
 
 /// A SET of dmsActivateMessage alone is answered by no error where its activation was accepted, and there alone; and an activation is
 /// accepted where a binding of a SET asks for it, and no error is answered.
 pub fn accepted_where_no_error()
     ensures one { (s : SignState) (m : SnmpMessage) (octets : List ℕ) → m.kind ≡ Set → m.bindings ≡ activates octets ∷ []
-        → ((primary s m).status ≡ 0) ↔ ((primary s m).accepted ≡ Some (activation_of s.table.order octets)) }
+        → ((primary s m).status ≡ NoError) ↔ ((primary s m).accepted ≡ Some (activation_of s.table.order octets)) }
     ensures only { (s : SignState) (m : SnmpMessage) (activation : Activation) → (primary s m).accepted ≡ Some activation
-        → ((primary s m).status ≡ 0) × AsksFor s m activation }
+        → ((primary s m).status ≡ NoError) × AsksFor s m activation }
 {}
 
 /// At most one row is being validated: as the sign is made, and after whatever comes.

@@ -14,7 +14,7 @@ ghost use Rattle.dms_objects.specs.Names.{name_of};
 ghost use Rattle.dms_sign.specs.Objects.{IsInstance};
 ghost use Rattle.dms_sign.specs.State.{ConfigModel, SignState, start};
 ghost use Rattle.dms_sign.specs.Values.{value_at, value_of, value_after};
-ghost use Rattle.dms_sign.specs.SetRequest.{too_big};
+ghost use Rattle.dms_sign.specs.Reply.{too_big};
 ghost use Rattle.dms_sign.specs.Requests.{primary};
 ghost use Rattle.dms_sign.specs.Reply.{response_of, on_message, received};
 ghost use Rattle.dms_sign.specs.Events.{after_tick, after_power_loss, after_power_return};
