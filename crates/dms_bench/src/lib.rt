@@ -7,7 +7,8 @@ ghost use Rattle.dms_wire.specs.Message.{SnmpMessage};
 ghost use Rattle.dms_wire.specs.Spelling.{Spells};
 
 use dms_codes::crc;
-use dms_face::{Cell, Defaults, Face, Font, Page, check, pages};
+use dms_face::{Cell, Defaults, Face, Font, check};
+use dms_pages::{Page, pages};
 use dms_text::Lines;
 use dms_wire::{Bind, MessageParts, Oid, Out, Value, read, write};
 use std::alloc::Global;

@@ -8,7 +8,3 @@ pub mod WalkLaws
 pub mod GoodLaws
 pub mod WalkState
 pub mod ReadingLaws
-pub mod DrawingLaws
-pub mod PlacingLaws
-pub mod DrawnLaws
-pub mod LayingLaws

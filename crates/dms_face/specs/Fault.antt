@@ -1,4 +1,4 @@
--- The numbers of faults.
+-- The numbers of a face's faults (this profile).
 use Rattle.std.specs.Prelude.{ℕ}
 use Rattle.dms_face.specs.declared.fault.FaceFault.{FaceFault}
 use Rattle.dms_face.specs.declared.fault.FaceFault.TheVariants.{Size, Fonts, Default}

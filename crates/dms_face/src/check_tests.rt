@@ -1,8 +1,6 @@
 //! Texts by their answers on a sign of 23 by 14 with two fonts, and a long text on the largest matrix.
 
-use crate::{
-    Defaults, Face, Font, MultiFault, MultiFaultCode, Page, PagesFault, check, check_with, pages,
-};
+use crate::{Defaults, Face, Font, MultiFault, MultiFaultCode, check, check_with};
 use std::alloc::{AllocError, Global};
 use std::test::Fail;
 
@@ -216,15 +214,6 @@ fn long_text(alloc: Global, more: usize) -> Result<Vec<u8>, AllocError> {
     Ok(text)
 }
 
-/// The number of pages made, or the code's number and the place; nothing where memory is wanting.
-fn made(given: Result<Vec<Page>, PagesFault>) -> Option<Result<usize, (u8, usize)>> {
-    match given {
-        Ok(pages) => Some(Ok(pages.len())),
-        Err(PagesFault::Multi(fault)) => Some(answer(Err(fault))),
-        Err(PagesFault::Memory) => None,
-    }
-}
-
 #[test]
 fn long_texts(rt: HostRuntime) -> Result<(), Fail> {
     let alloc = rt.alloc();
@@ -237,7 +226,6 @@ fn long_texts(rt: HostRuntime) -> Result<(), Fail> {
         let text = long_text(alloc, more)?;
         assert_eq!(rt; text.len(), octets);
         assert_eq!(rt; answer(check(&face, text.as_slice())), expected);
-        assert_eq!(rt; made(pages(alloc, &face, text.as_slice())), Some(expected));
     }
     Ok(())
 }

@@ -49,16 +49,10 @@ fn walk(face: &Face, defaults: &Defaults, spots: Spots<'_>, end: usize) -> Resul
 {
     let mut totals = Totals::new(face, defaults);
     for outcome in spots {
-        match outcome {
-            Ok(spot) => {
-                if let Some(code) = totals.take(face, defaults, spot.item) {
-                    return Err(MultiFault {
-                        code,
-                        place: spot.first,
-                    });
-                }
-            }
-            Err(fault) => return Err(MultiFault::of_syntax(fault)),
+        let spot = outcome?;
+        if let Some(code) = totals.take(face, defaults, spot.item) {
+            let place = spot.first;
+            return Err(MultiFault { code, place });
         }
     }
     match totals.end_fault(face) {

@@ -64,7 +64,7 @@ impl Face {
     pub(crate) fn limits(&self)
         ensures { IsFace self.now }
     {
-        let _ = &self.width;
+        let _ = &self.fonts;
     }
 
     /// The columns of the matrix, 1 to 256.

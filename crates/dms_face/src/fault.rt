@@ -27,6 +27,11 @@ impl FaceFault {
 }
 
 impl fmt::Display for FaceFault {
+    ghost use Rattle.std.specs.Prelude.{Some};
+    ghost use Rattle.dms_face.specs.FaultTexts.{face_fault_text};
+
+    ghost output = { λ fault. Some (face_fault_text fault) };
+
     fn fmt<W: fmt::Write>(&self, f: &mut fmt::Formatter<W>) -> fmt::Result {
         let text = match self {
             FaceFault::Size => "no size of a matrix",

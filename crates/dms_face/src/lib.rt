@@ -1,4 +1,4 @@
-//! The face of a sign: what it is made with, the layout of a text on it, and its pages.
+//! The face of a sign: what it is made with, where the characters of a text stand on it, and whether it can show the text.
 #![tactic(auto)]
 
 pub mod cell;
@@ -6,19 +6,13 @@ pub mod cell;
 mod check_tests;
 pub mod checking;
 pub mod defaults;
-mod drawing;
 pub mod face;
 pub mod fault;
 pub mod laws;
 pub mod multi_fault;
-pub mod page;
-#[cfg(test)]
-mod page_tests;
-mod room;
+pub mod room;
 #[cfg(test)]
 mod tests;
-mod text_layout;
-pub mod text_pages;
 mod totals;
 
 pub use cell::{Cell, Flash};
@@ -28,5 +22,3 @@ pub use dms_font::{Font, FontFault, FontFaultKind, Glyph};
 pub use face::Face;
 pub use fault::FaceFault;
 pub use multi_fault::{MultiFault, MultiFaultCode};
-pub use page::Page;
-pub use text_pages::{PagesFault, pages, pages_with};

@@ -53,6 +53,11 @@ impl MultiFaultCode {
 }
 
 impl fmt::Display for MultiFaultCode {
+    ghost use Rattle.std.specs.Prelude.{Some};
+    ghost use Rattle.dms_face.specs.FaultTexts.{code_text};
+
+    ghost output = { λ code. Some (code_text code) };
+
     fn fmt<W: fmt::Write>(&self, f: &mut fmt::Formatter<W>) -> fmt::Result {
         let text = match self {
             MultiFaultCode::Other => "other fault",
@@ -70,14 +75,21 @@ impl fmt::Display for MultiFaultCode {
     }
 }
 
-/// Why a text can not be shown, and the offset in octets, from 0, of what is wrong: the text's length where its end is.
+/// Why a text can not be shown, and where: dmsMultiSyntaxError and dmsMultiSyntaxErrorPosition.
 #[derive(Clone, Copy, Debug, PartialEq, Eq)]
 pub struct MultiFault {
+    /// What is wrong.
     pub code: MultiFaultCode,
+    /// The offset in octets, from 0, of what is wrong: the text's length where its end is.
     pub place: usize,
 }
 
 impl fmt::Display for MultiFault {
+    ghost use Rattle.std.specs.Prelude.{Some};
+    ghost use Rattle.dms_face.specs.FaultTexts.{multi_fault_text};
+
+    ghost output = { λ fault. Some (multi_fault_text fault) };
+
     fn fmt<W: fmt::Write>(&self, f: &mut fmt::Formatter<W>) -> fmt::Result {
         write!(f, "{} at octet {}", self.code, self.place)
     }
@@ -97,11 +109,10 @@ fn code_of_syntax(code: FaultCode) -> MultiFaultCode
     }
 }
 
-impl MultiFault {
-    /// The same fault, where the grammar of the text is broken.
-    pub(crate) fn of_syntax(fault: SyntaxFault) -> MultiFault
-        ensures { result ≡ syntax_fault fault }
-    {
+impl From<SyntaxFault> for MultiFault {
+    ghost from_gives = { λ fault made. made ≡ syntax_fault fault };
+
+    fn from(fault: SyntaxFault) -> MultiFault {
         MultiFault {
             code: code_of_syntax(fault.code),
             place: fault.place,

@@ -7,7 +7,7 @@ ghost use Rattle.dms_face.specs.Totals.{Sums, TellsBlocks, AreWithin};
 /// What a character is to its line, and a line to its page: its place, 2 to 4, its size, its spacing, and the gap that a
 /// tag gives before it.
 #[derive(Clone, Copy)]
-pub(crate) struct Block {
+pub struct Block {
     pub place: u8,
     pub size: u8,
     pub spacing: u8,
@@ -16,7 +16,7 @@ pub(crate) struct Block {
 
 /// Blocks in a row: whether there are any, how much room they take, and the spacing of the last.
 #[derive(Clone, Copy)]
-pub(crate) struct Run {
+pub struct Run {
     pub any: bool,
     pub size: u32,
     pub spacing: u8,
@@ -30,14 +30,14 @@ fn average(a: u8, b: u8) -> u8
 }
 
 impl Run {
-    pub(crate) const EMPTY: Run = Run {
+    pub const EMPTY: Run = Run {
         any: false,
         size: 0,
         spacing: 0,
     };
 
     /// The row with one more block at its end.
-    pub(crate) fn with(self, block: Block) -> Run
+    pub fn with(self, block: Block) -> Run
         requires { self.size ≤ 256 }
         ensures sums { (blocks : List Block) → Sums self blocks → Sums result (blocks ++ block ∷ []) }
         ensures within { result.size ≤ 766 }

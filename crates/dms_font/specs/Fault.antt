@@ -1,4 +1,4 @@
--- The numbers of faults.
+-- The numbers of the faults of a font's text (this profile).
 use Rattle.std.specs.Prelude.{ℕ}
 use Rattle.dms_font.specs.declared.fault.FontFaultKind.{FontFaultKind}
 use Rattle.dms_font.specs.declared.fault.FontFaultKind.TheVariants.{Header, Glyph, Bitmap, Twice, TooMany, Memory}

@@ -33,6 +33,11 @@ impl FontFaultKind {
 }
 
 impl fmt::Display for FontFaultKind {
+    ghost use Rattle.std.specs.Prelude.{Some};
+    ghost use Rattle.dms_font.specs.FaultTexts.{kind_text};
+
+    ghost output = { λ kind. Some (kind_text kind) };
+
     fn fmt<W: fmt::Write>(&self, f: &mut fmt::Formatter<W>) -> fmt::Result {
         let text = match self {
             FontFaultKind::Header => "no header of a font",
@@ -46,14 +51,21 @@ impl fmt::Display for FontFaultKind {
     }
 }
 
-/// The fault of a font's text, and the number of its line, from 1: 0 where memory is wanting.
+/// The fault of a font's text, and its line.
 #[derive(Clone, Copy, Debug, PartialEq, Eq)]
 pub struct FontFault {
+    /// The rule that is broken.
     pub kind: FontFaultKind,
+    /// The number of its line, from 1: 0 where there is no memory.
     pub line: usize,
 }
 
 impl fmt::Display for FontFault {
+    ghost use Rattle.std.specs.Prelude.{Some};
+    ghost use Rattle.dms_font.specs.FaultTexts.{font_fault_text};
+
+    ghost output = { λ fault. Some (font_fault_text fault) };
+
     fn fmt<W: fmt::Write>(&self, f: &mut fmt::Formatter<W>) -> fmt::Result {
         write!(f, "{} at line {}", self.kind, self.line)
     }

@@ -12,7 +12,7 @@ use Rattle.dms_multi.specs.declared.fault.FaultCode.TheVariants.{UnsupportedTagV
 
 -- ---- patterns of text
 
--- the one and behind it the other
+-- the one and after it the other
 infixr 5 ◌⨾◌
 pub record ◌⨾◌ (First Second : List ℕ → Type 0) (text : List ℕ) : Type 0 where
   pub front : List ℕ
@@ -49,21 +49,21 @@ abbrev pub Value : ℕ → ℕ → Option ℕ → List ℕ → Type 0
 Value low high None = Nothing
 Value low high (Some n) = SpellsDecimal low high n
 
--- a time behind a letter, or neither
+-- a time after a letter, or neither
 abbrev pub LaterTime : List ℕ → ℕ → Option ℕ → List ℕ → Type 0
 LaterTime letter high time text = (Word letter ⨾ Value 0 high time) text ⊎ ((time ≡ None) × Nothing text)
 
--- a time, and perhaps another behind a letter
+-- a time, and perhaps another after a letter
 abbrev pub Times : List ℕ → ℕ → Option ℕ → Option ℕ → List ℕ → Type 0
 Times letter high first second = Value 0 high first ⨾ LaterTime letter high second
 
--- a font's number, and perhaps behind a comma the four hexadecimal digits of its version
+-- a font's number, and perhaps after a comma the four hexadecimal digits of its version
 abbrev pub FontValue : Option (ℕ × Option ℕ) → List ℕ → Type 0
 FontValue None = Nothing
 FontValue (Some (n, None)) = SpellsDecimal 1 255 n
 FontValue (Some (n, Some version)) = SpellsDecimal 1 255 n ⨾ (Exactly (codes ",") ⨾ SpellsVersion version)
 
--- a flash: no times, or two of which that behind `t` is the lit and that behind `o` the dark one
+-- a flash: no times, or two of which that after `t` is the lit and that after `o` the dark one
 abbrev pub FlashTimes : Lead → Option ℕ → Option ℕ → List ℕ → Type 0
 FlashTimes Lit lit dark text = ((lit ≡ None) × (dark ≡ None) × Nothing text) ⊎ (Word (codes "t") ⨾ Times (codes "o") 99 lit dark) text
 FlashTimes Dark lit dark text = (Word (codes "o") ⨾ Times (codes "t") 99 dark lit) text
@@ -99,7 +99,7 @@ IsPlain _ = λ text. ⊥
 abbrev pub ItemSpells : Item → List ℕ → Type 0
 ItemSpells item = IsPlain item or (Exactly (codes "[") ⨾ (TagBody item ⨾ Exactly (codes "]")))
 
--- the spellings of the items, one behind the other
+-- the spellings of the items, one after the other
 abbrev pub TextSpells : List Item → List ℕ → Type 0
 TextSpells [] text = Nothing text
 TextSpells (item ∷ items) text = (ItemSpells item ⨾ TextSpells items) text
@@ -112,7 +112,7 @@ pub record IsSpot (offset : ℕ) (spot : Spot) (text : List ℕ) : Type 0 where
   pub first : spot.first ≡ offset
   pub past : spot.past ≡ offset + length text
 
--- the spellings of the spots' items, one behind the other from the offset on
+-- the spellings of the spots' items, one after the other from the offset on
 abbrev pub SpotsSpell : ℕ → List Spot → List ℕ → Type 0
 SpotsSpell offset [] text = Nothing text
 SpotsSpell offset (spot ∷ spots) text = (IsSpot offset spot ⨾ SpotsSpell spot.past spots) text
@@ -127,7 +127,7 @@ Name =
 abbrev pub BeginsWithNamedTag : List ℕ → Type 0
 BeginsWithNamedTag = Exactly (codes "[") ⨾ (Name ⨾ (Anything ⨾ (Exactly (codes "]") ⨾ Anything)))
 
--- The fault of a text that spells no items stands behind its longest front that spells some.
+-- The fault of a text that spells no items stands after its longest prefix that spells some.
 pub record IsSyntaxFault (text : List ℕ) (fault : SyntaxFault) : Type 0 where
   pub none : (items : List Item) → TextSpells items text → ⊥
   pub within : fault.place ≤ length text

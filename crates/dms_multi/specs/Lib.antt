@@ -1,8 +1,13 @@
+-- what a reader must believe: the items of MULTI, their ranges, which octets spell them, and their canonical text
+pub mod Item
+pub mod Range
+pub mod Grammar
 pub mod Canonical
 pub mod Fault
-pub mod Grammar
-pub mod Item
+pub mod FaultTexts
+-- reading from the front, as the code reads; the laws of `laws` join it to the grammar
 pub mod Outcomes
-pub mod Range
 pub mod Reading
 pub mod TagReading
+-- what only proofs go through
+pub mod Appending

@@ -28,6 +28,11 @@ impl FaultCode {
 }
 
 impl fmt::Display for FaultCode {
+    ghost use Rattle.std.specs.Prelude.{Some};
+    ghost use Rattle.dms_multi.specs.FaultTexts.{code_text};
+
+    ghost output = { λ code. Some (code_text code) };
+
     fn fmt<W: fmt::Write>(&self, f: &mut fmt::Formatter<W>) -> fmt::Result {
         let text = match self {
             FaultCode::UnsupportedTag => "unsupported tag",
@@ -37,14 +42,21 @@ impl fmt::Display for FaultCode {
     }
 }
 
-/// The fault of a text, and the offset in octets, from 0, at which it stands.
+/// The fault of a text, and where it stands.
 #[derive(Clone, Copy, Debug, PartialEq, Eq)]
 pub struct SyntaxFault {
+    /// The rule that is broken.
     pub code: FaultCode,
+    /// The offset in octets, from 0, at which the longest prefix that spells items ends.
     pub place: usize,
 }
 
 impl fmt::Display for SyntaxFault {
+    ghost use Rattle.std.specs.Prelude.{Some};
+    ghost use Rattle.dms_multi.specs.FaultTexts.{syntax_fault_text};
+
+    ghost output = { λ fault. Some (syntax_fault_text fault) };
+
     fn fmt<W: fmt::Write>(&self, f: &mut fmt::Formatter<W>) -> fmt::Result {
         write!(f, "{} at octet {}", self.code, self.place)
     }
@@ -57,6 +69,11 @@ impl Error for SyntaxFault {}
 pub struct TooLong;
 
 impl fmt::Display for TooLong {
+    ghost use Rattle.std.specs.Prelude.{Some};
+    ghost use Rattle.dms_multi.specs.FaultTexts.{too_long_text};
+
+    ghost output = { λ _. Some too_long_text };
+
     fn fmt<W: fmt::Write>(&self, f: &mut fmt::Formatter<W>) -> fmt::Result {
         f.write_str("text over 512 octets")
     }

@@ -4,7 +4,9 @@ ghost use Rattle.std.specs.Prelude.{IsTrue, ◌↔◌};
 /// Which of its two times a flash begins with.
 #[derive(Clone, Copy, Debug, PartialEq, Eq)]
 pub enum Lead {
+    /// With the time for which characters are lit: `[flt..o..]`.
     Lit,
+    /// With the time for which they are dark: `[flo..t..]`.
     Dark,
 }
 
@@ -21,8 +23,11 @@ pub enum Item {
     Font(Option<(u8, Option<u16>)>),
     /// The characters from here on flash; the times are 0 to 99 tenths of a second.
     FlashOn {
+        /// The time that comes first.
         first: Lead,
+        /// How long the characters are lit.
         lit: Option<u8>,
+        /// How long they are dark.
         dark: Option<u8>,
     },
     /// The characters from here on do not flash.
@@ -37,7 +42,9 @@ pub enum Item {
     NewPage,
     /// How long the page is shown, and how long it is blank, in tenths of a second.
     PageTime {
+        /// How long the page is shown, 0 to 255 tenths.
         lit: Option<u8>,
+        /// How long it is blank, 0 to 255 tenths.
         dark: Option<u8>,
     },
 }

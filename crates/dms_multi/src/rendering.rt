@@ -3,6 +3,7 @@ ghost use Rattle.std.specs.Prelude.{◌≡◌, ◌↔◌, ℕ, ◌+◌, ◌<◌,
 ghost use Rattle.std.specs.Fmt.{digits, digit_glyph};
 ghost use Rattle.dms_multi.specs.Item.{IsInRange};
 ghost use Rattle.dms_multi.specs.Grammar.{plain};
+ghost use Rattle.dms_multi.specs.Appending.{AppendsOrRefuses};
 ghost use Rattle.dms_multi.specs.Canonical.{value_text, later_time_text, hexadecimal_text, leading_zeros, font_text, flash_text, body_text, tag_text, item_text, text_of};
 
 use crate::fault::TooLong;
@@ -15,22 +16,15 @@ type Text = ArrayVec<u8, 512>;
 /// Appends the octets.
 fn put(text: &mut Text, octets: &[u8]) -> Result<(), TooLong>
     requires { length text.old.items ≤ 512 }
-    ensures ok { OnOk result (text.new.items ≡ text.old.items ++ octets.now) }
-    ensures err { OnErr result (512 < length text.old.items + length octets.now) }
-    ensures room { OnOk result (length text.new.items ≤ 512) }
+    ensures { AppendsOrRefuses result text.old.items text.new.items octets.now }
 {
-    match text.try_extend_from_slice(octets) {
-        Ok(()) => Ok(()),
-        Err(_) => Err(TooLong),
-    }
+    text.try_extend_from_slice(octets).map_err(|_| TooLong)
 }
 
 /// Appends a number in decimal digits.
 fn put_number(text: &mut Text, number: u8) -> Result<(), TooLong>
     requires { length text.old.items ≤ 512 }
-    ensures ok { OnOk result (text.new.items ≡ text.old.items ++ decimal number) }
-    ensures err { OnErr result (512 < length text.old.items + length (decimal number)) }
-    ensures room { OnOk result (length text.new.items ≤ 512) }
+    ensures { AppendsOrRefuses result text.old.items text.new.items (decimal number) }
 {
     put(text, Buffer::new().format(number).as_bytes())
 }
@@ -38,9 +32,7 @@ fn put_number(text: &mut Text, number: u8) -> Result<(), TooLong>
 /// Appends a value, if it is there.
 fn put_value(text: &mut Text, value: Option<u8>) -> Result<(), TooLong>
     requires { length text.old.items ≤ 512 }
-    ensures ok { OnOk result (text.new.items ≡ text.old.items ++ value_text value) }
-    ensures err { OnErr result (512 < length text.old.items + length (value_text value)) }
-    ensures room { OnOk result (length text.new.items ≤ 512) }
+    ensures { AppendsOrRefuses result text.old.items text.new.items (value_text value) }
 {
     match value {
         Some(number) => put_number(text, number),
@@ -51,9 +43,7 @@ fn put_value(text: &mut Text, value: Option<u8>) -> Result<(), TooLong>
 /// Appends a letter and the time behind it, if there is one.
 fn put_later_time(text: &mut Text, letter: &[u8], time: Option<u8>) -> Result<(), TooLong>
     requires { length text.old.items ≤ 512 }
-    ensures ok { OnOk result (text.new.items ≡ text.old.items ++ later_time_text letter.now time) }
-    ensures err { OnErr result (512 < length text.old.items + length (later_time_text letter.now time)) }
-    ensures room { OnOk result (length text.new.items ≤ 512) }
+    ensures { AppendsOrRefuses result text.old.items text.new.items (later_time_text letter.now time) }
 {
     match time {
         Some(number) => {
@@ -94,9 +84,7 @@ fn four_digits(number: u16, upper: bool) -> [u8; 4]
 /// Appends a font's number and version.
 fn put_font(text: &mut Text, font: Option<(u8, Option<u16>)>) -> Result<(), TooLong>
     requires { length text.old.items ≤ 512 }
-    ensures ok { OnOk result (text.new.items ≡ text.old.items ++ font_text font) }
-    ensures err { OnErr result (512 < length text.old.items + length (font_text font)) }
-    ensures room { OnOk result (length text.new.items ≤ 512) }
+    ensures { AppendsOrRefuses result text.old.items text.new.items (font_text font) }
 {
     match font {
         Some((number, Some(version))) => {
@@ -117,9 +105,7 @@ fn put_times(
     second: Option<u8>,
 ) -> Result<(), TooLong>
     requires { length text.old.items ≤ 512 }
-    ensures ok { OnOk result (text.new.items ≡ text.old.items ++ (value_text first ++ later_time_text letter.now second)) }
-    ensures err { OnErr result (512 < length text.old.items + length (value_text first ++ later_time_text letter.now second)) }
-    ensures room { OnOk result (length text.new.items ≤ 512) }
+    ensures { AppendsOrRefuses result text.old.items text.new.items (value_text first ++ later_time_text letter.now second) }
 {
     put_value(text, first)?;
     put_later_time(text, letter, second)
@@ -128,9 +114,7 @@ fn put_times(
 /// Appends the times of a flash.
 fn put_flash(text: &mut Text, first: Lead, lit: Option<u8>, dark: Option<u8>) -> Result<(), TooLong>
     requires { length text.old.items ≤ 512 }
-    ensures ok { OnOk result (text.new.items ≡ text.old.items ++ flash_text first lit dark) }
-    ensures err { OnErr result (512 < length text.old.items + length (flash_text first lit dark)) }
-    ensures room { OnOk result (length text.new.items ≤ 512) }
+    ensures { AppendsOrRefuses result text.old.items text.new.items (flash_text first lit dark) }
 {
     match first {
         Lead::Lit => {
@@ -166,9 +150,7 @@ fn leading_zeros(number: u16) -> usize
 #[tactic(auto, using(crate::proofs::Digits::digits_dropped))]
 fn put_character(text: &mut Text, character: u16) -> Result<(), TooLong>
     requires { length text.old.items ≤ 512 }
-    ensures ok { OnOk result (text.new.items ≡ text.old.items ++ digits 16 true character) }
-    ensures err { OnErr result (512 < length text.old.items + length (digits 16 true character)) }
-    ensures room { OnOk result (length text.new.items ≤ 512) }
+    ensures { AppendsOrRefuses result text.old.items text.new.items (digits 16 true character) }
 {
     put(
         text,
@@ -179,9 +161,7 @@ fn put_character(text: &mut Text, character: u16) -> Result<(), TooLong>
 /// Appends a tag's name and its value, if it is there.
 fn put_named(text: &mut Text, name: &[u8], value: Option<u8>) -> Result<(), TooLong>
     requires { length text.old.items ≤ 512 }
-    ensures ok { OnOk result (text.new.items ≡ text.old.items ++ (name.now ++ value_text value)) }
-    ensures err { OnErr result (512 < length text.old.items + length (name.now ++ value_text value)) }
-    ensures room { OnOk result (length text.new.items ≤ 512) }
+    ensures { AppendsOrRefuses result text.old.items text.new.items (name.now ++ value_text value) }
 {
     put(text, name)?;
     put_value(text, value)
@@ -190,9 +170,7 @@ fn put_named(text: &mut Text, name: &[u8], value: Option<u8>) -> Result<(), TooL
 /// Appends what stands between the brackets of the item's tag.
 fn put_body(text: &mut Text, item: Item) -> Result<(), TooLong>
     requires { length text.old.items ≤ 512 }
-    ensures ok { OnOk result (text.new.items ≡ text.old.items ++ body_text item) }
-    ensures err { OnErr result (512 < length text.old.items + length (body_text item)) }
-    ensures room { OnOk result (length text.new.items ≤ 512) }
+    ensures { AppendsOrRefuses result text.old.items text.new.items (body_text item) }
 {
     match item {
         Item::Char(character) => {
@@ -224,9 +202,7 @@ fn put_body(text: &mut Text, item: Item) -> Result<(), TooLong>
 /// Appends the item's tag.
 fn put_tag(text: &mut Text, item: Item) -> Result<(), TooLong>
     requires { length text.old.items ≤ 512 }
-    ensures ok { OnOk result (text.new.items ≡ text.old.items ++ tag_text item) }
-    ensures err { OnErr result (512 < length text.old.items + length (tag_text item)) }
-    ensures room { OnOk result (length text.new.items ≤ 512) }
+    ensures { AppendsOrRefuses result text.old.items text.new.items (tag_text item) }
 {
     put(text, b"[")?;
     put_body(text, item)?;
@@ -236,9 +212,7 @@ fn put_tag(text: &mut Text, item: Item) -> Result<(), TooLong>
 /// Appends a character as itself, a bracket twice.
 fn put_plain(text: &mut Text, octet: u8) -> Result<(), TooLong>
     requires { length text.old.items ≤ 512 }
-    ensures ok { OnOk result (text.new.items ≡ text.old.items ++ plain octet) }
-    ensures err { OnErr result (512 < length text.old.items + length (plain octet)) }
-    ensures room { OnOk result (length text.new.items ≤ 512) }
+    ensures { AppendsOrRefuses result text.old.items text.new.items (plain octet) }
 {
     if octet == b'[' || octet == b']' {
         put(text, &[octet, octet])
@@ -251,9 +225,7 @@ fn put_plain(text: &mut Text, octet: u8) -> Result<(), TooLong>
 #[tactic(auto, unfolding(crate::specs::Canonical::item_text))]
 fn put_item(text: &mut Text, item: Item) -> Result<(), TooLong>
     requires { length text.old.items ≤ 512 }
-    ensures ok { OnOk result (text.new.items ≡ text.old.items ++ item_text item) }
-    ensures err { OnErr result (512 < length text.old.items + length (item_text item)) }
-    ensures room { OnOk result (length text.new.items ≤ 512) }
+    ensures { AppendsOrRefuses result text.old.items text.new.items (item_text item) }
 {
     match item {
         Item::Char(character) if character < 256 => put_plain(text, character as u8),

@@ -11,11 +11,14 @@ use crate::tag::body_item;
 use crate::value::cut;
 use std::marker::Model;
 
-/// An item, and the octets of the text that spell it: from `first` up to, but not with, `past`.
+/// An item, and the octets of the text that spell it.
 #[derive(Clone, Copy, Debug, PartialEq, Eq)]
 pub struct Spot {
+    /// The item.
     pub item: Item,
+    /// The offset in octets, from 0, of its first octet.
     pub first: usize,
+    /// The offset after its last octet.
     pub past: usize,
 }
 
@@ -44,16 +47,11 @@ impl<'a> Model for Spots<'a> {
 fn tag_at(text: &[u8]) -> Result<(Item, &[u8]), FaultCode>
     ensures { Gives item_with_rest result (tag_at text.now) }
 {
-    match cut(text, b']') {
-        Some((body, rest)) => match body_item(body) {
-            Ok(item) => Ok((item, rest)),
-            Err(code) => Err(code),
-        },
-        None => Err(FaultCode::UnsupportedTag),
-    }
+    let (body, rest) = cut(text, b']').ok_or(FaultCode::UnsupportedTag)?;
+    Ok((body_item(body)?, rest))
 }
 
-/// The item behind an opening bracket, and what follows it.
+/// The item after an opening bracket, and what follows it.
 #[tactic(auto, unfolding(crate::specs::TagReading::item_after_opening))]
 fn item_after_opening(text: &[u8]) -> Result<(Item, &[u8]), FaultCode>
     ensures { Gives item_with_rest result (item_after_opening text.now) }
@@ -65,7 +63,7 @@ fn item_after_opening(text: &[u8]) -> Result<(Item, &[u8]), FaultCode>
     }
 }
 
-/// The item behind a closing bracket, and what follows it.
+/// The item after a closing bracket, and what follows it.
 #[tactic(auto, unfolding(crate::specs::TagReading::item_after_closing))]
 fn item_after_closing(text: &[u8]) -> Result<(Item, &[u8]), FaultCode>
     ensures { Gives item_with_rest result (item_after_closing text.now) }
@@ -89,7 +87,7 @@ fn item_at(text: &[u8]) -> Result<(Item, &[u8]), FaultCode>
     }
 }
 
-/// The first outcome of a text that ends at the offset `end`, and the text behind it.
+/// The first outcome of a text that ends at the offset `end`, and the text after it.
 fn outcome_at(text: &[u8], end: usize) -> Option<(Result<Spot, SyntaxFault>, &[u8])>
     requires { length text.now ≤ end }
     ensures none { IfNone result (outcomes_from end text.now ≡ []) }

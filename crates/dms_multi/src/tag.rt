@@ -155,11 +155,6 @@ fn item_alone(item: Item, text: &[u8]) -> Option<Item>
 pub(crate) fn body_item(body: &[u8]) -> Result<Item, FaultCode>
     ensures { result ≡ body_item body.now }
 {
-    match name_at(body) {
-        Some((name, text)) => match item(name, text) {
-            Some(item) => Ok(item),
-            None => Err(FaultCode::UnsupportedTagValue),
-        },
-        None => Err(FaultCode::UnsupportedTag),
-    }
+    let (name, text) = name_at(body).ok_or(FaultCode::UnsupportedTag)?;
+    item(name, text).ok_or(FaultCode::UnsupportedTagValue)
 }

@@ -245,6 +245,33 @@ fn agree(
     Ok(())
 }
 
+/// The example of the crate's page.
+#[test]
+fn example(rt: HostRuntime) -> Result<(), Fail> {
+    let mut read = items(b"A[nl2]");
+    assert_eq!(rt;
+        read.next(),
+        Some(Ok(Spot {
+            item: Item::Char(65),
+            first: 0,
+            past: 1
+        }))
+    );
+    assert_eq!(rt;
+        read.next(),
+        Some(Ok(Spot {
+            item: Item::NewLine(Some(2)),
+            first: 1,
+            past: 6
+        }))
+    );
+    assert_eq!(rt; read.next(), None);
+    let mut text = ArrayVec::new();
+    render(&[Item::Char(65), Item::NewLine(Some(2))], &mut text)?;
+    assert!(rt; text.as_slice() == b"A[nl2]".as_slice());
+    Ok(())
+}
+
 #[test]
 fn rows_agree(rt: HostRuntime) -> Result<(), Fail> {
     for (text, read, canonical) in &ROWS {

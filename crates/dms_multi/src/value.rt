@@ -2,7 +2,7 @@
 ghost use Rattle.std.specs.Prelude.{◌≡◌, option_map, position};
 ghost use Rattle.dms_text.specs.Reading.{number_of};
 ghost use Rattle.dms_multi.specs.Reading.{decimal_of, value_of, is_letter, cut, halves};
-ghost use Rattle.dms_multi.specs.TagReading.{time_pair, times_of, font_pair, font_of};
+ghost use Rattle.dms_multi.specs.TagReading.{times_of, font_of};
 
 use dms_text::{number, version};
 
@@ -18,9 +18,11 @@ pub(crate) struct TwoTimes {
 fn decimal(digits: &[u8], low: u8, high: u8) -> Option<u8>
     ensures { result ≡ decimal_of low high digits.now }
 {
-    match number(digits, 10, 5) {
-        Some(value) if u64::from(low) <= value && value <= u64::from(high) => Some(value as u8),
-        _ => None,
+    let value = number(digits, 10, 5)?;
+    if u64::from(low) <= value && value <= u64::from(high) {
+        Some(value as u8)
+    } else {
+        None
     }
 }
 
@@ -35,7 +37,7 @@ pub(crate) fn value(digits: &[u8], low: u8, high: u8) -> Option<Option<u8>>
     decimal(digits, low, high).map(Some)
 }
 
-/// What stands before and behind the first octet that is `letter` in either case.
+/// What stands before and after the first octet that is `letter` in either case.
 #[tactic(auto, unfolding(crate::specs::Reading::cut))]
 pub(crate) fn cut(text: &[u8], letter: u8) -> Option<(&[u8], &[u8])>
     ensures { option_map halves result ≡ cut letter text.now }
@@ -51,24 +53,16 @@ fn place_of(text: &[u8], letter: u8) -> Option<usize>
         .position(|octet| octet.to_ascii_lowercase() == letter)
 }
 
-fn time_pair(first: Option<Option<u8>>, second: Option<Option<u8>>) -> Option<TwoTimes>
-    ensures { result ≡ time_pair first second }
-{
-    match (first, second) {
-        (Some(first), Some(second)) => Some(TwoTimes { first, second }),
-        _ => None,
-    }
-}
-
-/// A time up to `high`, and perhaps another behind the letter.
+/// A time up to `high`, and perhaps another after the letter.
 #[tactic(auto, unfolding(crate::specs::TagReading::times_of))]
 pub(crate) fn times(text: &[u8], letter: u8, high: u8) -> Option<TwoTimes>
     ensures { result ≡ times_of letter high text.now }
 {
-    match cut(text, letter) {
-        Some((front, back)) => time_pair(value(front, 0, high), value(back, 0, high)),
-        None => time_pair(value(text, 0, high), Some(None)),
-    }
+    let (first, second) = match cut(text, letter) {
+        Some((first, second)) => (value(first, 0, high)?, value(second, 0, high)?),
+        None => (value(text, 0, high)?, None),
+    };
+    Some(TwoTimes { first, second })
 }
 
 /// The number that one to four hexadecimal digits spell.
@@ -87,16 +81,7 @@ pub(crate) fn font(text: &[u8]) -> Option<Option<(u8, Option<u16>)>>
         return Some(None);
     }
     match cut(text, b',') {
-        Some((front, back)) => font_pair(decimal(front, 1, 255), version(back)),
+        Some((digits, code)) => Some(Some((decimal(digits, 1, 255)?, Some(version(code)?)))),
         None => decimal(text, 1, 255).map(|number| Some((number, None))),
-    }
-}
-
-fn font_pair(number: Option<u8>, version: Option<u16>) -> Option<Option<(u8, Option<u16>)>>
-    ensures { result ≡ font_pair number version }
-{
-    match (number, version) {
-        (Some(number), Some(version)) => Some(Some((number, Some(version)))),
-        _ => None,
     }
 }

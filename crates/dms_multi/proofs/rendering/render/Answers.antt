@@ -5,5 +5,5 @@ use Rattle.dms_multi.proofs.rendering.render.Goals as goal
 
 pub returns-in-Err-clause-fits : goal.returns-in-Err-clause-fits
 returns-in-Err-clause-fits c =
-    let over : 512 < length (text_of c.args.items.now) = passes_limit _ _ _ _ _ c.loop-item-test.true c.loop-item.invariant.0 c.in-Err.ensures.err in
+    let over : 512 < length (text_of c.args.items.now) = passes_limit _ _ _ _ _ c.loop-item-test.true c.loop-item.invariant.0 c.in-Err.ensures in
     (λ never. absurd (cc), λ fits. absurd (omega arith))

@@ -1,0 +1,99 @@
+-- The items of a text make its pages, one by one.
+use Rattle.std.proofs.Common.{◌≡◌, ℕ, Bool, true, false, cond, List, [], ◌∷◌, ◌++◌, length, map, fold, Option, Some, None, Result, Ok, Err, refl, sym, ap, ◌∙◌, append_assoc, inl, inr}
+use Rattle.std.specs.List.{list_all}
+use Rattle.std.specs.Option.{option_or, option_map}
+use Rattle.std.proofs.lemmas.Bool.{and_parts, cases_Bool}
+use Rattle.std.proofs.lemmas.Grind.{fold-append}
+use Rattle.std.proofs.lemmas.List.{map-append}
+use Rattle.dms_multi.specs.declared.spots.Spot.{Spot}
+use Rattle.dms_multi.specs.declared.fault.SyntaxFault.{SyntaxFault}
+use Rattle.dms_multi.specs.Outcomes.{outcomes_of, items_in, items_of, fault_in}
+use Rattle.dms_face.specs.declared.multi_fault.MultiFault.{MultiFault}
+use Rattle.dms_face.specs.FaultCode.{syntax_fault}
+use Rattle.dms_face.specs.Face.{FaceModel}
+use Rattle.dms_face.specs.Layout.{PageModel, Layout, Turn, blank_layout, with_item, with_turn, with_page, layout_of}
+use Rattle.dms_face.specs.Room.{page_fits}
+use Rattle.dms_face.specs.Fit.{fits, turns_of, PlacedTurn, turns_in, first_fault, code_of, or_fault, fault_of}
+use Rattle.dms_face.specs.Cells.{pages_of}
+
+-- the layout behind what is read so far
+abbrev pub laid : FaceModel → List (Result Spot SyntaxFault) → Layout
+laid face read = fold (with_turn face) (blank_layout face) (map Some (items_in read))
+
+items_more : (read : List (Result Spot SyntaxFault)) (spot : Spot) → items_in (read ++ Ok spot ∷ []) ≡ items_in read ++ spot.item ∷ []
+items_more [] spot = refl
+items_more (Ok s ∷ read) spot = ap (λ items. s.item ∷ items) (items_more read spot)
+items_more (Err f ∷ read) spot = items_more read spot
+
+items_same : (read : List (Result Spot SyntaxFault)) (fault : SyntaxFault) → items_in (read ++ Err fault ∷ []) ≡ items_in read
+items_same [] fault = refl
+items_same (Ok s ∷ read) fault = ap (λ items. s.item ∷ items) (items_same read fault)
+items_same (Err f ∷ read) fault = items_same read fault
+
+pub laid_more : (face : FaceModel) (read : List (Result Spot SyntaxFault)) (spot : Spot) → laid face (read ++ Ok spot ∷ []) ≡ with_item face (laid face read) spot.item
+laid_more face read spot =
+    ap (λ items. fold (with_turn face) (blank_layout face) (map Some items)) (items_more read spot)
+    ∙ ap (fold (with_turn face) (blank_layout face)) (map-append Some (items_in read) (spot.item ∷ []))
+    ∙ fold-append (with_turn face) (blank_layout face) (map Some (items_in read)) (Some spot.item ∷ [])
+
+pub laid_same : (face : FaceModel) (read : List (Result Spot SyntaxFault)) (fault : SyntaxFault) → laid face (read ++ Err fault ∷ []) ≡ laid face read
+laid_same face read fault = ap (λ items. fold (with_turn face) (blank_layout face) (map Some items)) (items_same read fault)
+
+pub laid_all : (face : FaceModel) (text : List ℕ) → (with_page (laid face (outcomes_of text))).pages ≡ pages_of face text
+unfolding pages_of
+laid_all face text = ap (λ (layout : Layout). layout.pages) (sym (fold-append (with_turn face) (blank_layout face) (map Some (items_of text)) (None ∷ [])))
+
+-- ---- the pages of a text without a fault fit
+
+-- a turn that has no fault fits, and none behind it has one
+passed : (face : FaceModel) (front : List Turn) (turn : Turn) (place : ℕ) (more : List PlacedTurn) → first_fault face front ((turn, place) ∷ more) ≡ None
+    → (fits face (front ++ turn ∷ []) ≡ true) × (first_fault face (front ++ turn ∷ []) more ≡ None)
+passed face front turn place more none = elim (cases_Bool (fits face (front ++ turn ∷ []))) [
+  | inl fit ↦ (fit, rw fit at none)
+  | inr other ↦ absurd (let wrong : Some (record { code = code_of face (layout_of face front) turn; place = place }) ≡ None = rw other at none in cc)
+]
+
+-- where no turn has a fault, all of them fit
+all_fit : (face : FaceModel) (front : List Turn) (turn : Turn) (place : ℕ) (more : List PlacedTurn) → first_fault face front ((turn, place) ∷ more) ≡ None
+    → fits face (front ++ turn ∷ map (λ (placed : PlacedTurn). placed.0) more) ≡ true
+all_fit face front turn place [] none = (passed face front turn place [] none).0
+all_fit face front turn place ((next, at) ∷ more) none =
+    ap (fits face) (sym (append_assoc front (turn ∷ []) (next ∷ map (λ (placed : PlacedTurn). placed.0) more)))
+    ∙ all_fit face (front ++ turn ∷ []) next at more ((passed face front turn place ((next, at) ∷ more) none).1)
+
+turns_are : (end : ℕ) (read : List (Result Spot SyntaxFault)) → fault_in read ≡ None → map (λ (placed : PlacedTurn). placed.0) (turns_in end read) ≡ turns_of (items_in read)
+turns_are end [] none = refl
+turns_are end (Ok spot ∷ read) none = ap (λ turns. Some spot.item ∷ turns) (turns_are end read none)
+turns_are end (Err fault ∷ read) none = absurd (let wrong : Some fault ≡ None = none in cc)
+
+reading_fits : (face : FaceModel) (end : ℕ) (read : List (Result Spot SyntaxFault)) → fault_in read ≡ None → first_fault face [] (turns_in end read) ≡ None
+    → fits face (turns_of (items_in read)) ≡ true
+reading_fits face end [] whole none = all_fit face [] None end [] none
+reading_fits face end (Ok spot ∷ read) whole none =
+    ap (λ turns. fits face (Some spot.item ∷ turns)) (sym (turns_are end read whole)) ∙ all_fit face [] (Some spot.item) spot.first (turns_in end read) none
+reading_fits face end (Err fault ∷ read) whole none = absurd (let wrong : Some fault ≡ None = whole in cc)
+
+neither : {A : Type 0} (a b : Option A) → option_or a b ≡ None → (a ≡ None) × (b ≡ None)
+neither None b none = (refl, none)
+neither (Some x) b none = absurd (let wrong : Some x ≡ None = none in cc)
+
+unmapped : {A B : Type 0} (f : A → B) (o : Option A) → option_map f o ≡ None → o ≡ None
+unmapped f None none = refl
+unmapped f (Some x) none = absurd (let wrong : Some (f x) ≡ None = none in cc)
+
+otherwise : {A : Type 0} (b : Bool) (x : A) (o : Option A) → cond b (Some x) o ≡ None → o ≡ None
+otherwise true x o none = absurd (let wrong : Some x ≡ None = none in cc)
+otherwise false x o none = none
+
+pub pages_fit : (face : FaceModel) (text : List ℕ) → fault_of face text ≡ None → list_all (λ (page : PageModel). page_fits face page.lines) (pages_of face text) ≡ true
+unfolding pages_of fault_of
+pages_fit face text none =
+    let read = outcomes_of text in
+    let parts = neither (first_fault face [] (turns_in (length text) read)) (option_map syntax_fault (fault_in read)) (otherwise _ _ _ none) in
+    let fit = reading_fits face (length text) read (unmapped syntax_fault (fault_in read) parts.1) parts.0 in
+    (and_parts _ _ (and_parts _ _ fit).1).0
+
+-- where no fault is told, there is none
+pub no_fault : {A : Type 0} (value : A) (fault : Option MultiFault) (result : Result A MultiFault) (found : A) → result ≡ or_fault value fault → result ≡ Ok found → fault ≡ None
+no_fault value None result found is ok = refl
+no_fault value (Some first) result found is ok = absurd (let wrong : Err first ≡ Ok found = sym is ∙ ok in cc)

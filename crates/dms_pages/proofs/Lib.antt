@@ -1,0 +1,4 @@
+pub mod DrawingLaws
+pub mod PlacingLaws
+pub mod DrawnLaws
+pub mod LayingLaws

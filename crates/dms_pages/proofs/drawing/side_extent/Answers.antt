@@ -1,0 +1,16 @@
+use Rattle.std.proofs.Common.{◌∙◌, ◌≤◌, map, filter, length, sym, ap, arith}
+use Rattle.std.proofs.lemmas.List.{take_all}
+use Rattle.dms_face.specs.Room.{extent, character_block}
+use Rattle.dms_pages.proofs.PlacingLaws.{has_place, front_extent, at_place-map}
+use Rattle.dms_pages.proofs.drawing.side_extent.Goals as goal
+
+pub with-run-requires : goal.with-run-requires
+with-run-requires c =
+    omega (arith, front_extent character_block c.args.side c.loop-character.character-index c.args.characters.now, c.loop-character.invariant.size, c.requires)
+
+pub returns : goal.returns
+returns c =
+    let xs = c.args.characters.now in
+    c.loop-character.invariant.size
+    ∙ ap (λ front. extent (map character_block (filter (has_place character_block c.args.side) front))) (take_all c.loop-character.character-index xs (let e : length xs ≤ c.loop-character.character-index = omega arith in e))
+    ∙ sym (ap extent (at_place-map character_block c.args.side xs))

@@ -1,0 +1,116 @@
+//! The pages of a text.
+
+ghost use Rattle.std.specs.Prelude.{◌≡◌, map, true, IsTrue, IfOk};
+ghost use Rattle.std.specs.List.{list_all};
+ghost use Rattle.dms_pages.specs.declared.text_pages.PagesFault.TheVariants.{Multi, Memory};
+ghost use Rattle.dms_face.specs.Face.{fit};
+ghost use Rattle.dms_face.specs.Layout.{PageModel, under};
+ghost use Rattle.dms_face.specs.Room.{page_fits};
+ghost use Rattle.dms_face.specs.Cells.{pages_of};
+ghost use Rattle.dms_pages.specs.Drawn.{drawn, drawn_text};
+ghost use Rattle.dms_pages.specs.DrawnView.{GivesPages};
+
+use crate::page::Page;
+use crate::text_layout::{TextLayout, TextPage};
+use dms_face::{Defaults, Face, MultiFault, check_with};
+use dms_multi::items;
+use std::alloc::{AllocError, Global};
+use std::error::Error;
+use std::fmt;
+
+/// Why there are no pages.
+#[derive(Clone, Copy, Debug, PartialEq, Eq)]
+pub enum PagesFault {
+    /// The text's fault.
+    Multi(MultiFault),
+    /// No memory for the pages.
+    Memory,
+}
+
+impl From<MultiFault> for PagesFault {
+    ghost from_gives = { λ fault made. made ≡ Multi fault };
+
+    fn from(multi_fault: MultiFault) -> PagesFault {
+        PagesFault::Multi(multi_fault)
+    }
+}
+
+impl From<AllocError> for PagesFault {
+    ghost from_gives = { λ _ fault. fault ≡ Memory };
+
+    fn from(_: AllocError) -> PagesFault {
+        PagesFault::Memory
+    }
+}
+
+impl fmt::Display for PagesFault {
+    ghost use Rattle.std.specs.Prelude.{Some};
+    ghost use Rattle.dms_pages.specs.FaultTexts.{pages_fault_text};
+
+    ghost output = { λ fault. Some (pages_fault_text fault) };
+
+    fn fmt<W: fmt::Write>(&self, f: &mut fmt::Formatter<W>) -> fmt::Result {
+        match self {
+            PagesFault::Multi(fault) => write!(f, "{fault}"),
+            PagesFault::Memory => f.write_str("out of memory"),
+        }
+    }
+}
+
+impl Error for PagesFault {}
+
+/// The pages of a text's items, as lines of characters.
+fn laid_out<'a>(
+    alloc: Global,
+    face: &'a Face,
+    defaults: &Defaults,
+    text: &[u8],
+) -> Result<Vec<TextPage<'a>>, AllocError>
+    requires { IsTrue (fit face.now.fonts defaults.now) }
+    ensures { IfOk result (λ pages. pages.items ≡ pages_of (under face.now defaults.now) text.now) }
+{
+    let mut layout = TextLayout::blank(alloc, face, defaults);
+    for outcome in items(text) {
+        let Ok(spot) = outcome else {
+            continue;
+        };
+        layout.add(alloc, face, defaults, spot.item)?;
+    }
+    layout.close_page(alloc)?;
+    Ok(layout.into_pages())
+}
+
+/// Pages of lines that fit, drawn.
+fn drawn_pages(alloc: Global, face: &Face, laid: &[TextPage<'_>]) -> Result<Vec<Page>, AllocError>
+    requires { list_all (λ (page : PageModel). page_fits face.now page.lines) laid.now ≡ true }
+    ensures { IfOk result (λ pages. pages.items ≡ map (drawn face.now) laid.now) }
+{
+    let mut pages = Vec::new(alloc);
+    for page in laid {
+        pages.push(Page::drawn(alloc, face, page)?)?;
+    }
+    Ok(pages)
+}
+
+/// The pages of a text, or its fault, where these defaults hold in place of the face's own.
+pub fn pages_with(
+    alloc: Global,
+    face: &Face,
+    defaults: &Defaults,
+    text: &[u8],
+) -> Result<Vec<Page>, PagesFault>
+    requires { IsTrue (fit face.now.fonts defaults.now) }
+    ensures { GivesPages (λ pages. pages.items) result (drawn_text (under face.now defaults.now) text.now) }
+{
+    check_with(face, defaults, text)?;
+    let laid = laid_out(alloc, face, defaults, text)?;
+    let pages = drawn_pages(alloc, face, laid.as_slice())?;
+    Ok(pages)
+}
+
+/// The pages of a text, or its fault, where the face's own defaults hold.
+pub fn pages(alloc: Global, face: &Face, text: &[u8]) -> Result<Vec<Page>, PagesFault>
+    ensures { GivesPages (λ pages. pages.items) result (drawn_text face.now text.now) }
+{
+    pages_with(alloc, face, &face.defaults(), text)
+}
