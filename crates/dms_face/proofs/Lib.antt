@@ -8,3 +8,4 @@ pub mod WalkLaws
 pub mod GoodLaws
 pub mod WalkState
 pub mod ReadingLaws
+pub mod RuleLaws

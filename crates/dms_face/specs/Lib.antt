@@ -7,6 +7,7 @@ pub mod Layout
 pub mod Room
 pub mod Fit
 pub mod Cells
+pub mod Rules
 -- what only proofs go through: one walk over a text, and running sums
 pub mod OnePass
 pub mod Totals

@@ -1,9 +1,12 @@
 //! Laws of texts and where they stand, each the contract of a function that does nothing.
 
-ghost use Rattle.std.specs.Prelude.{◌≡◌, ◌↔◌, ℕ, if◌then◌else◌, List, [], ◌∷◌, ◌++◌, Some, None};
+ghost use Rattle.std.specs.Prelude.{◌≡◌, ◌↔◌, ℕ, if◌then◌else◌, List, [], ◌∷◌, ◌++◌, length, map, Some, None};
+ghost use Rattle.dms_multi.specs.Outcomes.{items_of};
 ghost use Rattle.dms_face.specs.Face.{FaceModel, IsFace};
 ghost use Rattle.dms_face.specs.Layout.{Turn, layout_of};
-ghost use Rattle.dms_face.specs.Fit.{fits, Fits, code_of, fault_of, IsGood};
+ghost use Rattle.dms_face.specs.Fit.{fits, Fits, code_of, fault_of, page_count, IsGood};
+ghost use Rattle.dms_face.specs.Cells.{pages_of};
+ghost use Rattle.dms_face.specs.Rules.{page_style, pages_said, characters_from, characters_said};
 ghost use Rattle.dms_face.specs.OnePass.{local_fault};
 
 use crate::face::Face;
@@ -31,4 +34,21 @@ pub fn empty_text_is_good()
 /// A text has no fault on a face exactly where it is good there, whatever the face and whatever numbers stand in the text.
 pub fn a_text_without_a_fault_is_good()
     ensures { (face : FaceModel) (text : List ℕ) → (fault_of face text ≡ None) ↔ IsGood face text }
+{}
+
+/// A text has as many pages as `check` counts, be it good or not.
+pub fn pages_are_counted()
+    ensures { (face : FaceModel) (text : List ℕ) → length (pages_of face text) ≡ page_count text }
+{}
+
+/// A page's background and times are those of the last such item before its end, else the defaults.
+pub fn pages_have_what_was_last_said()
+    ensures { (face : FaceModel) (text : List ℕ) → map page_style (pages_of face text) ≡ pages_said face [] (items_of text) }
+{}
+
+/// A character's font, foreground, flash, side and part are those of the last such item before it, else the defaults. The
+/// characters stand in the order of their items, each on the page whose number is that of the new pages before it; one that its
+/// font has not is left out.
+pub fn characters_have_what_was_last_said()
+    ensures { (face : FaceModel) (text : List ℕ) → characters_from 0 (pages_of face text) ≡ characters_said face [] (items_of text) }
 {}

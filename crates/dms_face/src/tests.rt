@@ -1,6 +1,6 @@
 //! Faces by their values, and each fault of a face.
 
-use crate::{Defaults, Face, FaceFault, Font};
+use crate::{Defaults, Face, FaceFault, Font, MultiFault, MultiFaultCode, check};
 use std::alloc::Global;
 use std::test::Fail;
 
@@ -26,6 +26,26 @@ const DEFAULTS: Defaults = Defaults {
     on: 30,
     off: 0,
 };
+
+/// The example of the crate's page.
+#[test]
+fn example(rt: HostRuntime) -> Result<(), Fail> {
+    let alloc = rt.alloc();
+    let font = Font::from_text(
+        alloc,
+        b"font 1 height 5 space 1 line 1 version 0001\nglyph 65 3 57da",
+    )?;
+    let mut fonts = Vec::new(alloc);
+    fonts.push(font)?;
+    let face = Face::new(7, 5, fonts, DEFAULTS)?;
+    assert_eq!(rt; check(&face, b"AA[np]A"), Ok(2));
+    let fault = MultiFault {
+        code: MultiFaultCode::TextTooBig,
+        place: 2,
+    };
+    assert_eq!(rt; check(&face, b"AAA"), Err(fault));
+    Ok(())
+}
 
 fn face_of(
     alloc: Global,

@@ -27,6 +27,20 @@ fn drawing(alloc: Global, glyph: &Glyph, height: u8) -> Result<String, AllocErro
     Ok(text)
 }
 
+/// The example of the crate's page.
+#[test]
+fn example(rt: HostRuntime) -> Result<(), Fail> {
+    let alloc = rt.alloc();
+    let font = Font::from_text(
+        alloc,
+        b"font 2 height 5 space 1 line 1 version 0002\nglyph 65 3 57da",
+    )?;
+    let a = font.glyph(65).ok_or("no glyph")?;
+    assert_eq!(rt; (a.width(), a.height()), (3, 5));
+    assert!(rt; a.is_lit(1, 0) && !a.is_lit(0, 0));
+    Ok(())
+}
+
 #[test]
 fn fonts_of_a_sign(rt: HostRuntime) -> Result<(), Fail> {
     let alloc = rt.alloc();
@@ -153,6 +167,27 @@ fn font_or_want_of_memory(rt: HostRuntime) {
         Ok(font) => assert_eq!(rt; font.height(), 7),
         Err(fault) => assert_eq!(rt; fault, wanting),
     }
+}
+
+/// A character is found wherever it stands, above 255 too, and none where the font has it not.
+#[test]
+fn characters_are_found(rt: HostRuntime) -> Result<(), Fail> {
+    let alloc = rt.alloc();
+    let mut text = String::from_str(alloc, "font 1 height 8 space 1 line 1 version 0001\n")?;
+    for character in [300, 7, 255, 256, 1, 65535] {
+        let line = format!(in alloc; "glyph {character} 1 ff\n")?;
+        text.push_str(line.as_str())?;
+    }
+    let font = Font::from_text(alloc, text.as_bytes())?;
+    assert_eq!(rt; font.glyphs().len(), 6);
+    for character in [300, 7, 255, 256, 1, 65535] {
+        let glyph = font.glyph(character).ok_or("no glyph")?;
+        assert_eq!(rt; glyph.character(), character);
+    }
+    for character in [0, 2, 254, 257, 65534] {
+        assert!(rt; font.glyph(character).is_none());
+    }
+    Ok(())
 }
 
 #[test]

@@ -124,11 +124,8 @@ impl TextLine<'_> {
         if self.characters.is_empty() {
             return self.font.height();
         }
-        let mut height = 0u8;
-        for character in &self.characters {
-            height = height.max(character.style.font.height());
-        }
-        height
+        let heights = self.characters.iter().map(|it| it.style.font.height());
+        heights.fold(0, |greatest, height| greatest.max(height))
     }
 
     /// The greatest line spacing of the line's fonts.
@@ -138,11 +135,11 @@ impl TextLine<'_> {
         if self.characters.is_empty() {
             return self.font.line_spacing();
         }
-        let mut spacing = 0u8;
-        for character in &self.characters {
-            spacing = spacing.max(character.style.font.line_spacing());
-        }
-        spacing
+        let spacings = self
+            .characters
+            .iter()
+            .map(|it| it.style.font.line_spacing());
+        spacings.fold(0, |greatest, spacing| greatest.max(spacing))
     }
 }
 

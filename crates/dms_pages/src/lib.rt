@@ -1,4 +1,13 @@
 //! The pages of a text on a face (NTCIP 1203, MULTI), drawn cell by cell.
+//!
+//! ```
+//! let shown = pages(alloc, &face, b"A[np]A")?;
+//! assert_eq!(rt; shown.len(), 2);
+//! let page = shown.get(1).ok_or("no page")?;
+//! assert_eq!(rt; (page.on(), page.off(), page.back()), (30, 0, 0));
+//! let lit = Cell { lit: true, colour: 9, flash: None };
+//! assert_eq!(rt; page.cell(10, 0), lit);
+//! ```
 #![tactic(auto)]
 
 mod drawing;

@@ -67,6 +67,44 @@ fn first_lit(page: &Page) -> Option<(u16, u16, Cell)> {
     None
 }
 
+/// The example of the crate's page.
+#[test]
+fn example(rt: HostRuntime) -> Result<(), Fail> {
+    let alloc = rt.alloc();
+    let face = bench(alloc)?;
+    let shown = pages(alloc, &face, b"A[np]A")?;
+    assert_eq!(rt; shown.len(), 2);
+    let page = shown.get(1).ok_or("no page")?;
+    assert_eq!(rt; (page.on(), page.off(), page.back()), (30, 0, 0));
+    let lit = Cell {
+        lit: true,
+        colour: 9,
+        flash: None,
+    };
+    assert!(rt; page.width() > 10 && page.height() > 0);
+    assert_eq!(rt; page.cell(10, 0), lit);
+    Ok(())
+}
+
+/// A face, where there is memory for it.
+fn face_of_one_font(alloc: Global) -> Option<Face> {
+    let mut fonts = Vec::new(alloc);
+    fonts.push(Font::from_text(alloc, TALL).ok()?).ok()?;
+    Face::new(23, 14, fonts, DEFAULTS).ok()
+}
+
+/// With any allocation refused, the answer is that there is no memory, and nothing else.
+#[test]
+fn pages_or_out_of_memory(rt: HostRuntime) {
+    let Some(face) = face_of_one_font(rt.alloc()) else {
+        return;
+    };
+    match pages(rt.alloc(), &face, b"A[nl0]A[np]A[jp4]A") {
+        Ok(made) => assert_eq!(rt; made.len(), 2),
+        Err(fault) => assert_eq!(rt; fault, PagesFault::Memory),
+    }
+}
+
 #[test]
 fn a_letter(rt: HostRuntime) -> Result<(), Fail> {
     let alloc = rt.alloc();

@@ -1,5 +1,17 @@
 //! Texts as lines, lines as words, and what words spell: decimal numbers, versions, and octets in hexadecimal digits.
 //! The descriptions of fonts and of signs and the scripts are read by it.
+//!
+//! ```
+//! let mut lines = Lines::of(b"# skipped\n\nsend 192.0.2.1 30\r\nstop");
+//! let line = lines.next_line().ok_or("no line")?;
+//! assert_eq!(rt; line.number, 3);
+//! let words = Words::of(line.octets).keyword(b"send").ok_or("no send")?;
+//! let (word, words) = words.next_word().ok_or("no address")?;
+//! let (first, parts) = Words::split(word, b'.').decimal(3, 0, 255).ok_or("no number")?;
+//! let (seconds, words) = words.decimal(5, 1, 60).ok_or("no seconds")?;
+//! assert_eq!(rt; (first, seconds), (192, 30));
+//! assert!(rt; words.is_empty());
+//! ```
 #![tactic(auto)]
 
 pub mod hexadecimal;
