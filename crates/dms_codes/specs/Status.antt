@@ -35,12 +35,19 @@ next_status Error asks.Modify = Some Modifying
 next_status Error asks.Validate = Some Validating
 next_status Error asks.NotUsed = Some NotUsed
 
+-- the numbers that are read
 abbrev pub status_number : Status → ℕ
 status_number NotUsed = 1
 status_number Modifying = 2
 status_number Validating = 3
 status_number Valid = 4
 status_number Error = 5
+
+-- the numbers that ask for a change
+abbrev pub ask_number : Ask → ℕ
+ask_number asks.Modify = 6
+ask_number asks.Validate = 7
+ask_number asks.NotUsed = 8
 
 abbrev pub is_not_used : Status → Bool
 is_not_used NotUsed = true

@@ -4,7 +4,7 @@ ghost use Rattle.std.specs.Prelude.{◌≡◌};
 ghost use Rattle.dms_codes.specs.declared.codes.MessageId.{MessageId};
 ghost use Rattle.dms_codes.specs.declared.codes.Activation.{Activation};
 
-/// Which octet of a checksum a code has first: makers differ.
+/// Which octet of a checksum comes first, in codes and in dmsMessageCRC: makers of signs differ (this profile).
 #[derive(Clone, Copy, Debug, PartialEq, Eq)]
 pub enum Order {
     /// The high octet.
@@ -13,7 +13,7 @@ pub enum Order {
     Swapped,
 }
 
-/// Names a message by its row of the table and its checksum (MessageIDCode).
+/// Names a message by its row of the message table and its checksum (NTCIP 1203, MessageIDCode).
 #[derive(Clone, Copy, Debug, PartialEq, Eq)]
 pub struct MessageId {
     /// The type of the memory that holds the message.
@@ -24,14 +24,16 @@ pub struct MessageId {
     pub crc: u16,
 }
 
-/// Puts a message up (MessageActivationCode).
+/// Activates a message (NTCIP 1203, MessageActivationCode).
 #[derive(Clone, Copy, Debug, PartialEq, Eq)]
 pub struct Activation {
     /// How long the message is shown; 65535 is without end.
     pub minutes: u16,
+    /// The priority of the activation, 0 to 255: the code is refused while what is shown has a higher one.
     pub priority: u8,
+    /// The message.
     pub id: MessageId,
-    /// The network address of the one who puts it up.
+    /// The network address of the one who activates it.
     pub address: [u8; 4],
 }
 
@@ -66,6 +68,7 @@ impl MessageId {
     ghost use Rattle.std.specs.Prelude.{◌≡◌, ◌↔◌, length, IsSome, IfSome};
     ghost use Rattle.dms_codes.specs.Codes.{octets_of_id, id_of, IsMessageId};
 
+    /// Its octets: type of memory, number and checksum, numbers high octet first.
     pub fn to_bytes(&self, order: Order) -> [u8; 5]
         ensures { result ≡ octets_of_id order self.now }
     {
@@ -74,7 +77,7 @@ impl MessageId {
         [self.memory, number_high, number_low, crc_first, crc_second]
     }
 
-    /// None only where the length is wrong.
+    /// The message that five octets name; none for any other number of octets.
     pub fn from_bytes(order: Order, octets: &[u8]) -> Option<Self>
         ensures five { IsSome result ↔ (length octets.now ≡ 5) }
         ensures spelled { IfSome result (λ id. octets_of_id order id ≡ octets.now) }
@@ -96,6 +99,7 @@ impl Activation {
     ghost use Rattle.std.specs.Prelude.{◌≡◌, ◌↔◌, length, IsSome, IfSome};
     ghost use Rattle.dms_codes.specs.Codes.{octets_of_activation, activation_of, IsActivation};
 
+    /// Its octets: minutes, priority, message and address, numbers high octet first.
     pub fn to_bytes(&self, order: Order) -> [u8; 12]
         ensures { result ≡ octets_of_activation order self.now }
     {
@@ -118,7 +122,7 @@ impl Activation {
         ]
     }
 
-    /// None only where the length is wrong.
+    /// The activation that twelve octets spell; none for any other number of octets.
     pub fn from_bytes(order: Order, octets: &[u8]) -> Option<Self>
         ensures twelve { IsSome result ↔ (length octets.now ≡ 12) }
         ensures spelled { IfSome result (λ a. octets_of_activation order a ≡ octets.now) }

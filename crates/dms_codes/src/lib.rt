@@ -1,4 +1,10 @@
-//! The codes that name a message and put one up, the checksum of a message, and what a row of the message table is named by.
+//! The codes that name a message and activate one, the checksum of a message, and what names a row of the message table.
+//!
+//! ```
+//! let id = MessageId { memory: memory::CHANGEABLE, number: 1, crc: crc(b"A", 0, 0) };
+//! assert_eq!(id.to_bytes(Order::High), [3, 0, 1, 0x9a, 0x66]);
+//! assert_eq!(MessageId::from_bytes(Order::Swapped, &[3, 0, 1, 0x66, 0x9a]), Some(id));
+//! ```
 #![tactic(auto)]
 
 pub mod checksum;
@@ -8,6 +14,8 @@ pub mod limits;
 pub mod memory;
 pub mod row_id;
 pub mod status;
+#[cfg(test)]
+mod tests;
 
 pub use checksum::crc;
 pub use codes::{Activation, MessageId, Order};

@@ -1,6 +1,6 @@
 //! The message table.
 
-ghost use Rattle.std.specs.Prelude.{◌≡◌, map, find, All, IsTrue, IfOk, IfErr, OnOk, OnErr, Some, None, IfSome, option_map, is_some};
+ghost use Rattle.std.specs.Prelude.{◌≡◌, ◌⊎◌, ◌<◌, ◌+◌, IfNone, map, find, All, IsTrue, IfOk, IfErr, OnOk, OnErr, Some, None, IfSome, option_map, is_some};
 ghost use Rattle.std.specs.Option.{option_copied};
 ghost use Rattle.std.specs.List.{list_any};
 ghost use Rattle.dms_table.specs.Rows.{row_is_validating, rows_of, numbered, row_read, valid_count, unused_count, row_count, may_ask, changed_in, asked_row, asked, written_row, written, interrupted, released, after_power, IsTable, TableModel, FieldModel};
@@ -225,8 +225,16 @@ impl Table {
 fn numbered(rows: &[Row], number: u16) -> Option<&Row>
     ensures { option_copied result ≡ numbered rows.now number }
 {
+    rows.get(place_of(number, rows.len())?)
+}
+
+/// The place of the row of a number, from 1, among so many.
+fn place_of(number: u16, count: usize) -> Option<usize>
+    ensures some { IfSome result (λ place. (place + 1 ≡ number) × (place < count)) }
+    ensures none { IfNone result ((number ≡ 0) ⊎ (count < number)) }
+{
     let place = usize::from(number).checked_sub(1)?;
-    rows.get(place)
+    if place < count { Some(place) } else { None }
 }
 
 fn is_any_validating(rows: &[Row]) -> bool
@@ -249,11 +257,10 @@ fn ask_in(rows: &mut [Row], number: u16, ask: Ask) -> Result<(), Refused>
     ensures refused { OnErr result (changed_in rows.old number (asked_row ask) ≡ None) }
     ensures unchanged { OnErr result (rows.new ≡ rows.old) }
 {
-    let place = usize::from(number);
-    if place == 0 || place > rows.len() {
+    let Some(place) = place_of(number, rows.len()) else {
         return Err(Refused);
-    }
-    let row = &mut rows[place - 1];
+    };
+    let row = &mut rows[place];
     row.ask(ask)
 }
 
@@ -262,11 +269,10 @@ fn write_in(rows: &mut [Row], number: u16, field: Field<'_>) -> Result<(), Refus
     ensures refused { OnErr result (changed_in rows.old number (written_row (field_of field.entry)) ≡ None) }
     ensures unchanged { OnErr result (rows.new ≡ rows.old) }
 {
-    let place = usize::from(number);
-    if place == 0 || place > rows.len() {
+    let Some(place) = place_of(number, rows.len()) else {
         return Err(Refused);
-    }
-    let row = &mut rows[place - 1];
+    };
+    let row = &mut rows[place];
     row.write(field)
 }
 
