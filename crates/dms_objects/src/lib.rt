@@ -1,4 +1,9 @@
 //! The objects of a sign (NTCIP 1203, dms): the columns of dmsMessageTable and the objects with one instance, and their names.
+//!
+//! ```
+//! let name = Name::of(Instance::The(Scalar::ActivateMessage));
+//! assert_eq!(name.oid().content(), [43, 6, 1, 4, 1, 137, 54, 4, 2, 3, 6, 3, 0]);
+//! ```
 #![tactic(auto)]
 
 pub mod column;

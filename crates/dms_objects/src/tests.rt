@@ -1,6 +1,7 @@
-//! The columns of dmsMessageTable by their numbers.
+//! Columns by their numbers, and names by their octets.
 
-use crate::Column;
+use crate::{Column, Instance, Name, Scalar};
+use dms_codes::RowId;
 
 #[test]
 fn columns(rt: HostRuntime) {
@@ -17,5 +18,35 @@ fn columns(rt: HostRuntime) {
     ];
     for (column, number) in numbers {
         assert_eq!(rt; column.number(), number, "{column:?}");
+    }
+}
+
+#[test]
+fn example(rt: HostRuntime) {
+    let name = Name::of(Instance::The(Scalar::ActivateMessage));
+    assert_eq!(rt;
+        name.oid().content(),
+        [43, 6, 1, 4, 1, 137, 54, 4, 2, 3, 6, 3, 0].as_slice()
+    );
+}
+
+/// The octets after those of dmsMessageEntry: a column, a type of memory, and a row's number of one, two and three octets.
+#[test]
+fn rows(rt: HostRuntime) {
+    let rows: [(u8, u16, &[u8]); 6] = [
+        (3, 1, &[9, 3, 1]),
+        (7, 127, &[9, 7, 127]),
+        (7, 128, &[9, 7, 129, 0]),
+        (7, 255, &[9, 7, 129, 127]),
+        (200, 16384, &[9, 129, 72, 129, 128, 0]),
+        (255, 65535, &[9, 129, 127, 131, 255, 127]),
+    ];
+    for (memory, number, octets) in rows {
+        let name = Name::of(Instance::Cell(Column::Status, RowId { memory, number }));
+        assert_eq!(rt;
+            &name.oid().content()[..13],
+            [43, 6, 1, 4, 1, 137, 54, 4, 2, 3, 5, 8, 1].as_slice()
+        );
+        assert_eq!(rt; &name.oid().content()[13..], octets);
     }
 }

@@ -1,4 +1,14 @@
-//! The message table of a sign: its rows, their validation, and what a code activates.
+//! The message table of a sign (NTCIP 1203, dmsMessageTable): its rows, their validation, and what a code activates.
+//!
+//! ```
+//! let mut table = Table::new(alloc, stock, &face)?;
+//! let row = RowId { memory: memory::CHANGEABLE, number: 1 };
+//! table.ask(row, Ask::Modify)?;
+//! table.write(row, Field::Text(b"A"))?;
+//! table.ask(row, Ask::Validate)?;
+//! let verdict = table.settle(&face, &face.defaults());
+//! assert_eq!(table.row(row).map(|row| row.checksum), Some(0x9a66));
+//! ```
 #![tactic(auto)]
 
 pub mod activation;

@@ -17,32 +17,46 @@ use std::error::Error;
 use std::fmt;
 use std::marker::Model;
 
-/// What a sign has.
+/// What a sign has beside its matrix.
 #[derive(Clone, Copy, Debug, PartialEq, Eq)]
 pub struct Services {
+    /// Beacons.
     pub beacon: bool,
+    /// A pixel service.
     pub pixel: bool,
 }
 
-/// A value for a field of a row.
+/// A value for a field of a row (NTCIP 1203, dmsMessageTable).
 #[derive(Clone, Copy, Debug, PartialEq, Eq)]
 pub enum Field<'a> {
+    /// dmsMessageMultiString: at most 512 octets.
     Text(&'a [u8]),
+    /// dmsMessageOwner: at most 127 octets.
     Owner(&'a [u8]),
+    /// dmsMessageBeacon: 0 or 1.
     Beacon(u8),
+    /// dmsMessagePixelService: 0 or 1.
     Pixel(u8),
+    /// dmsMessageRunTimePriority: 1 to 255.
     Priority(u8),
 }
 
-/// A row as it is read. Its checksum reads 0 where the row is not valid, or is a blank message.
+/// A row as it is read (NTCIP 1203, dmsMessageTable).
 #[derive(Clone, Copy, Debug, PartialEq, Eq)]
 pub struct RowView<'a> {
+    /// The text, at most 512 octets.
     pub text: &'a [u8],
+    /// The owner, at most 127 octets.
     pub owner: &'a [u8],
+    /// 1 where the beacons are on, else 0.
     pub beacon: u8,
+    /// 1 where the pixel service is on, else 0.
     pub pixel: u8,
+    /// The run-time priority, 1 to 255.
     pub priority: u8,
+    /// The status.
     pub status: Status,
+    /// The checksum; 0 where the row is not valid, or is a blank message.
     pub checksum: u16,
 }
 

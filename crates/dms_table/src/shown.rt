@@ -16,12 +16,17 @@ pub const CENTRAL: u8 = 8;
 /// What is shown: a copy of a row, so that later changes of the row do not show.
 #[derive(Debug, Drop)]
 pub struct Shown {
+    /// The text of the row.
     pub text: ArrayVec<u8, MAX_TEXT>,
+    /// The owner of the row.
     pub owner: ArrayVec<u8, MAX_OWNER>,
+    /// 1 where the beacons are on, else 0.
     pub beacon: u8,
+    /// 1 where the pixel service is on, else 0.
     pub pixel: u8,
+    /// The run-time priority of the row, 1 to 255.
     pub priority: u8,
-    /// The row, as the code that put it up named it.
+    /// The row, as the code that activated it named it (dmsMsgTableSource).
     pub source: MessageId,
     /// How it came up (dmsMsgSourceMode).
     pub mode: u8,

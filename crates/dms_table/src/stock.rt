@@ -17,21 +17,32 @@ use std::fmt;
 /// A row that the sign is made with.
 #[derive(Clone, Copy, Debug, PartialEq, Eq)]
 pub struct Permanent<'a> {
+    /// The text, at most 512 octets, good on the sign's face.
     pub text: &'a [u8],
+    /// The owner, at most 127 octets.
     pub owner: &'a [u8],
+    /// 1 where the beacons are to be on, else 0.
     pub beacon: u8,
+    /// 1 where the pixel service is to be on, else 0.
     pub pixel: u8,
+    /// The run-time priority, 1 to 255.
     pub priority: u8,
 }
 
 /// The permanent rows, the numbers of changeable and volatile rows, what the sign has, and the order of its checksums.
 #[derive(Clone, Copy, Debug, PartialEq, Eq)]
 pub struct Stock<'a> {
+    /// The permanent rows, at most 16, that of number 1 first.
     pub permanent: &'a [Permanent<'a>],
+    /// How many changeable rows there are, at most 64.
     pub changeable: u8,
+    /// How many volatile rows there are, at most 16.
     pub volatile: u8,
+    /// Whether the sign has beacons.
     pub beacon: bool,
+    /// Whether the sign has a pixel service.
     pub pixel: bool,
+    /// The order of the octets of its checksums.
     pub order: Order,
 }
 

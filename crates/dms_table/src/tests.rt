@@ -3,7 +3,7 @@
 
 use crate::{
     Activation, Ask, Cause, Field, MessageId, Order, Permanent, Refused, RowId, Shown, Status,
-    Stock, Table, TableFault, Verdict,
+    Stock, Table, TableFault, Verdict, memory,
 };
 use arrayvec::ArrayVec;
 use dms_face::{Defaults, Face, Font, MultiFault, MultiFaultCode};
@@ -443,5 +443,37 @@ fn counts(rt: HostRuntime) -> Result<(), Fail> {
             }
         }
     }
+    Ok(())
+}
+
+/// Under `--fail-alloc N`: a refused allocation of the table is answered by Memory. One of the face ends the test.
+#[test]
+fn table_or_out_of_memory(rt: HostRuntime) -> Result<(), Fail> {
+    let face = bench_face(rt.alloc())?;
+    match Table::new(rt.alloc(), bench_stock(&[B]), &face) {
+        Ok(table) => assert_eq!(rt;
+            (table.row_count(2), table.row_count(3), table.row_count(4)),
+            (1, 2, 1)
+        ),
+        Err(fault) => assert_eq!(rt; fault, TableFault::Memory),
+    }
+    Ok(())
+}
+
+#[test]
+fn example(rt: HostRuntime) -> Result<(), Fail> {
+    let face = bench_face(rt.alloc())?;
+    let mut table = Table::new(rt.alloc(), bench_stock(&[]), &face).map_err(|_| "no table")?;
+    let row = RowId {
+        memory: memory::CHANGEABLE,
+        number: 1,
+    };
+    assert_eq!(rt; table.ask(row, Ask::Modify), Ok(()));
+    assert_eq!(rt; table.write(row, Field::Text(b"A")), Ok(()));
+    assert_eq!(rt; table.ask(row, Ask::Validate), Ok(()));
+    assert_eq!(rt; table.takes(row, Ask::Modify), false);
+    let verdict = table.settle(&face, &face.defaults()).ok_or("no verdict")?;
+    assert_eq!(rt; (verdict.error, verdict.passes()), (2, true));
+    assert_eq!(rt; table.row(row).map(|row| row.checksum), Some(0x9a66));
     Ok(())
 }

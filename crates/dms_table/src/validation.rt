@@ -9,11 +9,13 @@ ghost use Rattle.dms_table.specs.ValidatorView.{face_of};
 use crate::row::Services;
 use dms_face::{Defaults, Face, MultiFault, check_with};
 
-/// The verdict on a row: its error is a value of dmsValidateMessageError, 2 where the row is valid, 3 for a beacon and 4 for a pixel
-/// service that the sign has not, 5 for a text that does not fit, which has its fault.
+/// The verdict on a row (NTCIP 1203, dmsValidateMessageError).
 #[derive(Clone, Copy, Debug, PartialEq, Eq)]
 pub struct Verdict {
+    /// A value of dmsValidateMessageError: 2 where the row is valid, 3 for a beacon and 4 for a pixel service that the sign has not,
+    /// 5 for a text that does not fit.
     pub error: u8,
+    /// The fault of a text that does not fit.
     pub fault: Option<MultiFault>,
 }
 
@@ -26,8 +28,8 @@ impl Verdict {
 
     const SYNTAX_MULTI: u8 = 5;
 
-    /// Whether nothing is wrong.
-    pub(crate) fn passes(&self) -> bool
+    /// Whether nothing is wrong, so that the row becomes valid.
+    pub fn passes(&self) -> bool
         ensures { result ≡ passes self.now }
     {
         self.error == Verdict::VALID
