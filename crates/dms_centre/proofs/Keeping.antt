@@ -20,7 +20,8 @@ use Rattle.dms_centre.specs.Steps.{step_number, is_activating}
 use Rattle.dms_centre.specs.Sending.{Move, rests, ends, fails, waits, at_step, last_number, sends, sends_octets, request_octets}
 use Rattle.dms_centre.specs.Replies.{decided, polled_again, is_status, own_checksum, on_number, number_read, on_read, asked, on_success, on_failure, on_reply, is_answer}
 use Rattle.dms_centre.specs.Commands.{CommandModel, IsCommand, OfPublish, OfBlank, OfActivate, is_good, refusal_of, job_of, begins, commanded}
-use Rattle.dms_centre.specs.Inputs.{on_message, on_datagram, received, gives_up, older, sent_again, sends_again, on_silence, on_tick, ticked, forgets, restarted}
+use Rattle.dms_centre.specs.Resending.{gives_up, older, sent_again, sends_again, on_silence}
+use Rattle.dms_centre.specs.Inputs.{on_message, on_datagram, received, on_tick, ticked, forgets, restarted}
 use Rattle.dms_centre.specs.History.{AreSettings, Input, IsInput, OfCommand, OfDatagram, OfTick, OfRestart, History, made, move_at, after_input, after_inputs}
 use Rattle.dms_centre.specs.Requests.{IsWork, OfPublishing, OfShowing, IsRequest}
 use Rattle.dms_centre.specs.RequestNumbers.{HasNumber, Nothing, Again, New}

@@ -26,7 +26,8 @@ use Rattle.dms_centre.specs.Steps.{is_activating, code_of, request_of}
 use Rattle.dms_centre.specs.Sending.{Move, rests, ends, fails, waits, at_step, last_number, sends, sends_octets, request_octets}
 use Rattle.dms_centre.specs.Replies.{with_outcome, decided, polled_again, is_status, own_checksum, on_number, number_read, on_read, asked, on_success, on_failure, on_reply, is_response, is_answer}
 use Rattle.dms_centre.specs.Commands.{CommandModel, IsCommand, refusal_of, job_of, begins, commanded}
-use Rattle.dms_centre.specs.Inputs.{on_message, on_datagram, received, is_waiting, given_up, gives_up, older, sends_again, on_silence, on_tick, ticked, forgets, restarted}
+use Rattle.dms_centre.specs.Resending.{is_waiting, given_up, gives_up, older, sends_again, on_silence}
+use Rattle.dms_centre.specs.Inputs.{on_message, on_datagram, received, on_tick, ticked, forgets, restarted}
 use Rattle.dms_centre.specs.History.{AreSettings, Input, Commands, Hears, Ticks, Restarts, IsInput, OfCommand, OfDatagram, OfTick, OfRestart, move_at}
 use Rattle.dms_centre.specs.Requests.{IsWork}
 use Rattle.dms_centre.specs.Numbered.{IsAtWork}

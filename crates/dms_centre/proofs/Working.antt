@@ -15,7 +15,8 @@ use Rattle.dms_centre.specs.Steps.{is_activating, code_of}
 use Rattle.dms_centre.specs.Sending.{Move, rests, fails, waits, at_step, last_number, sends, sends_octets, request_octets}
 use Rattle.dms_centre.specs.Replies.{decided, polled_again, is_status, own_checksum, on_number, number_read, on_read, asked, on_success, on_failure, on_reply, is_answer}
 use Rattle.dms_centre.specs.Commands.{CommandModel, refusal_of, job_of, begins, commanded}
-use Rattle.dms_centre.specs.Inputs.{on_message, on_datagram, received, gives_up, older, sends_again, on_tick, ticked, forgets, restarted}
+use Rattle.dms_centre.specs.Resending.{gives_up, older, sends_again}
+use Rattle.dms_centre.specs.Inputs.{on_message, on_datagram, received, on_tick, ticked, forgets, restarted}
 use Rattle.dms_centre.specs.History.{Input, Commands, Hears, Ticks, Restarts, History, move_at, IsInput}
 use Rattle.dms_centre.proofs.Lists.{either_way}
 use Rattle.dms_centre.proofs.LedgerLaws.{IsKept, ledger_move}

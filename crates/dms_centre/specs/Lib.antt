@@ -3,6 +3,7 @@ pub mod Steps
 pub mod Sending
 pub mod Replies
 pub mod Commands
+pub mod Resending
 pub mod Inputs
 pub mod History
 pub mod Requests

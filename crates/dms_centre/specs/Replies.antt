@@ -30,10 +30,14 @@ decided state number outcome = record state { ledger = map (with_outcome number 
 
 -- ---- a number was read
 
+-- how many times a row is polled that is being validated
+abbrev pub most_polls : ℕ
+most_polls = 10
+
 -- Each row that still is being validated is polled ten times in all, one tick apart.
 abbrev pub polled_again : CentreState → Job → Move
 polled_again state job =
-    if nat_lt (job.polls + 1) 10 then waits state (record job { polls = job.polls + 1 })
+    if nat_lt (job.polls + 1) most_polls then waits state (record job { polls = job.polls + 1 })
     else fails state Polling StillValidating
 
 abbrev pub is_status : ℤ → ℕ → Bool
