@@ -226,7 +226,7 @@ request_within settings number work step fine few is = record {
   bindings = (fine_bindings settings.order work step is).within;
 }
 
-request_fits : (settings : SettingsModel) (number : ℕ) (work : Work) (step : Step) → AreSettings settings → number ≤ last_number → IsWork work
+pub request_fits : (settings : SettingsModel) (number : ℕ) (work : Work) (step : Step) → AreSettings settings → number ≤ last_number → IsWork work
     → length (canonical (request_of settings number work step)) ≤ 1472
 unfolding request_of
 request_fits settings number work step fine few is =

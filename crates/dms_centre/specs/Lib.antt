@@ -1,3 +1,4 @@
+-- What a reader must believe: the machine of the central system, and what the code's types say in its words.
 pub mod State
 pub mod Steps
 pub mod Sending
@@ -5,9 +6,15 @@ pub mod Replies
 pub mod Commands
 pub mod Resending
 pub mod Inputs
+pub mod Room
+pub mod CodeView
+pub mod Texts
+-- What its laws are stated in.
 pub mod History
 pub mod Requests
 pub mod RequestNumbers
-pub mod Numbered
 pub mod Ledger
-pub mod FaultTexts
+-- What only proofs go through.
+pub mod Numbered
+pub mod ByPhase
+pub mod Invariant

@@ -1,6 +1,6 @@
 -- How the central system waits for a reply (this profile): the same octets go out again, a number of times; then the activations that
 -- wait are given up.
-use Rattle.std.specs.Prelude.{ℕ, ◌+◌, Bool, true, false, List, map, Some, nat_lt, if◌then◌else◌}
+use Rattle.std.specs.Prelude.{ℕ, ◌+◌, Bool, true, false, map, Some, nat_lt, if◌then◌else◌}
 use Rattle.dms_centre.specs.declared.ended.Why.TheVariants as reasons
 use Rattle.dms_centre.specs.declared.outcome.Outcome.{Outcome}
 use Rattle.dms_centre.specs.declared.outcome.Outcome.TheVariants.{Waiting, NoReply}

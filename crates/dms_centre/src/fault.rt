@@ -1,4 +1,4 @@
-//! Why a command is not taken.
+//! Why a command is not taken, and why a tick does nothing.
 
 use std::error::Error;
 use std::fmt;
@@ -12,13 +12,13 @@ pub enum CommandFault {
     NumbersUsedUp,
     /// A value of the command is out of its range.
     BadCommand,
-    /// There is no memory for the ledger's entry.
+    /// There is no memory for an entry of the ledger.
     Memory,
 }
 
 impl fmt::Display for CommandFault {
     ghost use Rattle.std.specs.Prelude.{Some};
-    ghost use Rattle.dms_centre.specs.FaultTexts.{command_fault_text};
+    ghost use Rattle.dms_centre.specs.Texts.{command_fault_text};
 
     ghost output = { λ fault. Some (command_fault_text fault) };
 
@@ -27,9 +27,26 @@ impl fmt::Display for CommandFault {
             CommandFault::Busy => f.write_str("a job is not done yet"),
             CommandFault::NumbersUsedUp => f.write_str("no request number is left"),
             CommandFault::BadCommand => f.write_str("a value is out of its range"),
-            CommandFault::Memory => f.write_str("no memory"),
+            CommandFault::Memory => f.write_str("out of memory"),
         }
     }
 }
 
 impl Error for CommandFault {}
+
+/// There is no memory for an entry of the ledger: nothing is sent, and nothing changes.
+#[derive(Clone, Copy, Debug, PartialEq, Eq)]
+pub struct NoMemory;
+
+impl fmt::Display for NoMemory {
+    ghost use Rattle.std.specs.Prelude.{Some};
+    ghost use Rattle.dms_centre.specs.Texts.{no_memory_text};
+
+    ghost output = { λ _. Some no_memory_text };
+
+    fn fmt<W: fmt::Write>(&self, f: &mut fmt::Formatter<W>) -> fmt::Result {
+        f.write_str("out of memory")
+    }
+}
+
+impl Error for NoMemory {}

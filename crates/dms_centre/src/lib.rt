@@ -1,13 +1,27 @@
 //! The central system of a sign: it does one operator's command at a time, and keeps a ledger of the codes that it sent.
 #![tactic(auto)]
 
+mod answering;
+pub mod centre;
+pub mod command;
 pub mod ended;
 pub mod fault;
+mod job;
 pub mod laws;
+pub mod ledger;
 pub mod outcome;
+mod pending;
+mod reply;
+mod request;
+pub mod settings;
+mod stage;
 pub mod step;
 
+pub use centre::Centre;
+pub use command::Command;
 pub use ended::{Ended, Why};
-pub use fault::CommandFault;
+pub use fault::{CommandFault, NoMemory};
+pub use ledger::Entry;
 pub use outcome::Outcome;
+pub use settings::{CentreFault, Settings};
 pub use step::Step;

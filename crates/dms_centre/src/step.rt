@@ -20,3 +20,30 @@ pub enum Step {
     /// 8: reads why it was not put up.
     Explaining,
 }
+
+impl Step {
+    ghost use Rattle.std.specs.Prelude.{◌≡◌};
+    ghost use Rattle.dms_centre.specs.Steps.{is_activating, step_number};
+
+    /// The step's number, 1 to 8.
+    pub fn number(self) -> u8
+        ensures { result ≡ step_number self }
+    {
+        match self {
+            Step::Opening => 1,
+            Step::Opened => 2,
+            Step::Filling => 3,
+            Step::Validating => 4,
+            Step::Polling => 5,
+            Step::Comparing => 6,
+            Step::Activating => 7,
+            Step::Explaining => 8,
+        }
+    }
+
+    pub(crate) fn is_activating(self) -> bool
+        ensures { result ≡ is_activating self }
+    {
+        self == Step::Activating
+    }
+}

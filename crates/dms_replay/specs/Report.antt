@@ -1,15 +1,13 @@
 -- The report of a run (this profile): lines of words and numbers, octets in small hexadecimal digits.
 use Rattle.std.specs.Prelude.{ℕ, List, [], ◌∷◌, ◌++◌, length, codes, decimal, flat_map}
-use Rattle.std.specs.Fmt.{signed_decimal}
 use Rattle.hex.specs.Hex.{encode_lower}
 use Rattle.dms_codes.specs.declared.codes.Order.{Order}
 use Rattle.dms_codes.specs.declared.codes.Activation.{Activation}
 use Rattle.dms_codes.specs.Codes.{two_octets, octets_of_activation}
 use Rattle.dms_table.specs.Activation.{ShownModel}
 use Rattle.dms_sign.specs.Values.{minutes_left}
-use Rattle.dms_centre.specs.declared.outcome.Outcome.{Outcome}
-use Rattle.dms_centre.specs.declared.outcome.Outcome.TheVariants.{Waiting, Accepted, Refused, NoReply, Unknown}
 use Rattle.dms_centre.specs.State.{Entry}
+use Rattle.dms_centre.specs.Texts.{outcome_text}
 use Rattle.dms_replay.specs.World.{WorldModel}
 
 -- ---- words
@@ -22,13 +20,6 @@ octets_text (octet ∷ octets) = encode_lower (octet ∷ octets)
 -- the twelve octets of a code
 abbrev pub code_text : Order → Activation → List ℕ
 code_text order code = encode_lower (octets_of_activation order code)
-
-abbrev pub outcome_text : Outcome → List ℕ
-outcome_text Waiting = codes "waiting"
-outcome_text Accepted = codes "accepted"
-outcome_text (Refused status) = codes "refused " ++ signed_decimal status
-outcome_text NoReply = codes "noreply"
-outcome_text Unknown = codes "unknown"
 
 -- ---- lines
 

@@ -1,0 +1,23 @@
+-- When the central system takes memory (this profile): for an entry of the ledger, where the ledger has no room for it.
+use Rattle.std.specs.Prelude.{ℕ, Bool, false, ◌&&◌, nat_le}
+use Rattle.dms_centre.specs.State.{CentreState, Job, Phase, Idle, Awaits, Due}
+use Rattle.dms_centre.specs.Steps.{is_activating}
+use Rattle.dms_centre.specs.Sending.{last_number}
+
+-- spare: how many more entries the ledger takes without memory
+pub record CentreModel : Type 0 where
+  pub state : CentreState
+  pub spare : ℕ
+
+-- sending the job's request makes an entry of the ledger
+abbrev pub enters : CentreState → Job → Bool
+enters state job = is_activating job.step && nat_le state.next last_number
+
+abbrev pub enters_due : CentreState → Phase → Bool
+enters_due state Idle = false
+enters_due state (Awaits job pending) = false
+enters_due state (Due job) = enters state job
+
+-- a tick makes an entry of the ledger
+abbrev pub enters_at_tick : CentreState → Bool
+enters_at_tick state = enters_due state state.phase

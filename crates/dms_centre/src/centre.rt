@@ -1,0 +1,296 @@
+//! The central system.
+
+ghost use Rattle.std.specs.Prelude.{◌≡◌, ◌≤◌, ◌<◌, ◌↔◌, ◌⊎◌, [], true, false, length, IsOk, IfOk, IfErr, OnOk, OnErr, Some, None, Err};
+ghost use Rattle.dms_centre.specs.declared.fault.CommandFault.TheVariants as faults;
+ghost use Rattle.dms_centre.specs.State.{start, is_busy};
+ghost use Rattle.dms_centre.specs.Steps.{is_activating};
+ghost use Rattle.dms_centre.specs.Commands.{commanded, job_of, refusal_of};
+ghost use Rattle.dms_centre.specs.Inputs.{ticked, restarted};
+ghost use Rattle.dms_centre.specs.Sending.{ends};
+ghost use Rattle.dms_centre.specs.Room.{enters_at_tick};
+ghost use Rattle.dms_centre.specs.ByPhase.{is_awaiting, sends_job, adds_entry};
+ghost use Rattle.dms_centre.specs.CodeView.{settings_model, command_model, ledger_model, sent_in};
+
+use crate::command::Command;
+use crate::ended::{Ended, Why};
+use crate::fault::{CommandFault, NoMemory};
+use crate::job::{Job, kept};
+use crate::ledger::{Entry, enter_job, give_up};
+use crate::outcome::Outcome;
+use crate::pending::{MOST_SENDS, Pending, TICKS_TO_WAIT};
+use crate::request::put_request;
+use crate::settings::{CentreFault, Settings};
+use crate::stage::Stage;
+use arrayvec::ArrayVec;
+use dms_codes::Order;
+use dms_wire::Out;
+use indexmap::IndexMap;
+use std::alloc::Global;
+use std::marker::Model;
+
+/// The most octets of a community.
+const MAX_COMMUNITY: usize = 32;
+
+/// The last number that a request can have (RFC 1157, 4.1.1).
+const LAST_NUMBER: u32 = 2_147_483_647;
+
+/// The central system of one sign.
+///
+/// It does one command at a time, by a job of up to eight requests, and keeps a ledger of the codes that it sent. A contract sees the state
+/// of the definitions, and how many more entries the ledger takes without memory.
+#[derive(Drop)]
+pub struct Centre {
+    community: ArrayVec<u8, MAX_COMMUNITY>,
+    order: Order,
+    /// The number that the next request takes.
+    pub(crate) next: u32,
+    pub(crate) stage: Stage,
+    /// Of no meaning where no job is on.
+    pub(crate) job: Job,
+    /// Of no meaning where no request waits.
+    pub(crate) pending: Pending,
+    pub(crate) ledger: IndexMap<u32, Entry>,
+    pub(crate) last: Ended,
+}
+
+impl Model for Centre {
+    ghost use Rattle.indexmap.specs.IndexMap.{spare};
+    ghost use Rattle.dms_centre.specs.Room.{CentreModel};
+    ghost use Rattle.dms_centre.specs.CodeView.{phase_model, ledger_model};
+    ghost use Rattle.dms_centre.specs.Invariant.{IsState};
+
+    ghost Value = { CentreModel };
+
+    ghost view = { λ c. record {
+      state = record {
+        settings = record { community = c.community.items; order = c.order };
+        next = c.next;
+        phase = phase_model c.stage c.job c.pending;
+        ledger = ledger_model c.ledger.entries;
+        last = c.last;
+      };
+      spare = spare c.ledger;
+    } };
+
+    ghost invariant = { λ c. IsState (record {
+      settings = record { community = c.community.items; order = c.order };
+      next = c.next;
+      phase = phase_model c.stage c.job c.pending;
+      ledger = ledger_model c.ledger.entries;
+      last = c.last;
+    }) };
+}
+
+impl Centre {
+    /// A central system with no job, whose first request has the number `first`. Its ledger takes memory from `alloc` as it grows.
+    #[tactic(auto, using(crate::proofs::Fine::begins))]
+    pub fn new(alloc: Global, settings: Settings<'_>, first: u32) -> Result<Centre, CentreFault>
+        ensures made { IfOk result (λ centre. centre.state ≡ start (settings_model settings.entry) first) }
+        ensures community { IsOk result ↔ ((1 ≤ length settings.entry.community.now) × (length settings.entry.community.now ≤ 32)) }
+    {
+        let community = settings.community;
+        if community.is_empty() || community.len() > MAX_COMMUNITY {
+            return Err(CentreFault::Community);
+        }
+        Ok(Centre {
+            community: kept(community),
+            order: settings.order,
+            next: first,
+            stage: Stage::Idle,
+            job: Job::none(),
+            pending: Pending::none(),
+            ledger: IndexMap::new(alloc),
+            last: Ended::Never,
+        })
+    }
+
+    /// Whether a job is on.
+    pub fn busy(&self) -> bool
+        ensures { result ≡ is_busy self.now.state.phase }
+    {
+        self.stage != Stage::Idle
+    }
+
+    /// How the last job ended.
+    pub fn last(&self) -> Ended
+        ensures { result ≡ self.now.state.last }
+    {
+        self.last
+    }
+
+    /// The codes that were sent, in the order of sending, by the numbers of their requests.
+    pub fn ledger(&self) -> &IndexMap<u32, Entry>
+        ensures { ledger_model result.now.entries ≡ self.now.state.ledger }
+    {
+        &self.ledger
+    }
+
+    /// Begins anew, as after a loss of power: the next number and the ledger stay, a job ends, and what was waited for is unknown.
+    #[tactic(auto, using(crate::proofs::Fine::given_up_below), unfolding(crate::specs::Inputs::restarted))]
+    pub fn restart(&mut self)
+        ensures state { self.new.state ≡ restarted self.old.state }
+        ensures room { self.new.spare ≡ self.old.spare }
+    {
+        give_up(&mut self.ledger, Outcome::Unknown);
+        if self.busy() {
+            self.last = Ended::Failed(self.job.step.number(), Why::Restarted);
+            self.stage = Stage::Idle;
+        }
+    }
+
+    /// Takes the operator's command, or says the first thing that keeps it. What is sent is in `out`, which is empty where nothing is.
+    /// Memory is taken for an entry of the ledger alone, by a blank message and an activation.
+    #[tactic(auto, unfolding(crate::specs::Commands::commanded, crate::specs::Sending::sends))]
+    pub fn command(&mut self, command: Command<'_>, out: &mut Out) -> Result<(), CommandFault>
+        ensures state { OnOk result (self.new.state ≡ (commanded self.old.state (command_model command.entry)).state) }
+        ensures sent { OnOk result (sent_in out.new.items ≡ (commanded self.old.state (command_model command.entry)).sent) }
+        ensures taken { OnOk result (refusal_of self.old.state (command_model command.entry) ≡ None) }
+        ensures refused { IfErr result (λ fault. (fault ≡ faults.Memory) ⊎ (refusal_of self.old.state (command_model command.entry) ≡ Some fault)) }
+        ensures memory { result ≡ Err faults.Memory → (refusal_of self.old.state (command_model command.entry) ≡ None)
+            × (is_activating (job_of (command_model command.entry)).step ≡ true) × (self.old.spare ≡ 0) }
+        ensures unchanged { OnErr result (self.new.state ≡ self.old.state) }
+        ensures silent { OnErr result (out.new.items ≡ []) }
+    {
+        out.clear();
+        if let Some(fault) = self.refusal(&command) {
+            return Err(fault);
+        }
+        let job = Job::of(&command);
+        if job.step.is_activating() && self.make_room().is_err() {
+            return Err(CommandFault::Memory);
+        }
+        self.job = job;
+        self.stage = Stage::Due;
+        self.send(out);
+        Ok(())
+    }
+
+    /// One tick of the clock: a request that waits grows older, is sent again, or is given up; what is due is sent. What is sent is in
+    /// `out`, which is empty where nothing is. Memory is taken for an entry of the ledger alone, before an activation that is due.
+    #[tactic(auto, unfolding(crate::specs::Inputs::ticked))]
+    pub fn tick(&mut self, out: &mut Out) -> Result<(), NoMemory>
+        ensures state { OnOk result (self.new.state ≡ (ticked self.old.state).state) }
+        ensures sent { OnOk result (sent_in out.new.items ≡ (ticked self.old.state).sent) }
+        ensures memory { OnErr result ((enters_at_tick self.old.state ≡ true) × (self.old.spare ≡ 0)) }
+        ensures unchanged { OnErr result (self.new.state ≡ self.old.state) }
+        ensures silent { OnErr result (out.new.items ≡ []) }
+    {
+        out.clear();
+        match self.stage {
+            Stage::Idle => {}
+            Stage::Awaits => self.hear_nothing(out),
+            Stage::Due => {
+                if self.adds_entry() {
+                    self.make_room()?;
+                }
+                self.send(out);
+            }
+        }
+        Ok(())
+    }
+
+    /// The community of its requests.
+    pub(crate) fn community(&self) -> &[u8]
+        ensures { result.now ≡ self.now.state.settings.community }
+    {
+        self.community.as_slice()
+    }
+
+    /// Which octet of a checksum its sign has first.
+    pub(crate) fn order(&self) -> Order
+        ensures { result ≡ self.now.state.settings.order }
+    {
+        self.order
+    }
+
+    /// The first thing that keeps a command.
+    fn refusal(&self, command: &Command<'_>) -> Option<CommandFault>
+        ensures { result ≡ refusal_of self.now.state (command_model command.now) }
+    {
+        if self.busy() {
+            Some(CommandFault::Busy)
+        } else if self.next > LAST_NUMBER {
+            Some(CommandFault::NumbersUsedUp)
+        } else if !command.is_good() {
+            Some(CommandFault::BadCommand)
+        } else {
+            None
+        }
+    }
+
+    /// Whether the request of the job makes an entry of the ledger.
+    fn adds_entry(&self) -> bool
+        requires { is_busy self.now.state.phase ≡ true }
+        ensures { result ≡ adds_entry self.now.state self.now.state.phase }
+    {
+        self.job.step.is_activating() && self.next <= LAST_NUMBER
+    }
+
+    /// Makes room for one more entry of the ledger.
+    fn make_room(&mut self) -> Result<(), NoMemory>
+        ensures made { OnOk result (0 < self.new.spare) }
+        ensures none { OnErr result (self.old.spare ≡ 0) }
+        ensures state { self.new.state ≡ self.old.state }
+    {
+        match self.ledger.reserve(1) {
+            Ok(()) => Ok(()),
+            Err(_) => Err(NoMemory),
+        }
+    }
+
+    /// The job is done.
+    pub(crate) fn end(&mut self, ended: Ended)
+        ensures state { self.new.state ≡ ends self.old.state ended }
+        ensures room { self.new.spare ≡ self.old.spare }
+    {
+        self.stage = Stage::Idle;
+        self.last = ended;
+    }
+
+    /// Sends the job's request under the next number; where there is none, the job fails.
+    #[tactic(auto, using(crate::proofs::Fine::sent_in_canonical), unfolding(crate::specs::Sending::sends))]
+    pub(crate) fn send(&mut self, out: &mut Out)
+        requires busy { is_busy self.old.state.phase ≡ true }
+        requires room { adds_entry self.old.state self.old.state.phase ≡ true → 0 < self.old.spare }
+        requires empty { out.old.items ≡ [] }
+        ensures state { self.new.state ≡ (sends_job self.old.state self.old.state.phase).state }
+        ensures sent { sent_in out.new.items ≡ (sends_job self.old.state self.old.state.phase).sent }
+        ensures spare { adds_entry self.old.state self.old.state.phase ≡ false → self.new.spare ≡ self.old.spare }
+    {
+        if self.next > LAST_NUMBER {
+            self.end(Ended::Failed(self.job.step.number(), Why::NumbersUsedUp));
+            return;
+        }
+        put_request(
+            self.community.as_slice(),
+            self.order,
+            self.next,
+            &self.job.work,
+            self.job.step,
+            out,
+        );
+        enter_job(&mut self.ledger, self.next, &self.job);
+        self.pending.begin(self.next, out);
+        self.stage = Stage::Awaits;
+        self.next += 1;
+    }
+
+    /// A tick without a reply: the request is sent again, a number of times; then the job fails.
+    #[tactic(auto, using(crate::proofs::Fine::given_up_below), unfolding(crate::specs::Inputs::ticked))]
+    fn hear_nothing(&mut self, out: &mut Out)
+        requires awaiting { is_awaiting self.old.state.phase ≡ true }
+        requires empty { out.old.items ≡ [] }
+        ensures state { self.new.state ≡ (ticked self.old.state).state }
+        ensures sent { sent_in out.new.items ≡ (ticked self.old.state).sent }
+    {
+        if self.pending.age + 1 < TICKS_TO_WAIT {
+            self.pending.age += 1;
+        } else if self.pending.sends < MOST_SENDS {
+            self.pending.send_again(out);
+        } else {
+            give_up(&mut self.ledger, Outcome::NoReply);
+            self.last = Ended::Failed(self.job.step.number(), Why::NoReply);
+            self.stage = Stage::Idle;
+        }
+    }
+}

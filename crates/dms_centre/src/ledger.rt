@@ -1,0 +1,83 @@
+//! The ledger: the codes that were sent, by the numbers of their requests.
+
+ghost use Rattle.std.specs.Prelude.{◌≡◌, ◌<◌, ◌++◌, ◌∷◌, [], map, true, false};
+ghost use Rattle.indexmap.specs.IndexMap.{spare};
+ghost use Rattle.dms_centre.specs.declared.outcome.Outcome.TheVariants as outcomes;
+ghost use Rattle.dms_centre.specs.Steps.{is_activating};
+ghost use Rattle.dms_centre.specs.Sending.{entered};
+ghost use Rattle.dms_centre.specs.Replies.{with_outcome};
+ghost use Rattle.dms_centre.specs.Resending.{given_up};
+ghost use Rattle.dms_centre.specs.CodeView.{job_model, ledger_model};
+ghost use Rattle.dms_centre.specs.Invariant.{AllBelow};
+
+use crate::job::Job;
+use crate::outcome::Outcome;
+use dms_codes::Activation;
+use indexmap::IndexMap;
+
+/// A code that was sent, and what became of it.
+#[derive(Clone, Copy, Debug, PartialEq, Eq)]
+pub struct Entry {
+    pub code: Activation,
+    pub outcome: Outcome,
+}
+
+impl Entry {
+    ghost use Rattle.std.specs.Prelude.{◌≡◌};
+    ghost use Rattle.dms_centre.specs.CodeView.{entry_given_up};
+
+    /// Has this outcome, if it waits.
+    fn give_up(&mut self, outcome: Outcome)
+        ensures { self.new ≡ entry_given_up outcome self.old }
+    {
+        if self.outcome == Outcome::Waiting {
+            self.outcome = outcome;
+        }
+    }
+}
+
+/// A code is sent, under the number of its request.
+fn enter(ledger: &mut IndexMap<u32, Entry>, number: u32, code: Activation)
+    requires room { 0 < spare ledger.old }
+    requires below { AllBelow number (ledger_model ledger.old.entries) }
+    ensures { ledger_model ledger.new.entries
+        ≡ ledger_model ledger.old.entries ++ record { number = number; code = code; outcome = outcomes.Waiting } ∷ [] }
+{
+    let entry = Entry {
+        code,
+        outcome: Outcome::Waiting,
+    };
+    ledger.insert(number, entry).unwrap();
+}
+
+/// The request of a job is sent: where it puts a message up, the code enters the ledger.
+pub(crate) fn enter_job(ledger: &mut IndexMap<u32, Entry>, number: u32, job: &Job)
+    requires room { is_activating job.now.step ≡ true → 0 < spare ledger.old }
+    requires below { AllBelow number (ledger_model ledger.old.entries) }
+    ensures entries { ledger_model ledger.new.entries ≡ entered (ledger_model ledger.old.entries) number (job_model job.now) }
+    ensures spare { is_activating job.now.step ≡ false → spare ledger.new ≡ spare ledger.old }
+{
+    if job.step.is_activating() {
+        enter(ledger, number, job.work.code());
+    }
+}
+
+/// The entry of this number, if there is one, has this outcome.
+pub(crate) fn decide(ledger: &mut IndexMap<u32, Entry>, number: u32, outcome: Outcome)
+    ensures entries { ledger_model ledger.new.entries ≡ map (with_outcome number outcome) (ledger_model ledger.old.entries) }
+    ensures room { spare ledger.new ≡ spare ledger.old }
+{
+    if let Some(index) = ledger.get_index_of(&number) {
+        ledger[index].outcome = outcome;
+    }
+}
+
+/// Every entry that waits has this outcome.
+pub(crate) fn give_up(ledger: &mut IndexMap<u32, Entry>, outcome: Outcome)
+    ensures entries { ledger_model ledger.new.entries ≡ map (given_up outcome) (ledger_model ledger.old.entries) }
+    ensures room { spare ledger.new ≡ spare ledger.old }
+{
+    for index in 0..ledger.len() {
+        ledger[index].give_up(outcome);
+    }
+}

@@ -1,0 +1,61 @@
+//! A request that waits for its reply.
+
+ghost use Rattle.std.specs.Prelude.{◌≡◌, ◌<◌, []};
+ghost use Rattle.dms_centre.specs.CodeView.{pending_model};
+ghost use Rattle.dms_centre.specs.Resending.{sent_again};
+
+use dms_wire::Out;
+
+/// How many times a request goes out.
+pub(crate) const MOST_SENDS: u8 = 3;
+
+/// How many ticks each time waits for its reply.
+pub(crate) const TICKS_TO_WAIT: u8 = 3;
+
+/// A request that waits for its reply.
+#[derive(Drop)]
+pub(crate) struct Pending {
+    pub(crate) number: u32,
+    pub(crate) octets: Out,
+    /// How many times it went out.
+    pub(crate) sends: u8,
+    /// The ticks since it went out last.
+    pub(crate) age: u8,
+}
+
+impl Pending {
+    /// No request.
+    pub(crate) fn none() -> Self {
+        Pending {
+            number: 0,
+            octets: Out::new(),
+            sends: 0,
+            age: 0,
+        }
+    }
+
+    /// A request goes out for the first time.
+    pub(crate) fn begin(&mut self, number: u32, octets: &Out)
+        ensures { pending_model self.new ≡ record { number = number; octets = octets.now.items; sends = 1; age = 0 } }
+    {
+        self.number = number;
+        self.octets.clear();
+        self.octets
+            .try_extend_from_slice(octets.as_slice())
+            .unwrap();
+        self.sends = 1;
+        self.age = 0;
+    }
+
+    /// The same octets go out again.
+    pub(crate) fn send_again(&mut self, out: &mut Out)
+        requires sends { self.old.sends < 255 }
+        requires empty { out.old.items ≡ [] }
+        ensures pending { pending_model self.new ≡ sent_again (pending_model self.old) }
+        ensures sent { out.new.items ≡ self.old.octets.items }
+    {
+        self.sends += 1;
+        self.age = 0;
+        out.try_extend_from_slice(self.octets.as_slice()).unwrap();
+    }
+}

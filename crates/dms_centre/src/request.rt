@@ -1,0 +1,182 @@
+//! The requests of a job.
+
+ghost use Rattle.std.specs.Prelude.{◌≡◌, ◌≤◌, ◌<◌, ◌∷◌, [], List, pos, map, length};
+ghost use Rattle.dms_wire.specs.Message.{VarBind, integer, octet_string};
+ghost use Rattle.dms_wire.specs.Canonical.{canonical};
+ghost use Rattle.dms_wire.specs.declared.message.Kind.TheVariants as kinds;
+ghost use Rattle.dms_wire.specs.View.{message_around, object_value, var_bind};
+ghost use Rattle.dms_objects.specs.Names.{cell_name, name_of};
+ghost use Rattle.dms_centre.specs.State.{Publishing};
+ghost use Rattle.dms_centre.specs.Steps.{fields, request_of};
+ghost use Rattle.dms_centre.specs.Sending.{last_number};
+ghost use Rattle.dms_centre.specs.History.{AreSettings};
+ghost use Rattle.dms_centre.specs.Requests.{IsWork};
+ghost use Rattle.dms_centre.specs.CodeView.{IsPushed, asking, publication_model, work_model};
+
+use crate::job::{Publication, Work};
+use crate::step::Step;
+use dms_codes::{Order, RowId};
+use dms_objects::{Column, Instance, Name, Scalar};
+use dms_wire::{Bind, BindingOctets, Header, Kind, MessageParts, Out, Value, write, write_around};
+
+/// Asks that a row may be modified (dmsMessageStatus, modifyReq).
+const MODIFY_REQUEST: i64 = 6;
+
+/// Asks that a row be validated (dmsMessageStatus, validateReq).
+const VALIDATE_REQUEST: i64 = 7;
+
+/// Writes the request of a step, under a number, over what `out` holds.
+#[tactic(auto, using(crate::proofs::Requests::request_fits), unfolding(crate::specs::Steps::request_of, dms_objects::specs::Names::name_of))]
+pub(crate) fn put_request(
+    community: &[u8],
+    order: Order,
+    number: u32,
+    work: &Work,
+    step: Step,
+    out: &mut Out,
+)
+    requires settings { AreSettings (record { community = community.now; order = order }) }
+    requires number { number ≤ last_number }
+    requires work { IsWork (work_model work.now) }
+    ensures { out.new.items ≡ canonical (request_of (record { community = community.now; order = order }) number (work_model work.now) step) }
+{
+    let row = work.row();
+    let status = Instance::Cell(Column::Status, row);
+    match step {
+        Step::Opening => {
+            let value = Value::Integer(MODIFY_REQUEST);
+            put_one(community, Kind::Set, number, status, value, out);
+        }
+        Step::Opened | Step::Polling => {
+            put_one(community, Kind::Get, number, status, Value::Null, out);
+        }
+        Step::Filling => match work {
+            Work::Publishing(message) => put_fields(community, number, message, row, out),
+            Work::Showing(_) => put(community, Kind::Set, number, &[], out),
+        },
+        Step::Validating => {
+            let value = Value::Integer(VALIDATE_REQUEST);
+            put_one(community, Kind::Set, number, status, value, out);
+        }
+        Step::Comparing => {
+            let checksum = Instance::Cell(Column::Crc, row);
+            put_one(community, Kind::Get, number, checksum, Value::Null, out);
+        }
+        Step::Activating => {
+            let code = work.code().to_bytes(order);
+            let object = Instance::The(Scalar::ActivateMessage);
+            put_one(
+                community,
+                Kind::Set,
+                number,
+                object,
+                Value::Octets(&code),
+                out,
+            );
+        }
+        Step::Explaining => {
+            let object = Instance::The(Scalar::ActivateMsgError);
+            put_one(community, Kind::Get, number, object, Value::Null, out);
+        }
+    }
+}
+
+/// Writes the request that sets the fields of a row.
+#[tactic(auto, unfolding(dms_objects::specs::Names::name_of))]
+fn put_fields(community: &[u8], number: u32, message: &Publication, row: RowId, out: &mut Out)
+    requires row { row ≡ record { memory = message.now.memory; number = message.now.number } }
+    requires fits { length (canonical (asking community.now kinds.Set number (fields (Publishing (publication_model message.now))))) ≤ 1472 }
+    ensures { out.new.items ≡ canonical (asking community.now kinds.Set number (fields (Publishing (publication_model message.now)))) }
+{
+    let mut fields = BindingOctets::new();
+    push_octets(
+        &mut fields,
+        row,
+        Column::MultiString,
+        message.text.as_slice(),
+    );
+    push_octets(&mut fields, row, Column::Owner, message.owner.as_slice());
+    push_number(&mut fields, row, Column::Beacon, message.beacon);
+    push_number(&mut fields, row, Column::PixelService, message.pixel);
+    push_number(
+        &mut fields,
+        row,
+        Column::RunTimePriority,
+        message.run_priority,
+    );
+    write_around(&header(community, Kind::Set, number), &fields, out).unwrap();
+}
+
+/// What a request says beside its bindings.
+fn header(community: &[u8], kind: Kind, number: u32) -> Header<'_>
+    ensures { (bindings : List VarBind) → message_around result bindings ≡ asking community.now kind number bindings }
+{
+    Header {
+        community,
+        kind,
+        request: i64::from(number),
+        status: 0,
+        index: 0,
+    }
+}
+
+/// A field more of a row: octets.
+fn push_octets(fields: &mut BindingOctets, row: RowId, column: Column, octets: &[u8])
+    ensures { IsPushed fields.old (record { name = cell_name column row; value = octet_string octets.now }) fields.new }
+{
+    push_field(fields, row, column, Value::Octets(octets));
+}
+
+/// A field more of a row: a number.
+fn push_number(fields: &mut BindingOctets, row: RowId, column: Column, number: u8)
+    ensures { IsPushed fields.old (record { name = cell_name column row; value = integer (pos number) }) fields.new }
+{
+    push_field(fields, row, column, Value::Integer(i64::from(number)));
+}
+
+/// A field more of a row.
+fn push_field(fields: &mut BindingOctets, row: RowId, column: Column, value: Value<'_>)
+    ensures { IsPushed fields.old (record { name = cell_name column row; value = object_value value.entry }) fields.new }
+{
+    let name = Name::of(Instance::Cell(column, row));
+    fields.push(&Bind {
+        name: name.oid(),
+        value,
+    });
+}
+
+/// Writes a request with one binding.
+fn put_one(
+    community: &[u8],
+    kind: Kind,
+    number: u32,
+    object: Instance,
+    value: Value<'_>,
+    out: &mut Out,
+)
+    requires { length (canonical (asking community.now kind number (record { name = name_of object; value = object_value value } ∷ []))) ≤ 1472 }
+    ensures { out.new.items ≡ canonical (asking community.now kind number (record { name = name_of object; value = object_value value.entry } ∷ [])) }
+{
+    let name = Name::of(object);
+    let binds = [Bind {
+        name: name.oid(),
+        value,
+    }];
+    put(community, kind, number, &binds, out);
+}
+
+/// Writes a request with these bindings.
+fn put(community: &[u8], kind: Kind, number: u32, binds: &[Bind<'_>], out: &mut Out)
+    requires { length (canonical (asking community.now kind number (map var_bind binds.now))) ≤ 1472 }
+    ensures { out.new.items ≡ canonical (asking community.now kind number (map var_bind binds.now)) }
+{
+    let parts = MessageParts {
+        community,
+        kind,
+        request: i64::from(number),
+        status: 0,
+        index: 0,
+        binds,
+    };
+    write(&parts, out).unwrap();
+}
