@@ -1,0 +1,189 @@
+"""Writes crates/dms_centre/src/tests/cases.rt: requests of the central system and replies to them, in octets.
+
+    python3 tools/centre_cases.py > crates/dms_centre/src/tests/cases.rt
+
+The octets are made here from NTCIP 1203's names, X.690's short forms and RFC 1157's messages, with nothing of the
+repository's code. What it writes is laid out as by rt fmt.
+"""
+
+COMMUNITY = b"admin"
+DMS = (1, 3, 6, 1, 4, 1, 1206, 4, 2, 3)
+GET, RESPONSE, SET = 0xA0, 0xA2, 0xA3
+TEXT, OWNER, CHECKSUM, BEACON, PIXEL_SERVICE, PRIORITY, STATUS = 3, 4, 5, 6, 7, 8, 9
+
+
+def element(tag, content):
+    size = len(content)
+    if size < 128:
+        return bytes([tag, size]) + content
+    digits = size.to_bytes((size.bit_length() + 7) // 8, "big")
+    return bytes([tag, 128 + len(digits)]) + digits + content
+
+
+def integer(number):
+    return element(2, number.to_bytes(number.bit_length() // 8 + 1, "big"))
+
+
+def octets(content):
+    return element(4, content)
+
+
+NULL = element(5, b"")
+
+
+def name(numbers):
+    content = bytes([40 * numbers[0] + numbers[1]])
+    for number in numbers[2:]:
+        digits = [number % 128]
+        while number >= 128:
+            number //= 128
+            digits.insert(0, 128 + number % 128)
+        content += bytes(digits)
+    return element(6, content)
+
+
+def cell(column, row):
+    return name(DMS + (5, 8, 1, column) + row)
+
+
+def scalar(number):
+    return name(DMS + (6, number, 0))
+
+
+def message(kind, number, bindings, status=0, index=0, community=COMMUNITY):
+    listed = element(0x30, b"".join(element(0x30, one + value) for one, value in bindings))
+    pdu = element(kind, integer(number) + integer(status) + integer(index) + listed)
+    return element(0x30, integer(0) + octets(community) + pdu)
+
+
+def checksum(content):
+    register = 0xFFFF
+    for octet in content:
+        register ^= octet
+        for _ in range(8):
+            register = (register >> 1) ^ (0x8408 if register & 1 else 0)
+    return register ^ 0xFFFF
+
+
+assert checksum(b"123456789") == 0x906E
+
+
+class Publication:
+    def __init__(self, row, text, owner, beacon, pixel, run_priority, swapped):
+        self.row = row
+        crc = checksum(text + bytes([beacon, pixel])).to_bytes(2, "big")
+        self.crc = crc[::-1] if swapped else crc
+        self.fields = [
+            (cell(TEXT, row), octets(text)),
+            (cell(OWNER, row), octets(owner)),
+            (cell(BEACON, row), integer(beacon)),
+            (cell(PIXEL_SERVICE, row), integer(pixel)),
+            (cell(PRIORITY, row), integer(run_priority)),
+        ]
+        memory, number = row
+        self.code = bytes([255, 255, 255, memory]) + number.to_bytes(2, "big") + self.crc + bytes([192, 0, 2, 1])
+
+    def sets(self, number, bindings):
+        return message(SET, number, bindings), message(RESPONSE, number, bindings)
+
+    def reads(self, number, column, value):
+        asked = cell(column, self.row)
+        return message(GET, number, [(asked, NULL)]), message(RESPONSE, number, [(asked, integer(value))])
+
+    def steps(self):
+        status = cell(STATUS, self.row)
+        return [
+            self.sets(1, [(status, integer(6))]),
+            self.reads(2, STATUS, 2),
+            self.sets(3, self.fields),
+            self.sets(4, [(status, integer(7))]),
+            self.reads(5, STATUS, 4),
+            self.reads(6, CHECKSUM, int.from_bytes(self.crc, "big")),
+            self.sets(7, [(scalar(3), octets(self.code))]),
+        ]
+
+
+A = Publication((3, 1), b"A", b"", 0, 0, 200, False)
+LONG = Publication((4, 300), b"[jl2]" + b"A" * 150, b"operator", 1, 1, 1, True)
+
+
+def literal(content):
+    return 'b"' + "".join(f"\\x{octet:02x}" for octet in content) + '"'
+
+
+def print_rows(title, about, kind, rows):
+    print(f"\n/// {about}\npub static {title}: [{kind}; {len(rows)}] = [")
+    for row in rows:
+        print("    (")
+        for field in row:
+            print(f"        {field},")
+        print("    ),")
+    print("];")
+
+
+def print_octets(title, about, content):
+    print(f"\n/// {about}\npub static {title}: [u8; {len(content)}] =\n    *{literal(content)};")
+
+
+def error(number, bindings, status, index=1):
+    return message(RESPONSE, number, bindings, status, index)
+
+
+status_cell = cell(STATUS, A.row)
+reported = (status_cell, integer(2))
+ENDINGS = [
+    (0, error(1, [(status_cell, integer(6))], 5), "Failed(1, Why::Status(5))"),
+    (1, message(RESPONSE, 2, [(status_cell, integer(5))]), "Failed(2, Why::WrongStatus(5))"),
+    (1, error(2, [(status_cell, NULL)], 2), "Failed(2, Why::Status(2))"),
+    (1, message(RESPONSE, 2, [reported, reported]), "Failed(2, Why::OddReply)"),
+    (1, message(RESPONSE, 2, []), "Failed(2, Why::OddReply)"),
+    (1, message(RESPONSE, 2, [(cell(STATUS, (3, 2)), integer(2))]), "Failed(2, Why::OddReply)"),
+    (1, message(RESPONSE, 2, [(status_cell, octets(b"\2"))]), "Failed(2, Why::OddReply)"),
+    (2, error(3, A.fields, 3), "Failed(3, Why::Status(3))"),
+    (3, error(4, [(status_cell, integer(7))], 5), "Failed(4, Why::Status(5))"),
+    (4, message(RESPONSE, 5, [(status_cell, integer(5))]), "Failed(5, Why::WrongStatus(5))"),
+    (5, message(RESPONSE, 6, [(cell(CHECKSUM, A.row), integer(0x7502))]), "Failed(6, Why::OtherChecksum)"),
+    (5, message(RESPONSE, 6, [(cell(CHECKSUM, A.row), integer(0x669A))]), "Failed(6, Why::OtherChecksum)"),
+]
+
+first_reply = A.steps()[0][1]
+FOREIGN = [
+    message(RESPONSE, 1, [(status_cell, integer(6))], community=b"public"),
+    message(RESPONSE, 2, [(status_cell, integer(6))]),
+    message(RESPONSE, 0, [(status_cell, integer(6))]),
+    message(SET, 1, [(status_cell, integer(6))]),
+    first_reply[:-1],
+    first_reply + b"\0",
+    b"",
+]
+
+activate = (scalar(3), octets(A.code))
+cause = scalar(17)
+LAST = 2147483647
+
+print('''//! Requests of the central system and replies to them, made by tools/centre_cases.py with nothing of this repository's code.
+use crate::{Ended, Why};''')
+steps = [(literal(request), literal(reply)) for request, reply in A.steps()]
+print_rows("PUBLISHED", "The requests that publish `A` in changeable row 1, the high octet of a checksum first, and good replies.",
+           "(&[u8], &[u8])", steps)
+steps = [(literal(request), literal(reply)) for request, reply in LONG.steps()]
+print_rows("PUBLISHED_SWAPPED", "Those that publish a longer text in volatile row 300, the low octet of a checksum first.",
+           "(&[u8], &[u8])", steps)
+polls = [A.reads(number, STATUS, 3) for number in range(5, 15)]
+print_rows("POLLS", "Ten polls, each answered by validating.", "(&[u8], &[u8])",
+           [(literal(request), literal(reply)) for request, reply in polls])
+print_rows("ENDINGS", "How many good replies there were, the next reply, and how it ends the publication.", "(usize, &[u8], Ended)",
+           [(count, literal(reply), "Ended::" + ended) for count, reply, ended in ENDINGS])
+print(f"\n/// What does not answer request 1.\npub static FOREIGN: [&[u8]; {len(FOREIGN)}] = [")
+for datagram in FOREIGN:
+    print(f"    {literal(datagram)},")
+print("];")
+print_octets("REFUSED", "The activation of `A` as request 7 is refused.", error(7, [activate], 5))
+print_octets("WHY", "Request 8, which asks for the cause.", message(GET, 8, [(cause, NULL)]))
+print_octets("PRIORITY", "The cause is the priority.", message(RESPONSE, 8, [(cause, integer(3))]))
+print_octets("BLANK", "Blank message 255 as request 1, without end.",
+             message(SET, 1, [(scalar(3), octets(bytes.fromhex("ffffff0700ff000000000000")))]))
+print_octets("BLANK_ACCEPTED", "It is accepted.",
+             message(RESPONSE, 1, [(scalar(3), octets(bytes.fromhex("ffffff0700ff000000000000")))]))
+print_octets("LAST_ACTIVATION", "The activation of `A` under the last number.", message(SET, LAST, [activate]))
+print_octets("LAST_REFUSED", "It is refused.", error(LAST, [activate], 5))
