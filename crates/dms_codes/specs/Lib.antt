@@ -1,7 +1,8 @@
+-- what a reader must believe: the checksum of a message, the codes and their octets, the types of memory, the statuses of a row
 pub mod Checksum
 pub mod Codes
 pub mod Memory
 pub mod Limits
 pub mod Status
--- what only proofs go through
+-- what only proofs go through: a register in place of the bits that a division has still to add
 pub mod Register

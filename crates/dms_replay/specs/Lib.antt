@@ -1,3 +1,4 @@
+-- what a reader must believe: events, the world after them, and what holds of it; scripts, descriptions of signs and reports as text
 pub mod Event
 pub mod Fields
 pub mod EventLine

@@ -1,5 +1,5 @@
 -- What a stock without a fault is.
-use Rattle.std.proofs.Common.{◌≡◌, ℕ, ◌&&◌, Bool, true, false, not, if◌then◌else◌, IsTrue, List, length, get_or, Option, Some, None, All, refl, ap, subst, sym, ◌∙◌, suc, ◌<◌, [], ◌∷◌, map, arith}
+use Rattle.std.proofs.Common.{◌≡◌, ◌++◌, ◌+◌, take, ℕ, ◌&&◌, Bool, true, false, not, if◌then◌else◌, IsTrue, List, length, get_or, Option, Some, None, All, refl, ap, subst, sym, ◌∙◌, suc, ◌<◌, [], ◌∷◌, map, arith}
 use Rattle.std.specs.Prelude.{option_map, position}
 use Rattle.dms_face.specs.Face.{FaceModel}
 use Rattle.dms_face.specs.declared.defaults.Defaults.{Defaults}
@@ -9,10 +9,11 @@ use Rattle.dms_table.specs.declared.row.Services.{Services}
 use Rattle.dms_table.specs.declared.stock.Permanent.{Permanent}
 use Rattle.dms_table.specs.declared.stock.Stock.{Stock}
 use Rattle.dms_table.specs.Validation.{verdict_of, passes, IsShowable}
-use Rattle.dms_table.specs.Stock.{permanent_row, services_of, has_ranges, may_not_stand, are_counts, permanent_fault, stock_fault, table_of, HasGoodText, PermanentRowsAreGood}
-use Rattle.std.proofs.lemmas.List.Elements.{All-cons}
+use Rattle.dms_table.specs.Stock.{permanent_row, services_of, has_ranges, may_not_stand, are_counts, permanent_fault, stock_fault, table_of, HasGoodText, PermanentRowsAreGood, HasOctets}
+use Rattle.std.proofs.lemmas.List.{take_more, map-append}
+use Rattle.std.proofs.lemmas.List.Elements.{All-cons, All-append}
 use Rattle.dms_face.specs.Fit.{IsGood}
-use Rattle.dms_table.specs.Rows.{TableModel}
+use Rattle.dms_table.specs.Rows.{RowModel, TableModel}
 use Rattle.dms_codes.proofs.Loops.{none_passes}
 use Rattle.dms_table.proofs.GoodRows.{showable}
 
@@ -72,3 +73,18 @@ permanent_rows_are_good face stock table faultless good made =
     (none_passes (may_not_stand (services_of stock) face) stock.permanent.now (none_mapped permanent_fault (position (may_not_stand (services_of stock) face) stock.permanent.now) (none_behind (are_counts stock) _ _ faultless)) k d within)
     (good k d within)) in
     subst (PermanentRowsAreGood face) (sym made) all
+
+-- ---- permanent rows are octets
+
+pub one_more_of_octets : (rows all : List RowModel) (row : RowModel) → All HasOctets rows → HasOctets row → all ≡ rows ++ row ∷ [] → All HasOctets all
+one_more_of_octets rows all row are is more =
+    let last : All HasOctets (row ∷ []) = All-cons HasOctets row [] is (λ k d within. absurd (omega arith)) in
+    subst (All HasOctets) (sym more) (All-append HasOctets rows (row ∷ []) are last)
+
+pub one_more_row : (messages : List Permanent) (n : ℕ) (d : Permanent) (rows all : List RowModel) (row : RowModel) → n < length messages
+    → rows ≡ map permanent_row (take n messages) → row ≡ permanent_row (get_or messages n d) → all ≡ rows ++ row ∷ []
+    → all ≡ map permanent_row (take (n + 1) messages)
+one_more_row messages n d rows all row within so_far is more =
+    let longer : map permanent_row (take (n + 1) messages) ≡ map permanent_row (take n messages) ++ permanent_row (get_or messages n d) ∷ [] =
+    ap (map permanent_row) (take_more messages n d within) ∙ map-append permanent_row (take n messages) (get_or messages n d ∷ []) in
+    cc

@@ -1,8 +1,10 @@
+-- what a reader must believe: rows and what changes them, validation, what a table is made of, what a code activates
 pub mod Rows
 pub mod Validation
 pub mod Stock
 pub mod Activation
 pub mod FaultTexts
--- what the code's values are in these, and what only proofs go through
+-- what the code's fields and views are in these words
 pub mod RowsView
+-- what only proofs go through
 pub mod ValidatorView

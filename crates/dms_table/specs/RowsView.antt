@@ -1,5 +1,8 @@
 -- What the code's fields and views of rows are.
-use Rattle.std.specs.Prelude.{◌≤◌, length}
+use Rattle.std.specs.Prelude.{◌≡◌, ◌≤◌, ℕ, List, length, true}
+use Rattle.dms_codes.specs.declared.status.Status.{Status}
+use Rattle.dms_codes.specs.Checksum.{message_checksum}
+use Rattle.dms_codes.specs.Status.{is_valid}
 use Rattle.dms_table.specs.declared.row.Field.{Field}
 use Rattle.dms_table.specs.declared.row.Field.TheVariants as fields
 use Rattle.dms_table.specs.declared.row.RowView.{RowView}
@@ -23,3 +26,7 @@ reading_of view = record {
 pub record IsShort (view : RowView) : Type 0 where
   pub text : length view.text.now ≤ longest_text
   pub owner : length view.owner.now ≤ longest_owner
+
+-- a row keeps the checksum of its message while it is valid
+pub record HasItsChecksum (text : List ℕ) (beacon pixel : ℕ) (status : Status) (checksum : ℕ) : Type 0 where
+  pub is : is_valid status ≡ true → checksum ≡ message_checksum text beacon pixel

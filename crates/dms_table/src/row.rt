@@ -1,6 +1,6 @@
 //! Rows of the table.
 
-ghost use Rattle.std.specs.Prelude.{◌≡◌, ◌≤◌, [], Some, None, OnOk, OnErr, IfSome, IsTrue, length, option_map, is_some};
+ghost use Rattle.std.specs.Prelude.{◌≡◌, false, ◌≤◌, [], Some, None, OnOk, OnErr, IfSome, IsTrue, length, option_map, is_some};
 ghost use Rattle.std.specs.Int.Digits.{AllBelowBase};
 ghost use Rattle.dms_table.specs.Rows.{unused, interrupted, is_in_range, with_field, with_status, asked_row, written_row, blank_at, blank_reading, reading, row_is_validating};
 ghost use Rattle.dms_codes.specs.Status.{is_valid, is_not_used};
@@ -86,14 +86,19 @@ pub(crate) struct Row {
     pixel: u8,
     priority: u8,
     status: Status,
+    /// The checksum of the message, while the row is valid.
+    checksum: u16,
 }
 
 impl Model for Row {
     ghost use Rattle.dms_table.specs.Rows.{RowModel};
+    ghost use Rattle.dms_table.specs.RowsView.{HasItsChecksum};
 
     ghost Value = { RowModel };
 
     ghost view = { λ r. record { text = r.text.items; owner = r.owner.items; beacon = r.beacon; pixel = r.pixel; priority = r.priority; status = r.status } };
+
+    ghost invariant = { λ r. HasItsChecksum r.text.items r.beacon r.pixel r.status r.checksum };
 }
 
 impl Row {
@@ -108,6 +113,7 @@ impl Row {
             pixel: 0,
             priority: 1,
             status: Status::NotUsed,
+            checksum: 0,
         }
     }
 
@@ -124,6 +130,7 @@ impl Row {
             pixel: message.pixel,
             priority: message.priority,
             status: Status::Valid,
+            checksum: crc(message.text, message.beacon, message.pixel),
         }
     }
 
@@ -165,7 +172,7 @@ impl Row {
         ensures { result ≡ (reading self.now).checksum }
     {
         if self.status == Status::Valid {
-            crc(self.text.as_slice(), self.beacon, self.pixel)
+            self.checksum
         } else {
             0
         }
@@ -193,8 +200,9 @@ impl Row {
         }
     }
 
-    /// Gives the row another status; one that becomes not used is emptied.
-    pub(crate) fn enter(&mut self, status: Status)
+    /// Gives the row another status than valid; one that becomes not used is emptied.
+    fn enter(&mut self, status: Status)
+        requires { is_valid status ≡ false }
         ensures { self.new ≡ with_status self.old status }
     {
         if status == Status::NotUsed {
@@ -236,11 +244,12 @@ impl Row {
             return None;
         }
         let verdict = validator.verdict(self.text.as_slice(), self.beacon, self.pixel);
-        self.status = if verdict.passes() {
-            Status::Valid
+        if verdict.passes() {
+            self.checksum = crc(self.text.as_slice(), self.beacon, self.pixel);
+            self.status = Status::Valid;
         } else {
-            Status::Error
-        };
+            self.status = Status::Error;
+        }
         Some(verdict)
     }
 
@@ -258,7 +267,8 @@ impl Row {
     }
 
     fn set(&mut self, field: Field<'_>)
-        requires { IsTrue (is_in_range (field_of field)) }
+        requires range { IsTrue (is_in_range (field_of field)) }
+        requires unsettled { is_valid self.old.status ≡ false }
         ensures { self.new ≡ with_field self.old (field_of field.entry) }
     {
         match field {

@@ -1,0 +1,47 @@
+#!/usr/bin/env python3
+"""Which definitions a reader must believe: the files that each crate's specs/Lib.antt names first, with their lines.
+
+Without arguments it prints the table of README.md; with --check it fails where README.md has another."""
+import pathlib
+import sys
+
+TOP = pathlib.Path(__file__).resolve().parent.parent
+
+
+def believed(crate):
+    """The files under the first comment of Lib.antt, which says that a reader must believe them."""
+    files = []
+    for line in (crate / "specs" / "Lib.antt").read_text().splitlines():
+        if line.startswith("--"):
+            if files:
+                break
+        elif line.startswith("pub mod "):
+            files.append(line.removeprefix("pub mod ").strip())
+    return files
+
+
+def rows():
+    for line in (TOP / "crates.txt").read_text().splitlines():
+        name = line.split(":")[0].split()
+        if not name or name[0].startswith("#"):
+            continue
+        crate = TOP / "crates" / name[0]
+        if not (crate / "specs" / "Lib.antt").is_file():
+            continue
+        files = believed(crate)
+        if not files:
+            continue
+        lines = [len((crate / "specs" / f"{file}.antt").read_text().splitlines()) for file in files]
+        told = ", ".join(f"{file} {count}" for file, count in zip(files, lines))
+        yield f"| {name[0]} | {told} | {sum(lines)} |"
+
+
+def main():
+    table = "\n".join(["| crate | files of specs/ with their lines | lines |", "|---|---|---|", *rows()])
+    if "--check" not in sys.argv[1:]:
+        print(table)
+    elif table not in (TOP / "README.md").read_text():
+        sys.exit("README.md has another table of definitions; run tools/definitions.py")
+
+
+main()
