@@ -258,14 +258,50 @@ mod reading {
         Ok(Bind { name, value })
     }
 
+    /// The content of the element that the octets begin with, and what follows it: they were read before.
+    #[inline]
+    fn cut(octets: &[u8]) -> (&[u8], &[u8]) {
+        let first = octets[1] as usize;
+        if first < 128 {
+            return octets[2..].split_at(first);
+        }
+        let (digits, rest) = octets[2..].split_at(first - 128);
+        rest.split_at(digits.iter().fold(0, |number, digit| number << 8 | *digit as usize))
+    }
+
+    #[inline]
+    fn number_of(octets: &[u8]) -> i64 {
+        let start = if octets[0] >= 128 { -1 } else { 0 };
+        octets.iter().fold(start, |number: i64, octet| number << 8 | i64::from(*octet))
+    }
+
+    #[inline]
+    fn known_value(octets: &[u8]) -> Value<'_> {
+        let (content, _) = cut(octets);
+        match octets[0] {
+            2 => Value::Integer(number_of(content)),
+            4 => Value::Octets(content),
+            5 => Value::Null,
+            6 => Value::Name(Oid { content }),
+            64 => Value::Address([content[0], content[1], content[2], content[3]]),
+            65 => Value::Counter(number_of(content) as u32),
+            66 => Value::Gauge(number_of(content) as u32),
+            67 => Value::Ticks(number_of(content) as u32),
+            _ => Value::Opaque(content),
+        }
+    }
+
     impl<'a> Iterator for Binds<'a> {
         type Item = Bind<'a>;
 
         fn next(&mut self) -> Option<Bind<'a>> {
-            let mut cursor = Cursor { octets: self.content, place: 0 };
-            let first = binding(&mut cursor).ok()?;
-            self.content = cursor.octets;
-            Some(first)
+            if self.content.is_empty() {
+                return None;
+            }
+            let (members, rest) = cut(self.content);
+            self.content = rest;
+            let (content, value) = cut(members);
+            Some(Bind { name: Oid { content }, value: known_value(value) })
         }
     }
 

@@ -3,7 +3,8 @@ use Rattle.std.proofs.Common.{◌≡◌, ℕ, ◌+◌, ◌<◌, ◌≤◌, ◌==
 use Rattle.std.proofs.lemmas.List.Elements.{All-cons, All-head, All-tail, All-append}
 use Rattle.std.proofs.lemmas.Bool.{false≢true}
 use Rattle.dms_wire.specs.Message.{SnmpMessage}
-use Rattle.dms_wire.specs.Canonical.{element, canonical}
+use Rattle.dms_ber.specs.Element.{element}
+use Rattle.dms_wire.specs.Canonical.{canonical}
 use Rattle.dms_centre.specs.declared.job.Job.{Job as CodeJob}
 use Rattle.dms_centre.specs.declared.pending.Pending.{Pending as CodePending}
 use Rattle.dms_centre.specs.declared.stage.Stage.{Stage}

@@ -4,10 +4,14 @@ use Rattle.std.proofs.lemmas.List.{length-map}
 use Rattle.std.specs.Int.Digits.{digits_of, AllBelowBase}
 use Rattle.std.proofs.lemmas.Int.Digits.{length-digits_of-le}
 use Rattle.dms_wire.specs.Message.{VarBind, SnmpMessage}
-use Rattle.dms_wire.specs.Limits.{IsNameInLimits}
+use Rattle.dms_ber.specs.ObjectIdentifier.{IsNameInLimits}
 use Rattle.dms_wire.specs.Spelling.{tag_of}
-use Rattle.dms_wire.specs.Canonical.{short_length, element, integer_octets, sub_identifier_octets, name_octets, value_octets, binding_octets, numbers_octets, pdu_octets, canonical}
-use Rattle.dms_wire.proofs.Shortest.{element_length, length-positive_le}
+use Rattle.dms_ber.specs.Length.{short_length}
+use Rattle.dms_ber.specs.Element.{element}
+use Rattle.dms_ber.specs.Integer.{integer_octets}
+use Rattle.dms_ber.specs.ObjectIdentifier.{sub_identifier_octets, name_octets}
+use Rattle.dms_wire.specs.Canonical.{value_octets, binding_octets, numbers_octets, pdu_octets, canonical}
+use Rattle.dms_ber.proofs.Shortest.{element_length, length-positive_le}
 
 length-cond : (t : Bool) (xs ys : List ℕ) (n : ℕ) → length xs ≤ n → length ys ≤ n → length (cond t xs ys) ≤ n
 length-cond true xs ys n p q = p

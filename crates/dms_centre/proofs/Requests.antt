@@ -4,7 +4,8 @@ use Rattle.std.proofs.lemmas.List.Elements.{All-head, All-tail}
 use Rattle.std.proofs.lemmas.Bool.Decides.{nat_tests}
 use Rattle.std.specs.Int.Digits.{AllBelowBase}
 use Rattle.dms_wire.specs.Message.{ObjectValue, integer, octet_string, null, VarBind, SnmpMessage}
-use Rattle.dms_wire.specs.Limits.{IsNameInLimits, IsValueInLimits, AreBindingsInLimits, IsMessageInLimits}
+use Rattle.dms_ber.specs.ObjectIdentifier.{IsNameInLimits}
+use Rattle.dms_wire.specs.Limits.{IsValueInLimits, AreBindingsInLimits, IsMessageInLimits}
 use Rattle.dms_wire.specs.Canonical.{value_octets, binding_octets, canonical}
 use Rattle.dms_wire.specs.MessageOf.{message_of}
 use Rattle.dms_wire.proofs.CanonicalLaws.{canonical_spells}

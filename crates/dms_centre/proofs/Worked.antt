@@ -1,6 +1,9 @@
 -- Given commands and replies, computed: the datagrams octet for octet, and the state after them.
 use Rattle.std.proofs.Common.{◌≡◌, ℕ, zero, suc, ◌+◌, pos, List, [], ◌∷◌, map, length, replicate, Option, Some, None, option_map, option_and_then, slice_get, refl}
-use Rattle.dms_wire.specs.Canonical.{element, integer_octets, name_octets, binding_octets, numbers_octets, pdu_octets, canonical}
+use Rattle.dms_ber.specs.Element.{element}
+use Rattle.dms_ber.specs.Integer.{integer_octets}
+use Rattle.dms_ber.specs.ObjectIdentifier.{name_octets}
+use Rattle.dms_wire.specs.Canonical.{binding_octets, numbers_octets, pdu_octets, canonical}
 use Rattle.dms_wire.specs.MessageOf.{message_of}
 use Rattle.dms_codes.specs.declared.codes.Order.TheVariants.{High, Swapped}
 use Rattle.dms_codes.specs.Checksum.{octet_bits}

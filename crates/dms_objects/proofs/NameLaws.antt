@@ -1,9 +1,9 @@
 -- The octets that are written of a name are those of its content.
 use Rattle.std.proofs.Common.{append-nil, ◌≡◌, ℕ, ◌<◌, List, [], ◌∷◌, ◌++◌, refl, sym, ◌∙◌, ap, subst, arith}
-use Rattle.dms_wire.specs.ObjectIdentifier.{IsName}
-use Rattle.dms_wire.specs.Canonical.{sub_identifier_octets, name_octets}
-use Rattle.dms_wire.specs.Limits.{IsNameInLimits}
-use Rattle.dms_wire.proofs.CanonicalNames.{name_spelled}
+use Rattle.dms_ber.specs.ObjectIdentifier.{IsName}
+use Rattle.dms_ber.specs.ObjectIdentifier.{sub_identifier_octets, name_octets}
+use Rattle.dms_ber.specs.ObjectIdentifier.{IsNameInLimits}
+use Rattle.dms_ber.proofs.CanonicalNames.{name_spelled}
 use Rattle.dms_codes.specs.declared.row_id.RowId.{RowId}
 use Rattle.dms_objects.specs.declared.column.Column.{Column}
 use Rattle.dms_objects.specs.declared.column.Column.TheVariants as columns

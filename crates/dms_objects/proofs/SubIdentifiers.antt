@@ -2,7 +2,7 @@
 use Rattle.std.proofs.Common.{◌≡◌, ℕ, ◌+◌, ◌/◌, ◌%◌, ◌<◌, ◌≤◌, List, [], ◌∷◌, map, refl, ◌∙◌, arith}
 use Rattle.std.specs.Int.Digits.{digits_of}
 use Rattle.std.proofs.lemmas.Int.Digits.{digits_of_step}
-use Rattle.dms_wire.specs.Canonical.{sub_identifier_octets}
+use Rattle.dms_ber.specs.ObjectIdentifier.{sub_identifier_octets}
 
 abbrev raised : List ℕ → List ℕ
 raised digits = map (λ d. 128 + d) digits

@@ -1,6 +1,6 @@
 -- The content octets of the names of instances (X.690, 8.19).
 use Rattle.std.specs.Prelude.{ℕ, List}
-use Rattle.dms_wire.specs.ObjectIdentifier.{IsName}
+use Rattle.dms_ber.specs.ObjectIdentifier.{IsName}
 use Rattle.dms_objects.specs.declared.instance.Instance.{Instance}
 use Rattle.dms_objects.specs.Names.{name_of}
 

@@ -2,7 +2,7 @@
 
 ghost use Rattle.std.specs.Prelude.{◌≡◌, ◌++◌, ◌+◌, ◌≤◌, length};
 ghost use Rattle.arrayvec.specs.ArrayVec.{array_vec_len};
-ghost use Rattle.dms_wire.specs.Canonical.{sub_identifier_octets};
+ghost use Rattle.dms_ber.specs.ObjectIdentifier.{sub_identifier_octets};
 ghost use Rattle.dms_objects.specs.declared.instance.Instance.TheVariants.{The, Cell};
 ghost use Rattle.dms_objects.specs.Names.{name_of};
 ghost use Rattle.dms_objects.specs.NameOctets.{IsNamed};
@@ -11,8 +11,8 @@ use crate::column::Column;
 use crate::instance::Instance;
 use crate::scalar::Scalar;
 use arrayvec::ArrayVec;
+use dms_ber::Oid;
 use dms_codes::RowId;
-use dms_wire::Oid;
 use std::marker::Model;
 
 /// Room for the octets of a name: fourteen up to a column, and at most three each of a type of memory and of a row's number.

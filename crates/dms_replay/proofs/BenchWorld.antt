@@ -5,7 +5,10 @@ use Rattle.std.specs.Fmt.{digits}
 use Rattle.std.specs.Result.{result_ok}
 use Rattle.hex.specs.Hex.{encode_with, decode_pairs, decode_of}
 use Rattle.dms_wire.specs.ErrorStatus.{error_status_number}
-use Rattle.dms_wire.specs.Canonical.{element, integer_octets, name_octets, binding_octets, numbers_octets, pdu_octets, canonical}
+use Rattle.dms_ber.specs.Element.{element}
+use Rattle.dms_ber.specs.Integer.{integer_octets}
+use Rattle.dms_ber.specs.ObjectIdentifier.{name_octets}
+use Rattle.dms_wire.specs.Canonical.{binding_octets, numbers_octets, pdu_octets, canonical}
 use Rattle.dms_wire.specs.MessageOf.{message_of}
 use Rattle.dms_wire.specs.declared.message.Kind.{Kind}
 use Rattle.dms_wire.specs.declared.message.Kind.TheVariants.{Set}

@@ -6,7 +6,10 @@ use Rattle.dms_wire.specs.declared.message.Kind.{Kind}
 use Rattle.dms_wire.specs.declared.message.Kind.TheVariants.{Set}
 use Rattle.dms_wire.specs.Message.{ObjectValue, integer, octet_string, VarBind, SnmpMessage}
 use Rattle.dms_wire.specs.MessageOf.{message_of}
-use Rattle.dms_wire.specs.Canonical.{element, integer_octets, name_octets, binding_octets, numbers_octets, pdu_octets, canonical}
+use Rattle.dms_ber.specs.Element.{element}
+use Rattle.dms_ber.specs.Integer.{integer_octets}
+use Rattle.dms_ber.specs.ObjectIdentifier.{name_octets}
+use Rattle.dms_wire.specs.Canonical.{binding_octets, numbers_octets, pdu_octets, canonical}
 use Rattle.dms_multi.specs.Outcomes.{outcomes_within}
 use Rattle.dms_multi.specs.TagReading.{item_at, item_after_opening, item_after_closing, tag_at, body_item, name_at, letters_name, end_name, item_of, flash_of, font_of, times_of, page_time_of}
 use Rattle.dms_multi.specs.Reading as digits

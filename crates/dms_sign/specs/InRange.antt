@@ -5,7 +5,8 @@ use Rattle.std.specs.List.{AllByRecursion}
 use Rattle.std.specs.Int.Digits.{AllBelowBase}
 use Rattle.dms_wire.specs.declared.message.Kind.TheVariants.{Response}
 use Rattle.dms_wire.specs.Message.{VarBind, SnmpMessage}
-use Rattle.dms_wire.specs.Limits.{IsNameInLimits, IsValueInLimits}
+use Rattle.dms_ber.specs.ObjectIdentifier.{IsNameInLimits}
+use Rattle.dms_wire.specs.Limits.{IsValueInLimits}
 use Rattle.dms_wire.specs.MessageOf.{message_of}
 use Rattle.dms_wire.specs.Canonical.{canonical}
 use Rattle.dms_wire.specs.Response.{response_to}

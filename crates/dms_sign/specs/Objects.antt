@@ -3,7 +3,7 @@ use Rattle.std.specs.Prelude.{◌⊎◌, ◌≡◌, ℕ, Bool, true, false, List
 use Rattle.std.specs.List.{find, flat_map, range_with_len}
 use Rattle.std.specs.Cmp.Lexicographic.{pointwise}
 use Rattle.std.specs.Ordering.{is_lt}
-use Rattle.dms_wire.specs.NameOrder.{numbers_cmp}
+use Rattle.dms_ber.specs.NameOrder.{numbers_cmp}
 use Rattle.dms_objects.specs.declared.column.Column.{Column}
 use Rattle.dms_objects.specs.declared.column.Column.TheVariants.{MemoryType, Number, MultiString, Owner, Crc, Beacon, PixelService, RunTimePriority, Status}
 use Rattle.dms_codes.specs.declared.row_id.RowId.{RowId}

@@ -2,7 +2,8 @@
 
 ghost use Rattle.std.specs.Prelude.{◌≡◌, ℕ, IsTrue, List, Some, None, IfSome};
 ghost use Rattle.dms_wire.specs.Message.{SnmpMessage};
-ghost use Rattle.dms_wire.specs.Limits.{IsNameInLimits, IsValueInLimits, AreBindingsInLimits, IsMessageInLimits};
+ghost use Rattle.dms_ber.specs.ObjectIdentifier.{IsNameInLimits};
+ghost use Rattle.dms_wire.specs.Limits.{IsValueInLimits, AreBindingsInLimits, IsMessageInLimits};
 ghost use Rattle.dms_wire.specs.Spelling.{Spells};
 ghost use Rattle.dms_wire.specs.Response.{response_to};
 ghost use Rattle.dms_face.specs.Face.{FaceModel, is_face};

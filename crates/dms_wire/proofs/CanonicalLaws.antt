@@ -4,15 +4,19 @@ use Rattle.std.specs.Int.Digits.{AllBelowBase}
 use Rattle.dms_wire.specs.declared.message.Kind.{Kind}
 use Rattle.dms_wire.specs.declared.message.Kind.TheVariants.{Get, GetNext, Response, Set}
 use Rattle.dms_wire.specs.Message.{ObjectValue, integer, octet_string, null, object_identifier, ip_address, counter, gauge, time_ticks, opaque, VarBind, SnmpMessage}
-use Rattle.dms_wire.specs.Integer.{IsInteger, in_range}
-use Rattle.dms_wire.specs.ObjectIdentifier.{IsName}
-use Rattle.dms_wire.specs.Ber.{IsElement, ◌⨾◌}
+use Rattle.dms_ber.specs.Integer.{IsInteger, in_range}
+use Rattle.dms_ber.specs.ObjectIdentifier.{IsName}
+use Rattle.dms_ber.specs.Element.{IsElement, ◌⨾◌}
 use Rattle.dms_wire.specs.Spelling.{IsAddress, IsValue, IsBinding, AreBindings, tag_of, IsPdu, IsMessage, Spells}
-use Rattle.dms_wire.specs.Limits.{IsNameInLimits, IsValueInLimits, AreBindingsInLimits, IsMessageInLimits}
-use Rattle.dms_wire.specs.Canonical.{element, integer_octets, name_octets, value_octets, binding_octets, numbers_octets, pdu_octets, canonical}
-use Rattle.dms_wire.proofs.CanonicalIntegers.{integer_spelled, integer_below}
-use Rattle.dms_wire.proofs.CanonicalNames.{name_spelled, name_below}
-use Rattle.dms_wire.proofs.CanonicalElements.{Fits, fits_element, fits_both}
+use Rattle.dms_ber.specs.ObjectIdentifier.{IsNameInLimits}
+use Rattle.dms_wire.specs.Limits.{IsValueInLimits, AreBindingsInLimits, IsMessageInLimits}
+use Rattle.dms_ber.specs.Element.{element}
+use Rattle.dms_ber.specs.Integer.{integer_octets}
+use Rattle.dms_ber.specs.ObjectIdentifier.{name_octets}
+use Rattle.dms_wire.specs.Canonical.{value_octets, binding_octets, numbers_octets, pdu_octets, canonical}
+use Rattle.dms_ber.proofs.CanonicalIntegers.{integer_spelled, integer_below}
+use Rattle.dms_ber.proofs.CanonicalNames.{name_spelled, name_below}
+use Rattle.dms_ber.proofs.CanonicalElements.{Fits, fits_element, fits_both}
 
 fits_integer : (tag : ℕ) (z : ℤ) → tag < 256 → IsTrue (in_range z) → Fits (IsElement tag (IsInteger z)) (element tag (integer_octets z))
 fits_integer tag z octet range = fits_element tag (IsInteger z) (integer_octets z) octet (λ room. (integer_spelled z range, integer_below z))

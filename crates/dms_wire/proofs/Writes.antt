@@ -3,7 +3,7 @@ use Rattle.std.proofs.Common.{◌≡◌, ℕ, ◌+◌, ◌<◌, ◌≤◌, List,
 use Rattle.std.specs.List.{flat_map}
 use Rattle.std.proofs.lemmas.List.{take_more, flat_map_more}
 use Rattle.std.proofs.lemmas.List.Folds.{length-flat_map-take}
-use Rattle.dms_wire.specs.declared.message.Bind.{Bind}
+use Rattle.dms_wire.specs.declared.binding.Bind.{Bind}
 use Rattle.dms_wire.specs.View.{var_bind}
 use Rattle.dms_wire.specs.Canonical.{binding_octets}
 

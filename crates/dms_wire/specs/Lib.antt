@@ -1,22 +1,16 @@
+-- What a reader must believe: what a message says, which octets spell it, and the shortest ones.
 pub mod Message
 pub mod ErrorStatus
-pub mod Length
-pub mod Integer
-pub mod ObjectIdentifier
-pub mod NameOrder
-pub mod NameText
-pub mod Ber
 pub mod Spelling
 pub mod Limits
 pub mod Canonical
 pub mod Response
 pub mod Written
-pub mod NameReading
-pub mod NameWalk
-pub mod Reading
+-- The message that octets spell, as a function: the laws say that it is the one that they spell.
 pub mod MessageOf
+-- What only proofs go through: reading as functions on lists, which the code mirrors, and what the code's types say.
+pub mod Reading
 pub mod Walk
 pub mod Prefix
 pub mod View
 pub mod PduView
-pub mod FaultText

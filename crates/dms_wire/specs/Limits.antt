@@ -1,16 +1,9 @@
 -- The limits of what a message can say: its numbers, its names and its values.
-use Rattle.std.specs.Prelude.{◌≡◌, ℕ, ◌+◌, ◌*◌, ◌^◌, ◌<◌, ◌≤◌, IsTrue, List, [], ◌∷◌, length}
+use Rattle.std.specs.Prelude.{◌≡◌, ◌^◌, ◌<◌, IsTrue, List, [], ◌∷◌, length}
 use Rattle.std.specs.Int.Digits.{AllBelowBase}
 use Rattle.dms_wire.specs.Message.{ObjectValue, integer, octet_string, null, object_identifier, ip_address, counter, gauge, time_ticks, opaque, VarBind, SnmpMessage}
-use Rattle.dms_wire.specs.Integer.{in_range}
-
--- A name is 2 to 128 numbers a, b, ..: a at most 2, b below 40 where a is 0 or 1 (X.690, 8.19.4); 40a + b and each later number
--- below 2^32.
-abbrev pub IsNameInLimits : List ℕ → Type 0
-IsNameInLimits [] = ⊥
-IsNameInLimits (a ∷ []) = ⊥
-IsNameInLimits (a ∷ b ∷ ns) =
-    (a ≤ 2) × (a < 2 → b < 40) × (40 * a + b < 2 ^ 32) × AllBelowBase (2 ^ 32) ns × (length ns ≤ 126)
+use Rattle.dms_ber.specs.Integer.{in_range}
+use Rattle.dms_ber.specs.ObjectIdentifier.{IsNameInLimits}
 
 abbrev pub IsValueInLimits : ObjectValue → Type 0
 IsValueInLimits (integer z) = IsTrue (in_range z)

@@ -1,5 +1,5 @@
 -- What the code's PDUs say.
-use Rattle.dms_wire.specs.declared.reading.PduFields.{PduFields}
+use Rattle.dms_wire.specs.declared.message.PduFields.{PduFields}
 use Rattle.dms_wire.specs.Reading.{Numbered}
 
 abbrev pub numbered : PduFields → Numbered

@@ -1,81 +1,13 @@
 -- Reading on lists, from left to right, with the first fault that is met. The laws that join it to Spelling stand in
 -- proofs/.
-use Rattle.std.specs.Prelude.{◌≡◌, ℕ, ℤ, pos, negsuc, zero, suc, ◌+◌, ◌-◌, Bool, false, nat_lt, nat_le, ◌==◌, ◌&&◌, List, [], ◌∷◌, length, take, drop, Option, Some, None, ok_or, option_map, option_and_then, ◌||◌, Result, Ok, Err, if◌then◌else◌}
-use Rattle.std.specs.Int.Digits.{number_from_digits}
-use Rattle.dms_wire.specs.declared.fault.FaultKind.{FaultKind}
-use Rattle.dms_wire.specs.declared.fault.FaultKind.TheVariants.{Truncated, BadTag, BadLength, LengthPast, BadInteger, BadName, BadVersion, TrailingBytes, TooLong}
-use Rattle.dms_wire.specs.declared.fault.WireFault.{WireFault}
+use Rattle.std.specs.Prelude.{ℕ, ℤ, pos, negsuc, zero, suc, ◌+◌, ◌-◌, Bool, false, nat_lt, nat_le, ◌==◌, ◌&&◌, List, [], ◌∷◌, length, take, drop, Option, Some, None, ok_or, option_map, ◌||◌, Result, Ok, Err, if◌then◌else◌}
+use Rattle.dms_ber.specs.declared.fault.FaultKind.TheVariants.{Truncated, BadTag, BadLength, BadInteger, BadName, BadVersion, TooLong}
+use Rattle.dms_ber.specs.declared.fault.WireFault.{WireFault}
 use Rattle.dms_wire.specs.declared.message.Kind.{Kind}
 use Rattle.dms_wire.specs.declared.message.Kind.TheVariants.{Get, GetNext, Response, Set}
 use Rattle.dms_wire.specs.Message.{ObjectValue, integer, octet_string, null, object_identifier, ip_address, counter, gauge, time_ticks, opaque, VarBind, SnmpMessage}
-use Rattle.dms_wire.specs.Integer.{is_shortest, signed_value, in_range}
-use Rattle.dms_wire.specs.NameReading.{is_name, numbers_of}
-
-infixl 10 ◌>>=◌
-abbrev pub ◌>>=◌ : {A B : Type 0} → Result A WireFault → (A → Result B WireFault) → Result B WireFault
-(Ok x) >>= f = f x
-(Err e) >>= f = Err e
-
--- what a function returned, seen by view, is what reading gives
-abbrev pub Gives : {X Y : Type 0} → (X → Y) → Result X WireFault → Result Y WireFault → Type 0
-Gives view (Ok x) read = read ≡ Ok (view x)
-Gives view (Err e) read = read ≡ Err e
-
-abbrev pub fault : FaultKind → ℕ → WireFault
-fault kind place = record { kind = kind; place = place }
-
--- end is the offset at which the octets end
-unfoldable pub length_at : ℕ → List ℕ → Result (ℕ × List ℕ) WireFault
-length_at end [] = Err (fault Truncated end)
-length_at end (b ∷ bs) =
-    if nat_lt b 128 then Ok (b, bs)
-    else if nat_lt 132 b then Err (fault BadLength (end - length bs - 1))
-    else if b == 128 then Err (fault BadLength (end - length bs - 1))
-    else if nat_lt (length bs) (b - 128) then Err (fault Truncated end)
-    else Ok (number_from_digits 256 (take (b - 128) bs), drop (b - 128) bs)
-
-unfoldable pub integer_value : List ℕ → Option ℤ
-integer_value bs =
-    if nat_lt 5 (length bs) then None
-    else if is_shortest bs then (if in_range (signed_value bs) then Some (signed_value bs) else None)
-    else None
-
--- behind a tag: the content, and the octets after it
-unfoldable pub content_at : ℕ → List ℕ → Result (List ℕ × List ℕ) WireFault
-content_at end bytes = do
-  n ← length_at end bytes
-  if nat_lt (length n.1) n.0 then Err (fault LengthPast (end - length bytes)) else Ok (take n.0 n.1, drop n.0 n.1)
-
-unfoldable pub element_at : ℕ → ℕ → List ℕ → Result (List ℕ × List ℕ) WireFault
-element_at tag end [] = Err (fault Truncated end)
-element_at tag end (b ∷ bytes) = (if b == tag then content_at end bytes else Err (fault BadTag (end - length (b ∷ bytes))))
-
--- the offset of the first octet of a content before these octets
-abbrev pub place_of : ℕ → List ℕ → List ℕ → ℕ
-place_of end content rest = end - length rest - length content
-
-unfoldable pub integer_at : ℕ → List ℕ → Result (ℤ × List ℕ) WireFault
-integer_at end bytes = do
-  c ← element_at 2 end bytes
-  z ← ok_or (integer_value c.0) (fault BadInteger (place_of end c.0 c.1))
-  Ok (z, c.1)
-
-abbrev pub name_of : ℕ → List ℕ → Result (List ℕ) WireFault
-name_of place content = (if is_name content then Ok (numbers_of content) else Err (fault BadName place))
-
-unfoldable pub name_at : ℕ → List ℕ → Result (List ℕ × List ℕ) WireFault
-name_at end bytes = do
-  c ← element_at 6 end bytes
-  n ← name_of (place_of end c.0 c.1) c.0
-  Ok (n, c.1)
-
--- a number from 0 to 2^32 - 1
-abbrev pub natural : ℤ → Option ℕ
-natural (pos n) = Some n
-natural _ = None
-
-abbrev pub natural_value : List ℕ → Option ℕ
-natural_value bytes = option_and_then natural (integer_value bytes)
+use Rattle.dms_ber.specs.NameReading.{is_name, numbers_of}
+use Rattle.dms_ber.specs.Reading.{◌>>=◌, fault, length_at, integer_value, content_at, element_at, place_of, integer_at, name_at, natural_value, ended}
 
 -- The value that a tag and a content are. before is the offset of the length, and place that of the content.
 unfoldable pub value_from : ℕ → ℕ → ℕ → List ℕ → Result ObjectValue WireFault
@@ -102,11 +34,6 @@ behind_tag tag end bytes = do
 unfoldable pub value_at : ℕ → List ℕ → Result (ObjectValue × List ℕ) WireFault
 value_at end [] = Err (fault Truncated end)
 value_at end (b ∷ bytes) = (if is_value_tag b then behind_tag b end bytes else Err (fault BadTag (end - length (b ∷ bytes))))
-
--- nothing follows the last member
-unfoldable pub ended : ℕ → List ℕ → Result (Unit {0}) WireFault
-ended end [] = Ok tt
-ended end (b ∷ bytes) = Err (fault TrailingBytes (end - length (b ∷ bytes)))
 
 -- a binding's two members, in its content
 unfoldable pub members_at : ℕ → List ℕ → Result VarBind WireFault

@@ -5,9 +5,9 @@ use Rattle.std.specs.Int.Digits.{AllBelowBase}
 use Rattle.dms_wire.specs.declared.message.Kind.{Kind}
 use Rattle.dms_wire.specs.declared.message.Kind.TheVariants.{Get, GetNext, Response, Set}
 use Rattle.dms_wire.specs.Message.{ObjectValue, integer, octet_string, null, object_identifier, ip_address, counter, gauge, time_ticks, opaque, VarBind, SnmpMessage}
-use Rattle.dms_wire.specs.Ber.{IsElement, ◌⨾◌}
-use Rattle.dms_wire.specs.Integer.{IsInteger}
-use Rattle.dms_wire.specs.ObjectIdentifier.{IsName}
+use Rattle.dms_ber.specs.Element.{IsElement, ◌⨾◌}
+use Rattle.dms_ber.specs.Integer.{IsInteger}
+use Rattle.dms_ber.specs.ObjectIdentifier.{IsName}
 
 -- an address is four octets
 abbrev pub IsAddress : List ℕ → List ℕ → Type 0

@@ -1,8 +1,8 @@
 -- What the code's messages say.
 use Rattle.std.specs.Prelude.{List, map}
-use Rattle.dms_wire.specs.declared.message.Value.{Value}
-use Rattle.dms_wire.specs.declared.message.Value.TheVariants.{Integer, Octets, Null, Name, Address, Counter, Gauge, Ticks, Opaque}
-use Rattle.dms_wire.specs.declared.message.Bind.{Bind}
+use Rattle.dms_wire.specs.declared.value.Value.{Value}
+use Rattle.dms_wire.specs.declared.value.Value.TheVariants.{Integer, Octets, Null, Name, Address, Counter, Gauge, Ticks, Opaque}
+use Rattle.dms_wire.specs.declared.binding.Bind.{Bind}
 use Rattle.dms_wire.specs.declared.message.Message.{Message}
 use Rattle.dms_wire.specs.declared.message.Header.{Header}
 use Rattle.dms_wire.specs.declared.message.MessageParts.{MessageParts}

@@ -1,6 +1,6 @@
 -- The bindings that octets spell, as far as they spell any.
 use Rattle.std.specs.Prelude.{ℕ, zero, suc, List, [], ◌∷◌, length, Result, Ok, Err}
-use Rattle.dms_wire.specs.declared.fault.WireFault.{WireFault}
+use Rattle.dms_ber.specs.declared.fault.WireFault.{WireFault}
 use Rattle.dms_wire.specs.Message.{VarBind}
 use Rattle.dms_wire.specs.Reading.{binding_at}
 

@@ -1,20 +1,35 @@
-//! SNMPv1 messages in BER: reading a datagram, and writing the shortest one.
+//! SNMPv1 messages in BER (RFC 1157): reading a datagram, and writing the shortest one. Nothing is copied while reading, and no memory
+//! is taken.
+//!
+//! ```
+//! let message = read(datagram)?;
+//! let mut values = BindingOctets::new();
+//! for bind in message.binds.again() {
+//!     values.push(&Bind { name: bind.name, value: Value::Integer(7) });
+//! }
+//! let mut out = Out::new();
+//! let header = message.response(ErrorStatus::NoError, 0);
+//! if write_around(&header, &values, &mut out).is_err() {
+//!     write_response(&message, ErrorStatus::TooBig, 0, &mut out)?;
+//! }
+//! ```
 #![tactic(auto)]
 
+pub mod binding;
 pub mod error_status;
 pub mod fault;
 pub mod laws;
 pub mod message;
-pub mod object_identifier;
-mod reading;
 mod tag;
 #[cfg(test)]
 mod tests;
-mod writing;
+pub mod value;
 
+pub use binding::{Bind, BindingOctets, Binds};
+pub use dms_ber::{FaultKind, MAX_DATAGRAM, Numbers, Oid, Out, WireFault, oid_cmp};
 pub use error_status::ErrorStatus;
-pub use fault::{FaultKind, TooBig, WireFault};
-pub use message::{Bind, Binds, Header, Kind, Message, MessageParts, Out, Value};
-pub use object_identifier::{Numbers, Oid, oid_cmp};
-pub use reading::{heard, read};
-pub use writing::{BindingOctets, write, write_around, write_response};
+pub use fault::TooBig;
+pub use message::{
+    Header, Kind, Message, MessageParts, heard, read, write, write_around, write_response,
+};
+pub use value::Value;

@@ -1,111 +1,62 @@
-//! Messages, their bindings and values, over the octets of a datagram.
+//! Messages: reading a datagram, and writing the shortest one (RFC 1157, 4.1).
+//!
+//! Each reader is given the octets that are left of an element and `end`, the element's end as an offset in the datagram:
+//! what it reads begins at `end - octets.len()`.
 
-ghost use Rattle.std.specs.Prelude.{◌≡◌, List};
+ghost use Rattle.std.specs.Prelude.{◌≡◌, ◌↔◌, ℕ, ◌+◌, ◌^◌, ◌<◌, ◌≤◌, ◌++◌, List, [], ◌∷◌, pos, length, map, IsOk, IfOk, OnOk, OnErr, IfSome, IfNone};
+ghost use Rattle.arrayvec.specs.ArrayVec.{array_vec_len};
+ghost use Rattle.std.specs.Option.{option_map};
+ghost use Rattle.std.specs.List.{flat_map};
 ghost use Rattle.dms_wire.specs.ErrorStatus.{error_status_number};
-ghost use Rattle.dms_wire.specs.Message.{VarBind};
-ghost use Rattle.dms_wire.specs.Response.{response_with};
-ghost use Rattle.dms_wire.specs.View.{message_around, snmp_message};
+ghost use Rattle.dms_wire.specs.Message.{VarBind, SnmpMessage};
+ghost use Rattle.dms_wire.specs.Spelling.{Spells, tag_of};
+ghost use Rattle.dms_wire.specs.MessageOf.{message_of};
+ghost use Rattle.dms_wire.specs.Canonical.{numbers_octets, canonical};
+ghost use Rattle.dms_wire.specs.Response.{response_with, response_to};
+ghost use Rattle.dms_wire.specs.Written.{octets_of_bindings, IsWritten};
+ghost use Rattle.dms_ber.specs.Reading.{Gives, fault};
+ghost use Rattle.dms_wire.specs.Reading.{version_at, pdu_at, tagged_pdu_at, kind_of, inside_at, outer_content, outer_at, datagram_at, message_at};
+ghost use Rattle.dms_wire.specs.View.{var_bind, message_around, snmp_message, snmp_message_of_parts};
+ghost use Rattle.dms_wire.specs.PduView.{numbered};
+ghost use Rattle.dms_wire.specs.Prefix.{pdu_size, content_size, message_size, pdu_prefix, message_prefix, prefix};
 
+use crate::binding::{Bind, BindingOctets, Binds, list, put_bindings, size_of_bindings};
 use crate::error_status::ErrorStatus;
-use crate::object_identifier::Oid;
-use crate::reading::first_binding;
-use arrayvec::ArrayVec;
-use std::marker::Model;
-
-/// The most octets of a datagram.
-pub const MAX_DATAGRAM: usize = 1472;
-
-/// A datagram to send.
-pub type Out = ArrayVec<u8, MAX_DATAGRAM>;
+use crate::fault::TooBig;
+use crate::tag;
+use dms_ber::{
+    FaultKind, MAX_DATAGRAM, Out, WireFault, ended, fault_at, integer_of, offset_of, put_content,
+    put_head, put_integer, put_octets, read_content, read_element, read_integer, read_length,
+    size_of_element, size_of_integer, size_of_octets, tag as universal,
+};
 
 /// What a message asks or answers (RFC 1157, 4.1.2 to 4.1.5).
 #[derive(Clone, Copy, Debug, PartialEq, Eq, Hash)]
 pub enum Kind {
+    /// Asks for the values of the names (GetRequest, tag 160).
     Get,
+    /// Asks for the names that follow, with their values (GetNextRequest, tag 161).
     GetNext,
+    /// Answers one of the others (GetResponse, tag 162).
     Response,
+    /// Asks to set the names to the values (SetRequest, tag 163).
     Set,
 }
 
-/// The value of an object (RFC 1155, 3.2).
-#[derive(Debug, Default, PartialEq, Eq, Drop)]
-pub enum Value<'a> {
-    /// From -2^31 to 2^32 - 1 in what is read.
-    Integer(i64),
-    Octets(&'a [u8]),
-    #[default]
-    Null,
-    Name(Oid<'a>),
-    Address([u8; 4]),
-    Counter(u32),
-    Gauge(u32),
-    /// Hundredths of a second.
-    Ticks(u32),
-    Opaque(&'a [u8]),
-}
-
-/// A binding: an object's name and its value.
-#[derive(Debug, Default, PartialEq, Eq, Drop)]
-pub struct Bind<'a> {
-    pub name: Oid<'a>,
-    pub value: Value<'a>,
-}
-
-/// The bindings of a message, over its octets: an iterator, which a contract sees as the list of what is left.
-#[derive(Debug, Drop)]
-pub struct Binds<'a> {
-    pub(crate) content: &'a [u8],
-}
-
-impl<'a> Model for Binds<'a> {
-    ghost use Rattle.std.specs.Prelude.{List};
-    ghost use Rattle.dms_wire.specs.Message.{VarBind};
-    ghost use Rattle.dms_wire.specs.Walk.{bindings_of};
-
-    ghost Value = { List VarBind };
-
-    ghost view = { λ a. bindings_of a.content.now };
-}
-
-impl<'a> Binds<'a> {
-    /// The bindings that are left, to walk them once more.
-    pub fn again(&self) -> Binds<'a>
-        ensures { result ≡ self.now }
-    {
-        Binds {
-            content: self.content,
-        }
-    }
-}
-
-impl<'a> Iterator for Binds<'a> {
-    ghost use Rattle.std.specs.Iterator.{YieldsFirstBy, item_count};
-    ghost use Rattle.dms_wire.specs.View.{var_bind};
-
-    type Item = Bind<'a>;
-
-    ghost next_gives = { YieldsFirstBy var_bind (λ s. s) };
-
-    ghost remaining = { item_count (λ s. s) };
-
-    fn next(&mut self) -> Option<Bind<'a>> {
-        let (first, rest) = first_binding(self.content)?;
-        self.content = rest;
-        Some(first)
-    }
-}
-
-/// A message that was read, over the octets of its datagram.
+/// A message that was read, over the octets of its datagram (RFC 1157, 4.1). Its numbers are from -2^31 to 2^32 - 1 (this profile).
 #[derive(Debug, Drop)]
 pub struct Message<'a> {
+    /// The octets of the community's name, of any values and number.
     pub community: &'a [u8],
+    /// What is asked or answered.
     pub kind: Kind,
-    /// The request-id.
+    /// The request-id, which a Response repeats.
     pub request: i64,
-    /// The error-status.
+    /// The error-status of a Response; in a request it says nothing (RFC 1157, 4.1.1).
     pub status: i64,
-    /// The error-index.
+    /// The error-index of a Response: the number of the binding at fault, from 1, or 0; in a request it says nothing.
     pub index: i64,
+    /// The variable bindings, at most 210.
     pub binds: Binds<'a>,
 }
 
@@ -125,26 +76,367 @@ impl<'a> Message<'a> {
     }
 }
 
-/// What a message says beside its bindings.
+/// What a message to write says beside its bindings (RFC 1157, 4.1). Its numbers may be any of an `i64`; `read` refuses those that
+/// are not from -2^31 to 2^32 - 1.
 #[derive(Debug, PartialEq, Eq, Drop)]
 pub struct Header<'a> {
+    /// The octets of the community's name.
     pub community: &'a [u8],
+    /// What is asked or answered.
     pub kind: Kind,
-    /// The request-id.
+    /// The request-id: in a Response that of the request.
     pub request: i64,
-    /// The error-status.
+    /// The error-status: in a request 0.
     pub status: i64,
-    /// The error-index: the number of the binding that is at fault, from 1, or 0.
+    /// The error-index: the number of the binding at fault, from 1, or 0.
     pub index: i64,
 }
 
-/// A message to write: as `Message`, with its bindings in a slice.
+/// A message to write, its bindings in a slice (RFC 1157, 4.1).
 #[derive(Debug, Drop)]
 pub struct MessageParts<'a> {
+    /// The octets of the community's name.
     pub community: &'a [u8],
+    /// What is asked or answered.
     pub kind: Kind,
+    /// The request-id: in a Response that of the request.
     pub request: i64,
+    /// The error-status: in a request 0.
     pub status: i64,
+    /// The error-index: the number of the binding at fault, from 1, or 0.
     pub index: i64,
+    /// The variable bindings, in order.
     pub binds: &'a [Bind<'a>],
+}
+
+/// Reads the message that the octets of a datagram spell, or says what is wrong with them: the first fault from left to
+/// right, and its offset. Every accepted form of a length is read, with leading zeros too (X.690, 8.1.3; RFC 1157, 4.1).
+pub fn read(octets: &[u8]) -> Result<Message<'_>, WireFault>
+    ensures exact { Gives snmp_message result (message_at octets.now) }
+    ensures accepts { IsOk result ↔ ((m : SnmpMessage) × Spells m octets.now) }
+    ensures found { IfOk result (λ m. Spells (snmp_message m) octets.now) }
+    ensures only { (m : SnmpMessage) → Spells m octets.now → Gives snmp_message result (Ok m) }
+    ensures none { OnErr result ((m : SnmpMessage) → Spells m octets.now → ⊥) }
+    ensures too_long { 1472 < length octets.now → result ≡ Err (fault FaultKind.TooLong 1472) }
+    ensures truncated { (m : SnmpMessage) (more : List ℕ) → 0 < length more → Spells m (octets.now ++ more)
+        → result ≡ Err (fault FaultKind.Truncated (length octets.now)) }
+    ensures trailing { (m : SnmpMessage) (front more : List ℕ) → octets.now ≡ front ++ more → 0 < length more
+        → length octets.now ≤ 1472 → Spells m front
+        → result ≡ Err (fault FaultKind.TrailingBytes (length front)) }
+{
+    read_message(octets)
+}
+
+/// The message that the octets of a datagram spell, or none where they spell none: for who does not ask what is wrong with them.
+pub fn heard(datagram: &[u8]) -> Option<Message<'_>>
+    ensures message { option_map snmp_message result ≡ message_of datagram.now }
+    ensures spelled { IfSome result (λ m. Spells (snmp_message m) datagram.now) }
+{
+    read(datagram).ok()
+}
+
+/// A message that is the whole datagram, where this has at most 1,472 octets.
+#[tactic(auto, unfolding(crate::specs::Reading::message_at))]
+fn read_message(octets: &[u8]) -> Result<Message<'_>, WireFault>
+    ensures { Gives snmp_message result (message_at octets.now) }
+{
+    if octets.len() > MAX_DATAGRAM {
+        return Err(fault_at(FaultKind::TooLong, MAX_DATAGRAM));
+    }
+    datagram(octets)
+}
+
+/// A message that is the whole datagram.
+#[tactic(auto, unfolding(crate::specs::Reading::datagram_at))]
+fn datagram(octets: &[u8]) -> Result<Message<'_>, WireFault>
+    ensures { Gives snmp_message result (datagram_at octets.now) }
+{
+    let (content, rest) = outer(octets)?;
+    let message = inside(content, offset_of(rest, octets.len()))?;
+    ended(rest, octets.len())?;
+    Ok(message)
+}
+
+/// The content of the outermost element, and the octets after it.
+#[tactic(auto, unfolding(crate::specs::Reading::outer_at))]
+fn outer(octets: &[u8]) -> Result<(&[u8], &[u8]), WireFault>
+    ensures exact { Gives (λ x. (x.0.now, x.1.now)) result (outer_at octets.now) }
+    ensures parts { IfOk result (λ x. length x.0.now + length x.1.now < length octets.now) }
+{
+    match octets {
+        [] => Err(fault_at(FaultKind::Truncated, 0)),
+        [universal::SEQUENCE, rest @ ..] => outer_content(rest, octets.len()),
+        _ => Err(fault_at(FaultKind::BadTag, 0)),
+    }
+}
+
+/// What follows the tag of the outermost element: its content, and the octets after it.
+#[tactic(auto, unfolding(crate::specs::Reading::outer_content))]
+fn outer_content(octets: &[u8], end: usize) -> Result<(&[u8], &[u8]), WireFault>
+    requires { length octets.now ≤ end }
+    ensures exact { Gives (λ x. (x.0.now, x.1.now)) result (outer_content end octets.now) }
+    ensures parts { IfOk result (λ x. length x.0.now + length x.1.now < length octets.now) }
+{
+    let (count, rest) = read_length(octets, end)?;
+    if rest.len() < count {
+        return Err(fault_at(FaultKind::Truncated, end));
+    }
+    Ok(rest.split_at(count))
+}
+
+/// The members of a message, which are its whole content.
+#[tactic(auto, unfolding(crate::specs::Reading::inside_at))]
+fn inside(octets: &[u8], end: usize) -> Result<Message<'_>, WireFault>
+    requires { length octets.now ≤ end }
+    ensures { Gives snmp_message result (inside_at end octets.now) }
+{
+    let rest = after_version(octets, end)?;
+    let (community, rest) = read_element(universal::OCTET_STRING, rest, end)?;
+    let ((kind, fields), rest) = tagged_pdu(rest, end)?;
+    ended(rest, end)?;
+    let PduFields {
+        request,
+        status,
+        index,
+        binds,
+    } = fields;
+    Ok(Message {
+        community,
+        kind,
+        request,
+        status,
+        index,
+        binds,
+    })
+}
+
+/// The octets after the version, which is 0.
+#[tactic(auto, unfolding(crate::specs::Reading::version_at))]
+fn after_version(octets: &[u8], end: usize) -> Result<&[u8], WireFault>
+    requires { length octets.now ≤ end }
+    ensures exact { Gives (λ rest. (tt, rest.now)) result (version_at end octets.now) }
+    ensures rest { IfOk result (λ rest. length rest.now < length octets.now) }
+{
+    let (content, rest) = read_element(universal::INTEGER, octets, end)?;
+    let place = offset_of(content, offset_of(rest, end));
+    match integer_of(content) {
+        None => Err(fault_at(FaultKind::BadInteger, place)),
+        Some(0) => Ok(rest),
+        Some(_) => Err(fault_at(FaultKind::BadVersion, place)),
+    }
+}
+
+/// A PDU with its tag, and the octets after it.
+#[tactic(auto, unfolding(crate::specs::Reading::tagged_pdu_at))]
+fn tagged_pdu(octets: &[u8], end: usize) -> Result<((Kind, PduFields<'_>), &[u8]), WireFault>
+    requires { length octets.now ≤ end }
+    ensures exact { Gives (λ x. ((x.0.0, numbered x.0.1), x.1.now)) result (tagged_pdu_at end octets.now) }
+    ensures rest { IfOk result (λ x. length x.1.now < length octets.now) }
+{
+    let [tag, rest @ ..] = octets else {
+        return Err(fault_at(FaultKind::Truncated, end));
+    };
+    let kind = kind_of(*tag).ok_or(fault_at(FaultKind::BadTag, offset_of(octets, end)))?;
+    let (content, rest) = read_content(rest, end)?;
+    let fields = pdu(content, offset_of(rest, end))?;
+    Ok(((kind, fields), rest))
+}
+
+/// The kind of a PDU with this tag.
+fn kind_of(tag: u8) -> Option<Kind>
+    ensures { result ≡ kind_of tag }
+{
+    match tag {
+        tag::GET => Some(Kind::Get),
+        tag::GET_NEXT => Some(Kind::GetNext),
+        tag::RESPONSE => Some(Kind::Response),
+        tag::SET => Some(Kind::Set),
+        _ => None,
+    }
+}
+
+/// What a PDU says beside its kind.
+#[derive(Drop)]
+struct PduFields<'a> {
+    request: i64,
+    status: i64,
+    index: i64,
+    binds: Binds<'a>,
+}
+
+/// The members of a PDU, which are its whole content.
+#[tactic(auto, unfolding(crate::specs::Reading::pdu_at))]
+fn pdu(octets: &[u8], end: usize) -> Result<PduFields<'_>, WireFault>
+    requires { length octets.now ≤ end }
+    ensures { Gives numbered result (pdu_at end octets.now) }
+{
+    let (request, rest) = read_integer(octets, end)?;
+    let (status, rest) = read_integer(rest, end)?;
+    let (index, rest) = read_integer(rest, end)?;
+    let (binds, rest) = list(rest, end)?;
+    ended(rest, end)?;
+    Ok(PduFields {
+        request,
+        status,
+        index,
+        binds,
+    })
+}
+
+/// Writes the shortest spelling of a message over what `out` holds: each length in its shortest form, each number
+/// without needless octets (X.690, 8.1.3 and 8.3). Where that is more than 1,472 octets, `out` is left empty.
+pub fn write(parts: &MessageParts<'_>, out: &mut Out) -> Result<(), TooBig>
+    ensures { IsWritten result out.new.items (canonical (snmp_message_of_parts parts.now)) }
+{
+    out.clear();
+    let header = Header {
+        community: parts.community,
+        kind: parts.kind,
+        request: parts.request,
+        status: parts.status,
+        index: parts.index,
+    };
+    let size = size_of_bindings(parts.binds)?;
+    begin(&header, size, out)?;
+    put_bindings(out, parts.binds);
+    Ok(())
+}
+
+/// Writes, as `write` does, the message with this header and the bindings that were pushed: their octets are copied once.
+pub fn write_around(
+    header: &Header<'_>,
+    octets: &BindingOctets,
+    out: &mut Out,
+) -> Result<(), TooBig>
+    ensures { (bindings : List VarBind) → octets.now ≡ octets_of_bindings bindings
+        → IsWritten result out.new.items (canonical (message_around header.now bindings)) }
+{
+    out.clear();
+    if octets.too_big {
+        return Err(TooBig);
+    }
+    begin(header, octets.octets.len(), out)?;
+    put_content(out, &octets.octets);
+    Ok(())
+}
+
+/// Writes the Response to a message that was read, with this error-status and error-index, and with the bindings of the message
+/// (RFC 1157, 4.1.2: "identical to the message"), as `write` does.
+pub fn write_response(
+    message: &Message<'_>,
+    status: ErrorStatus,
+    index: u32,
+    out: &mut Out,
+) -> Result<(), TooBig>
+    ensures { IsWritten result out.new.items (canonical (response_to (snmp_message message.now) (error_status_number status) index)) }
+{
+    let octets = BindingOctets::of(message.binds.again());
+    write_around(&message.response(status, index), &octets, out)
+}
+
+/// Writes what stands before bindings of `size` octets over what `out` holds, or nothing where the message would have more
+/// than 1,472 octets.
+#[tactic(auto, using(crate::proofs::Prefixes::prefix_steps))]
+fn begin(header: &Header<'_>, size: usize, out: &mut Out) -> Result<(), TooBig>
+    requires { size ≤ 1472 }
+    ensures ok { OnOk result (out.new.items ≡ prefix (message_around header.now []) size) }
+    ensures fits { OnOk result (message_size (message_around header.now []) size ≤ 1472) }
+    ensures room { OnOk result (array_vec_len out.new + size ≤ 1472) }
+    ensures empty { OnErr result (out.new.items ≡ []) }
+    ensures too_big { OnErr result (1472 < message_size (message_around header.now []) size) }
+{
+    out.clear();
+    if header.community.len() > MAX_DATAGRAM {
+        return Err(TooBig);
+    }
+    let pdu = size_of_pdu_content(header, size);
+    let content = size_of_message_content(header, pdu);
+    if size_of_element(content) > MAX_DATAGRAM {
+        return Err(TooBig);
+    }
+    put_head(out, universal::SEQUENCE, content);
+    put_message_prefix(out, header, pdu);
+    put_pdu_prefix(out, header, size);
+    Ok(())
+}
+
+/// Writes what stands before the PDU's content: the version, which is 0, the community and the PDU's tag and length.
+#[inline]
+#[tactic(auto, using(crate::proofs::Prefixes::prefix_steps))]
+fn put_message_prefix(out: &mut Out, header: &Header<'_>, pdu: usize)
+    requires { array_vec_len out.old + content_size (message_around header.now []) pdu ≤ 1472 }
+    ensures { out.new.items ≡ out.old.items ++ message_prefix (message_around header.now []) pdu }
+{
+    put_octets(out, universal::INTEGER, &[0]);
+    put_octets(out, universal::OCTET_STRING, header.community);
+    put_head(out, tag_of_pdu(header.kind), pdu);
+}
+
+/// Writes what stands before the bindings in the PDU's content: the three numbers, and the list's tag and length.
+#[inline]
+#[tactic(auto, using(crate::proofs::Sizes::element_steps))]
+fn put_pdu_prefix(out: &mut Out, header: &Header<'_>, size: usize)
+    requires { array_vec_len out.old + pdu_size (message_around header.now []) size ≤ 1472 }
+    ensures { out.new.items ≡ out.old.items ++ pdu_prefix (message_around header.now []) size }
+{
+    put_numbers(out, header);
+    put_head(out, universal::SEQUENCE, size);
+}
+
+/// How many octets the content of the message takes, around a PDU of which the content takes `pdu` octets.
+#[inline]
+#[tactic(auto, using(crate::proofs::Sizes::sizes))]
+fn size_of_message_content(header: &Header<'_>, pdu: usize) -> usize
+    requires pdu { pdu < 2 ^ 11 }
+    requires community { length header.now.community.now ≤ 1472 }
+    ensures exact { result ≡ content_size (message_around header.now []) pdu }
+    ensures small { result < 2 ^ 12 }
+{
+    3 + size_of_octets(header.community) + size_of_element(pdu)
+}
+
+/// How many octets the content of the PDU takes, around bindings of `size` octets.
+#[inline]
+fn size_of_pdu_content(header: &Header<'_>, size: usize) -> usize
+    requires { size ≤ 1472 }
+    ensures exact { result ≡ pdu_size (message_around header.now []) size }
+    ensures small { result < 2 ^ 11 }
+{
+    size_of_numbers(header) + size_of_element(size)
+}
+
+/// How many octets the request-id, the error-status and the error-index take.
+#[inline]
+#[tactic(auto, using(crate::proofs::Sizes::sizes), unfolding(crate::specs::Canonical::numbers_octets))]
+fn size_of_numbers(header: &Header<'_>) -> usize
+    ensures exact { result ≡ length (numbers_octets (message_around header.now [])) }
+    ensures small { result < 60 }
+{
+    size_of_integer(&header.request)
+        + size_of_integer(&header.status)
+        + size_of_integer(&header.index)
+}
+
+/// Writes the request-id, the error-status and the error-index.
+#[tactic(auto, using(crate::proofs::Sizes::element_steps), unfolding(crate::specs::Canonical::numbers_octets))]
+fn put_numbers(out: &mut Out, header: &Header<'_>)
+    requires { array_vec_len out.old + length (numbers_octets (message_around header.now [])) ≤ 1472 }
+    ensures { out.new.items ≡ out.old.items ++ numbers_octets (message_around header.now []) }
+{
+    put_integer(out, &header.request);
+    put_integer(out, &header.status);
+    put_integer(out, &header.index);
+}
+
+/// The tag of a PDU.
+#[inline]
+fn tag_of_pdu(kind: Kind) -> u8
+    ensures { result ≡ tag_of kind }
+{
+    match kind {
+        Kind::Get => tag::GET,
+        Kind::GetNext => tag::GET_NEXT,
+        Kind::Response => tag::RESPONSE,
+        Kind::Set => tag::SET,
+    }
 }

@@ -1,14 +1,4 @@
-//! The tags of elements: the first octet of each (X.690, 8.1.2; RFC 1155, 3.2.3; RFC 1157, 4.1).
-
-pub const INTEGER: u8 = 2;
-
-pub const OCTET_STRING: u8 = 4;
-
-pub const NULL: u8 = 5;
-
-pub const OBJECT_IDENTIFIER: u8 = 6;
-
-pub const SEQUENCE: u8 = 48;
+//! The tags that SNMP adds (RFC 1155, 6; RFC 1157, 4.1).
 
 pub const IP_ADDRESS: u8 = 64;
 

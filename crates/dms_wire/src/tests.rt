@@ -3,7 +3,8 @@
 mod cases;
 
 use crate::{
-    Bind, FaultKind, Kind, Message, MessageParts, Oid, Out, TooBig, Value, WireFault, read, write,
+    Bind, BindingOctets, ErrorStatus, FaultKind, Kind, Message, MessageParts, Oid, Out, TooBig,
+    Value, WireFault, heard, read, write, write_around, write_response,
 };
 use std::alloc::Global;
 use std::process::Abort;
@@ -83,7 +84,7 @@ fn spelled(rt: HostRuntime) -> Result<(), Fail> {
 }
 
 #[test]
-fn fronts(rt: HostRuntime) {
+fn prefixes(rt: HostRuntime) {
     for (place, _) in GET.iter().enumerate() {
         check_fault(&rt, &GET[..place], FaultKind::Truncated, place);
     }
@@ -104,6 +105,43 @@ fn hostile(rt: HostRuntime) {
     check_faulty(&rt, &cases);
     let longer = datagram_of(&rt, &[&GET, &[0]]);
     check_fault(&rt, &longer, FaultKind::TrailingBytes, 48);
+}
+
+/// The example of the crate's documentation: each object of a Get has the value 7.
+#[test]
+fn example(rt: HostRuntime) -> Result<(), Fail> {
+    let message = read(&GET)?;
+    let mut values = BindingOctets::new();
+    for bind in message.binds.again() {
+        values.push(&Bind {
+            name: bind.name,
+            value: Value::Integer(7),
+        });
+    }
+    let mut out = Out::new();
+    let header = message.response(ErrorStatus::NoError, 0);
+    if write_around(&header, &values, &mut out).is_err() {
+        write_response(&message, ErrorStatus::TooBig, 0, &mut out)?;
+    }
+    let answer =
+        b"\x30\x2f\x02\x01\x00\x04\x06public\xa2\x22\x02\x01\x01\x02\x01\x00\x02\x01\x00\x30\x17\x30\x15\x06\x10\x2b\x06\x01\x04\x01\x89\x36\x04\x02\x03\x05\x08\x01\x09\x03\x01\x02\x01\x07";
+    assert_eq!(rt; out.as_slice(), answer.as_slice());
+    assert_eq!(rt;
+        write_response(&message, ErrorStatus::NoSuchName, 1, &mut out),
+        Ok(())
+    );
+    let refusal = datagram_of(
+        &rt,
+        &[
+            &GET[..13],
+            b"\xa2\x21\x02\x01\x01\x02\x01\x02\x02\x01\x01",
+            &GET[24..],
+        ],
+    );
+    assert_eq!(rt; out.as_slice(), refusal.as_slice());
+    assert!(rt; heard(&GET).is_some());
+    assert!(rt; heard(&GET[1..]).is_none());
+    Ok(())
 }
 
 /// A name has at most 127 sub-identifiers.
@@ -171,21 +209,6 @@ fn binding<'a>(rt: &impl Abort, name: &'a [u8], value: Value<'a>) -> Bind<'a> {
     Bind { name, value }
 }
 
-fn is_same(a: &Value<'_>, b: &Value<'_>) -> bool {
-    match (a, b) {
-        (Value::Integer(a), Value::Integer(b)) => a == b,
-        (Value::Octets(a), Value::Octets(b)) => a == b,
-        (Value::Null, Value::Null) => true,
-        (Value::Name(a), Value::Name(b)) => a == b,
-        (Value::Address(a), Value::Address(b)) => a == b,
-        (Value::Counter(a), Value::Counter(b)) => a == b,
-        (Value::Gauge(a), Value::Gauge(b)) => a == b,
-        (Value::Ticks(a), Value::Ticks(b)) => a == b,
-        (Value::Opaque(a), Value::Opaque(b)) => a == b,
-        _ => false,
-    }
-}
-
 #[test]
 fn values(rt: HostRuntime) -> Result<(), Fail> {
     let expected = [
@@ -229,8 +252,7 @@ fn values(rt: HostRuntime) -> Result<(), Fail> {
     );
     for bind in &expected {
         let found = message.binds.next().expect(&rt, "a binding");
-        assert!(rt; found.name == bind.name);
-        assert!(rt; is_same(&found.value, &bind.value));
+        assert!(rt; found == *bind);
     }
     assert!(rt; message.binds.next().is_none());
     Ok(())

@@ -1,5 +1,5 @@
 use Rattle.std.proofs.Common.{subst, sym}
-use Rattle.dms_wire.specs.ObjectIdentifier.{IsName}
+use Rattle.dms_ber.specs.ObjectIdentifier.{IsName}
 use Rattle.dms_objects.specs.Names.{name_of}
 use Rattle.dms_objects.specs.declared.instance.Instance.{Instance}
 use Rattle.dms_objects.proofs.name.Name.oid.Goals as goal

@@ -1,0 +1,15 @@
+pub mod Octets
+pub mod BelowBase
+pub mod Elements
+pub mod Integers
+pub mod Names
+pub mod Unique
+pub mod Named
+pub mod NameWalk
+pub mod NameLimits
+pub mod Members
+pub mod ShorterContents
+pub mod CanonicalIntegers
+pub mod CanonicalNames
+pub mod CanonicalElements
+pub mod Shortest

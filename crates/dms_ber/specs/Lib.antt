@@ -1,0 +1,12 @@
+-- What a reader must believe: the content and the length of each element, in any accepted form and in the shortest, and their limits.
+pub mod Length
+pub mod Element
+pub mod Integer
+pub mod ObjectIdentifier
+pub mod NameOrder
+pub mod NameText
+pub mod FaultText
+-- What only proofs go through: reading as functions on lists, which the code mirrors.
+pub mod NameReading
+pub mod NameWalk
+pub mod Reading

@@ -1,6 +1,0 @@
-use Rattle.std.proofs.Common.{◌≡◌, ◌≤◌, length, take}
-use Rattle.dms_wire.proofs.Writes.{written}
-use Rattle.dms_wire.proofs.writing.size_of_bindings.Given as goal
-
-abbrev pub invariant-loop-binding : goal.invariant-loop-binding
-invariant-loop-binding l = (l.size ≡ length (written (take l.binding-index l.bindings))) × (l.size ≤ 1472)

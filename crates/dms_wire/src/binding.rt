@@ -1,0 +1,271 @@
+//! Variable bindings: their walk, their reading and their writing (RFC 1157, 4.1.1).
+
+ghost use Rattle.std.specs.Prelude.{◌≡◌, ◌↔◌, ℕ, ◌+◌, ◌^◌, ◌<◌, ◌≤◌, ◌++◌, List, [], ◌∷◌, pos, length, map, IsOk, IfOk, OnOk, OnErr, IfSome, IfNone};
+ghost use Rattle.arrayvec.specs.ArrayVec.{array_vec_len};
+ghost use Rattle.std.specs.List.{flat_map};
+ghost use Rattle.dms_wire.specs.Message.{VarBind};
+ghost use Rattle.dms_ber.specs.Reading.{Gives};
+ghost use Rattle.dms_wire.specs.Reading.{members_at, binding_at, bindings_at, list_at};
+ghost use Rattle.dms_wire.specs.Walk.{bindings_of};
+ghost use Rattle.dms_wire.specs.View.{object_value, var_bind};
+ghost use Rattle.dms_ber.specs.Element.{element};
+ghost use Rattle.dms_ber.specs.ObjectIdentifier.{name_octets};
+ghost use Rattle.dms_wire.specs.Canonical.{value_octets, binding_octets};
+ghost use Rattle.dms_wire.specs.Written.{octets_of_bindings};
+
+use crate::fault::TooBig;
+use crate::value::{Value, put_value, read_value, size_of_value};
+use dms_ber::{
+    MAX_DATAGRAM, Oid, Out, WireFault, ended, offset_of, put_head, put_octets, read_element,
+    read_name, size_of_element, size_of_octets, tag,
+};
+use std::marker::Model;
+
+/// A variable binding (RFC 1157, 4.1.1).
+#[derive(Debug, Default, PartialEq, Eq, Drop)]
+pub struct Bind<'a> {
+    /// The name of a variable: its object and its instance.
+    pub name: Oid<'a>,
+    /// The variable's value, or NULL where it is asked for.
+    pub value: Value<'a>,
+}
+
+/// The bindings of a message, over its octets: an iterator, which a contract sees as the list of what is left.
+#[derive(Debug, Drop)]
+pub struct Binds<'a> {
+    pub(crate) content: &'a [u8],
+}
+
+impl<'a> Model for Binds<'a> {
+    ghost use Rattle.std.specs.Prelude.{List};
+    ghost use Rattle.dms_wire.specs.Message.{VarBind};
+    ghost use Rattle.dms_wire.specs.Walk.{bindings_of};
+
+    ghost Value = { List VarBind };
+
+    ghost view = { λ a. bindings_of a.content.now };
+}
+
+impl<'a> Binds<'a> {
+    /// The bindings that are left, to walk them once more.
+    pub fn again(&self) -> Binds<'a>
+        ensures { result ≡ self.now }
+    {
+        Binds {
+            content: self.content,
+        }
+    }
+}
+
+impl<'a> Iterator for Binds<'a> {
+    ghost use Rattle.std.specs.Iterator.{YieldsFirstBy, item_count};
+    ghost use Rattle.dms_wire.specs.View.{var_bind};
+
+    type Item = Bind<'a>;
+
+    ghost next_gives = { YieldsFirstBy var_bind (λ s. s) };
+
+    ghost remaining = { item_count (λ s. s) };
+
+    fn next(&mut self) -> Option<Bind<'a>> {
+        let (first, rest) = first_binding(self.content)?;
+        self.content = rest;
+        Some(first)
+    }
+}
+
+/// A binding's name and value, which are its whole content.
+#[inline(always)]
+#[tactic(auto, unfolding(crate::specs::Reading::members_at))]
+fn members(octets: &[u8], end: usize) -> Result<Bind<'_>, WireFault>
+    requires { length octets.now ≤ end }
+    ensures { Gives var_bind result (members_at end octets.now) }
+{
+    let (name, rest) = read_name(octets, end)?;
+    let (value, rest) = read_value(rest, end)?;
+    ended(rest, end)?;
+    Ok(Bind { name, value })
+}
+
+/// A binding, and the octets after it.
+#[inline(always)]
+#[tactic(auto, unfolding(crate::specs::Reading::binding_at))]
+fn read_binding(octets: &[u8], end: usize) -> Result<(Bind<'_>, &[u8]), WireFault>
+    requires { length octets.now ≤ end }
+    ensures exact { Gives (λ x. (var_bind x.0, x.1.now)) result (binding_at end octets.now) }
+    ensures rest { IfOk result (λ x. length x.1.now < length octets.now) }
+{
+    let (content, rest) = read_element(tag::SEQUENCE, octets, end)?;
+    let bind = members(content, offset_of(rest, end))?;
+    Ok((bind, rest))
+}
+
+/// The first binding of a list's octets, and the octets after it, if the octets begin with a binding.
+fn first_binding(octets: &[u8]) -> Option<(Bind<'_>, &[u8])>
+    ensures some { IfSome result (λ x. bindings_of octets.now ≡ var_bind x.0 ∷ bindings_of x.1.now) }
+    ensures none { IfNone result (bindings_of octets.now ≡ []) }
+{
+    match read_binding(octets, octets.len()) {
+        Ok(first) => Some(first),
+        Err(_) => None,
+    }
+}
+
+/// Checks the bindings up to the end of the octets, each of them once.
+#[inline(never)]
+fn check_bindings(octets: &[u8], end: usize) -> Result<(), WireFault>
+    requires { length octets.now ≤ end }
+    ensures { Gives (λ _. bindings_of octets.now) result (bindings_at end octets.now) }
+{
+    let mut rest = octets;
+    while !rest.is_empty() {
+        rest = read_binding(rest, end)?.1;
+    }
+    Ok(())
+}
+
+/// Bindings up to the end of the octets.
+#[inline]
+fn bindings(octets: &[u8], end: usize) -> Result<Binds<'_>, WireFault>
+    requires { length octets.now ≤ end }
+    ensures { Gives (λ bs. bs) result (bindings_at end octets.now) }
+{
+    check_bindings(octets, end)?;
+    Ok(Binds { content: octets })
+}
+
+/// The list of bindings, and the octets after it.
+#[tactic(auto, unfolding(crate::specs::Reading::list_at))]
+pub(crate) fn list(octets: &[u8], end: usize) -> Result<(Binds<'_>, &[u8]), WireFault>
+    requires { length octets.now ≤ end }
+    ensures exact { Gives (λ x. (x.0, x.1.now)) result (list_at end octets.now) }
+    ensures rest { IfOk result (λ x. length x.1.now < length octets.now) }
+{
+    let (content, rest) = read_element(tag::SEQUENCE, octets, end)?;
+    let binds = bindings(content, offset_of(rest, end))?;
+    Ok((binds, rest))
+}
+
+/// How many octets a binding takes, where its name and its value are no larger than a datagram.
+#[inline]
+#[tactic(auto, using(crate::proofs::Sizes::sizes), unfolding(crate::specs::Canonical::binding_octets))]
+fn size_of_binding(binding: &Bind<'_>) -> Result<usize, TooBig>
+    ensures ok { IfOk result (λ n. n ≡ length (binding_octets (var_bind binding.now))) }
+    ensures small { IfOk result (λ n. n < 2 ^ 12) }
+    ensures too_big { OnErr result (1472 < length (binding_octets (var_bind binding.now))) }
+{
+    let name = size_of_octets(binding.name.content());
+    let value = size_of_value(&binding.value);
+    if name > MAX_DATAGRAM || value > MAX_DATAGRAM {
+        return Err(TooBig);
+    }
+    Ok(size_of_element(name + value))
+}
+
+/// Writes the name and the value of a binding.
+#[inline]
+#[tactic(auto, using(crate::proofs::Sizes::element_steps))]
+fn put_binding_content(out: &mut Out, binding: &Bind<'_>)
+    requires { array_vec_len out.old + length (element 6 (name_octets binding.now.name) ++ value_octets (object_value binding.now.value)) ≤ 1472 }
+    ensures { out.new.items ≡ out.old.items ++ (element 6 (name_octets binding.now.name) ++ value_octets (object_value binding.now.value)) }
+{
+    put_octets(out, tag::OBJECT_IDENTIFIER, binding.name.content());
+    put_value(out, &binding.value);
+}
+
+/// Writes a binding.
+#[tactic(auto, using(crate::proofs::Sizes::nested_steps), unfolding(crate::specs::Canonical::binding_octets))]
+fn put_binding(out: &mut Out, binding: &Bind<'_>)
+    requires { array_vec_len out.old + length (binding_octets (var_bind binding.now)) ≤ 1472 }
+    ensures { out.new.items ≡ out.old.items ++ binding_octets (var_bind binding.now) }
+{
+    let size = size_of_octets(binding.name.content()) + size_of_value(&binding.value);
+    put_head(out, tag::SEQUENCE, size);
+    put_binding_content(out, binding);
+}
+
+/// How many octets bindings take, where that is no more than a datagram.
+#[tactic(auto, using(crate::proofs::Writes::written_steps))]
+pub(crate) fn size_of_bindings(bindings: &[Bind<'_>]) -> Result<usize, TooBig>
+    ensures ok { IfOk result (λ n. (n ≡ length (flat_map binding_octets (map var_bind bindings.now))) × (n ≤ 1472)) }
+    ensures too_big { OnErr result (1472 < length (flat_map binding_octets (map var_bind bindings.now))) }
+{
+    let mut size = 0;
+    for binding in bindings {
+        size += size_of_binding(binding)?;
+        if size > MAX_DATAGRAM {
+            return Err(TooBig);
+        }
+    }
+    Ok(size)
+}
+
+/// Writes bindings, one after the other.
+#[tactic(auto, using(crate::proofs::Writes::written_steps))]
+pub(crate) fn put_bindings(out: &mut Out, bindings: &[Bind<'_>])
+    requires { array_vec_len out.old + length (flat_map binding_octets (map var_bind bindings.now)) ≤ 1472 }
+    ensures { out.new.items ≡ out.old.items ++ flat_map binding_octets (map var_bind bindings.now) }
+{
+    for binding in bindings {
+        put_binding(out, binding);
+    }
+}
+
+/// The octets of bindings to write, one binding after the other, in their shortest spelling: who has each binding only for a
+/// moment writes them with no array of bindings. Bindings of more than 1,472 octets are none that fit a message: then no octet
+/// is kept, and `write_around` refuses them. A contract sees the octets, or none (`octets_of_bindings`).
+#[derive(Debug, Drop)]
+pub struct BindingOctets {
+    pub(crate) octets: Out,
+    /// Whether the bindings have more octets than a datagram.
+    pub(crate) too_big: bool,
+}
+
+impl Model for BindingOctets {
+    ghost use Rattle.std.specs.Prelude.{ℕ, List, Option, Some, None, if◌then◌else◌};
+
+    ghost Value = { Option (List ℕ) };
+
+    ghost view = { λ a. if a.too_big then None else Some a.octets.items };
+}
+
+impl BindingOctets {
+    /// No bindings.
+    pub fn new() -> Self
+        ensures { result ≡ octets_of_bindings [] }
+    {
+        BindingOctets {
+            octets: Out::new(),
+            too_big: false,
+        }
+    }
+
+    /// Appends a binding. Where the bindings have more than 1,472 octets with it, they are too big from then on.
+    pub fn push(&mut self, binding: &Bind<'_>)
+        ensures { (bindings : List VarBind) → self.old ≡ octets_of_bindings bindings
+            → self.new ≡ octets_of_bindings (bindings ++ var_bind binding.now ∷ []) }
+    {
+        if self.too_big {
+            return;
+        }
+        match size_of_binding(binding) {
+            Ok(size) if size <= self.octets.remaining_capacity() => put_binding(
+                &mut self.octets,
+                binding,
+            ),
+            _ => self.too_big = true,
+        }
+    }
+
+    /// The bindings that are left of those of a message that was read.
+    pub fn of(binds: Binds<'_>) -> Self
+        ensures { result ≡ octets_of_bindings binds.entry }
+    {
+        let mut octets = BindingOctets::new();
+        let mut rest = binds;
+        while let Some(binding) = rest.next() {
+            octets.push(&binding);
+        }
+        octets
+    }
+}
