@@ -2,13 +2,18 @@
 //! runs. Each argument is a file with a datagram in hexadecimal.
 
 mod peer;
+mod peer_text;
 
+use peer_text::Face;
 use std::hint::black_box;
 use std::time::Instant;
 use std::{env, fs, process};
 
 /// Runs of a measure, of which the best counts: many short ones, since other programs disturb some of them.
 const RUNS: usize = 400;
+
+/// Runs of a measure of a text.
+const TEXT_RUNS: usize = 40;
 
 /// How long a run takes, in nanoseconds.
 const RUN_NANOSECONDS: f64 = 1e6;
@@ -118,44 +123,75 @@ fn items_of(text: &str) -> usize {
     text.split('[').map(|part| part.split(']').last().map_or(0, str::len)).sum::<usize>() + text.matches('[').count()
 }
 
-/// The best time of a call over a text, in nanoseconds, without what is done once.
-fn best_over_text(measure: ExportedOfText, fonts: &str, text: &str) -> f64 {
-    let call = |times| unsafe { measure(fonts.as_ptr(), fonts.len(), text.as_ptr(), text.len(), times) };
-    let both = |runs, times| {
-        let [mut once, mut all] = [f64::INFINITY; 2];
-        for _ in 0..runs {
-            once = once.min(run(&call, 0));
-            all = all.min(run(&call, times));
+/// The best time of a proved call over a text and of the same by hand, in nanoseconds, without what is done once. The runs take turns.
+fn best_over_text(measure: ExportedOfText, by_hand: fn(&Face, &[u8], u32) -> u64, face: &Face, fonts: &str, text: &[u8]) -> [f64; 2] {
+    let proved = |times| unsafe { measure(fonts.as_ptr(), fonts.len(), text.as_ptr(), text.len(), times) };
+    let by_hand = |times| by_hand(face, text, times);
+    assert_eq!(proved(3), by_hand(3), "{}", String::from_utf8_lossy(text));
+    let calls: [&dyn Fn(u32) -> u64; 2] = [&proved, &by_hand];
+    let once = |call: &dyn Fn(u32) -> u64| ((run(call, 200) - run(call, 0)) / 200.0).max(20.0);
+    let times = calls.map(|call| (RUN_NANOSECONDS / once(call)).max(5.0) as u32);
+    let mut best = [[f64::INFINITY; 2]; 2];
+    for _ in 0..TEXT_RUNS {
+        for at in 0..2 {
+            best[at][0] = best[at][0].min(run(calls[at], 0));
+            best[at][1] = best[at][1].min(run(calls[at], times[at]));
         }
-        (all - once) / f64::from(times)
-    };
-    both(RUNS, (RUN_NANOSECONDS / both(20, 10)).clamp(5.0, 1e6) as u32)
+    }
+    [0, 1].map(|at| (best[at][1] - best[at][0]) / f64::from(times[at]))
 }
 
-/// Texts with items of all kinds are checked, and their pages made; then every cell of these pages is looked up.
-fn texts() {
-    let fonts = fonts();
-    println!(
-        "{:<8} {:>6} {:>6} {:>10} {:>10} {:>10} {:>12} {:>12}",
-        "octets", "items", "pages", "check, ns", "an octet", "an item", "pages, ns", "a cell, ns"
-    );
+/// Four fonts whose text is made by this; a text, and a name for it.
+struct Case {
+    name: String,
+    fonts: String,
+    text: Vec<u8>,
+}
+
+/// A font of 255 characters of one column: the last of them is the last of the font.
+fn full_font() -> String {
+    let glyphs: String = (1..=255).map(|character| format!("glyph {character} 1 80\n")).collect();
+    format!("font 1 height 1 space 0 line 0 version 0001\n{glyphs}")
+}
+
+/// Texts with items of all kinds, and the texts that are worst for one of the calls' parts, each at four sizes.
+fn cases() -> Vec<Case> {
+    let mut cases = Vec::new();
     for pieces in [1, 2, 4, 8] {
         let text = text_of(pieces);
-        let items = items_of(&text);
-        // The checks of a text are summed to its number of pages, which is 0 where it is not good.
-        let pages = unsafe { dms_bench_check(fonts.as_ptr(), fonts.len(), text.as_ptr(), text.len(), 1) };
-        assert_eq!(text.len(), 64 * pieces);
-        assert_eq!(pages as usize, pieces.div_ceil(2), "pages of {text}");
-        let check = best_over_text(dms_bench_check, &fonts, &text);
-        let made = best_over_text(dms_bench_pages, &fonts, &text);
-        let cells = best_over_text(dms_bench_cells, &fonts, &text);
-        println!(
-            "{:<8} {items:>6} {pages:>6} {check:>10.0} {:>10.1} {:>10.1} {made:>12.0} {:>12.2}",
-            text.len(),
-            check / text.len() as f64,
-            check / items as f64,
-            cells / (pages * 256 * 64) as f64
-        );
+        cases.push(Case { name: format!("{} octets, {} items", text.len(), items_of(&text)), fonts: fonts(), text: text.into_bytes() });
+    }
+    for count in [32, 64, 128, 256] {
+        let columns = count.min(256);
+        cases.push(Case { name: format!("{columns} times the last of 255"), fonts: full_font(), text: vec![255; columns] });
+        cases.push(Case { name: format!("{} times [fo]", count / 2), fonts: fonts(), text: "[fo]".repeat(count / 2).into_bytes() });
+        let lines = (count / 4).min(63);
+        cases.push(Case { name: format!("{lines} new lines"), fonts: full_font(), text: "[nl0]".repeat(lines).into_bytes() });
+        cases.push(Case { name: format!("{} octets, not closed", 2 * count), fonts: fonts(), text: [b"[", "a".repeat(2 * count - 1).as_bytes()].concat() });
+    }
+    cases
+}
+
+/// Each text is checked, and its pages made; then every cell of these pages is looked up. Beside each time stands that by hand, and their ratio.
+fn texts() {
+    println!("{:<8} {:<28} {:>11} {:>11} {:>6}", "measure", "text", "proved, ns", "by hand, ns", "ratio");
+    let measures: [(&str, ExportedOfText, fn(&Face, &[u8], u32) -> u64); 3] = [
+        ("check", dms_bench_check, peer_text::check_times),
+        ("pages", dms_bench_pages, peer_text::pages_times),
+        ("cells", dms_bench_cells, peer_text::cells_times),
+    ];
+    for (measure, exported, by_hand) in measures {
+        for case in cases() {
+            let Some(face) = Face::largest(&case.fonts) else {
+                eprintln!("no fonts");
+                process::exit(1);
+            };
+            if measure != "check" && peer_text::check(&face, &case.text).is_err() {
+                continue;
+            }
+            let [proved, plain] = best_over_text(exported, by_hand, &face, &case.fonts, &case.text);
+            println!("{measure:<8} {:<28} {proved:>11.0} {plain:>11.0} {:>6.2}", case.name, proved / plain);
+        }
     }
 }
 
