@@ -82,22 +82,18 @@ impl Places {
         }
     }
 
-    /// The same with one more block behind those of its place.
-    pub(crate) fn with(self, block: Block) -> Places
+    /// One more block stands after those of its place.
+    pub(crate) fn push(&mut self, block: Block)
         requires low { 2 ≤ block.place }
         requires high { block.place ≤ 4 }
-        requires within { AreWithin 256 self }
-        ensures tells { (blocks : List Block) → TellsBlocks self blocks → TellsBlocks result (blocks ++ block ∷ []) }
-        ensures small { AreWithin 766 result }
+        requires within { AreWithin 256 self.old }
+        ensures tells { (blocks : List Block) → TellsBlocks self.old blocks → TellsBlocks self.new (blocks ++ block ∷ []) }
+        ensures small { AreWithin 766 self.new }
     {
         let index = usize::from(block.place - 2);
-        let mut runs = self.runs;
-        runs[index] = runs[index].with(block);
-        Places {
-            any: true,
-            last: self.last.max(block.place),
-            runs,
-        }
+        self.runs[index] = self.runs[index].with(block);
+        self.any = true;
+        self.last = self.last.max(block.place);
     }
 
     /// Whether the places have room beside each other.

@@ -61,7 +61,9 @@ impl<'a> Totals<'a> {
         ensures tells { (layout : Layout) → Tells self.now layout → TellsBlocks result (map line_block (layout.lines ++ open_line layout ∷ [])) }
         ensures within { AreWithin 766 result }
     {
-        self.lines.with(self.line_block())
+        let mut lines = self.lines;
+        lines.push(self.line_block());
+        lines
     }
 
     /// The open page's lines while the open line is open.
@@ -127,7 +129,7 @@ impl<'a> Totals<'a> {
         ensures lines { AreWithin 256 self.new.lines }
         ensures part { self.new.part ≡ self.old.part }
     {
-        self.characters = self.characters.with(Block {
+        self.characters.push(Block {
             place: self.side,
             size: glyph.width(),
             spacing: self.font.character_spacing(),
