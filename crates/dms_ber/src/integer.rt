@@ -86,10 +86,8 @@ pub fn integer_of(content: &[u8]) -> Option<i64>
 pub fn natural_of(content: &[u8]) -> Option<u32>
     ensures { result ≡ natural_value content.now }
 {
-    match integer_of(content) {
-        Some(value) if value >= 0 => Some(value as u32),
-        _ => None,
-    }
+    let value = integer_of(content)?;
+    u32::try_from(value).ok()
 }
 
 /// An INTEGER, and the octets after it; `BadInteger` at its content where `integer_of` is none.

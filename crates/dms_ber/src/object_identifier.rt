@@ -20,8 +20,8 @@ use std::cmp::Ordering;
 use std::fmt;
 use std::marker::Model;
 
-/// The most sub-identifiers of an object identifier.
-const MAX_SUB_IDENTIFIERS: usize = 127;
+/// The most sub-identifiers of an object identifier, and so at most 128 numbers (this profile).
+pub const MAX_SUB_IDENTIFIERS: usize = 127;
 
 /// An object identifier, over its content octets. A contract sees the list of its numbers: 2 to 128 of them, each below 2^32.
 #[derive(Debug, Drop)]

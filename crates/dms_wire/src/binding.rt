@@ -21,6 +21,9 @@ use dms_ber::{
 };
 use std::marker::Model;
 
+/// The most bindings of a datagram: each has seven octets at least.
+pub const MAX_BINDINGS: usize = 210;
+
 /// A variable binding (RFC 1157, 4.1.1).
 #[derive(Debug, Default, PartialEq, Eq, Drop)]
 pub struct Bind<'a> {

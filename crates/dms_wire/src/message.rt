@@ -219,11 +219,11 @@ fn after_version(octets: &[u8], end: usize) -> Result<&[u8], WireFault>
 {
     let (content, rest) = read_element(universal::INTEGER, octets, end)?;
     let place = offset_of(content, offset_of(rest, end));
-    match integer_of(content) {
-        None => Err(fault_at(FaultKind::BadInteger, place)),
-        Some(0) => Ok(rest),
-        Some(_) => Err(fault_at(FaultKind::BadVersion, place)),
+    let version = integer_of(content).ok_or(fault_at(FaultKind::BadInteger, place))?;
+    if version != 0 {
+        return Err(fault_at(FaultKind::BadVersion, place));
     }
+    Ok(rest)
 }
 
 /// A PDU with its tag, and the octets after it.

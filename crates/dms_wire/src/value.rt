@@ -68,10 +68,10 @@ fn value_of(tag: u8, before: usize, place: usize, content: &[u8]) -> Result<Valu
             [] => Ok(Value::Null),
             _ => Err(bad_length),
         },
-        universal::OBJECT_IDENTIFIER => match name_of(content) {
-            Some(name) => Ok(Value::Name(name)),
-            None => Err(fault_at(FaultKind::BadName, place)),
-        },
+        universal::OBJECT_IDENTIFIER => Ok(Value::Name(name_of(content).ok_or(fault_at(
+            FaultKind::BadName,
+            place,
+        ))?)),
         tag::IP_ADDRESS => match content {
             [a, b, c, d] => Ok(Value::Address([*a, *b, *c, *d])),
             _ => Err(bad_length),
