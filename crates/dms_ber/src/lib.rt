@@ -2,11 +2,9 @@
 //! every accepted form, up to the first fault and its offset, and written in the shortest.
 //!
 //! ```
-//! let name = Oid::of(b"\x2b\x06\x01").expect(rt, "an object identifier");
-//! let mut out = Out::new();
-//! put_octets(&mut out, tag::OBJECT_IDENTIFIER, name.content());
-//! let (again, rest) = read_name(&out, out.len())?;
-//! // again is 1.3.6.1, and nothing is left
+//! let octets: &[u8] = b"\x06\x03\x2b\x06\x01";
+//! let (name, rest) = read_name(octets, octets.len())?;
+//! // name prints as 1.3.6.1, and nothing is left
 //! ```
 #![tactic(auto)]
 
