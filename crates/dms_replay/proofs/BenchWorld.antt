@@ -30,7 +30,7 @@ use Rattle.dms_codes.specs.Checksum.{octet_bits}
 use Rattle.dms_codes.specs.Codes.{activation_of}
 use Rattle.dms_table.specs.Rows.{unused}
 use Rattle.dms_objects.specs.Names.{name_of}
-use Rattle.dms_sign.specs.Objects.{instances}
+use Rattle.dms_instances.specs.Objects.{instances}
 use Rattle.dms_sign.specs.Values.{scalar_value, value_at, value_after, minutes_left}
 use Rattle.dms_sign.specs.Values as values
 use Rattle.dms_sign.specs.Access.{is_settable_object, object_write, cell_write, write_of}

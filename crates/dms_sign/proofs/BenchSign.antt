@@ -25,7 +25,7 @@ use Rattle.dms_objects.specs.declared.scalar.Scalar.TheVariants.{ActivateMessage
 use Rattle.dms_objects.specs.declared.instance.Instance.{Instance}
 use Rattle.dms_objects.specs.declared.instance.Instance.TheVariants.{The, Cell}
 use Rattle.dms_objects.specs.Names.{name_of}
-use Rattle.dms_sign.specs.Objects.{instances}
+use Rattle.dms_instances.specs.Objects.{instances}
 use Rattle.dms_sign.specs.State.{ConfigModel, SignState, start}
 use Rattle.dms_sign.specs.Values.{scalar_value, value_at, value_of, value_after, bound}
 use Rattle.dms_sign.specs.OwnCodes.{put_up_code}

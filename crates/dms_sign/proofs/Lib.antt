@@ -1,7 +1,3 @@
-pub mod Members
-pub mod InOrder
-pub mod WhichInstances
-pub mod ObjectRows
 pub mod Replies
 pub mod Accepted
 pub mod OneValidating

@@ -15,7 +15,7 @@ use Rattle.dms_wire.specs.Response.{response_to}
 use Rattle.dms_ber.proofs.Shortest.{element_length, length-positive_more, length-positive_small}
 use Rattle.dms_table.specs.Rows.{unused}
 use Rattle.dms_objects.specs.Names.{name_of}
-use Rattle.dms_sign.specs.Objects.{instances}
+use Rattle.dms_instances.specs.Objects.{instances}
 use Rattle.dms_sign.specs.State.{SignState}
 use Rattle.dms_sign.specs.Values.{value_at, value_after}
 use Rattle.dms_sign.specs.Reply.{too_big}

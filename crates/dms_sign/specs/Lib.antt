@@ -1,4 +1,3 @@
-pub mod Objects
 pub mod State
 pub mod Values
 pub mod OwnCodes

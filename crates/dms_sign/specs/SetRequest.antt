@@ -11,7 +11,7 @@ use Rattle.dms_objects.specs.declared.scalar.Scalar.{Scalar}
 use Rattle.dms_objects.specs.declared.scalar.Scalar.TheVariants.{DefaultBackgroundColor, DefaultForegroundColor, DefaultFlashOn, DefaultFlashOff, DefaultFont, DefaultJustificationLine, DefaultJustificationPage, DefaultPageOnTime, DefaultPageOffTime, ShortPowerRecoveryMessage, LongPowerRecoveryMessage, ShortPowerLossTime, CommunicationsLossMessage, TimeCommLoss, PowerLossMessage, EndDurationMessage}
 use Rattle.dms_objects.specs.declared.instance.Instance.{Instance}
 use Rattle.dms_objects.specs.Names.{scalar_number}
-use Rattle.dms_sign.specs.Objects.{instance_named}
+use Rattle.dms_instances.specs.Objects.{instance_named}
 use Rattle.dms_sign.specs.State.{SignState}
 use Rattle.dms_sign.specs.Access.{Write, SetNumber, SetCode, SetField, is_command, is_settable, write_of}
 

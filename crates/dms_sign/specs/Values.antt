@@ -16,7 +16,7 @@ use Rattle.dms_objects.specs.declared.scalar.Scalar.TheVariants.{SignHeightPixel
 use Rattle.dms_objects.specs.declared.instance.Instance.{Instance}
 use Rattle.dms_objects.specs.declared.instance.Instance.TheVariants.{The, Cell}
 use Rattle.dms_objects.specs.Names.{name_of}
-use Rattle.dms_sign.specs.Objects.{instance_named, next_instance}
+use Rattle.dms_instances.specs.Objects.{instance_named, next_instance}
 use Rattle.dms_sign.specs.State.{SignState}
 
 abbrev pub number_value : ℕ → ObjectValue

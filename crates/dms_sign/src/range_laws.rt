@@ -12,7 +12,7 @@ ghost use Rattle.dms_table.specs.Rows.{TableModel};
 ghost use Rattle.dms_table.specs.Stock.{stock_fault, table_of};
 ghost use Rattle.dms_objects.specs.declared.instance.Instance.{Instance};
 ghost use Rattle.dms_objects.specs.Names.{name_of};
-ghost use Rattle.dms_sign.specs.Objects.{IsInstance};
+ghost use Rattle.dms_instances.specs.Objects.{IsInstance};
 ghost use Rattle.dms_sign.specs.State.{ConfigModel, SignState, start};
 ghost use Rattle.dms_sign.specs.Values.{value_at, value_of, value_after};
 ghost use Rattle.dms_sign.specs.Reply.{too_big};

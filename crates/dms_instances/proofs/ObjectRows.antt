@@ -7,7 +7,7 @@ use Rattle.dms_table.specs.Rows.{TableModel, unused}
 use Rattle.dms_objects.specs.declared.scalar.Scalar.TheVariants.{SignHeightPixels, ValidateMessageError, ActivateMessage, CommunicationsLossMessage, ActivateErrorMsgCode}
 use Rattle.dms_objects.specs.declared.instance.Instance.TheVariants.{The, Cell}
 use Rattle.dms_objects.specs.Names.{name_of}
-use Rattle.dms_sign.specs.Objects.{instances, instance_named, next_instance}
+use Rattle.dms_instances.specs.Objects.{instances, instance_named, next_instance}
 
 -- two changeable rows, a volatile one and a permanent one
 abbrev pub table : TableModel

@@ -14,8 +14,8 @@ use Rattle.dms_table.specs.Rows.{TableModel}
 use Rattle.dms_objects.specs.declared.instance.Instance.{Instance}
 use Rattle.dms_objects.specs.declared.instance.Instance.TheVariants.{The, Cell}
 use Rattle.dms_objects.specs.Names.{name_of}
-use Rattle.dms_sign.specs.Objects.{before_table, after_table, columns, memories, rows_in, row_ids, cells, instances, is_before, has_name, comes_after, instance_named, next_instance, IsInstance, FirstAfter}
-use Rattle.dms_sign.proofs.Members.{some_is}
+use Rattle.dms_instances.specs.Objects.{before_table, after_table, columns, memories, rows_in, row_ids, cells, instances, is_before, has_name, comes_after, instance_named, next_instance, IsInstance, FirstAfter}
+use Rattle.dms_instances.proofs.Members.{some_is}
 
 -- ---- the order of names
 

@@ -1,0 +1,4 @@
+pub mod Members
+pub mod InOrder
+pub mod WhichInstances
+pub mod ObjectRows

@@ -1,0 +1,4 @@
+//! The instances of a sign's objects: which there are, by which names they are found, and in which order they are walked.
+#![tactic(auto)]
+
+pub mod laws;
