@@ -24,12 +24,12 @@ less Less h = refl
 less Equal h = absurd (true≢false (sym h))
 less Greater h = absurd (true≢false (sym h))
 
-before_trans : (a b c : List ℕ) → is_before a b ≡ true → is_before b c ≡ true → is_before a c ≡ true
+pub before_trans : (a b c : List ℕ) → is_before a b ≡ true → is_before b c ≡ true → is_before a c ≡ true
 before_trans a b c h g =
     let total = nat_list_cmp_total in
     ap is_lt (total.trans a b c (less (numbers_cmp a b) h) (less (numbers_cmp b c) g))
 
-not_before_itself : (a : List ℕ) → is_before a a ≡ false
+pub not_before_itself : (a : List ℕ) → is_before a a ≡ false
 not_before_itself a = ap is_lt (tied_itself nat_list_cmp_total a)
 
 before_differs : (a b : List ℕ) → is_before a b ≡ true → pointwise nat_eq a b ≡ false
@@ -47,7 +47,7 @@ smaller m n a b h = ap (λ t. is_lt (ordering_then (cond t Less (cond (nat_eq m 
 -- ---- rising names
 
 -- the names of a list rise, above low and below high
-abbrev rises : {X : Type 0} → (X → List ℕ) → List ℕ → List X → List ℕ → Bool
+abbrev pub rises : {X : Type 0} → (X → List ℕ) → List ℕ → List X → List ℕ → Bool
 rises name low [] high = is_before low high
 rises name low (x ∷ xs) high = is_before low (name x) && rises name (name x) xs high
 
@@ -157,7 +157,7 @@ instances_rise table =
 -- ---- what is found in a list whose names rise
 
 -- each name is above low
-above : (low : List ℕ) (xs : List Instance) (high : List ℕ) → rises name_of low xs high ≡ true → (k : ℕ) (j : Instance) → slice_get xs k ≡ Some j
+pub above : (low : List ℕ) (xs : List Instance) (high : List ℕ) → rises name_of low xs high ≡ true → (k : ℕ) (j : Instance) → slice_get xs k ≡ Some j
     → is_before low (name_of j) ≡ true
 above low [] high r k j h = absurd (cc)
 above low (x ∷ xs) high r zero j h =

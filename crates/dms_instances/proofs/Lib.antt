@@ -2,3 +2,4 @@ pub mod Members
 pub mod InOrder
 pub mod WhichInstances
 pub mod ObjectRows
+pub mod Places

@@ -1,0 +1,247 @@
+//! The places of instances: the list of them is never made, since the instance at a place is computed.
+
+ghost use Rattle.std.specs.Prelude.{◌≡◌, ◌≤◌, ◌<◌, ℕ, true, length, IfSome};
+ghost use Rattle.dms_table.specs.Rows.{TableModel};
+ghost use Rattle.dms_objects.specs.Names.{name_of};
+ghost use Rattle.dms_instances.specs.Objects.{has_name, comes_after, instance_named, next_instance};
+ghost use Rattle.dms_instances.specs.Places.{HasCounts, row_total, place_total, row_at, instance_at, IsBetween};
+
+use crate::guess;
+use dms_codes::{RowId, memory};
+use dms_objects::{Column, Instance, Name, Scalar};
+use dms_table::Table;
+use dms_wire::{Oid, oid_cmp};
+use std::cmp::Ordering;
+
+/// The objects before dmsMessageTable.
+const BEFORE_TABLE: [Scalar; 19] = [
+    Scalar::SignHeightPixels,
+    Scalar::SignWidthPixels,
+    Scalar::DefaultBackgroundColor,
+    Scalar::DefaultForegroundColor,
+    Scalar::DefaultFlashOn,
+    Scalar::DefaultFlashOff,
+    Scalar::DefaultFont,
+    Scalar::DefaultJustificationLine,
+    Scalar::DefaultJustificationPage,
+    Scalar::DefaultPageOnTime,
+    Scalar::DefaultPageOffTime,
+    Scalar::ColorScheme,
+    Scalar::NumPermanentMsg,
+    Scalar::NumChangeableMsg,
+    Scalar::MaxChangeableMsg,
+    Scalar::FreeChangeableMemory,
+    Scalar::NumVolatileMsg,
+    Scalar::MaxVolatileMsg,
+    Scalar::FreeVolatileMemory,
+];
+
+/// The objects after dmsMessageTable.
+const AFTER_TABLE: [Scalar; 17] = [
+    Scalar::ValidateMessageError,
+    Scalar::ActivateMessage,
+    Scalar::MessageTimeRemaining,
+    Scalar::MsgTableSource,
+    Scalar::MsgRequesterId,
+    Scalar::MsgSourceMode,
+    Scalar::ShortPowerRecoveryMessage,
+    Scalar::LongPowerRecoveryMessage,
+    Scalar::ShortPowerLossTime,
+    Scalar::CommunicationsLossMessage,
+    Scalar::TimeCommLoss,
+    Scalar::PowerLossMessage,
+    Scalar::EndDurationMessage,
+    Scalar::ActivateMsgError,
+    Scalar::MultiSyntaxError,
+    Scalar::MultiSyntaxErrorPosition,
+    Scalar::ActivateErrorMsgCode,
+];
+
+/// The columns of dmsMessageTable.
+const COLUMNS: [Column; 9] = [
+    Column::MemoryType,
+    Column::Number,
+    Column::MultiString,
+    Column::Owner,
+    Column::Crc,
+    Column::Beacon,
+    Column::PixelService,
+    Column::RunTimePriority,
+    Column::Status,
+];
+
+/// How many rows a sign has of each type of memory that it stores. They say which instances it has.
+#[derive(Clone, Copy, Debug, PartialEq, Eq)]
+pub struct Counts {
+    pub permanent: u8,
+    pub changeable: u8,
+    pub volatile: u8,
+}
+
+impl Counts {
+    /// Those of a table.
+    pub fn of(table: &Table) -> Counts
+        requires permanent { length table.now.permanent ≤ 255 }
+        requires changeable { length table.now.changeable ≤ 255 }
+        requires volatile { length table.now.volatile ≤ 255 }
+        ensures { HasCounts table.now result }
+    {
+        Counts {
+            permanent: table.row_count(memory::PERMANENT) as u8,
+            changeable: table.row_count(memory::CHANGEABLE) as u8,
+            volatile: table.row_count(memory::VOLATILE) as u8,
+        }
+    }
+
+    /// The instance of this name, where a table of as many rows has it.
+    pub fn named(&self, name: &Oid<'_>) -> Option<Instance>
+        ensures { (table : TableModel) → HasCounts table self.now → result ≡ instance_named table name.now }
+    {
+        if let Some(place) = self.guessed(name) {
+            return Some(self.instance_at(place));
+        }
+        let place = self.place_after(name);
+        if place == 0 {
+            return None;
+        }
+        let last = self.instance_at(place - 1);
+        if has_name(name, last) {
+            Some(last)
+        } else {
+            None
+        }
+    }
+
+    /// The first instance after this name, where a table of as many rows has one (RFC 1157, 4.1.3).
+    pub fn next(&self, name: &Oid<'_>) -> Option<Instance>
+        ensures { (table : TableModel) → HasCounts table self.now → result ≡ next_instance table name.now }
+    {
+        let place = self.next_place(name);
+        if place < self.places() {
+            Some(self.instance_at(place))
+        } else {
+            None
+        }
+    }
+
+    fn next_place(&self, name: &Oid<'_>) -> usize
+        ensures within { result ≤ place_total self.now }
+        ensures between { (table : TableModel) → HasCounts table self.now → IsBetween table name.now result result }
+    {
+        match self.guessed(name) {
+            Some(place) => place + 1,
+            None => self.place_after(name),
+        }
+    }
+
+    /// The place of this name, where its octets tell it at once.
+    fn guessed(&self, name: &Oid<'_>) -> Option<usize>
+        ensures within { IfSome result (λ place. place < place_total self.now) }
+        ensures named { IfSome result (λ place. has_name name.now (instance_at self.now place) ≡ true) }
+    {
+        let place = guess::place(self, name.content())?;
+        if place < self.places() && has_name(name, self.instance_at(place)) {
+            Some(place)
+        } else {
+            None
+        }
+    }
+
+    /// The first place of which the instance comes after this name, or the number of places: by halving.
+    fn place_after(&self, name: &Oid<'_>) -> usize
+        ensures within { result ≤ place_total self.now }
+        ensures between { (table : TableModel) → HasCounts table self.now → IsBetween table name.now result result }
+    {
+        let mut low = 0;
+        let mut high = self.places();
+        while low < high {
+            let middle = low + (high - low) / 2;
+            if comes_after(name, self.instance_at(middle)) {
+                high = middle;
+            } else {
+                low = middle + 1;
+            }
+        }
+        low
+    }
+
+    /// How many rows a column has: the stored ones, the current buffer and 255 blank messages.
+    pub(crate) fn rows(&self) -> usize
+        ensures { result ≡ row_total self.now }
+    {
+        usize::from(self.permanent)
+            + usize::from(self.changeable)
+            + usize::from(self.volatile)
+            + 256
+    }
+
+    /// How many instances there are.
+    fn places(&self) -> usize
+        ensures { result ≡ place_total self.now }
+    {
+        19 + self.rows() * 9 + 17
+    }
+
+    /// The row at a place of a column.
+    #[tactic(auto, unfolding(crate::specs::Places::row_at))]
+    fn row_at(&self, place: usize) -> RowId
+        requires { place < row_total self.now }
+        ensures { result ≡ row_at self.now place }
+    {
+        let permanent = usize::from(self.permanent);
+        let changeable = permanent + usize::from(self.changeable);
+        let volatile = changeable + usize::from(self.volatile);
+        if place < permanent {
+            row(memory::PERMANENT, place + 1)
+        } else if place < changeable {
+            row(memory::CHANGEABLE, place - permanent + 1)
+        } else if place < volatile {
+            row(memory::VOLATILE, place - changeable + 1)
+        } else if place == volatile {
+            row(memory::CURRENT_BUFFER, 1)
+        } else {
+            row(memory::BLANK, place - volatile)
+        }
+    }
+
+    /// The instance at a place.
+    #[tactic(auto, unfolding(crate::specs::Places::instance_at))]
+    fn instance_at(&self, place: usize) -> Instance
+        requires { place < place_total self.now }
+        ensures { result ≡ instance_at self.now place }
+    {
+        if place < 19 {
+            return Instance::The(BEFORE_TABLE[place]);
+        }
+        let rows = self.rows();
+        let cell = place - 19;
+        if cell < rows * 9 {
+            Instance::Cell(COLUMNS[cell / rows], self.row_at(cell % rows))
+        } else {
+            Instance::The(AFTER_TABLE[cell - rows * 9])
+        }
+    }
+}
+
+fn row(memory: u8, number: usize) -> RowId
+    requires { number < 65536 }
+    ensures { result ≡ record { memory = memory; number = number } }
+{
+    RowId {
+        memory,
+        number: number as u16,
+    }
+}
+
+/// The instance comes after this name.
+fn comes_after(name: &Oid<'_>, instance: Instance) -> bool
+    ensures { result ≡ comes_after name.now instance }
+{
+    oid_cmp(name, &Name::of(instance).oid()) == Ordering::Less
+}
+
+fn has_name(name: &Oid<'_>, instance: Instance) -> bool
+    ensures { result ≡ has_name name.now instance }
+{
+    Name::of(instance).oid() == *name
+}
