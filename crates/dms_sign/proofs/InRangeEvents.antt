@@ -23,12 +23,12 @@ use Rattle.dms_sign.proofs.InRangeShown.{showing_in_range, telling_in_range, wit
 
 -- ---- settling
 
-abbrev IsFaultPlaced : Option MultiFault → Type 0
+abbrev pub IsFaultPlaced : Option MultiFault → Type 0
 IsFaultPlaced o = IfSome o (λ fault. fault.place ≤ longest_text)
 
-record IsVerdictInRange (verdict : Verdict) : Type 0 where
-  error : verdict.error ≤ 255
-  fault : IsFaultPlaced verdict.fault
+pub record IsVerdictInRange (verdict : Verdict) : Type 0 where
+  pub error : verdict.error ≤ 255
+  pub fault : IsFaultPlaced verdict.fault
 
 text_verdict_in_range : (o : Option MultiFault) → IsFaultPlaced o → IsVerdictInRange (text_verdict o)
 text_verdict_in_range None placed = record { error = omega arith; fault = tt }
@@ -44,7 +44,7 @@ any_if : {X Y : Type 0} (P : Y → Type 0) (f : X → Y) (o : Option X) → ((x 
 any_if P f None each = tt
 any_if P f (Some x) each = each x
 
-settled_verdict : (face : FaceModel) (table : TableModel) → IfSome (verdict face table) IsVerdictInRange
+pub settled_verdict : (face : FaceModel) (table : TableModel) → IfSome (verdict face table) IsVerdictInRange
 settled_verdict face table = any_if IsVerdictInRange (verdict_of table.services face) (settling_row table) (verdict_in_range table.services face)
 
 text_told : (reports : ReportsModel) (o : Option MultiFault) → AreReportsInRange reports → IsFaultPlaced o
@@ -59,7 +59,7 @@ text_told reports None are placed = record {
 }
 text_told reports (Some fault) are placed = fault_in_range reports fault are placed
 
-verdict_told : (reports : ReportsModel) (o : Option Verdict) → AreReportsInRange reports → IfSome o IsVerdictInRange
+pub verdict_told : (reports : ReportsModel) (o : Option Verdict) → AreReportsInRange reports → IfSome o IsVerdictInRange
     → AreReportsInRange (settled_reports reports o)
 verdict_told reports None are verdict = are
 verdict_told reports (Some found) are verdict =
@@ -90,7 +90,7 @@ unused_in_range = record {
 settled_row_in_range : (services : Services) (face : FaceModel) (row : RowModel) → IsRowInRange row → IsRowInRange (settled_row services face row)
 settled_row_in_range services face row is = either IsRowInRange (row_is_validating row) _ row (with_status_in_range row _ is) is
 
-settled_in_range : (face : FaceModel) (table : TableModel) → IsTableInRange table → IsTableInRange (settled face table)
+pub settled_in_range : (face : FaceModel) (table : TableModel) → IsTableInRange table → IsTableInRange (settled face table)
 settled_in_range face table is =
     let new = settled_row table.services face in
     let each = settled_row_in_range table.services face in
@@ -201,7 +201,7 @@ power_loss_in_range s is =
 interrupted_in_range : (row : RowModel) → IsRowInRange row → IsRowInRange (interrupted row)
 interrupted_in_range row is = either IsRowInRange (row_is_validating row) _ row (with_status_in_range row _ is) is
 
-after_power_in_range : (table : TableModel) → IsTableInRange table → IsTableInRange (after_power table)
+pub after_power_in_range : (table : TableModel) → IsTableInRange table → IsTableInRange (after_power table)
 after_power_in_range table is = record {
   permanent = is.permanent;
   changeable = all_mapped IsRowInRange IsRowInRange interrupted table.changeable interrupted_in_range is.changeable;
@@ -211,7 +211,7 @@ after_power_in_range table is = record {
   volatile_count = omega (arith, length-map table.volatile released, is.volatile_count);
 }
 
-restored_in_range : (s : SignState) → IsSignInRange s → IsSignInRange (restored s)
+pub restored_in_range : (s : SignState) → IsSignInRange s → IsSignInRange (restored s)
 restored_in_range s is = record {
   config = is.config;
   table = after_power_in_range s.table is.table;

@@ -22,7 +22,7 @@ use Rattle.dms_codes.specs.Codes.{number_at, id_of, activation_of, octets_of_id,
 use Rattle.dms_table.specs.Activation.{ShownModel, is_memory, named, row_id, has_checksum, text_error, activation_error, cause_number, seconds_of, put_up, unless_refused, decided_on, decided}
 use Rattle.dms_sign.specs.State.{ReportsModel, SignState, no_address, blank_shown}
 use Rattle.dms_sign.specs.OwnCodes.{showing, with_fault, with_cause, refused_reports, with_refused_code, own_activation, put_up_as_decided, staying, put_up_code}
-use Rattle.dms_sign.specs.InRange.{AreOctets, AreDefaultsInRange, IsTableInRange, IsTimeInRange, IsShownInRange, AreReportsInRange, IsSignInRange}
+use Rattle.dms_sign.specs.InRange.{AreOctets, AreDefaultsInRange, IsTableInRange, IsTimeInRange, IsShownInRange, IsCauseInRange, AreReportsInRange, IsSignInRange}
 use Rattle.dms_sign.proofs.InRangeLists.{either, if_either, if_mapped, all_append}
 use Rattle.dms_sign.proofs.InRangeValues.{IsReadingInRange, in_order_small, id_below, message_in_range}
 use Rattle.dms_sign.proofs.InRangeFaults.{code_small, fault_placed}
@@ -131,7 +131,7 @@ activation_is order octets below =
       };
     }
 
-own_is : (id : MessageId) → IsMessageId id → IsCodeInRange (own_activation id)
+pub own_is : (id : MessageId) → IsMessageId id → IsCodeInRange (own_activation id)
 own_is id is =
     record { minutes = omega arith; id = is; address = record { size = refl; below = (omega arith, (omega arith, (omega arith, (omega arith, tt)))) } }
 
@@ -139,7 +139,7 @@ own_size : (order : Order) (id : MessageId) → length (octets_of_activation ord
 own_size High id = refl
 own_size Swapped id = refl
 
-own_octets : (order : Order) (id : MessageId) → IsMessageId id → AreOctets 12 (octets_of_activation order (own_activation id))
+pub own_octets : (order : Order) (id : MessageId) → IsMessageId id → AreOctets 12 (octets_of_activation order (own_activation id))
 own_octets order id is = record {
   size = own_size order id;
   below = (
@@ -156,14 +156,6 @@ own_octets order id is = record {
 }
 
 -- ---- decisions
-
-abbrev IsCauseInRange : Cause → Type 0
-IsCauseInRange (causes.Syntax fault) = fault.place ≤ longest_text
-IsCauseInRange causes.MemoryType = ⊤
-IsCauseInRange causes.Number = ⊤
-IsCauseInRange causes.Status = ⊤
-IsCauseInRange causes.Checksum = ⊤
-IsCauseInRange causes.Priority = ⊤
 
 abbrev pub IsDecisionInRange : Result ShownModel Cause → Type 0
 IsDecisionInRange (Ok shown) = IsShownInRange shown
@@ -258,7 +250,7 @@ cause_small causes.Number = omega arith
 cause_small causes.Checksum = omega arith
 cause_small (causes.Syntax fault) = omega arith
 
-refused_in_range : (reports : ReportsModel) (cause : Cause) (code : List ℕ) → AreReportsInRange reports → IsCauseInRange cause → AreOctets 12 code
+pub refused_in_range : (reports : ReportsModel) (cause : Cause) (code : List ℕ) → AreReportsInRange reports → IsCauseInRange cause → AreOctets 12 code
     → AreReportsInRange (refused_reports reports cause code)
 refused_in_range reports cause code are is octets =
     let new = cause_in_range reports cause are is in
@@ -278,7 +270,7 @@ refused_code_in_range s cause code is small octets =
 
 -- ---- codes of the sign's own
 
-with_mode : (shown : ShownModel) (mode : ℕ) → IsShownInRange shown → mode ≤ 255 → IsShownInRange (record shown { mode = mode })
+pub with_mode : (shown : ShownModel) (mode : ℕ) → IsShownInRange shown → mode ≤ 255 → IsShownInRange (record shown { mode = mode })
 with_mode shown mode is small =
     record { row = is.row; source = is.source; mode = small; address = is.address; remaining = is.remaining; defaults = is.defaults }
 

@@ -22,3 +22,7 @@ pub mod WorkedSilence
 pub mod WorkedDefaults
 pub mod WorkedSizes
 pub mod WorkedPictures
+pub mod Wholes
+pub mod Found
+pub mod Walks
+pub mod Sending

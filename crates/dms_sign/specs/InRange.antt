@@ -12,6 +12,8 @@ use Rattle.dms_wire.specs.Canonical.{canonical}
 use Rattle.dms_wire.specs.Response.{response_to}
 use Rattle.dms_face.specs.declared.defaults.Defaults.{Defaults}
 use Rattle.dms_codes.specs.Codes.{IsMessageId}
+use Rattle.dms_table.specs.declared.activation.Cause.{Cause}
+use Rattle.dms_table.specs.declared.activation.Cause.TheVariants as causes
 use Rattle.dms_table.specs.Rows.{RowModel, TableModel, unused}
 use Rattle.dms_codes.specs.Limits.{longest_text, longest_owner}
 use Rattle.dms_table.specs.Stock.{has_ranges}
@@ -95,6 +97,15 @@ pub record IsShownInRange (shown : ShownModel) : Type 0 where
   pub address : AreOctets 4 shown.address
   pub remaining : IsTimeInRange shown.remaining
   pub defaults : AreDefaultsInRange shown.defaults
+
+-- the place of a fault lies in a text or at its end
+abbrev pub IsCauseInRange : Cause → Type 0
+IsCauseInRange (causes.Syntax fault) = fault.place ≤ longest_text
+IsCauseInRange causes.MemoryType = ⊤
+IsCauseInRange causes.Number = ⊤
+IsCauseInRange causes.Status = ⊤
+IsCauseInRange causes.Checksum = ⊤
+IsCauseInRange causes.Priority = ⊤
 
 -- the errors are octets, a place lies in a text or at its end, and each code is twelve octets (NTCIP 1203, MessageActivationCode)
 pub record AreReportsInRange (reports : ReportsModel) : Type 0 where

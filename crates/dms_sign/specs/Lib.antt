@@ -9,3 +9,7 @@ pub mod Events
 pub mod Promises
 pub mod InRange
 pub mod Transitions
+pub mod Kept
+pub mod SignView
+pub mod ChangeView
+pub mod ReplyView

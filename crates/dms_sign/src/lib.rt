@@ -1,8 +1,13 @@
 //! The controller of a dynamic message sign: its objects, and what holds of it as a machine.
 #![tactic(auto)]
 
+mod access;
 pub mod laws;
 pub mod range_laws;
+mod reports;
+mod settings;
+pub mod sign;
 pub mod step_laws;
 
 pub use dms_objects::{Instance, Scalar};
+pub use sign::Sign;

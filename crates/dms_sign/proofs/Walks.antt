@@ -1,0 +1,80 @@
+-- A walk over the bindings of a request that writes what it finds, and stops where nothing is found.
+use Rattle.std.proofs.Common.{◌≡◌, ℕ, zero, suc, ◌+◌, ◌≤◌, Bool, true, false, cond, List, [], ◌∷◌, ◌++◌, map, length, Option, Some, None, refl, sym, ap, subst, ◌∙◌, arith, length-append}
+use Rattle.std.specs.Prelude.{is_none, unwrap_or}
+use Rattle.std.specs.List.{position_from}
+use Rattle.std.proofs.lemmas.List.{append_assoc, append-nil}
+use Rattle.dms_wire.specs.Message.{ObjectValue, VarBind}
+use Rattle.dms_objects.specs.declared.instance.Instance.{Instance}
+use Rattle.dms_objects.specs.Names.{name_of}
+use Rattle.dms_sign.specs.State.{SignState}
+use Rattle.dms_sign.specs.Values.{value_of, value_after, bound}
+use Rattle.dms_sign.specs.Requests.{has_no_value, with_value, is_last, next_after, found_unless, get, get_next, granted}
+use Rattle.dms_wire.specs.Written.{octets_of_bindings}
+
+pub mapped_push : {X Y : Type 0} (f : X → Y) (xs : List X) (x : X) → map f (xs ++ x ∷ []) ≡ map f xs ++ f x ∷ []
+mapped_push f [] x = refl
+mapped_push f (y ∷ xs) x = ap (λ ys. f y ∷ ys) (mapped_push f xs x)
+
+-- The bindings up to an index were found, and their octets are these.
+pub record HasFound (test : VarBind → Bool) (choose : VarBind → VarBind) (all : List VarBind) (octets : Option (List ℕ)) (index : ℕ) (rest : List VarBind) : Type 0 where
+  pub done : List VarBind
+  pub whole : done ++ rest ≡ all
+  pub written : octets ≡ octets_of_bindings (map choose done)
+  pub none : position_from test (index + 1) rest ≡ position_from test 1 all
+  pub count : index + length rest ≡ length all
+
+pub found_starts : (test : VarBind → Bool) (choose : VarBind → VarBind) (all rest : List VarBind) (octets : Option (List ℕ)) → rest ≡ all
+    → octets ≡ octets_of_bindings [] → HasFound test choose all octets 0 rest
+found_starts test choose all rest octets same e = record {
+  done = [];
+  whole = same;
+  written = e;
+  none = ap (position_from test 1) same;
+  count = let e : length rest ≡ length all = ap length same in omega arith;
+}
+
+passed : (test : VarBind → Bool) (i : ℕ) (b : VarBind) (rest : List VarBind) (t : Bool) → test b ≡ t → t ≡ false
+    → position_from test i (b ∷ rest) ≡ position_from test (i + 1) rest
+passed test i b rest t e f = ap (λ t. cond t (Some i) (position_from test (i + 1) rest)) (e ∙ f)
+
+pub found_more : (test : VarBind → Bool) (choose : VarBind → VarBind) (all rest more : List VarBind) (octets new : Option (List ℕ)) (index : ℕ) (b chosen : VarBind)
+    → HasFound test choose all octets index rest → rest ≡ b ∷ more → test b ≡ false → chosen ≡ choose b
+    → ((bindings : List VarBind) → octets ≡ octets_of_bindings bindings → new ≡ octets_of_bindings (bindings ++ chosen ∷ []))
+    → HasFound test choose all new (index + 1) more
+found_more test choose all rest more octets new index b chosen has e passes is push =
+    let count : index + length rest ≡ length all = has.count in
+    let more_size : length rest ≡ length (b ∷ more) = ap length e in
+    record {
+      done = has.done ++ b ∷ [];
+      whole = append_assoc has.done (b ∷ []) more ∙ ap (λ r. has.done ++ r) (sym e) ∙ has.whole;
+      written = push (map choose has.done) has.written
+          ∙ ap (λ c. octets_of_bindings (map choose has.done ++ c ∷ [])) is ∙ ap octets_of_bindings (sym (mapped_push choose has.done b));
+      none = sym (passed test (index + 1) b more (test b) refl passes) ∙ ap (position_from test (index + 1)) (sym e) ∙ has.none;
+      count = omega arith;
+    }
+
+pub found_refused : (test : VarBind → Bool) (choose : VarBind → VarBind) (all rest more : List VarBind) (octets : Option (List ℕ)) (index : ℕ) (b : VarBind)
+    → HasFound test choose all octets index rest → rest ≡ b ∷ more → test b ≡ true → position_from test 1 all ≡ Some (index + 1)
+found_refused test choose all rest more octets index b has e fails =
+    sym has.none ∙ ap (position_from test (index + 1)) e ∙ ap (λ t. cond t (Some (index + 1)) (position_from test (index + 1 + 1) more)) fails
+
+pub found_all : (test : VarBind → Bool) (choose : VarBind → VarBind) (all rest : List VarBind) (octets : Option (List ℕ)) (index : ℕ)
+    → HasFound test choose all octets index rest → rest ≡ [] → (octets ≡ octets_of_bindings (map choose all)) × (position_from test 1 all ≡ None)
+found_all test choose all rest octets index has e =
+    let done : has.done ≡ all = sym (append-nil has.done) ∙ ap (λ r. has.done ++ r) (sym e) ∙ has.whole in
+    (has.written ∙ ap (λ d. octets_of_bindings (map choose d)) done, sym has.none ∙ ap (position_from test (index + 1)) e)
+
+-- ---- what is found for a name
+
+pub value_there : (s : SignState) (b : VarBind) (v : ObjectValue) → Some v ≡ value_of s b.name → has_no_value s b ≡ false
+value_there s b v e = ap is_none (sym e)
+
+pub value_chosen : (s : SignState) (b : VarBind) (v : ObjectValue) → Some v ≡ value_of s b.name → record { name = b.name; value = v } ≡ with_value s b
+value_chosen s b v e = ap (λ (o : Option ObjectValue). record { name = b.name; value = unwrap_or o b.value }) e
+
+pub next_there : (s : SignState) (b found : VarBind) → Some found ≡ value_after s b.name → is_last s b ≡ false
+next_there s b found e = ap is_none (sym e)
+
+pub next_chosen : (s : SignState) (b : VarBind) (i : Instance) (v : ObjectValue) (name : List ℕ) → name ≡ name_of i → Some (bound i v) ≡ value_after s b.name
+    → record { name = name; value = v } ≡ next_after s b
+next_chosen s b i v name is e = ap (λ name. record { name = name; value = v }) is ∙ ap (λ o. unwrap_or o b) e

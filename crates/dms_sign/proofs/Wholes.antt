@@ -1,0 +1,157 @@
+-- What a change of some fields leaves whole.
+use Rattle.std.proofs.Common.{◌≡◌, ℕ, ◌≤◌, ◌==◌, Bool, true, List, Option, Some, None, Result, Ok, Err, refl, sym, subst, ap, ◌∙◌, ◌*◌, arith}
+use Rattle.std.specs.Option.{IfSome}
+use Rattle.std.specs.Int.Digits.{AllBelowBase}
+use Rattle.dms_face.specs.Layout.{under}
+use Rattle.dms_codes.specs.declared.codes.MessageId.{MessageId}
+use Rattle.dms_codes.specs.declared.codes.Activation.{Activation}
+use Rattle.dms_codes.specs.Codes.{octets_of_id, octets_of_activation, id_of, IsMessageId}
+use Rattle.dms_table.specs.declared.activation.Cause.{Cause}
+use Rattle.dms_table.specs.declared.validation.Verdict.{Verdict}
+use Rattle.dms_table.specs.Rows.{TableModel, after_power}
+use Rattle.dms_table.specs.Validation.{settled, verdict}
+use Rattle.dms_table.specs.Activation.{ShownModel, decided}
+use Rattle.dms_sign.specs.declared.reports.Reports.{Reports}
+use Rattle.dms_sign.specs.declared.sign.Sign.TheInside.{Inside}
+use Rattle.dms_sign.specs.State.{SignState}
+use Rattle.dms_sign.specs.OwnCodes.{own_activation, refused_reports}
+use Rattle.dms_sign.specs.Events.{settled_reports}
+use Rattle.dms_sign.specs.InRange.{AreOctets, IsTableInRange, IsShownInRange, IsCauseInRange, IsTimeInRange, AreReportsInRange, IsSignInRange, most_minutes}
+use Rattle.dms_sign.specs.SignView.{reports_of, state_of, IsWhole}
+use Rattle.dms_sign.proofs.InRangeShown.{showing_in_range, telling_in_range, with_table_in_range, with_mode, with_time, own_is, own_octets, id_is, IsDecisionInRange, decided_in_range, refused_in_range, refused_code_in_range}
+use Rattle.dms_sign.proofs.InRangeEvents.{IsVerdictInRange, settled_in_range, settled_verdict, verdict_told, with_silence, restored_in_range}
+
+pub shown_whole : (old : Inside) (shown : ShownModel) (source : List ℕ) → IsWhole old → IsShownInRange shown
+    → source ≡ octets_of_id old.table.order shown.source → IsWhole (record old { shown = shown; source = source })
+shown_whole old shown source is range octets = record {
+  kept = record { in_range = showing_in_range (state_of old) shown is.kept.in_range range; fit = is.kept.fit };
+  source = octets;
+}
+
+pub staying_whole : (old : Inside) (mode : ℕ) → IsWhole old → mode ≤ 255
+    → IsWhole (record old { shown = record old.shown { mode = mode; remaining = None } })
+staying_whole old mode is small = record {
+  kept = record {
+    in_range = showing_in_range (state_of old) (record old.shown { mode = mode; remaining = None }) is.kept.in_range
+        (with_time (record old.shown { mode = mode }) None (with_mode old.shown mode is.kept.in_range.shown small) tt);
+    fit = is.kept.fit;
+  };
+  source = is.source;
+}
+
+pub remaining_whole : (old : Inside) (remaining : Option ℕ) → IsWhole old → IsTimeInRange remaining
+    → IsWhole (record old { shown = record old.shown { remaining = remaining } })
+remaining_whole old remaining is time = record {
+  kept = record {
+    in_range = showing_in_range (state_of old) (record old.shown { remaining = remaining }) is.kept.in_range
+        (with_time old.shown remaining is.kept.in_range.shown time);
+    fit = is.kept.fit;
+  };
+  source = is.source;
+}
+
+pub reports_whole : (old : Inside) (reports : Reports) → IsWhole old → AreReportsInRange (reports_of reports)
+    → IsWhole (record old { reports = reports })
+reports_whole old reports is range = record {
+  kept = record { in_range = telling_in_range (state_of old) (reports_of reports) is.kept.in_range range; fit = is.kept.fit };
+  source = is.source;
+}
+
+pub refused_whole : (old : Inside) (cause : Cause) (code : List ℕ) (reports : Reports) → IsWhole old → IsCauseInRange cause → AreOctets 12 code
+    → reports_of reports ≡ refused_reports (reports_of old.reports) cause code → IsWhole (record old { reports = reports })
+refused_whole old cause code reports is small octets e =
+    reports_whole old reports is
+    (subst AreReportsInRange (sym e) (refused_in_range (reports_of old.reports) cause code is.kept.in_range.reports small octets))
+
+pub kept_whole : (old : Inside) → IsWhole old → IsWhole (record old { kept = old.shown })
+kept_whole old is = record {
+  kept = record {
+    in_range = record {
+      config = is.kept.in_range.config;
+      table = is.kept.in_range.table;
+      fallbacks = is.kept.in_range.fallbacks;
+      short_power_loss_time = is.kept.in_range.short_power_loss_time;
+      time_comm_loss = is.kept.in_range.time_comm_loss;
+      silent = is.kept.in_range.silent;
+      defaults = is.kept.in_range.defaults;
+      shown = is.kept.in_range.shown;
+      kept = is.kept.in_range.shown;
+      reports = is.kept.in_range.reports;
+    };
+    fit = is.kept.fit;
+  };
+  source = is.source;
+}
+
+pub silent_whole : (old : Inside) (silent : ℕ) → IsWhole old → silent ≤ 60 * most_minutes → IsWhole (record old { silent = silent })
+silent_whole old silent is few = record {
+  kept = record { in_range = with_silence (state_of old) silent is.kept.in_range few; fit = is.kept.fit };
+  source = is.source;
+}
+
+placed : (o : Option Verdict) → IfSome o IsVerdictInRange → IfSome o (λ v. IfSome v.fault (λ f. f.place ≤ 512))
+placed None is = tt
+placed (Some v) is = is.fault
+
+pub verdict_placed : (s : SignState) (o : Option Verdict) → o ≡ verdict (under s.config.face s.defaults) s.table
+    → IfSome o (λ v. IfSome v.fault (λ f. f.place ≤ 512))
+verdict_placed s o e =
+    placed o (subst (λ o. IfSome o IsVerdictInRange) (sym e) (settled_verdict (under s.config.face s.defaults) s.table))
+
+settled_as_told : (old : Inside) (table : TableModel) (reports : Reports) → IsWhole old
+    → table ≡ settled (under old.face old.settings.defaults) old.table
+    → reports_of reports ≡ settled_reports (reports_of old.reports) (verdict (under old.face old.settings.defaults) old.table)
+    → IsSignInRange (state_of (record old { table = table; reports = reports }))
+settled_as_told old table reports is t r =
+    let face = under old.face old.settings.defaults in
+    let range = is.kept.in_range in
+    let told = verdict_told (reports_of old.reports) (verdict face old.table) range.reports (settled_verdict face old.table) in
+    telling_in_range (record (state_of old) { table = table }) (reports_of reports)
+    (with_table_in_range (state_of old) table range (subst (λ t. IsTableInRange t) (sym t) (settled_in_range face old.table range.table)))
+    (subst AreReportsInRange (sym r) told)
+
+pub settled_whole : (old : Inside) (table : TableModel) (o : Option Verdict) (reports : Reports) → IsWhole old
+    → table ≡ settled (under old.face old.settings.defaults) old.table → o ≡ verdict (under old.face old.settings.defaults) old.table
+    → reports_of reports ≡ settled_reports (reports_of old.reports) o → IsWhole (record old { table = table; reports = reports })
+settled_whole old table o reports is t v r = record {
+  kept = record {
+    in_range = settled_as_told old table reports is t (r ∙ ap (settled_reports (reports_of old.reports)) v);
+    fit = is.kept.fit;
+  };
+  source = is.source ∙ ap (λ (t : TableModel). octets_of_id t.order old.shown.source) (sym t);
+}
+
+pub restored_whole : (old : Inside) (table : TableModel) (shown : ShownModel) (source : List ℕ) → IsWhole old → table ≡ after_power old.table
+    → shown ≡ old.kept → source ≡ octets_of_id table.order shown.source
+    → IsWhole (record old { table = table; shown = shown; source = source; powered = true; silent = 0 })
+restored_whole old table shown source is t e octets = record {
+  kept = record {
+    in_range = subst (λ s. IsSignInRange s)
+        (ap (λ (t : TableModel). record (state_of old) { table = t; shown = old.kept; powered = true; silent = 0 }) (sym t)
+        ∙ ap (λ (shown : ShownModel). record (state_of old) { table = table; shown = shown; powered = true; silent = 0 }) (sym e))
+        (restored_in_range (state_of old) is.kept.in_range);
+    fit = is.kept.fit;
+  };
+  source = octets;
+}
+
+-- ---- codes of the sign's own
+
+own_decision : (s : SignState) (octets : List ℕ) (id : MessageId) (code : Activation) → IsSignInRange s → AllBelowBase 256 octets
+    → id ≡ id_of s.table.order octets → code ≡ own_activation id → IsDecisionInRange (decided s.config.face s.defaults s.table s.shown code)
+own_decision s octets id code is below e own =
+    let known : IsMessageId id = subst IsMessageId (sym e) (id_is s.table.order octets below) in
+    subst (λ code. IsDecisionInRange (decided s.config.face s.defaults s.table s.shown code)) (sym own)
+    (decided_in_range s.config.face s.defaults s.table s.shown (own_activation id) is.defaults is.table is.shown (own_is id known))
+
+pub put_up_shown : (s : SignState) (octets : List ℕ) (id : MessageId) (code : Activation) (mode : ℕ) (shown result : ShownModel) → IsSignInRange s
+    → AllBelowBase 256 octets → id ≡ id_of s.table.order octets → code ≡ own_activation id → mode ≤ 255
+    → Ok shown ≡ decided s.config.face s.defaults s.table s.shown code → result ≡ record shown { mode = mode } → IsShownInRange result
+put_up_shown s octets id code mode shown result is below e own small ok r =
+    let decision : IsDecisionInRange (Ok shown) = subst IsDecisionInRange (sym ok) (own_decision s octets id code is below e own) in
+    subst IsShownInRange (sym r) (with_mode shown mode decision small)
+
+pub put_up_refused : (s : SignState) (octets : List ℕ) (id : MessageId) (code : Activation) (cause : Cause) → IsSignInRange s
+    → AllBelowBase 256 octets → id ≡ id_of s.table.order octets → code ≡ own_activation id
+    → Err cause ≡ decided s.config.face s.defaults s.table s.shown code → IsCauseInRange cause
+put_up_refused s octets id code cause is below e own err = subst IsDecisionInRange (sym err) (own_decision s octets id code is below e own)

@@ -1,0 +1,47 @@
+-- The state that the code's fields are.
+use Rattle.std.specs.Prelude.{◌≡◌}
+use Rattle.dms_codes.specs.Codes.{octets_of_id}
+use Rattle.dms_sign.specs.declared.settings.Fallbacks.{Fallbacks}
+use Rattle.dms_sign.specs.declared.reports.Reports.{Reports}
+use Rattle.dms_sign.specs.declared.sign.Sign.TheInside.{Inside}
+use Rattle.dms_sign.specs.Kept.{IsKept}
+use Rattle.dms_sign.specs.State.{FallbacksModel, ReportsModel, SignState}
+
+abbrev pub fallbacks_of : Fallbacks → FallbacksModel
+fallbacks_of f = record {
+  short_power_recovery = f.short_power_recovery;
+  long_power_recovery = f.long_power_recovery;
+  power_loss = f.power_loss;
+  end_duration = f.end_duration;
+  communications_loss = f.communications_loss;
+}
+
+abbrev pub reports_of : Reports → ReportsModel
+reports_of r = record {
+  validate_error = r.validate_error;
+  activate_error = r.activate_error;
+  syntax_error = r.syntax_error;
+  syntax_error_position = r.syntax_error_position;
+  accepted_code = r.accepted_code;
+  failed_code = r.failed_code;
+}
+
+abbrev pub state_of : Inside → SignState
+state_of s = record {
+  config = record { face = s.face; reader = s.reader.items; writer = s.writer.items };
+  table = s.table;
+  fallbacks = fallbacks_of s.settings.fallbacks;
+  short_power_loss_time = s.settings.short_power_loss_time;
+  time_comm_loss = s.settings.time_comm_loss;
+  silent = s.silent;
+  defaults = s.settings.defaults;
+  shown = s.shown;
+  kept = s.kept;
+  reports = reports_of s.reports;
+  powered = s.powered;
+}
+
+-- what holds of the fields: the sign is kept, and the octets beside what is shown are those of its code
+pub record IsWhole (s : Inside) : Type 0 where
+  pub kept : IsKept (state_of s)
+  pub source : s.source ≡ octets_of_id s.table.order s.shown.source

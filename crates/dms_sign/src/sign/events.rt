@@ -1,0 +1,103 @@
+//! What a second, a loss of power and its return make of a sign.
+
+ghost use Rattle.std.specs.Prelude.{◌≡◌};
+ghost use Rattle.std.specs.Int.Digits.{AllBelowBase};
+ghost use Rattle.dms_sign.specs.Events.{after_duration, after_silence, after_tick, after_power_loss, recovery_code, after_power_return};
+
+use crate::sign::Sign;
+
+/// How a message came up (dmsMsgSourceMode), beside the activation by a SET.
+mod mode {
+    pub const POWER_RECOVERY: u8 = 10;
+
+    pub const COMMUNICATIONS_LOSS: u8 = 12;
+
+    pub const POWER_LOSS: u8 = 13;
+
+    pub const END_DURATION: u8 = 14;
+}
+
+impl Sign {
+    /// A second: the row that is being validated is settled, the duration of what is shown goes on, and then the silence. A sign
+    /// without power does nothing.
+    #[tactic(auto, unfolding(crate::specs::Events::after_tick))]
+    pub fn tick(&mut self)
+        ensures { self.new ≡ after_tick self.old }
+    {
+        if self.powered {
+            self.settle();
+            self.count_down();
+            self.grow_silent();
+        }
+    }
+
+    /// The message has a second less; at its end the code of the end of a duration is put up.
+    #[tactic(auto, unfolding(crate::specs::Events::after_duration))]
+    fn count_down(&mut self)
+        ensures { self.new ≡ after_duration self.old }
+    {
+        match self.shown.remaining {
+            None => {}
+            Some(seconds) if seconds <= 1 => {
+                self.put_up(self.fallbacks().end_duration, mode::END_DURATION)
+            }
+            Some(seconds) => self.remain(Some(seconds - 1)),
+        }
+    }
+
+    /// Silence is counted up to its limit, where the code of a communications loss is put up: once, until a datagram is answered.
+    #[tactic(auto, unfolding(crate::specs::Events::after_silence))]
+    fn grow_silent(&mut self)
+        ensures { self.new ≡ after_silence self.old }
+    {
+        let longest = 60 * u32::from(self.settings.time_comm_loss);
+        if self.silent < longest {
+            let silent = self.silent + 1;
+            self.set_silent(silent);
+            if silent == longest {
+                self.put_up(
+                    self.fallbacks().communications_loss,
+                    mode::COMMUNICATIONS_LOSS,
+                );
+            }
+        }
+    }
+
+    /// The power is lost: what is shown is kept, and the code of a power loss is put up. A sign without power does nothing.
+    #[tactic(auto, unfolding(crate::specs::Events::after_power_loss))]
+    pub fn power_lost(&mut self)
+        ensures { self.new ≡ after_power_loss self.old }
+    {
+        if self.powered {
+            self.keep();
+            self.put_up(self.fallbacks().power_loss, mode::POWER_LOSS);
+            self.set_powered(false);
+        }
+    }
+
+    /// The power is back after so many seconds: volatile rows are gone, what was kept is shown, and the code of the recovery is put
+    /// up. A sign with power does nothing.
+    #[tactic(auto, unfolding(crate::specs::Events::after_power_return))]
+    pub fn power_back(&mut self, seconds: u32)
+        ensures { self.new ≡ after_power_return self.old seconds }
+    {
+        if !self.powered {
+            let code = self.recovery_code(seconds);
+            self.restore();
+            self.put_up(code, mode::POWER_RECOVERY);
+        }
+    }
+
+    /// The code that comes up after a loss of so many seconds.
+    fn recovery_code(&self, seconds: u32) -> [u8; 5]
+        ensures code { result ≡ recovery_code self.now seconds }
+        ensures octets { AllBelowBase 256 result }
+    {
+        let short = u32::from(self.settings.short_power_loss_time);
+        if 0 < short && seconds <= short {
+            self.fallbacks().short_power_recovery
+        } else {
+            self.fallbacks().long_power_recovery
+        }
+    }
+}

@@ -1,0 +1,88 @@
+//! The codes that a sign puts up by itself.
+
+ghost use Rattle.std.specs.Prelude.{◌≡◌};
+ghost use Rattle.std.specs.Int.Digits.{AllBelowBase};
+ghost use Rattle.dms_codes.specs.Codes.{id_of};
+ghost use Rattle.dms_sign.specs.State.{blank_shown};
+ghost use Rattle.dms_sign.specs.OwnCodes.{own_activation, put_up_code};
+
+use crate::sign::Sign;
+use arrayvec::ArrayVec;
+use dms_codes::{Activation, MessageId, Order, memory};
+use dms_face::Defaults;
+use dms_table::Shown;
+
+/// Blank message 1.
+const BLANK: MessageId = MessageId {
+    memory: memory::BLANK,
+    number: 1,
+    crc: 0,
+};
+
+impl Sign {
+    /// Puts up the message that these five octets name: what is shown stays for a code of the current buffer; any other code is
+    /// decided on, and where it is refused the blank message is up.
+    #[tactic(auto, unfolding(crate::specs::OwnCodes::put_up_code))]
+    pub(super) fn put_up(&mut self, octets: [u8; 5], mode: u8)
+        requires { AllBelowBase 256 octets }
+        ensures { self.new ≡ put_up_code self.old octets mode }
+    {
+        let id = id_of(self.table.order(), &octets);
+        if id.memory == memory::CURRENT_BUFFER {
+            return self.stay(mode);
+        }
+        let code = own_activation(id);
+        let defaults = self.settings.defaults;
+        match self.table.decide(&self.face, &defaults, &code, &self.shown) {
+            Ok(shown) => self.show(with_mode(shown, mode)),
+            Err(cause) => {
+                let octets = code.to_bytes(self.table.order());
+                self.show(blank_shown(&defaults, mode));
+                self.refuse_code(&cause, octets);
+            }
+        }
+    }
+}
+
+/// The code of a message with these octets.
+fn id_of(order: Order, octets: &[u8; 5]) -> MessageId
+    ensures { result ≡ id_of order octets.now }
+{
+    MessageId::from_bytes(order, octets).unwrap_or(BLANK)
+}
+
+/// The activation by which the sign itself puts a message up: without an end, with the highest priority, for nobody.
+fn own_activation(id: MessageId) -> Activation
+    ensures { result ≡ own_activation id }
+{
+    Activation {
+        minutes: u16::MAX,
+        priority: u8::MAX,
+        id,
+        address: [0; 4],
+    }
+}
+
+fn with_mode(shown: Shown, mode: u8) -> Shown
+    ensures { result ≡ record shown { mode = mode } }
+{
+    Shown { mode, ..shown }
+}
+
+/// Blank message 1, put up by the sign itself under these defaults, without an end.
+pub(super) fn blank_shown(defaults: &Defaults, mode: u8) -> Shown
+    ensures { result ≡ blank_shown defaults.now mode }
+{
+    Shown {
+        text: ArrayVec::new(),
+        owner: ArrayVec::new(),
+        beacon: 0,
+        pixel: 0,
+        priority: 1,
+        source: BLANK,
+        mode,
+        address: [0; 4],
+        remaining: None,
+        defaults: *defaults,
+    }
+}

@@ -1,0 +1,70 @@
+//! What a Get and a GetNext read.
+
+ghost use Rattle.std.specs.Prelude.{◌≡◌, ◌≤◌, Some, None, length, map, option_map, IfOk, IfErr, OnOk};
+ghost use Rattle.std.specs.List.{position_from};
+ghost use Rattle.dms_wire.specs.View.{object_value};
+ghost use Rattle.dms_wire.specs.Written.{octets_of_bindings};
+ghost use Rattle.dms_sign.specs.Values.{bound, value_after};
+ghost use Rattle.dms_sign.specs.Requests.{has_no_value, with_value, is_last, next_after};
+
+use crate::sign::Sign;
+use dms_objects::Name;
+use dms_wire::{Bind, BindingOctets, Binds, Oid, Value};
+
+impl Sign {
+    /// The octets of these bindings with what their names read, or the index of the first name that is that of no instance.
+    pub(super) fn values_of(&self, binds: &Binds<'_>) -> Result<BindingOctets, u32>
+        requires { length binds.now ≤ 210 }
+        ensures found { IfOk result (λ octets. octets ≡ octets_of_bindings (map (with_value self.now) binds.now)) }
+        ensures none_missing { OnOk result (position_from (has_no_value self.now) 1 binds.now ≡ None) }
+        ensures missing { IfErr result (λ index. position_from (has_no_value self.now) 1 binds.now ≡ Some index) }
+    {
+        let mut octets = BindingOctets::new();
+        let mut index = 0;
+        let mut rest = binds.again();
+        while let Some(binding) = rest.next() {
+            index += 1;
+            let Some(value) = self.value(&binding.name) else {
+                return Err(index);
+            };
+            octets.push(&Bind {
+                name: binding.name,
+                value,
+            });
+        }
+        Ok(octets)
+    }
+
+    /// The octets of the bindings that come after these names, or the index of the first name after which none comes.
+    pub(super) fn values_after(&self, binds: &Binds<'_>) -> Result<BindingOctets, u32>
+        requires { length binds.now ≤ 210 }
+        ensures found { IfOk result (λ octets. octets ≡ octets_of_bindings (map (next_after self.now) binds.now)) }
+        ensures none_last { OnOk result (position_from (is_last self.now) 1 binds.now ≡ None) }
+        ensures last { IfErr result (λ index. position_from (is_last self.now) 1 binds.now ≡ Some index) }
+    {
+        let mut octets = BindingOctets::new();
+        let mut index = 0;
+        let mut rest = binds.again();
+        while let Some(binding) = rest.next() {
+            index += 1;
+            let Some((name, value)) = self.next(&binding.name) else {
+                return Err(index);
+            };
+            octets.push(&Bind {
+                name: name.oid(),
+                value,
+            });
+        }
+        Ok(octets)
+    }
+
+    /// The first instance after a name, with what it reads.
+    #[tactic(auto, unfolding(crate::specs::Values::value_after))]
+    fn next(&self, name: &Oid<'_>) -> Option<(Name, Value<'_>)>
+        ensures { option_map (λ x. bound x.0 (object_value x.1)) result ≡ value_after self.now name.now }
+    {
+        let instance = self.counts().next(name)?;
+        let value = self.value_at(instance)?;
+        Some((Name::of(instance), value))
+    }
+}

@@ -1,0 +1,190 @@
+//! What the objects of a sign read.
+
+ghost use Rattle.std.specs.Prelude.{◌≡◌, ◌<◌, ◌*◌, option_map};
+ghost use Rattle.dms_codes.specs.Codes.{in_order};
+ghost use Rattle.dms_table.specs.RowsView.{reading_of};
+ghost use Rattle.dms_table.specs.Activation.{message_at};
+ghost use Rattle.dms_table.specs.Rows.{valid_count, row_count};
+ghost use Rattle.dms_wire.specs.View.{object_value};
+ghost use Rattle.dms_instances.specs.Objects.{instance_named};
+ghost use Rattle.dms_instances.specs.Places.{HasCounts};
+ghost use Rattle.dms_sign.specs.InRange.{IsTimeInRange};
+ghost use Rattle.dms_sign.specs.Values.{number_value, minutes_left, free_octets, scalar_value, cell_value, value_at, value_of};
+
+use crate::sign::Sign;
+use dms_codes::{MAX_TEXT, Order, RowId, memory};
+use dms_instances::Counts;
+use dms_objects::{Column, Instance, Scalar};
+use dms_table::RowView;
+use dms_wire::{Oid, Value};
+
+impl Sign {
+    /// What this name reads, where it is that of an instance.
+    #[tactic(auto, unfolding(crate::specs::Values::value_of))]
+    pub fn value(&self, name: &Oid<'_>) -> Option<Value<'_>>
+        ensures { option_map object_value result ≡ value_of self.now name.now }
+    {
+        let instance = self.named(name)?;
+        self.value_at(instance)
+    }
+
+    /// The instance of this name.
+    pub(super) fn named(&self, name: &Oid<'_>) -> Option<Instance>
+        ensures { result ≡ instance_named self.now.table name.now }
+    {
+        self.counts().named(name)
+    }
+
+    /// How many rows there are.
+    pub(super) fn counts(&self) -> Counts
+        ensures { HasCounts self.now.table result }
+    {
+        Counts::of(&self.table)
+    }
+
+    /// What an instance reads.
+    #[tactic(auto, unfolding(crate::specs::Values::value_at))]
+    pub(super) fn value_at(&self, instance: Instance) -> Option<Value<'_>>
+        ensures { option_map object_value result ≡ value_at self.now instance }
+    {
+        match instance {
+            Instance::The(object) => Some(self.scalar_value(object)),
+            Instance::Cell(column, id) => {
+                let message = self.message_at(id)?;
+                Some(cell_value(self.table.order(), column, id, &message))
+            }
+        }
+    }
+
+    /// What is read of a row; that of the current buffer is what is shown.
+    fn message_at(&self, id: RowId) -> Option<RowView<'_>>
+        ensures { option_map reading_of result ≡ message_at self.now.table self.now.shown id }
+    {
+        if id.memory != memory::CURRENT_BUFFER {
+            return self.table.row(id);
+        }
+        if id.number == 1 {
+            Some(self.shown.view())
+        } else {
+            None
+        }
+    }
+
+    /// The octets that are free in a type of memory.
+    fn free_octets(&self, kind: u8) -> usize
+        ensures value { result ≡ free_octets self.now.table kind }
+    {
+        MAX_TEXT * self.table.unused_count(kind)
+    }
+
+    /// What an object with one instance reads.
+    #[tactic(auto, unfolding(crate::specs::Values::scalar_value))]
+    fn scalar_value(&self, object: Scalar) -> Value<'_>
+        ensures { object_value result ≡ scalar_value self.now object }
+    {
+        let defaults = &self.settings.defaults;
+        let fallbacks = &self.settings.fallbacks;
+        let reports = &self.reports;
+        match object {
+            Scalar::SignHeightPixels => number(self.face.height()),
+            Scalar::SignWidthPixels => number(self.face.width()),
+            Scalar::DefaultBackgroundColor => small(defaults.background),
+            Scalar::DefaultForegroundColor => small(defaults.foreground),
+            Scalar::DefaultFlashOn => small(defaults.flash_on),
+            Scalar::DefaultFlashOff => small(defaults.flash_off),
+            Scalar::DefaultFont => small(defaults.font),
+            Scalar::DefaultJustificationLine => small(defaults.line),
+            Scalar::DefaultJustificationPage => small(defaults.page),
+            Scalar::DefaultPageOnTime => small(defaults.on),
+            Scalar::DefaultPageOffTime => small(defaults.off),
+            Scalar::ColorScheme => small(3),
+            Scalar::NumPermanentMsg => count(self.table.row_count(memory::PERMANENT)),
+            Scalar::NumChangeableMsg => count(self.table.valid_count(memory::CHANGEABLE)),
+            Scalar::MaxChangeableMsg => count(self.table.row_count(memory::CHANGEABLE)),
+            Scalar::FreeChangeableMemory => count(self.free_octets(memory::CHANGEABLE)),
+            Scalar::NumVolatileMsg => count(self.table.valid_count(memory::VOLATILE)),
+            Scalar::MaxVolatileMsg => count(self.table.row_count(memory::VOLATILE)),
+            Scalar::FreeVolatileMemory => count(self.free_octets(memory::VOLATILE)),
+            Scalar::ValidateMessageError => small(reports.validate_error),
+            Scalar::ActivateMessage => Value::Octets(&reports.accepted_code),
+            Scalar::MessageTimeRemaining => number(minutes_left(self.shown.remaining)),
+            Scalar::MsgTableSource => Value::Octets(&self.source),
+            Scalar::MsgRequesterId => {
+                let address = self.shown.address;
+                Value::Address(address)
+            }
+            Scalar::MsgSourceMode => small(self.shown.mode),
+            Scalar::ShortPowerRecoveryMessage => Value::Octets(&fallbacks.short_power_recovery),
+            Scalar::LongPowerRecoveryMessage => Value::Octets(&fallbacks.long_power_recovery),
+            Scalar::ShortPowerLossTime => number(self.settings.short_power_loss_time),
+            Scalar::CommunicationsLossMessage => Value::Octets(&fallbacks.communications_loss),
+            Scalar::TimeCommLoss => number(self.settings.time_comm_loss),
+            Scalar::PowerLossMessage => Value::Octets(&fallbacks.power_loss),
+            Scalar::EndDurationMessage => Value::Octets(&fallbacks.end_duration),
+            Scalar::ActivateMsgError => small(reports.activate_error),
+            Scalar::MultiSyntaxError => small(reports.syntax_error),
+            Scalar::MultiSyntaxErrorPosition => number(reports.syntax_error_position),
+            Scalar::ActivateErrorMsgCode => Value::Octets(&reports.failed_code),
+        }
+    }
+}
+
+fn small<'a>(value: u8) -> Value<'a>
+    ensures { object_value result ≡ number_value value }
+{
+    Value::Integer(i64::from(value))
+}
+
+fn number<'a>(value: u16) -> Value<'a>
+    ensures { object_value result ≡ number_value value }
+{
+    Value::Integer(i64::from(value))
+}
+
+fn count<'a>(value: usize) -> Value<'a>
+    requires { value < 65536 }
+    ensures { object_value result ≡ number_value value }
+{
+    Value::Integer(value as i64)
+}
+
+/// Seconds as minutes, rounded up; 65535 is without an end.
+fn minutes_left(remaining: Option<u32>) -> u16
+    requires { IsTimeInRange remaining }
+    ensures { result ≡ minutes_left remaining }
+{
+    match remaining {
+        Some(seconds) => ((seconds + 59) / 60) as u16,
+        None => u16::MAX,
+    }
+}
+
+/// What a column tells of a row; the checksum is in the sign's order.
+fn cell_value<'a>(order: Order, column: Column, id: RowId, message: &RowView<'a>) -> Value<'a>
+    ensures { object_value result ≡ cell_value order column id (reading_of message.now) }
+{
+    match column {
+        Column::MemoryType => small(id.memory),
+        Column::Number => number(id.number),
+        Column::MultiString => Value::Octets(message.text),
+        Column::Owner => Value::Octets(message.owner),
+        Column::Crc => number(in_order(order, message.checksum)),
+        Column::Beacon => small(message.beacon),
+        Column::PixelService => small(message.pixel),
+        Column::RunTimePriority => small(message.priority),
+        Column::Status => small(message.status.number()),
+    }
+}
+
+/// A checksum as the number that its two octets are in an order.
+fn in_order(order: Order, checksum: u16) -> u16
+    ensures { result ≡ in_order order checksum }
+{
+    match order {
+        Order::High => checksum,
+        Order::Swapped => {
+            let [high, low] = checksum.to_be_bytes();
+            u16::from_be_bytes([low, high])
+        }
+    }
+}
