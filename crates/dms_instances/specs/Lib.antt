@@ -1,2 +1,4 @@
+-- which instances a sign has, and how they are walked
 pub mod Objects
+-- only proofs go through this
 pub mod Places

@@ -1,4 +1,4 @@
--- The instance at each place of the list of instances (this profile); only proofs go through these.
+-- The instance at each place of the list of instances (this profile).
 use Rattle.std.specs.Prelude.{◌≡◌, ◌<◌, ◌≤◌, true, false, length, ℕ, ◌+◌, ◌-◌, ◌*◌, ◌/◌, ◌%◌, ◌==◌, if◌then◌else◌, nat_lt, List}
 use Rattle.std.specs.List.{slice_index_or}
 use Rattle.dms_codes.specs.declared.row_id.RowId.{RowId}

@@ -7,10 +7,10 @@ ghost use Rattle.dms_instances.specs.Objects.{has_name, comes_after, instance_na
 ghost use Rattle.dms_instances.specs.Places.{HasCounts, row_total, place_total, row_at, instance_at, IsBetween};
 
 use crate::guess;
+use dms_ber::{Oid, oid_cmp};
 use dms_codes::{RowId, memory};
 use dms_objects::{Column, Instance, Name, Scalar};
 use dms_table::Table;
-use dms_wire::{Oid, oid_cmp};
 use std::cmp::Ordering;
 
 /// The objects before dmsMessageTable.
