@@ -102,7 +102,7 @@ any_status : (row : RowModel) (o : Option Status) → IsRowInRange row → IfSom
 any_status row None is = tt
 any_status row (Some status) is = asked_status row status is
 
-asked_in_range : (table : TableModel) (id : RowId) (ask : Ask) → IsTableInRange table → IfSome (asked table id ask) IsTableInRange
+pub asked_in_range : (table : TableModel) (id : RowId) (ask : Ask) → IsTableInRange table → IfSome (asked table id ask) IsTableInRange
 asked_in_range table id ask is =
     if_either IsTableInRange (may_ask table ask) (changed table id (asked_row ask)) None
     (changed_table table id (asked_row ask) is (λ row r. any_status row (next_status row.status ask) r)) tt
@@ -293,7 +293,7 @@ each_binding : (bindings : List VarBind) → AreBindingsInLimits bindings → Al
 each_binding [] within = tt
 each_binding (b ∷ bs) within = (record { name = within.0; value = within.1 }, each_binding bs within.2)
 
-writes_in_range : (s : SignState) (bindings : List VarBind) → AreBindingsInLimits bindings → AllByRecursion IsWriteInRange (writes_of s bindings)
+pub writes_in_range : (s : SignState) (bindings : List VarBind) → AreBindingsInLimits bindings → AllByRecursion IsWriteInRange (writes_of s bindings)
 writes_in_range s bindings within =
     all_filtered IsBindingInLimits IsWriteInRange (write_at s) bindings (λ b is. binding_writes s b is.value) (each_binding bindings within)
 
@@ -351,7 +351,7 @@ with_writes_in_range : (table : TableModel) (writes : List Write) → IsTableInR
 with_writes_in_range table [] is all = is
 with_writes_in_range table (w ∷ ws) is all = with_writes_in_range (with_write table w) ws (with_write_in_range table w is all.0) all.1
 
-assigned_in_range : (s : SignState) (writes : List Write) → IsSignInRange s → AllByRecursion IsWriteInRange writes → IsSignInRange (assigned s writes)
+pub assigned_in_range : (s : SignState) (writes : List Write) → IsSignInRange s → AllByRecursion IsWriteInRange writes → IsSignInRange (assigned s writes)
 unfolding assigned
 assigned_in_range s writes is all = record {
   config = is.config;
@@ -384,7 +384,7 @@ assigned_in_range s writes is all = record {
 
 -- ---- commands
 
-accepted_reports : (reports : ReportsModel) (octets : List ℕ) → AreReportsInRange reports → AreOctets 12 octets
+pub accepted_reports : (reports : ReportsModel) (octets : List ℕ) → AreReportsInRange reports → AreOctets 12 octets
     → AreReportsInRange (record reports { activate_error = 2; accepted_code = octets })
 accepted_reports reports octets are twelve = record {
   validate_error = are.validate_error;

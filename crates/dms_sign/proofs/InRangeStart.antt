@@ -111,7 +111,7 @@ unused_rows : (n : ℕ) → AllByRecursion IsRowInRange (replicate n unused)
 unused_rows zero = tt
 unused_rows (suc n) = (unused_in_range, unused_rows n)
 
-stocked_in_range : (config : ConfigModel) (table : TableModel) → IsStocked table → IsMadeOfOctets config table → IsTableInRange table
+pub stocked_in_range : (config : ConfigModel) (table : TableModel) → IsStocked table → IsMadeOfOctets config table → IsTableInRange table
 stocked_in_range config table is made = record {
   permanent = rows_of_octets table.permanent (recursion_from_All (λ (row : RowModel). IsTrue (has_ranges row)) table.permanent is.permanent)
       (recursion_from_All (λ (row : RowModel). AllBelowBase 256 row.text) table.permanent made.texts)

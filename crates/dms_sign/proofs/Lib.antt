@@ -26,3 +26,6 @@ pub mod Wholes
 pub mod Found
 pub mod Walks
 pub mod Sending
+pub mod Writes
+pub mod Causes
+pub mod Assigned

@@ -157,7 +157,7 @@ are_causes s writing bindings = are_causes_behind s writing [] bindings (length 
 
 -- ---- the answer to a SET
 
-set_unless_is : (s : SignState) (bindings : List VarBind) (found : List SetCause) → AllByRecursion (IsCause (length bindings)) found
+pub set_unless_is : (s : SignState) (bindings : List VarBind) (found : List SetCause) → AllByRecursion (IsCause (length bindings)) found
     → IsSetAnswer bindings (set_unless s bindings found)
 set_unless_is s bindings [] each =
     let place : command_index s bindings ≤ 0 + length bindings = position_within (is_command_at s) 0 bindings in

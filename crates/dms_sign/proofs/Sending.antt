@@ -10,7 +10,10 @@ use Rattle.dms_wire.specs.Response.{response_to, response_with}
 use Rattle.dms_wire.specs.Written.{IsWritten}
 use Rattle.dms_wire.proofs.ShorterSpellings.{response_no_longer}
 use Rattle.dms_wire.proofs.FewBindings.{few_bindings}
-use Rattle.dms_sign.specs.Reply.{too_big, most_octets}
+use Rattle.dms_wire.specs.declared.error_status.ErrorStatus.{ErrorStatus}
+use Rattle.dms_wire.specs.ErrorStatus.{error_status_number}
+use Rattle.dms_sign.specs.Requests.{Answer}
+use Rattle.dms_sign.specs.Reply.{too_big, most_octets, reply_to}
 use Rattle.dms_sign.specs.ReplyView.{reply_with, IsRead}
 
 pub few_are_read : (m : SnmpMessage) → IsRead m → length m.bindings ≤ 210
@@ -37,3 +40,12 @@ pub sent_too_big : (m : SnmpMessage) (status index : ℕ) (bindings : List VarBi
 sent_too_big m status index bindings r out is written many =
     let big : most_octets < length (canonical (response_with m status index bindings)) = subst (λ r. most_octets < length (canonical r)) is many in
     written ∙ sym (cond-false (nat_le (length (canonical (response_with m status index bindings))) most_octets) _ _ (false_from_ne_true _ λ e. let few = leb-true (length (canonical (response_with m status index bindings))) most_octets e in absurd (omega arith)))
+
+-- the reply that repeats the bindings, where that is the answer
+pub reply_says : (m : SnmpMessage) (a : Answer) (status : ErrorStatus) (index : ℕ) → a.status ≡ status → a.index ≡ index → a.bindings ≡ m.bindings
+    → reply_with m (error_status_number status) index m.bindings ≡ reply_to m a
+unfolding reply_to
+reply_says m a status index s i b =
+    ap (λ (s : ErrorStatus). reply_with m (error_status_number s) index m.bindings) (sym s)
+    ∙ ap (λ n. reply_with m (error_status_number a.status) n m.bindings) (sym i)
+    ∙ ap (reply_with m (error_status_number a.status) a.index) (sym b)

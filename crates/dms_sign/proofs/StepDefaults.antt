@@ -49,7 +49,7 @@ abbrev object_fits : FaceModel → Scalar → ℕ → Bool
 object_fits face object number = number_fits face (scalar_number object).0 (scalar_number object).1 number
 
 -- a number that fits its object
-abbrev WriteFits : FaceModel → Write → Type 0
+abbrev pub WriteFits : FaceModel → Write → Type 0
 WriteFits face (SetNumber object number) = object_fits face object number ≡ true
 WriteFits face (SetCode object octets) = ⊤
 WriteFits face (SetField id field) = ⊤
@@ -167,7 +167,7 @@ binding_writes s binding =
 filtered_any : {X Y : Type 0} (P : Y → Type 0) (f : X → Option Y) (xs : List X) → ((x : X) → IfSome (f x) P) → AllByRecursion P (filter_map f xs)
 filtered_any P f xs each = all_filtered (λ x. ⊤) P f xs (λ x is. each x) (all_any (λ x. ⊤) xs (λ x. tt))
 
-writes_fit : (s : SignState) (bindings : List VarBind) → AllByRecursion (WriteFits s.config.face) (writes_of s bindings)
+pub writes_fit : (s : SignState) (bindings : List VarBind) → AllByRecursion (WriteFits s.config.face) (writes_of s bindings)
 writes_fit s bindings = filtered_any (WriteFits s.config.face) (write_at s) bindings (binding_writes s)
 
 -- ---- assignment
@@ -219,7 +219,7 @@ fit_of_parts face d are =
     let three = and_from (leb d.background 9 && leb d.foreground 9 && is_within 2 4 d.line) (is_within 2 4 d.page) two are.page in
     and_from (leb d.background 9 && leb d.foreground 9 && is_within 2 4 d.line && is_within 2 4 d.page) (has_font face.fonts d.font) three are.font
 
-assigned_fit : (s : SignState) (writes : List Write) → AllByRecursion (WriteFits s.config.face) writes → HasFitDefaults s → HasFitDefaults (assigned s writes)
+pub assigned_fit : (s : SignState) (writes : List Write) → AllByRecursion (WriteFits s.config.face) writes → HasFitDefaults s → HasFitDefaults (assigned s writes)
 unfolding assigned
 assigned_fit s writes all is =
     let old = parts_of_fit s.config.face s.defaults is in

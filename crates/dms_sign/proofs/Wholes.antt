@@ -1,8 +1,14 @@
 -- What a change of some fields leaves whole.
 use Rattle.std.proofs.Common.{◌≡◌, ℕ, ◌≤◌, ◌==◌, Bool, true, List, Option, Some, None, Result, Ok, Err, refl, sym, subst, ap, ◌∙◌, ◌*◌, arith}
 use Rattle.std.specs.Option.{IfSome}
+use Rattle.std.specs.Prelude.{All, IsTrue}
 use Rattle.std.specs.Int.Digits.{AllBelowBase}
 use Rattle.dms_face.specs.Layout.{under}
+use Rattle.dms_face.specs.declared.defaults.Defaults.{Defaults}
+use Rattle.dms_face.specs.Face.{fit}
+use Rattle.dms_codes.specs.declared.codes.Order.{Order}
+use Rattle.dms_codes.specs.declared.codes.Order.TheVariants.{High, Swapped}
+use Rattle.dms_table.specs.Stock.{HasOctets}
 use Rattle.dms_codes.specs.declared.codes.MessageId.{MessageId}
 use Rattle.dms_codes.specs.declared.codes.Activation.{Activation}
 use Rattle.dms_codes.specs.Codes.{octets_of_id, octets_of_activation, id_of, IsMessageId}
@@ -13,12 +19,14 @@ use Rattle.dms_table.specs.Validation.{settled, verdict}
 use Rattle.dms_table.specs.Activation.{ShownModel, decided}
 use Rattle.dms_sign.specs.declared.reports.Reports.{Reports}
 use Rattle.dms_sign.specs.declared.sign.Sign.TheInside.{Inside}
-use Rattle.dms_sign.specs.State.{SignState}
+use Rattle.dms_sign.specs.State.{ConfigModel, SignState, start, blank_code, blank_id, blank_shown, power_recovery_mode}
+use Rattle.dms_sign.specs.Kept.{IsKept}
 use Rattle.dms_sign.specs.OwnCodes.{own_activation, refused_reports}
 use Rattle.dms_sign.specs.Events.{settled_reports}
-use Rattle.dms_sign.specs.InRange.{AreOctets, IsTableInRange, IsShownInRange, IsCauseInRange, IsTimeInRange, AreReportsInRange, IsSignInRange, most_minutes}
+use Rattle.dms_sign.specs.InRange.{IsStocked, AreDefaultsInRange, AreOctets, IsTableInRange, IsShownInRange, IsCauseInRange, IsTimeInRange, AreReportsInRange, IsSignInRange, most_minutes}
 use Rattle.dms_sign.specs.SignView.{reports_of, state_of, IsWhole}
 use Rattle.dms_sign.proofs.InRangeShown.{showing_in_range, telling_in_range, with_table_in_range, with_mode, with_time, own_is, own_octets, id_is, IsDecisionInRange, decided_in_range, refused_in_range, refused_code_in_range}
+use Rattle.dms_sign.proofs.InRangeStart.{start_in_range, stocked_in_range}
 use Rattle.dms_sign.proofs.InRangeEvents.{IsVerdictInRange, settled_in_range, settled_verdict, verdict_told, with_silence, restored_in_range}
 
 pub shown_whole : (old : Inside) (shown : ShownModel) (source : List ℕ) → IsWhole old → IsShownInRange shown
@@ -155,3 +163,39 @@ pub put_up_refused : (s : SignState) (octets : List ℕ) (id : MessageId) (code 
     → AllBelowBase 256 octets → id ≡ id_of s.table.order octets → code ≡ own_activation id
     → Err cause ≡ decided s.config.face s.defaults s.table s.shown code → IsCauseInRange cause
 put_up_refused s octets id code cause is below e own err = subst IsDecisionInRange (sym err) (own_decision s octets id code is below e own)
+
+-- ---- a sign as it is made
+
+pub blank_source : (order : Order) → blank_code ≡ octets_of_id order blank_id
+blank_source High = refl
+blank_source Swapped = refl
+
+pub made_kept : (config : ConfigModel) (table : TableModel) → config.face.width ≤ 256 → config.face.height ≤ 64 → IsTrue (fit config.face.fonts config.face.defaults)
+    → AreDefaultsInRange config.face.defaults → AllBelowBase 256 config.reader → AllBelowBase 256 config.writer → IsStocked table → All HasOctets table.permanent
+    → IsKept (start config table)
+made_kept config table width height fits are reader writer stocked octets = record {
+  in_range = start_in_range config table (record { width = width; height = height; reader = reader; writer = writer }) are
+      (stocked_in_range config table stocked (record {
+        reader = reader;
+        writer = writer;
+        defaults = are;
+        texts = λ k d h. (octets k d h).text;
+        owners = λ k d h. (octets k d h).owner;
+      }));
+  fit = fits;
+}
+
+pub made_state : (config : ConfigModel) (table : TableModel) (defaults : Defaults) (shown kept : ShownModel) → defaults ≡ config.face.defaults
+    → shown ≡ blank_shown defaults power_recovery_mode → kept ≡ blank_shown defaults power_recovery_mode → IsKept (start config table)
+    → IsKept (record (start config table) { defaults = defaults; shown = shown; kept = kept })
+made_state config table defaults shown kept d s k is =
+    let same : blank_shown config.face.defaults power_recovery_mode ≡ blank_shown defaults power_recovery_mode =
+    ap (λ (d : Defaults). blank_shown d power_recovery_mode) (sym d)
+    in
+    subst (λ (x : Defaults). IsKept (record (start config table) { defaults = x; shown = shown; kept = kept })) (sym d)
+    (subst (λ (x : ShownModel). IsKept (record (start config table) { shown = x; kept = kept })) (same ∙ sym s)
+    (subst (λ (x : ShownModel). IsKept (record (start config table) { kept = x })) (same ∙ sym k) is))
+
+pub made_source : (order : Order) (defaults : Defaults) (shown : ShownModel) → shown ≡ blank_shown defaults power_recovery_mode
+    → blank_code ≡ octets_of_id order shown.source
+made_source order defaults shown s = blank_source order ∙ ap (λ (x : ShownModel). octets_of_id order x.source) (sym s)

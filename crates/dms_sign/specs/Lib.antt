@@ -1,3 +1,6 @@
+-- what a reader must believe: what a sign is made with, its state, what its objects read and take, requests and replies, events, and what is promised of them
+pub mod Communities
+pub mod Configuration
 pub mod State
 pub mod Values
 pub mod OwnCodes
@@ -10,6 +13,11 @@ pub mod Promises
 pub mod InRange
 pub mod Transitions
 pub mod Kept
+-- what the code's fields and receipts are in these words
+pub mod FallbacksView
 pub mod SignView
-pub mod ChangeView
 pub mod ReplyView
+-- what only proofs go through
+pub mod ChangeView
+pub mod SettingsView
+pub mod SetView

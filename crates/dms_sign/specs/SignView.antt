@@ -1,20 +1,11 @@
 -- The state that the code's fields are.
 use Rattle.std.specs.Prelude.{◌≡◌}
 use Rattle.dms_codes.specs.Codes.{octets_of_id}
-use Rattle.dms_sign.specs.declared.settings.Fallbacks.{Fallbacks}
 use Rattle.dms_sign.specs.declared.reports.Reports.{Reports}
 use Rattle.dms_sign.specs.declared.sign.Sign.TheInside.{Inside}
 use Rattle.dms_sign.specs.Kept.{IsKept}
-use Rattle.dms_sign.specs.State.{FallbacksModel, ReportsModel, SignState}
-
-abbrev pub fallbacks_of : Fallbacks → FallbacksModel
-fallbacks_of f = record {
-  short_power_recovery = f.short_power_recovery;
-  long_power_recovery = f.long_power_recovery;
-  power_loss = f.power_loss;
-  end_duration = f.end_duration;
-  communications_loss = f.communications_loss;
-}
+use Rattle.dms_sign.specs.FallbacksView.{fallbacks_of}
+use Rattle.dms_sign.specs.State.{ReportsModel, SignState}
 
 abbrev pub reports_of : Reports → ReportsModel
 reports_of r = record {

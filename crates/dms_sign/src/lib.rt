@@ -2,6 +2,7 @@
 #![tactic(auto)]
 
 mod access;
+pub mod config;
 pub mod laws;
 pub mod range_laws;
 mod reports;
@@ -9,5 +10,7 @@ mod settings;
 pub mod sign;
 pub mod step_laws;
 
+pub use config::{Config, ConfigFault};
 pub use dms_objects::{Instance, Scalar};
 pub use sign::Sign;
+pub use sign::reply::Receipt;

@@ -89,3 +89,14 @@ pub(crate) fn with_refusal(reports: Reports, cause: &Cause, code: [u8; 12]) -> R
         ..with_cause(reports, cause)
     }
 }
+
+/// With the code of an activation that was accepted.
+pub(crate) fn accepted(reports: Reports, code: [u8; 12]) -> Reports
+    ensures { reports_of result ≡ record (reports_of reports) { activate_error = 2; accepted_code = code } }
+{
+    Reports {
+        activate_error: 2,
+        accepted_code: code,
+        ..reports
+    }
+}

@@ -1,6 +1,14 @@
 //! What a SET assigns beside the fields of rows.
 
+ghost use Rattle.std.specs.Prelude.{◌≡◌, [], ◌∷◌};
+ghost use Rattle.dms_sign.specs.declared.access.Change.TheVariants as changes;
+ghost use Rattle.dms_sign.specs.Access.{SetNumber, SetCode};
+ghost use Rattle.dms_sign.specs.ChangeView.{write_by, IsChange};
+ghost use Rattle.dms_sign.specs.SettingsView.{codes_by, set_by};
+
+use crate::access::Change;
 use dms_face::Defaults;
+use dms_objects::Scalar;
 
 /// The codes of the messages that a sign puts up by itself, each the five octets that were written (MessageIDCode).
 #[derive(Clone, Copy, Debug, PartialEq, Eq)]
@@ -26,4 +34,61 @@ pub(crate) struct Settings {
     /// dmsTimeCommLoss: minutes
     pub time_comm_loss: u16,
     pub defaults: Defaults,
+}
+
+/// With what a binding writes beside the fields of rows.
+#[tactic(auto, unfolding(crate::specs::SettingsView::set_by, crate::specs::SettingsView::codes_by))]
+pub(crate) fn with_change(settings: Settings, change: &Change<'_>) -> Settings
+    requires { IsChange change.now }
+    ensures { result ≡ set_by settings (write_by change.now ∷ []) }
+{
+    match change {
+        Change::Number(object, number) => with_number(settings, *object, *number),
+        Change::Code(object, code) => Settings {
+            fallbacks: with_code(settings.fallbacks, *object, code),
+            ..settings
+        },
+        Change::Field(..) | Change::Ask(..) | Change::Activate(_) | Change::Remaining(_) =>
+            settings,
+    }
+}
+
+#[tactic(auto, unfolding(crate::specs::SettingsView::set_by, crate::specs::SettingsView::codes_by))]
+fn with_number(settings: Settings, object: Scalar, number: u16) -> Settings
+    requires { IsChange (changes.Number object number) }
+    ensures { result ≡ set_by settings (SetNumber object number ∷ []) }
+{
+    let mut settings = settings;
+    match object {
+        Scalar::ShortPowerLossTime => settings.short_power_loss_time = number,
+        Scalar::TimeCommLoss => settings.time_comm_loss = number,
+        Scalar::DefaultBackgroundColor => settings.defaults.background = number as u8,
+        Scalar::DefaultForegroundColor => settings.defaults.foreground = number as u8,
+        Scalar::DefaultFlashOn => settings.defaults.flash_on = number as u8,
+        Scalar::DefaultFlashOff => settings.defaults.flash_off = number as u8,
+        Scalar::DefaultFont => settings.defaults.font = number as u8,
+        Scalar::DefaultJustificationLine => settings.defaults.line = number as u8,
+        Scalar::DefaultJustificationPage => settings.defaults.page = number as u8,
+        Scalar::DefaultPageOnTime => settings.defaults.on = number as u8,
+        Scalar::DefaultPageOffTime => settings.defaults.off = number as u8,
+        _ => {}
+    }
+    settings
+}
+
+#[tactic(auto, unfolding(crate::specs::SettingsView::codes_by))]
+fn with_code(fallbacks: Fallbacks, object: Scalar, code: &[u8; 5]) -> Fallbacks
+    ensures { result ≡ codes_by fallbacks (SetCode object code.now ∷ []) }
+{
+    let code = *code;
+    let mut fallbacks = fallbacks;
+    match object {
+        Scalar::ShortPowerRecoveryMessage => fallbacks.short_power_recovery = code,
+        Scalar::LongPowerRecoveryMessage => fallbacks.long_power_recovery = code,
+        Scalar::PowerLossMessage => fallbacks.power_loss = code,
+        Scalar::EndDurationMessage => fallbacks.end_duration = code,
+        Scalar::CommunicationsLossMessage => fallbacks.communications_loss = code,
+        _ => {}
+    }
+    fallbacks
 }

@@ -1,27 +1,35 @@
 //! The controller of a dynamic message sign.
 
-ghost use Rattle.std.specs.Prelude.{◌≡◌, ◌≤◌, ◌*◌, None, IsTrue};
+ghost use Rattle.std.specs.Prelude.{◌≡◌, ◌≤◌, ◌*◌, None, length, All, IfOk, IfErr, OnOk};
+ghost use Rattle.std.specs.Int.Digits.{AllBelowBase};
 ghost use Rattle.dms_codes.specs.Codes.{octets_of_id};
-ghost use Rattle.dms_face.specs.Face.{fit};
-ghost use Rattle.dms_table.specs.Activation.{ShownModel};
-ghost use Rattle.dms_sign.specs.InRange.{AreOctets, IsShownInRange, IsTimeInRange, IsCauseInRange, IsSignInRange, AreFallbacksInRange, most_minutes};
+ghost use Rattle.dms_table.specs.Stock.{table_of, PermanentRowsAreGood, HasOctets};
+ghost use Rattle.dms_sign.specs.State.{start};
+ghost use Rattle.dms_sign.specs.Configuration.{config_of, config_fault, IsFirstConfigFault};
+ghost use Rattle.dms_sign.specs.InRange.{IsStocked, AreDefaultsInRange, AreOctets, IsShownInRange, IsTimeInRange, IsCauseInRange, IsSignInRange, AreFallbacksInRange, most_minutes};
 ghost use Rattle.dms_sign.specs.Transitions.{HasFitDefaults};
 ghost use Rattle.dms_sign.specs.OwnCodes.{showing, staying, with_refused_code};
 ghost use Rattle.dms_sign.specs.Events.{after_settling, restored};
-ghost use Rattle.dms_sign.specs.SignView.{fallbacks_of};
+ghost use Rattle.dms_sign.specs.FallbacksView.{fallbacks_of};
 
+use crate::config::{Config, ConfigFault, are_communities};
 use crate::reports::{Reports, with_refusal, with_verdict};
 use crate::settings::{Fallbacks, Settings};
+use crate::sign::events::mode;
+use crate::sign::own_codes::blank_shown;
 use arrayvec::ArrayVec;
-use dms_codes::{MessageId, Order};
-use dms_face::Face;
+use dms_codes::Order;
+use dms_face::{Defaults, Face};
 use dms_table::{Cause, Shown, Table};
+use std::alloc::Global;
 use std::marker::Model;
 
+mod commands;
 mod events;
 mod own_codes;
 pub mod reply;
 mod requests;
+mod set_request;
 mod values;
 
 /// The most octets of a community.
@@ -59,6 +67,76 @@ impl Model for Sign {
 }
 
 impl Sign {
+    /// The sign of a configuration, or the first thing that is wrong with it; memory is wanting only where nothing is.
+    pub fn new(alloc: Global, config: Config<'_>) -> Result<Sign, ConfigFault>
+        ensures made { IfOk result (λ sign. sign ≡ start (config_of config.entry) (table_of config.entry.stock)) }
+        ensures faultless { OnOk result (config_fault config.entry ≡ None) }
+        ensures good { IfOk result (λ sign. PermanentRowsAreGood sign.config.face sign.table) }
+        ensures fault { IfErr result (λ fault. IsFirstConfigFault (config_fault config.entry) fault) }
+    {
+        if !are_communities(config.reader, config.writer) {
+            return Err(ConfigFault::Community);
+        }
+        match Table::new(alloc, config.stock, &config.face) {
+            Ok(table) => {
+                let reader = community(config.reader);
+                let writer = community(config.writer);
+                Ok(Sign::of(config.face, reader, writer, table))
+            }
+            Err(fault) => Err(ConfigFault::Table(fault)),
+        }
+    }
+
+    /// A sign as it is made shows the blank message and has power.
+    fn of(
+        face: Face,
+        reader: ArrayVec<u8, MAX_COMMUNITY>,
+        writer: ArrayVec<u8, MAX_COMMUNITY>,
+        table: Table,
+    ) -> Sign
+        requires stocked { IsStocked table }
+        requires octets { All HasOctets table.permanent }
+        requires reader { AllBelowBase 256 reader.items }
+        requires writer { AllBelowBase 256 writer.items }
+        ensures { result ≡ start (record { face = face; reader = reader.items; writer = writer.items }) table }
+    {
+        let defaults = face.defaults();
+        let _ = (face.width(), face.height());
+        are_octets(&defaults);
+        let code = [7, 0, 1, 0, 0];
+        Sign {
+            face,
+            reader,
+            writer,
+            table,
+            settings: Settings {
+                fallbacks: Fallbacks {
+                    short_power_recovery: code,
+                    long_power_recovery: code,
+                    power_loss: code,
+                    end_duration: code,
+                    communications_loss: code,
+                },
+                short_power_loss_time: 0,
+                time_comm_loss: 0,
+                defaults,
+            },
+            silent: 0,
+            shown: blank_shown(&defaults, mode::POWER_RECOVERY),
+            source: code,
+            kept: blank_shown(&defaults, mode::POWER_RECOVERY),
+            reports: Reports {
+                validate_error: 2,
+                activate_error: 2,
+                syntax_error: 2,
+                syntax_error_position: 0,
+                accepted_code: [0; 12],
+                failed_code: [0; 12],
+            },
+            powered: true,
+        }
+    }
+
     /// What is shown.
     pub fn shown(&self) -> &Shown
         ensures { result.now ≡ self.now.shown }
@@ -178,6 +256,48 @@ impl Sign {
         self.silent = 0;
     }
 }
+
+/// A copy of a community.
+fn community(octets: &[u8]) -> ArrayVec<u8, MAX_COMMUNITY>
+    requires { length octets.now ≤ 32 }
+    ensures copied { result.items ≡ octets.now }
+    ensures octets { AllBelowBase 256 octets.now }
+{
+    let mut copy = ArrayVec::new();
+    let _ = copy.try_extend_from_slice(octets);
+    copy
+}
+
+/// Each default is an octet.
+fn are_octets(defaults: &Defaults)
+    ensures { AreDefaultsInRange defaults.now }
+{
+    nine_octets(
+        defaults.background,
+        defaults.foreground,
+        defaults.flash_on,
+        defaults.flash_off,
+        defaults.font,
+        defaults.line,
+        defaults.page,
+        defaults.on,
+        defaults.off,
+    );
+}
+
+fn nine_octets(
+    background: u8,
+    foreground: u8,
+    flash_on: u8,
+    flash_off: u8,
+    font: u8,
+    line: u8,
+    page: u8,
+    on: u8,
+    off: u8,
+)
+    ensures { AreDefaultsInRange (record { background = background; foreground = foreground; flash_on = flash_on; flash_off = flash_off; font = font; line = line; page = page; on = on; off = off }) }
+{}
 
 /// The octets of the code of what is shown.
 fn source_of(shown: &Shown, order: Order) -> [u8; 5]

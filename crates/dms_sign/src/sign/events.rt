@@ -7,7 +7,7 @@ ghost use Rattle.dms_sign.specs.Events.{after_duration, after_silence, after_tic
 use crate::sign::Sign;
 
 /// How a message came up (dmsMsgSourceMode), beside the activation by a SET.
-mod mode {
+pub(super) mod mode {
     pub const POWER_RECOVERY: u8 = 10;
 
     pub const COMMUNICATIONS_LOSS: u8 = 12;

@@ -13,7 +13,7 @@ use dms_face::Defaults;
 use dms_table::Shown;
 
 /// Blank message 1.
-const BLANK: MessageId = MessageId {
+pub(super) const BLANK: MessageId = MessageId {
     memory: memory::BLANK,
     number: 1,
     crc: 0,

@@ -1,19 +1,22 @@
 //! The reply to a datagram.
 
-ghost use Rattle.std.specs.Prelude.{◌≡◌, ◌≤◌, List, length, IfErr, OnOk, OnErr};
+ghost use Rattle.std.specs.Prelude.{◌≡◌, List, [], Some, IsTrue};
 ghost use Rattle.dms_wire.specs.ErrorStatus.{error_status_number};
 ghost use Rattle.dms_wire.specs.Message.{VarBind};
 ghost use Rattle.dms_wire.specs.View.{snmp_message};
 ghost use Rattle.dms_wire.specs.Canonical.{canonical};
 ghost use Rattle.dms_wire.specs.Response.{response_to};
 ghost use Rattle.dms_wire.specs.Written.{octets_of_bindings};
-ghost use Rattle.dms_sign.specs.Requests.{get, get_next, is_community};
-ghost use Rattle.dms_sign.specs.Reply.{too_big, reply_to, is_heard};
-ghost use Rattle.dms_sign.specs.ReplyView.{reply_with, IsRead};
+ghost use Rattle.dms_sign.specs.Requests.{get, get_next, set, is_community, may_write};
+ghost use Rattle.dms_sign.specs.Reply.{too_big, reply_to, is_request, is_heard, heard, received};
+ghost use Rattle.dms_sign.specs.ReplyView.{reply_with, IsRead, IsAnswered, sent, accepted_by};
+ghost use Rattle.dms_sign.specs.declared.sign.reply.Receipt.TheVariants.{Dropped};
 
 use crate::sign::Sign;
 use dms_codes::Activation;
-use dms_wire::{BindingOctets, ErrorStatus, Kind, Message, Out, write_around, write_response};
+use dms_wire::{
+    BindingOctets, ErrorStatus, Kind, Message, Out, heard, write_around, write_response,
+};
 
 /// What came of a datagram.
 #[derive(Clone, Copy, Debug, PartialEq, Eq)]
@@ -27,6 +30,73 @@ pub enum Receipt {
 }
 
 impl Sign {
+    /// What comes of a datagram: the reply is left in `out`, which is empty where nothing is sent. Octets that spell no message, a
+    /// Response, a message of another community and all that comes while the power is off are dropped, and nothing changes.
+    #[tactic(auto, unfolding(crate::specs::Reply::received))]
+    pub fn receive(&mut self, datagram: &[u8], out: &mut Out) -> Receipt
+        ensures after { self.new ≡ (received self.old datagram.now).after }
+        ensures reply { sent result out.new.items ≡ (received self.old datagram.now).reply }
+        ensures accepted { accepted_by result ≡ (received self.old datagram.now).accepted }
+        ensures empty { result ≡ Dropped → out.new.items ≡ [] }
+    {
+        out.clear();
+        match heard(datagram) {
+            None => Receipt::Dropped,
+            Some(message) => {
+                if self.is_heard(&message) {
+                    self.answer(&message, out)
+                } else {
+                    Receipt::Dropped
+                }
+            }
+        }
+    }
+
+    /// Answers a request.
+    #[tactic(auto, unfolding(crate::specs::Requests::primary))]
+    fn answer(&mut self, message: &Message<'_>, out: &mut Out) -> Receipt
+        requires read { IsRead (snmp_message message.now) }
+        requires asks { IsTrue (is_request message.now.kind) }
+        ensures after { self.new ≡ (heard self.old (snmp_message message.now)).after }
+        ensures reply { Some out.new.items ≡ (heard self.old (snmp_message message.now)).reply }
+        ensures accepted { accepted_by result ≡ (heard self.old (snmp_message message.now)).accepted }
+        ensures answered { IsAnswered result }
+    {
+        let receipt = match message.kind {
+            Kind::Get => {
+                self.answer_get(message, out);
+                Receipt::Replied
+            }
+            Kind::GetNext => {
+                self.answer_next(message, out);
+                Receipt::Replied
+            }
+            Kind::Set | Kind::Response => self.answer_set(message, out),
+        };
+        self.set_silent(0);
+        receipt
+    }
+
+    /// Answers a Set.
+    fn answer_set(&mut self, message: &Message<'_>, out: &mut Out) -> Receipt
+        requires { IsRead (snmp_message message.now) }
+        ensures after { self.new ≡ (set self.old (may_write self.old (snmp_message message.now)) message.now.binds).after }
+        ensures reply { out.new.items ≡ reply_to (snmp_message message.now) (set self.old (may_write self.old (snmp_message message.now)) message.now.binds) }
+        ensures accepted { accepted_by result ≡ (set self.old (may_write self.old (snmp_message message.now)) message.now.binds).accepted }
+        ensures answered { IsAnswered result }
+    {
+        match self.set(self.may_write(message), &message.binds) {
+            Ok(accepted) => {
+                repeat(message, ErrorStatus::NoError, 0, out);
+                receipt_of(accepted)
+            }
+            Err(refusal) => {
+                repeat(message, refusal.status, refusal.index, out);
+                Receipt::Replied
+            }
+        }
+    }
+
     /// A sign with power hears requests of its two communities.
     fn is_heard(&self, message: &Message<'_>) -> bool
         ensures { result ≡ is_heard self.now (snmp_message message.now) }
@@ -50,7 +120,7 @@ impl Sign {
     {
         match self.values_of(&message.binds) {
             Ok(octets) => reply(message, &octets, out),
-            Err(index) => refuse(message, ErrorStatus::NoSuchName, index, out),
+            Err(index) => repeat(message, ErrorStatus::NoSuchName, index, out),
         }
     }
 
@@ -62,7 +132,7 @@ impl Sign {
     {
         match self.values_after(&message.binds) {
             Ok(octets) => reply(message, &octets, out),
-            Err(index) => refuse(message, ErrorStatus::NoSuchName, index, out),
+            Err(index) => repeat(message, ErrorStatus::NoSuchName, index, out),
         }
     }
 }
@@ -80,7 +150,7 @@ fn reply(message: &Message<'_>, octets: &BindingOctets, out: &mut Out)
 }
 
 /// Writes the reply that repeats the request's bindings, or tooBig where it does not fit a datagram.
-fn refuse(message: &Message<'_>, status: ErrorStatus, index: u32, out: &mut Out)
+fn repeat(message: &Message<'_>, status: ErrorStatus, index: u32, out: &mut Out)
     requires { IsRead (snmp_message message.now) }
     ensures { out.new.items ≡ reply_with (snmp_message message.now) (error_status_number status) index message.now.binds }
 {
@@ -96,4 +166,14 @@ fn refuse_too_big(message: &Message<'_>, out: &mut Out)
     ensures { out.new.items ≡ canonical (response_to (snmp_message message.now) too_big 0) }
 {
     let _ = write_response(message, ErrorStatus::TooBig, 0, out);
+}
+
+fn receipt_of(accepted: Option<Activation>) -> Receipt
+    ensures accepted { accepted_by result ≡ accepted }
+    ensures answered { IsAnswered result }
+{
+    match accepted {
+        Some(activation) => Receipt::Accepted(activation),
+        None => Receipt::Replied,
+    }
 }

@@ -3,7 +3,7 @@ use Rattle.dms_wire.specs.ErrorStatus.{error_status_number}
 use Rattle.dms_wire.specs.Response.{response_to}
 use Rattle.dms_wire.specs.View.{snmp_message}
 use Rattle.dms_sign.proofs.Sending.{sent_whole, sent_too_big}
-use Rattle.dms_sign.proofs.sign.reply.refuse.Goals as goal
+use Rattle.dms_sign.proofs.sign.reply.repeat.Goals as goal
 
 pub returns-in-Ok : goal.returns-in-Ok
 returns-in-Ok c =

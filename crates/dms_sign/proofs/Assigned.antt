@@ -1,0 +1,288 @@
+-- The state in which the values of a SET are assigned, and what a command makes of it.
+use Rattle.std.proofs.Common.{◌≡◌, ℕ, ◌≤◌, Bool, true, false, cond, List, [], ◌∷◌, ◌++◌, find, Option, Some, None, Result, Ok, Err, is_some, IsSome, IsTrue, refl, sym, ap, subst, ◌∙◌, arith, true≢false}
+use Rattle.std.specs.Prelude.{option_map, option_and_then, unwrap_or, slice_get}
+use Rattle.std.specs.Option.{IfSome}
+use Rattle.std.specs.Result.{OnOk, OnErr}
+use Rattle.std.specs.List.{cons_option}
+use Rattle.dms_wire.specs.declared.error_status.ErrorStatus.TheVariants.{NoError, GenErr}
+use Rattle.dms_wire.specs.Message.{VarBind}
+use Rattle.dms_wire.specs.Limits.{AreBindingsInLimits}
+use Rattle.dms_face.specs.declared.defaults.Defaults.{Defaults}
+use Rattle.dms_face.specs.Face.{fit}
+use Rattle.dms_codes.specs.declared.codes.Order.{Order}
+use Rattle.dms_codes.specs.declared.codes.Activation.{Activation}
+use Rattle.dms_codes.specs.declared.row_id.RowId.{RowId}
+use Rattle.dms_codes.specs.declared.status.Ask.{Ask}
+use Rattle.dms_codes.specs.Codes.{octets_of_id, activation_of}
+use Rattle.dms_objects.specs.declared.scalar.Scalar.TheVariants.{ShortPowerRecoveryMessage, LongPowerRecoveryMessage, PowerLossMessage, EndDurationMessage, CommunicationsLossMessage, DefaultBackgroundColor, DefaultForegroundColor, DefaultFlashOn, DefaultFlashOff, DefaultFont, DefaultJustificationLine, DefaultJustificationPage, DefaultPageOnTime, DefaultPageOffTime, ShortPowerLossTime, TimeCommLoss}
+use Rattle.dms_objects.specs.declared.instance.Instance.{Instance}
+use Rattle.dms_instances.specs.Objects.{instance_named}
+use Rattle.dms_table.specs.declared.row.Refused.{Refused}
+use Rattle.dms_table.specs.declared.activation.Cause.{Cause}
+use Rattle.dms_table.specs.Rows.{TableModel, asked}
+use Rattle.dms_table.specs.Activation.{ShownModel, decided}
+use Rattle.dms_sign.specs.declared.settings.Settings.{Settings}
+use Rattle.dms_sign.specs.declared.reports.Reports.{Reports}
+use Rattle.dms_sign.specs.declared.sign.Sign.TheInside.{Inside}
+use Rattle.dms_sign.specs.State.{FallbacksModel, ReportsModel, SignState}
+use Rattle.dms_sign.specs.Access.{Write, SetNumber, SetCode, SetField, AskRow, Activate, SetRemaining, is_command, is_settable, write_of}
+use Rattle.dms_sign.specs.SetRequest.{given, number_for, code_for, with_writes, assigned, SetCause, causes, if_settable, settable_instance, write_at}
+use Rattle.dms_sign.specs.Requests.{Answer, as_decided, as_asked, commanded, commanded_if, command_index, writes_of, activated, set, set_unless}
+use Rattle.dms_sign.specs.OwnCodes.{showing}
+use Rattle.dms_sign.specs.InRange.{AreOctets, IsTableInRange, IsShownInRange, IsCauseInRange, AreReportsInRange, IsSignInRange}
+use Rattle.dms_sign.specs.Transitions.{HasFitDefaults}
+use Rattle.dms_sign.specs.Kept.{IsKept}
+use Rattle.dms_sign.specs.FallbacksView.{fallbacks_of}
+use Rattle.dms_sign.specs.SignView.{reports_of, state_of, IsWhole}
+use Rattle.dms_sign.specs.SettingsView.{codes_by, set_by, AreSettings}
+use Rattle.dms_sign.specs.ChangeView.{IsCommandInRange}
+use Rattle.dms_sign.proofs.InRangeLists.{if_found}
+use Rattle.dms_sign.proofs.InRangeShown.{showing_in_range, telling_in_range, with_table_in_range, activation_is, IsDecisionInRange, decided_in_range}
+use Rattle.dms_sign.proofs.InRangeSets.{IsWriteInRange, writes_in_range, assigned_in_range, asked_in_range, accepted_reports}
+use Rattle.dms_sign.proofs.StepDefaults.{writes_fit, assigned_fit}
+use Rattle.dms_sign.proofs.StepRows.{writes_keep, asked_keeps}
+use Rattle.dms_sign.proofs.Replies.{set_unless_is, are_causes}
+use Rattle.dms_sign.proofs.Causes.{writes_append, with_writes_append}
+use Rattle.dms_sign.proofs.Writes.{writes_like, asked_alike, decided_alike}
+
+-- ---- settings
+
+pub set_by_is : (settings : Settings) (s : SignState) (ws : List Write) → AreSettings settings s → AreSettings (set_by settings ws) (assigned s ws)
+unfolding set_by codes_by assigned
+set_by_is settings s ws is = record {
+  fallbacks = ap (λ (f : FallbacksModel). record {
+    short_power_recovery = given (code_for ShortPowerRecoveryMessage) ws f.short_power_recovery;
+    long_power_recovery = given (code_for LongPowerRecoveryMessage) ws f.long_power_recovery;
+    power_loss = given (code_for PowerLossMessage) ws f.power_loss;
+    end_duration = given (code_for EndDurationMessage) ws f.end_duration;
+    communications_loss = given (code_for CommunicationsLossMessage) ws f.communications_loss;
+  }) is.fallbacks;
+  short_power_loss_time = ap (given (number_for ShortPowerLossTime) ws) is.short_power_loss_time;
+  time_comm_loss = ap (given (number_for TimeCommLoss) ws) is.time_comm_loss;
+  defaults = ap (λ (d : Defaults). record {
+    background = given (number_for DefaultBackgroundColor) ws d.background;
+    foreground = given (number_for DefaultForegroundColor) ws d.foreground;
+    flash_on = given (number_for DefaultFlashOn) ws d.flash_on;
+    flash_off = given (number_for DefaultFlashOff) ws d.flash_off;
+    font = given (number_for DefaultFont) ws d.font;
+    line = given (number_for DefaultJustificationLine) ws d.line;
+    page = given (number_for DefaultJustificationPage) ws d.page;
+    on = given (number_for DefaultPageOnTime) ws d.on;
+    off = given (number_for DefaultPageOffTime) ws d.off;
+  }) is.defaults;
+}
+
+pub judged_settings : (old : Inside) (settings : Settings) (ws : List Write) → settings ≡ set_by old.settings ws → AreSettings settings (assigned (state_of old) ws)
+judged_settings old settings ws e =
+    let own : AreSettings old.settings (state_of old) = record { fallbacks = refl; short_power_loss_time = refl; time_comm_loss = refl; defaults = refl } in
+    subst (λ (t : Settings). AreSettings t (assigned (state_of old) ws)) (sym e) (set_by_is old.settings (state_of old) ws own)
+
+pub state_assigned : (old : Inside) (ws : List Write) (settings : Settings) (table : TableModel) → table ≡ with_writes old.table ws
+    → AreSettings settings (assigned (state_of old) ws) → state_of (record old { table = table; settings = settings }) ≡ assigned (state_of old) ws
+unfolding assigned
+state_assigned old ws settings table t is =
+    ap (λ (t : TableModel). record (state_of old) {
+      table = t;
+      fallbacks = fallbacks_of settings.fallbacks;
+      short_power_loss_time = settings.short_power_loss_time;
+      time_comm_loss = settings.time_comm_loss;
+      defaults = settings.defaults;
+    }) t
+    ∙ ap (λ (f : FallbacksModel). record (state_of old) {
+      table = with_writes old.table ws;
+      fallbacks = f;
+      short_power_loss_time = settings.short_power_loss_time;
+      time_comm_loss = settings.time_comm_loss;
+      defaults = settings.defaults;
+    }) is.fallbacks
+    ∙ ap (λ (n : ℕ). record (assigned (state_of old) ws) {
+      short_power_loss_time = n;
+      time_comm_loss = settings.time_comm_loss;
+      defaults = settings.defaults;
+    }) is.short_power_loss_time
+    ∙ ap (λ (n : ℕ). record (assigned (state_of old) ws) { time_comm_loss = n; defaults = settings.defaults }) is.time_comm_loss
+    ∙ ap (λ (d : Defaults). record (assigned (state_of old) ws) { defaults = d }) is.defaults
+
+pub assigned_whole : (old : Inside) (bindings : List VarBind) (settings : Settings) (table : TableModel) → IsWhole old → AreBindingsInLimits bindings
+    → table ≡ with_writes old.table (writes_of (state_of old) bindings) → AreSettings settings (assigned (state_of old) (writes_of (state_of old) bindings))
+    → IsWhole (record old { table = table; settings = settings })
+assigned_whole old bindings settings table is within t are =
+    let s = state_of old in
+    let ws = writes_of s bindings in
+    let kept : IsKept (assigned s ws) = record {
+      in_range = assigned_in_range s ws is.kept.in_range (writes_in_range s bindings within);
+      fit = assigned_fit s ws (writes_fit s bindings) is.kept.fit;
+    } in
+    let order : table.order ≡ old.table.order = ap (λ (t : TableModel). t.order) t ∙ (writes_keep old.table ws).order in
+    record {
+      kept = subst IsKept (sym (state_assigned old ws settings table t are)) kept;
+      source = is.source ∙ ap (λ (o : Order). octets_of_id o old.shown.source) (sym order);
+    }
+
+-- ---- rows that are asked
+
+pub asked_whole : (old : Inside) (table : TableModel) (id : RowId) (ask : Ask) → IsWhole old → asked old.table id ask ≡ Some table
+    → IsWhole (record old { table = table })
+asked_whole old table id ask is e =
+    let range : IsTableInRange table = subst (λ (o : Option TableModel). IfSome o IsTableInRange) e (asked_in_range old.table id ask is.kept.in_range.table) in
+    record {
+      kept = record { in_range = with_table_in_range (state_of old) table is.kept.in_range range; fit = is.kept.fit };
+      source = is.source ∙ ap (λ (o : Order). octets_of_id o old.shown.source) (sym (asked_keeps old.table table id ask e).order);
+    }
+
+pub takes_after : (s : SignState) (ws : List Write) (id : RowId) (ask : Ask) → is_some (asked s.table id ask) ≡ is_some (asked (assigned s ws).table id ask)
+unfolding assigned
+takes_after s ws id ask = asked_alike s.table (with_writes s.table ws) id ask (writes_like s.table ws)
+
+asked_none : (o : Option TableModel) → is_some o ≡ false → o ≡ None
+asked_none None e = refl
+asked_none (Some t) e = absurd (true≢false e)
+
+pub ask_refused : (s : SignState) (ws : List Write) (bindings : List VarBind) (index : ℕ) (id : RowId) (ask : Ask) → is_some (asked s.table id ask) ≡ false
+    → commanded s (assigned s ws) bindings index (AskRow id ask) ≡ as_asked s (assigned s ws) bindings index None
+ask_refused s ws bindings index id ask e =
+    ap (as_asked s (assigned s ws) bindings index) (asked_none (asked (assigned s ws).table id ask) (sym (takes_after s ws id ask) ∙ e))
+
+pub ask_granted : (s new : SignState) (bindings : List VarBind) (index : ℕ) (o : Option TableModel) (result : SignState)
+    → Some result ≡ option_map (λ (table : TableModel). record new { table = table }) o
+    → (result ≡ (as_asked s new bindings index o).after) × ((as_asked s new bindings index o).status ≡ NoError)
+    × ((as_asked s new bindings index o).index ≡ 0) × ((as_asked s new bindings index o).accepted ≡ None)
+ask_granted s new bindings index None result e = absurd (cc)
+ask_granted s new bindings index (Some table) result e =
+    let same : result ≡ record new { table = table } = cc in
+    (same, refl, refl, refl)
+
+-- ---- activations
+
+pub accepted_whole : (old : Inside) (shown : ShownModel) (source octets : List ℕ) (reports : Reports) → IsWhole old → IsShownInRange shown → AreOctets 12 octets
+    → source ≡ octets_of_id old.table.order shown.source → reports_of reports ≡ record (reports_of old.reports) { activate_error = 2; accepted_code = octets }
+    → IsWhole (record old { shown = shown; source = source; reports = reports })
+accepted_whole old shown source octets reports is range twelve s r = record {
+  kept = record {
+    in_range = telling_in_range (showing (state_of old) shown) (reports_of reports) (showing_in_range (state_of old) shown is.kept.in_range range)
+        (subst AreReportsInRange (sym r) (accepted_reports (reports_of old.reports) octets is.kept.in_range.reports twelve));
+    fit = is.kept.fit;
+  };
+  source = s;
+}
+
+pub decided_new : (s : SignState) (ws : List Write) (settings : Settings) (octets : List ℕ) (code : Activation) → AreSettings settings (assigned s ws)
+    → code ≡ activation_of s.table.order octets
+    → decided s.config.face settings.defaults s.table s.shown code
+    ≡ decided (assigned s ws).config.face (assigned s ws).defaults (assigned s ws).table (assigned s ws).shown (activation_of s.table.order octets)
+unfolding assigned
+decided_new s ws settings octets code is c =
+    ap (λ (d : Defaults). decided s.config.face d s.table s.shown code) is.defaults
+    ∙ decided_alike s.config.face _ s.table (with_writes s.table ws) s.shown code (writes_like s.table ws)
+    ∙ ap (decided s.config.face _ (with_writes s.table ws) s.shown) c
+
+fit_of : (s : SignState) (ws : List Write) → HasFitDefaults (assigned s ws) → IsTrue (fit s.config.face.fonts (assigned s ws).defaults)
+unfolding assigned
+fit_of s ws is = is
+
+pub fit_new : (s : SignState) (bindings : List VarBind) (settings : Settings) → HasFitDefaults s → AreSettings settings (assigned s (writes_of s bindings))
+    → IsTrue (fit s.config.face.fonts settings.defaults)
+fit_new s bindings settings is are =
+    subst (λ (d : Defaults). IsTrue (fit s.config.face.fonts d)) (sym are.defaults) (fit_of s (writes_of s bindings) (assigned_fit s (writes_of s bindings) (writes_fit s bindings) is))
+
+decision_new : (s : SignState) (bindings : List VarBind) (settings : Settings) (octets : List ℕ) (code : Activation) → IsSignInRange s → AreBindingsInLimits bindings
+    → AreSettings settings (assigned s (writes_of s bindings)) → code ≡ activation_of s.table.order octets → AreOctets 12 octets
+    → IsDecisionInRange (decided s.config.face settings.defaults s.table s.shown code)
+decision_new s bindings settings octets code is within are c twelve =
+    let ws = writes_of s bindings in
+    let new = assigned s ws in
+    let range : IsSignInRange new = assigned_in_range s ws is (writes_in_range s bindings within) in
+    subst IsDecisionInRange (sym (decided_new s ws settings octets code are c))
+    (decided_in_range new.config.face new.defaults new.table new.shown (activation_of s.table.order octets) range.defaults range.table range.shown
+    (activation_is s.table.order octets twelve.below))
+
+pub accepted_shown : (s : SignState) (bindings : List VarBind) (settings : Settings) (octets : List ℕ) (code : Activation) (shown : ShownModel) → IsSignInRange s
+    → AreBindingsInLimits bindings → AreSettings settings (assigned s (writes_of s bindings)) → code ≡ activation_of s.table.order octets → AreOctets 12 octets
+    → Ok shown ≡ decided s.config.face settings.defaults s.table s.shown code → IsShownInRange shown
+accepted_shown s bindings settings octets code shown is within are c twelve ok =
+    subst IsDecisionInRange (sym ok) (decision_new s bindings settings octets code is within are c twelve)
+
+pub refused_cause : (s : SignState) (bindings : List VarBind) (settings : Settings) (octets : List ℕ) (code : Activation) (cause : Cause) → IsSignInRange s
+    → AreBindingsInLimits bindings → AreSettings settings (assigned s (writes_of s bindings)) → code ≡ activation_of s.table.order octets → AreOctets 12 octets
+    → Err cause ≡ decided s.config.face settings.defaults s.table s.shown code → IsCauseInRange cause
+refused_cause s bindings settings octets code cause is within are c twelve err =
+    subst IsDecisionInRange (sym err) (decision_new s bindings settings octets code is within are c twelve)
+
+pub activation_answer : (s : SignState) (ws : List Write) (bindings : List VarBind) (index : ℕ) (settings : Settings) (octets : List ℕ) (code : Activation)
+    (r : Result ShownModel Cause) → AreSettings settings (assigned s ws) → code ≡ activation_of s.table.order octets
+    → r ≡ decided s.config.face settings.defaults s.table s.shown code
+    → commanded s (assigned s ws) bindings index (Activate octets) ≡ as_decided s (assigned s ws) bindings index octets r
+activation_answer s ws bindings index settings octets code r are c e =
+    ap (as_decided s (assigned s ws) bindings index octets) (sym (e ∙ decided_new s ws settings octets code are c))
+
+-- ---- answers
+
+in_range_of : (o : Option Write) → IfSome o IsWriteInRange → IfSome o IsCommandInRange
+in_range_of None is = tt
+in_range_of (Some (SetNumber object number)) is = tt
+in_range_of (Some (SetCode object octets)) is = tt
+in_range_of (Some (SetField id field)) is = tt
+in_range_of (Some (AskRow id ask)) is = tt
+in_range_of (Some (Activate octets)) is = is
+in_range_of (Some (SetRemaining minutes)) is = tt
+
+pub command_in_range : (s : SignState) (bindings : List VarBind) (o : Option Write) → AreBindingsInLimits bindings → o ≡ find is_command (writes_of s bindings)
+    → IfSome o IsCommandInRange
+command_in_range s bindings o within e =
+    subst (λ (o : Option Write). IfSome o IsCommandInRange) (sym e)
+    (in_range_of (find is_command (writes_of s bindings)) (if_found IsWriteInRange is_command (writes_of s bindings) (writes_in_range s bindings within)))
+
+-- without a cause the command is done
+pub set_commanded : (s : SignState) (may : Bool) (bindings : List VarBind) (index : ℕ) (command : Option Write) → causes s may bindings ≡ []
+    → command ≡ find is_command (writes_of s bindings) → index ≡ command_index s bindings
+    → commanded_if s (assigned s (writes_of s bindings)) bindings index command ≡ set s may bindings
+set_commanded s may bindings index command none c i =
+    ap (λ n. commanded_if s (assigned s (writes_of s bindings)) bindings n command) i
+    ∙ ap (commanded_if s (assigned s (writes_of s bindings)) bindings (command_index s bindings)) c ∙ ap (set_unless s bindings) (sym none)
+
+first_refuses : (s : SignState) (bindings : List VarBind) (found : List SetCause) (cause : SetCause) → slice_get found 0 ≡ Some cause
+    → set_unless s bindings found ≡ record { status = cause.status; index = cause.index; bindings = bindings; after = s; accepted = None }
+first_refuses s bindings [] cause e = absurd (cc)
+first_refuses s bindings (x ∷ more) cause e =
+    let same : x ≡ cause = cc in
+    ap (λ (x : SetCause). set_unless s bindings (x ∷ more)) same
+
+pub set_refused : (s : SignState) (may : Bool) (bindings : List VarBind) (cause : SetCause) → slice_get (causes s may bindings) 0 ≡ Some cause
+    → set s may bindings ≡ record { status = cause.status; index = cause.index; bindings = bindings; after = s; accepted = None }
+set_refused s may bindings cause e = first_refuses s bindings (causes s may bindings) cause e
+
+pub set_echoes : (s : SignState) (may : Bool) (bindings : List VarBind) → (set s may bindings).bindings ≡ bindings
+set_echoes s may bindings = (set_unless_is s bindings (causes s may bindings) (are_causes s may bindings)).echo
+
+-- ---- what a binding writes
+
+pub settable_there : (s : SignState) (b : VarBind) (i : Instance) (o : Option Write) → Some i ≡ instance_named s.table b.name → is_settable i ≡ true
+    → o ≡ write_of s.config.face i b.value → o ≡ write_at s b
+unfolding write_at settable_instance
+settable_there s b i o e settable w =
+    w ∙ ap (λ c. option_and_then (λ i. write_of s.config.face i b.value) (cond c (Some i) None)) (sym settable)
+    ∙ ap (λ o. option_and_then (λ i. write_of s.config.face i b.value) (option_and_then if_settable o)) e
+
+pub settable_not : (s : SignState) (b : VarBind) (i : Instance) → Some i ≡ instance_named s.table b.name → is_settable i ≡ false → None ≡ write_at s b
+unfolding write_at settable_instance
+settable_not s b i e settable =
+    ap (λ c. option_and_then (λ i. write_of s.config.face i b.value) (cond c (Some i) None)) (sym settable)
+    ∙ ap (λ o. option_and_then (λ i. write_of s.config.face i b.value) (option_and_then if_settable o)) e
+
+pub settable_none : (s : SignState) (b : VarBind) → None ≡ instance_named s.table b.name → None ≡ write_at s b
+unfolding write_at settable_instance
+settable_none s b e = ap (λ o. option_and_then (λ i. write_of s.config.face i b.value) (option_and_then if_settable o)) e
+
+pub fields_more : (s : SignState) (initial table new : TableModel) (done : List VarBind) (b : VarBind) (o : Option Write)
+    → table ≡ with_writes initial (writes_of s done) → o ≡ write_at s b → new ≡ with_writes table (cons_option o [])
+    → new ≡ with_writes initial (writes_of s (done ++ b ∷ []))
+fields_more s initial table new done b o t w n =
+    n ∙ ap (λ o. with_writes table (cons_option o [])) w ∙ ap (λ t. with_writes t (writes_of s (b ∷ []))) t
+    ∙ sym (with_writes_append initial (writes_of s done) (writes_of s (b ∷ []))) ∙ ap (with_writes initial) (sym (writes_append s done (b ∷ [])))
+
+-- ---- a row that takes what it is asked
+
+pub asked_ok : (o : Option TableModel) (table : TableModel) (r : Result (Unit {0}) Refused) → IsSome o → OnOk r (o ≡ Some table) → OnErr r (o ≡ None)
+    → o ≡ Some table
+asked_ok o table (Ok x) some ok err = ok
+asked_ok o table (Err e) some ok err = let none = true≢false (sym some ∙ ap is_some err) in absurd none

@@ -1,0 +1,271 @@
+-- What the writes of a SET leave: rows that are not being modified stay as they are, so a command is judged alike before and after them.
+use Rattle.std.proofs.Common.{◌≡◌, ◌⊎◌, inl, inr, ℕ, zero, suc, ◌-◌, ◌==◌, ◌&&◌, ◌||◌, Bool, true, false, not, cond, List, [], ◌∷◌, ◌++◌, find, Option, Some, None, Result, Ok, Err, is_some, refl, sym, ap, subst, ◌∙◌}
+use Rattle.std.specs.Prelude.{option_map, option_and_then, unwrap_or, slice_get, slice_set, filter_map, nat_lt, ⊤}
+use Rattle.std.specs.Option.{IfSome}
+use Rattle.std.specs.List.{list_any, cons_option}
+use Rattle.dms_face.specs.declared.defaults.Defaults.{Defaults}
+use Rattle.dms_face.specs.Face.{FaceModel}
+use Rattle.dms_face.specs.Layout.{under}
+use Rattle.dms_codes.specs.declared.status.Status.{Status}
+use Rattle.dms_codes.specs.declared.status.Status.TheVariants.{NotUsed, Modifying, Validating, Valid, Error}
+use Rattle.dms_codes.specs.declared.status.Ask.{Ask}
+use Rattle.dms_codes.specs.declared.row_id.RowId.{RowId}
+use Rattle.dms_codes.specs.declared.codes.Activation.{Activation}
+use Rattle.dms_codes.specs.Status.{next_status, is_modifying, is_valid, is_validating, is_validate}
+use Rattle.dms_codes.specs.Memory.{permanent_memory, changeable_memory, volatile_memory, current_buffer, blank_memory}
+use Rattle.dms_table.specs.declared.activation.Cause.{Cause}
+use Rattle.dms_table.specs.declared.activation.Cause.TheVariants as causes
+use Rattle.dms_table.specs.Rows.{RowModel, TableModel, FieldModel, Text, Owner, Beacon, Pixel, Priority, RowReading, reading, blank_reading, blank_at, numbered, rows_of, row_read, changed_in, with_changeable, with_volatile, changed, with_status, asked_row, asked, may_ask, is_settling, row_is_validating, is_in_range, with_field, written_row, written}
+use Rattle.dms_table.specs.Activation.{ShownModel, is_memory, named, row_id, message_at, shown_reading, has_checksum, text_error, activation_error, put_up, unless_refused, decided_on, decided}
+use Rattle.dms_sign.specs.Access.{Write, SetNumber, SetCode, SetField, AskRow, Activate, SetRemaining}
+use Rattle.dms_sign.specs.SetRequest.{with_write, with_writes}
+use Rattle.dms_sign.proofs.InRangeLists.{if_either, if_mapped}
+
+-- ---- rows
+
+-- The row is as it was, or it was being modified and still is.
+abbrev IsLike : RowModel → RowModel → Type 0
+IsLike old new = (new ≡ old) ⊎ ((old.status ≡ Modifying) × (new.status ≡ Modifying))
+
+like_then : (a b c : RowModel) → IsLike a b → IsLike b c → IsLike a c
+like_then a b c (inl e) g = subst (λ (b : RowModel). IsLike b c) e g
+like_then a b c (inr h) (inl e) = inr (h.0, ap (λ (r : RowModel). r.status) e ∙ h.1)
+like_then a b c (inr h) (inr g) = inr (h.0, g.1)
+
+abbrev AreLike : List RowModel → List RowModel → Type 0
+AreLike [] [] = ⊤
+AreLike (r ∷ rs) (q ∷ qs) = IsLike r q × AreLike rs qs
+AreLike [] (q ∷ qs) = ⊥
+AreLike (r ∷ rs) [] = ⊥
+
+all_like : (rows : List RowModel) → AreLike rows rows
+all_like [] = tt
+all_like (r ∷ rs) = (inl refl, all_like rs)
+
+all_then : (a b c : List RowModel) → AreLike a b → AreLike b c → AreLike a c
+all_then [] [] [] one other = tt
+all_then [] [] (z ∷ c) one other = other
+all_then [] (y ∷ b) c one other = absurd one
+all_then (x ∷ a) [] c one other = absurd one
+all_then (x ∷ a) (y ∷ b) [] one other = other
+all_then (x ∷ a) (y ∷ b) (z ∷ c) one other = (like_then x y z one.0 other.0, all_then a b c one.1 other.1)
+
+set_like : (rows : List RowModel) (k : ℕ) (row new : RowModel) → slice_get rows k ≡ Some row → IsLike row new → AreLike rows (slice_set rows k new)
+set_like [] k row new e is = absurd (cc)
+set_like (x ∷ rows) zero row new e is = let same : row ≡ x = cc in (subst (λ (x : RowModel). IsLike x new) same is, all_like rows)
+set_like (x ∷ rows) (suc k) row new e is = (inl refl, set_like rows k row new e is)
+
+-- what is read at a place of lists of like rows
+abbrev BothLike : Option RowModel → Option RowModel → Type 0
+BothLike None None = ⊤
+BothLike (Some r) (Some q) = IsLike r q
+BothLike None (Some q) = ⊥
+BothLike (Some r) None = ⊥
+
+get_like : (old new : List RowModel) (k : ℕ) → AreLike old new → BothLike (slice_get old k) (slice_get new k)
+get_like [] [] k are = tt
+get_like [] (q ∷ qs) k are = absurd are
+get_like (r ∷ rs) [] k are = absurd are
+get_like (r ∷ rs) (q ∷ qs) zero are = are.0
+get_like (r ∷ rs) (q ∷ qs) (suc k) are = get_like rs qs k are.1
+
+numbered_by : (b : Bool) (o p : Option RowModel) → BothLike o p → BothLike (cond b None o) (cond b None p)
+numbered_by true o p both = tt
+numbered_by false o p both = both
+
+numbered_like : (old new : List RowModel) (number : ℕ) → AreLike old new → BothLike (numbered old number) (numbered new number)
+numbered_like old new number are = numbered_by (number == 0) (slice_get old (number - 1)) (slice_get new (number - 1)) (get_like old new (number - 1) are)
+
+-- ---- a write
+
+is_modified : (status : Status) → is_modifying status ≡ true → status ≡ Modifying
+is_modified NotUsed e = cc
+is_modified Modifying e = refl
+is_modified Validating e = cc
+is_modified Valid e = cc
+is_modified Error e = cc
+
+field_status : (row : RowModel) (field : FieldModel) → (with_field row field).status ≡ row.status
+field_status row (Text octets) = refl
+field_status row (Owner octets) = refl
+field_status row (Beacon on) = refl
+field_status row (Pixel on) = refl
+field_status row (Priority priority) = refl
+
+row_by : (rows : List RowModel) (k : ℕ) (row : RowModel) (field : FieldModel) (b c : Bool) → slice_get rows k ≡ Some row → is_modifying row.status ≡ b
+    → IfSome (option_map (slice_set rows k) (cond (b && c) (Some (with_field row field)) None)) (AreLike rows)
+row_by rows k row field true true there e =
+    let status = is_modified row.status e in
+    set_like rows k row (with_field row field) there (inr (status, field_status row field ∙ status))
+row_by rows k row field true false there e = tt
+row_by rows k row field false c there e = tt
+
+get_by : (rows : List RowModel) (k : ℕ) (field : FieldModel) (o : Option RowModel) → slice_get rows k ≡ o
+    → IfSome (option_and_then (λ row. option_map (slice_set rows k) (written_row field row)) o) (AreLike rows)
+get_by rows k field None e = tt
+get_by rows k field (Some row) e = row_by rows k row field (is_modifying row.status) (is_in_range field) e refl
+
+in_by : (rows : List RowModel) (k : ℕ) (field : FieldModel) (b : Bool)
+    → IfSome (option_and_then (λ row. option_map (slice_set rows k) (written_row field row)) (cond b None (slice_get rows k))) (AreLike rows)
+in_by rows k field true = tt
+in_by rows k field false = get_by rows k field (slice_get rows k) refl
+
+written_in : (rows : List RowModel) (number : ℕ) (field : FieldModel) → IfSome (changed_in rows number (written_row field)) (AreLike rows)
+written_in rows number field = in_by rows (number - 1) field (number == 0)
+
+pub record IsTableLike (old new : TableModel) : Type 0 where
+  pub permanent : new.permanent ≡ old.permanent
+  pub changeable : AreLike old.changeable new.changeable
+  pub volatile : AreLike old.volatile new.volatile
+
+table_like : (table : TableModel) → IsTableLike table table
+table_like table = record { permanent = refl; changeable = all_like table.changeable; volatile = all_like table.volatile }
+
+tables_then : (a b c : TableModel) → IsTableLike a b → IsTableLike b c → IsTableLike a c
+tables_then a b c one other = record {
+  permanent = other.permanent ∙ one.permanent;
+  changeable = all_then a.changeable b.changeable c.changeable one.changeable other.changeable;
+  volatile = all_then a.volatile b.volatile c.volatile one.volatile other.volatile;
+}
+
+written_like : (table : TableModel) (id : RowId) (field : FieldModel) → IfSome (written table id field) (IsTableLike table)
+written_like table id field =
+    if_either (IsTableLike table) (id.memory == changeable_memory) (option_map (with_changeable table) (changed_in table.changeable id.number (written_row field))) _
+    (if_mapped (AreLike table.changeable) (IsTableLike table) (with_changeable table) (changed_in table.changeable id.number (written_row field))
+    (λ rows are. record { permanent = refl; changeable = are; volatile = all_like table.volatile }) (written_in table.changeable id.number field))
+    (if_either (IsTableLike table) (id.memory == volatile_memory) (option_map (with_volatile table) (changed_in table.volatile id.number (written_row field))) None
+    (if_mapped (AreLike table.volatile) (IsTableLike table) (with_volatile table) (changed_in table.volatile id.number (written_row field))
+    (λ rows are. record { permanent = refl; changeable = all_like table.changeable; volatile = are }) (written_in table.volatile id.number field)) tt)
+
+or_like : (table : TableModel) (o : Option TableModel) → IfSome o (IsTableLike table) → IsTableLike table (unwrap_or o table)
+or_like table None is = table_like table
+or_like table (Some new) is = is
+
+write_like : (table : TableModel) (w : Write) → IsTableLike table (with_write table w)
+write_like table (SetField id field) = or_like table (written table id field) (written_like table id field)
+write_like table (SetNumber object number) = table_like table
+write_like table (SetCode object octets) = table_like table
+write_like table (AskRow id ask) = table_like table
+write_like table (Activate octets) = table_like table
+write_like table (SetRemaining minutes) = table_like table
+
+pub writes_like : (table : TableModel) (writes : List Write) → IsTableLike table (with_writes table writes)
+writes_like table [] = table_like table
+writes_like table (w ∷ ws) = tables_then table (with_write table w) (with_writes (with_write table w) ws) (write_like table w) (writes_like (with_write table w) ws)
+
+-- ---- asking
+
+like_status : (old new : RowModel) → IsLike old new → old.status ≡ new.status
+like_status old new (inl e) = ap (λ (r : RowModel). r.status) (sym e)
+like_status old new (inr h) = h.0 ∙ sym h.1
+
+any_like : (old new : List RowModel) → AreLike old new → list_any row_is_validating old ≡ list_any row_is_validating new
+any_like [] [] are = refl
+any_like [] (q ∷ qs) are = absurd are
+any_like (r ∷ rs) [] are = absurd are
+any_like (r ∷ rs) (q ∷ qs) are =
+    ap (λ (s : Status). is_validating s || list_any row_is_validating rs) (like_status r q are.0)
+    ∙ ap (λ b. row_is_validating q || b) (any_like rs qs are.1)
+
+mapped_some : {X Y : Type 0} (f : X → Y) (o : Option X) → is_some (option_map f o) ≡ is_some o
+mapped_some f None = refl
+mapped_some f (Some x) = refl
+
+asked_some : (rows : List RowModel) (k : ℕ) (ask : Ask) (o : Option RowModel)
+    → is_some (option_and_then (λ row. option_map (slice_set rows k) (asked_row ask row)) o)
+    ≡ is_some (option_and_then (λ (row : RowModel). next_status row.status ask) o)
+asked_some rows k ask None = refl
+asked_some rows k ask (Some row) =
+    mapped_some (slice_set rows k) (asked_row ask row) ∙ mapped_some (with_status row) (next_status row.status ask)
+
+both_asked : (ask : Ask) (o p : Option RowModel) → BothLike o p
+    → option_and_then (λ (row : RowModel). next_status row.status ask) o ≡ option_and_then (λ (row : RowModel). next_status row.status ask) p
+both_asked ask None None both = refl
+both_asked ask None (Some q) both = absurd both
+both_asked ask (Some r) None both = absurd both
+both_asked ask (Some r) (Some q) both = ap (λ (s : Status). next_status s ask) (like_status r q both)
+
+asked_in : (old new : List RowModel) (number : ℕ) (ask : Ask) → AreLike old new
+    → is_some (changed_in old number (asked_row ask)) ≡ is_some (changed_in new number (asked_row ask))
+asked_in old new number ask are =
+    asked_some old (number - 1) ask (numbered old number)
+    ∙ ap is_some (both_asked ask (numbered old number) (numbered new number) (numbered_like old new number are))
+    ∙ sym (asked_some new (number - 1) ask (numbered new number))
+
+changed_some : (b c : Bool) (old new : TableModel) (o p q r : Option (List RowModel)) → is_some o ≡ is_some q → is_some p ≡ is_some r
+    → is_some (cond b (option_map (with_changeable old) o) (cond c (option_map (with_volatile old) p) None))
+    ≡ is_some (cond b (option_map (with_changeable new) q) (cond c (option_map (with_volatile new) r) None))
+changed_some true c old new o p q r e f = mapped_some (with_changeable old) o ∙ e ∙ sym (mapped_some (with_changeable new) q)
+changed_some false true old new o p q r e f = mapped_some (with_volatile old) p ∙ f ∙ sym (mapped_some (with_volatile new) r)
+changed_some false false old new o p q r e f = refl
+
+if_some : (b : Bool) (o p : Option TableModel) → is_some o ≡ is_some p → is_some (cond b o None) ≡ is_some (cond b p None)
+if_some true o p e = e
+if_some false o p e = refl
+
+-- a row takes what is asked after the writes where it took it before
+pub asked_alike : (old new : TableModel) (id : RowId) (ask : Ask) → IsTableLike old new → is_some (asked old id ask) ≡ is_some (asked new id ask)
+asked_alike old new id ask like =
+    let settling : is_settling old ≡ is_settling new =
+    ap (λ b. b || list_any row_is_validating old.volatile) (any_like old.changeable new.changeable like.changeable)
+    ∙ ap (λ b. list_any row_is_validating new.changeable || b) (any_like old.volatile new.volatile like.volatile)
+    in
+    if_some (may_ask old ask) (changed old id (asked_row ask)) (changed new id (asked_row ask))
+    (changed_some (id.memory == changeable_memory) (id.memory == volatile_memory) old new (changed_in old.changeable id.number (asked_row ask))
+    (changed_in old.volatile id.number (asked_row ask)) (changed_in new.changeable id.number (asked_row ask))
+    (changed_in new.volatile id.number (asked_row ask)) (asked_in old.changeable new.changeable id.number ask like.changeable)
+    (asked_in old.volatile new.volatile id.number ask like.volatile))
+    ∙ ap (λ b. is_some (cond (not (is_validate ask && b)) (changed new id (asked_row ask)) None)) settling
+
+-- ---- decisions
+
+modifying_refused : (p : ShownModel) (status : Status) (other : Option Cause) → status ≡ Modifying
+    → unless_refused p (cond (not (is_valid status)) (Some causes.Status) other) ≡ Err causes.Status
+modifying_refused p status other e = ap (λ (s : Status). unless_refused p (cond (not (is_valid s)) (Some causes.Status) other)) e
+
+row_alike : (face : FaceModel) (defaults : Defaults) (shown : ShownModel) (code : Activation) (old new : RowModel) → IsLike old new
+    → decided_on face defaults shown code (Some (reading old)) ≡ decided_on face defaults shown code (Some (reading new))
+row_alike face defaults shown code old new (inl e) = ap (λ (r : RowModel). decided_on face defaults shown code (Some (reading r))) (sym e)
+row_alike face defaults shown code old new (inr h) =
+    modifying_refused (put_up defaults shown code (reading old)) old.status _ h.0
+    ∙ sym (modifying_refused (put_up defaults shown code (reading new)) new.status _ h.1)
+
+both_alike : (face : FaceModel) (defaults : Defaults) (shown : ShownModel) (code : Activation) (o p : Option RowModel) → BothLike o p
+    → decided_on face defaults shown code (option_map reading o) ≡ decided_on face defaults shown code (option_map reading p)
+both_alike face defaults shown code None None both = refl
+both_alike face defaults shown code None (Some q) both = absurd both
+both_alike face defaults shown code (Some r) None both = absurd both
+both_alike face defaults shown code (Some r) (Some q) both = row_alike face defaults shown code r q both
+
+rows_by : (b c d : Bool) (old new : TableModel) → IsTableLike old new
+    → AreLike (cond b old.permanent (cond c old.changeable (cond d old.volatile []))) (cond b new.permanent (cond c new.changeable (cond d new.volatile [])))
+rows_by true c d old new like = subst (λ rows. AreLike old.permanent rows) (sym like.permanent) (all_like old.permanent)
+rows_by false true d old new like = like.changeable
+rows_by false false true old new like = like.volatile
+rows_by false false false old new like = tt
+
+read_by : (face : FaceModel) (defaults : Defaults) (shown : ShownModel) (code : Activation) (b : Bool) (o p q : Option RowReading)
+    → decided_on face defaults shown code p ≡ decided_on face defaults shown code q
+    → decided_on face defaults shown code (cond b o p) ≡ decided_on face defaults shown code (cond b o q)
+read_by face defaults shown code true o p q e = refl
+read_by face defaults shown code false o p q e = e
+
+-- a code is decided on alike before and after the writes
+pub decided_alike : (face : FaceModel) (defaults : Defaults) (old new : TableModel) (shown : ShownModel) (code : Activation) → IsTableLike old new
+    → decided face defaults old shown code ≡ decided face defaults new shown code
+decided_alike face defaults old new shown code like =
+    let id = row_id code.id in
+    let rows = rows_by (id.memory == permanent_memory) (id.memory == changeable_memory) (id.memory == volatile_memory) old new like in
+    let stored =
+    both_alike face defaults shown code (numbered (rows_of old id.memory) id.number) (numbered (rows_of new id.memory) id.number)
+    (numbered_like (rows_of old id.memory) (rows_of new id.memory) id.number rows)
+    in
+    let read =
+    read_by face defaults shown code (id.memory == blank_memory) (option_map blank_reading (blank_at id.number))
+    (option_map reading (numbered (rows_of old id.memory) id.number)) (option_map reading (numbered (rows_of new id.memory) id.number)) stored
+    in
+    let all =
+    read_by face defaults shown code (id.memory == current_buffer) (cond (id.number == 1) (Some (shown_reading shown)) None)
+    (row_read old id) (row_read new id) read
+    in
+    ap (λ (r : Result ShownModel Cause). cond (is_memory code.id.memory) r (Err causes.MemoryType)) all

@@ -1,0 +1,24 @@
+use Rattle.std.proofs.Common.{◌≤◌, ap, sym, subst}
+use Rattle.std.specs.Prelude.{IsTrue}
+use Rattle.dms_face.specs.declared.defaults.Defaults.{Defaults}
+use Rattle.dms_face.specs.Face.{fit}
+use Rattle.dms_sign.specs.InRange.{AreDefaultsInRange}
+use Rattle.dms_sign.specs.State.{ConfigModel}
+use Rattle.dms_sign.proofs.Wholes.{made_kept, made_state, made_source}
+use Rattle.dms_sign.proofs.sign.Sign.of.Goals as goal
+
+pub invariant_of-result : goal.invariant_of-result
+invariant_of-result c =
+    let config : ConfigModel = record { face = c.args.face; reader = c.args.reader.items; writer = c.args.writer.items } in
+    let kept =
+    made_kept config c.args.table (subst (λ n. n ≤ 256) c.width.ensures.value c.width.ensures.most)
+    (subst (λ n. n ≤ 64) c.height.ensures.value c.height.ensures.most)
+    (subst (λ (d : Defaults). IsTrue (fit c.args.face.fonts d)) c.defaults-defaults.ensures.value c.defaults-defaults.ensures.fit)
+    (subst AreDefaultsInRange c.defaults-defaults.ensures.value c.are_octets.ensures) c.requires.reader c.requires.writer c.requires.stocked
+    c.requires.octets
+    in
+    record {
+      kept = made_state config c.args.table c.defaults-defaults.result c.blank_shown.result c.blank_shown-2.result c.defaults-defaults.ensures.value
+          c.blank_shown.ensures c.blank_shown-2.ensures kept;
+      source = made_source c.args.table.order c.defaults-defaults.result c.blank_shown.result c.blank_shown.ensures;
+    }

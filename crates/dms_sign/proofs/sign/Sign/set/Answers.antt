@@ -1,0 +1,44 @@
+use Rattle.std.proofs.Common.{◌≡◌, None, refl, sym, subst, ap, ◌∙◌}
+use Rattle.std.specs.Prelude.{option_map}
+use Rattle.dms_sign.specs.State.{SignState}
+use Rattle.dms_sign.specs.SetRequest.{assigned}
+use Rattle.dms_sign.specs.Requests.{Answer, writes_of}
+use Rattle.dms_sign.specs.ChangeView.{write_by}
+use Rattle.dms_sign.specs.SettingsView.{set_by, AreSettings}
+use Rattle.dms_sign.specs.SetView.{refusal_of, Says}
+use Rattle.dms_sign.specs.SignView.{state_of}
+use Rattle.dms_sign.proofs.Assigned.{judged_settings, command_in_range, set_commanded, set_refused}
+use Rattle.dms_sign.proofs.sign.Sign.set.Goals as goal
+
+pub command-requires-clause-settings : goal.command-requires-clause-settings
+command-requires-clause-settings c =
+    let bs = c.args.binds.now in
+    subst (λ (s : SignState). AreSettings c.in-Ok.judged.settings (assigned s (writes_of s bs))) c.self.view_is
+    (judged_settings c.self.inside c.in-Ok.judged.settings (writes_of (state_of c.self.inside) bs)
+    (c.in-Ok.ensures.settings ∙ ap (λ (s : SignState). set_by c.self.inside.settings (writes_of s bs)) (sym c.self.view_is)))
+
+pub command-requires-clause-range : goal.command-requires-clause-range
+command-requires-clause-range c =
+    command_in_range c.args.self.now c.args.binds.now (option_map write_by c.in-Ok.judged.command) c.requires.limits c.in-Ok.ensures.command
+
+pub returns-in-Ok-clause-after : goal.returns-in-Ok-clause-after
+returns-in-Ok-clause-after c =
+    c.command.ensures.after
+    ∙ ap (λ (a : Answer). a.after)
+    (set_commanded c.args.self.now c.args.may_write c.args.binds.now c.in-Ok.judged.index (option_map write_by c.in-Ok.judged.command)
+    c.in-Ok.ensures.none c.in-Ok.ensures.command c.in-Ok.ensures.index)
+
+pub returns-in-Ok-clause-says : goal.returns-in-Ok-clause-says
+returns-in-Ok-clause-says c =
+    subst (Says c.command.result)
+    (set_commanded c.args.self.now c.args.may_write c.args.binds.now c.in-Ok.judged.index (option_map write_by c.in-Ok.judged.command)
+    c.in-Ok.ensures.none c.in-Ok.ensures.command c.in-Ok.ensures.index) c.command.ensures.says
+
+pub returns-in-Err-clause-after : goal.returns-in-Err-clause-after
+returns-in-Err-clause-after c =
+    sym (ap (λ (a : Answer). a.after) (set_refused c.args.self.now c.args.may_write c.args.binds.now (refusal_of c.in-Err.refusal) c.in-Err.ensures.first))
+
+pub returns-in-Err-clause-says : goal.returns-in-Err-clause-says
+returns-in-Err-clause-says c =
+    subst (λ (a : Answer). (a.status ≡ c.in-Err.refusal.status) × (a.index ≡ c.in-Err.refusal.index) × (a.accepted ≡ None))
+    (sym (set_refused c.args.self.now c.args.may_write c.args.binds.now (refusal_of c.in-Err.refusal) c.in-Err.ensures.first)) (refl, refl, refl)

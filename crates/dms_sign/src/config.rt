@@ -1,0 +1,55 @@
+//! What a sign is made with.
+
+ghost use Rattle.std.specs.Prelude.{◌≡◌};
+ghost use Rattle.dms_sign.specs.Communities.{are_communities};
+
+use dms_face::Face;
+use dms_table::{Stock, TableFault};
+use std::error::Error;
+use std::fmt;
+
+/// A face, the stock of the message table, and the communities that may read and that may also write: each has 1 to 32 octets, and they
+/// differ.
+#[derive(Drop)]
+pub struct Config<'a> {
+    pub face: Face,
+    pub stock: Stock<'a>,
+    pub reader: &'a [u8],
+    pub writer: &'a [u8],
+}
+
+/// Why there is no sign.
+#[derive(Clone, Copy, Debug, PartialEq, Eq)]
+pub enum ConfigFault {
+    /// A community has not 1 to 32 octets, or both are the same.
+    Community,
+    /// There is no such message table, or no memory for it.
+    Table(TableFault),
+}
+
+impl fmt::Display for ConfigFault {
+    ghost use Rattle.std.specs.Prelude.{Some};
+    ghost use Rattle.dms_sign.specs.Configuration.{config_fault_text};
+
+    ghost output = { λ fault. Some (config_fault_text fault) };
+
+    fn fmt<W: fmt::Write>(&self, f: &mut fmt::Formatter<W>) -> fmt::Result {
+        match self {
+            ConfigFault::Community => f.write_str("the communities are not two of 1 to 32 octets"),
+            ConfigFault::Table(fault) => write!(f, "{fault}"),
+        }
+    }
+}
+
+impl Error for ConfigFault {}
+
+/// Communities have 1 to 32 octets, and differ.
+pub(crate) fn are_communities(reader: &[u8], writer: &[u8]) -> bool
+    ensures { result ≡ are_communities reader.now writer.now }
+{
+    !reader.is_empty()
+        && reader.len() <= 32
+        && !writer.is_empty()
+        && writer.len() <= 32
+        && reader != writer
+}

@@ -1,0 +1,203 @@
+//! The commands of a SET: each is judged on the state with the other values assigned; where it fails, none is.
+
+ghost use Rattle.std.specs.Prelude.{◌≡◌, ◌≤◌, length, option_map, IsSome, IfSome, Some, is_some};
+ghost use Rattle.dms_wire.specs.Limits.{AreBindingsInLimits};
+ghost use Rattle.dms_codes.specs.Codes.{activation_of};
+ghost use Rattle.dms_table.specs.Rows.{asked};
+ghost use Rattle.dms_table.specs.Activation.{seconds_of};
+ghost use Rattle.dms_sign.specs.InRange.{AreOctets, IsShownInRange, IsTimeInRange};
+ghost use Rattle.dms_sign.specs.Access.{AskRow, Activate};
+ghost use Rattle.dms_sign.specs.ChangeView.{write_by, IsCommandInRange};
+ghost use Rattle.dms_sign.specs.SettingsView.{AreSettings};
+ghost use Rattle.dms_sign.specs.SetView.{Says};
+ghost use Rattle.dms_sign.specs.SetRequest.{assigned};
+ghost use Rattle.dms_sign.specs.Requests.{activated, with_remaining, writes_of, commanded, commanded_if, set};
+
+use crate::access::Change;
+use crate::reports::accepted;
+use crate::settings::Settings;
+use crate::sign::Sign;
+use crate::sign::events::mode;
+use crate::sign::set_request::{Judged, Refusal, write_fields};
+use dms_codes::{Activation, Ask, Order, RowId};
+use dms_table::Shown;
+use dms_wire::{Binds, ErrorStatus};
+
+impl Sign {
+    /// Does a SET, or says why it is refused.
+    pub(super) fn set(
+        &mut self,
+        may_write: bool,
+        binds: &Binds<'_>,
+    ) -> Result<Option<Activation>, Refusal>
+        requires few { length binds.now ≤ 210 }
+        requires limits { AreBindingsInLimits binds.now }
+        ensures after { self.new ≡ (set self.old may_write binds.now).after }
+        ensures says { Says result (set self.old may_write binds.now) }
+    {
+        match self.judged(self.settings, may_write, binds) {
+            Ok(judged) => self.command(&judged, binds),
+            Err(refusal) => Err(refusal),
+        }
+    }
+
+    /// Assigns the values and does the command, where there is one.
+    fn command(
+        &mut self,
+        judged: &Judged<'_>,
+        binds: &Binds<'_>,
+    ) -> Result<Option<Activation>, Refusal>
+        requires settings { AreSettings judged.now.settings (assigned self.old (writes_of self.old binds.now)) }
+        requires limits { AreBindingsInLimits binds.now }
+        requires range { IfSome (option_map write_by judged.now.command) IsCommandInRange }
+        ensures after { self.new ≡ (commanded_if self.old (assigned self.old (writes_of self.old binds.now)) binds.now judged.now.index (option_map write_by judged.now.command)).after }
+        ensures says { Says result (commanded_if self.old (assigned self.old (writes_of self.old binds.now)) binds.now judged.now.index (option_map write_by judged.now.command)) }
+    {
+        match judged.command {
+            Some(Change::Ask(id, ask)) => self.ask_row(id, ask, judged, binds),
+            Some(Change::Activate(octets)) => self.activate(octets, judged, binds),
+            Some(Change::Remaining(minutes)) => {
+                self.assign(judged.settings, binds);
+                self.set_remaining(minutes);
+                Ok(None)
+            }
+            _ => {
+                self.assign(judged.settings, binds);
+                Ok(None)
+            }
+        }
+    }
+
+    /// A row is asked for another status (dmsMessageStatus).
+    fn ask_row(
+        &mut self,
+        id: RowId,
+        ask: Ask,
+        judged: &Judged<'_>,
+        binds: &Binds<'_>,
+    ) -> Result<Option<Activation>, Refusal>
+        requires settings { AreSettings judged.now.settings (assigned self.old (writes_of self.old binds.now)) }
+        requires limits { AreBindingsInLimits binds.now }
+        ensures after { self.new ≡ (commanded self.old (assigned self.old (writes_of self.old binds.now)) binds.now judged.now.index (AskRow id ask)).after }
+        ensures says { Says result (commanded self.old (assigned self.old (writes_of self.old binds.now)) binds.now judged.now.index (AskRow id ask)) }
+    {
+        if self.takes(id, ask) {
+            self.assign(judged.settings, binds);
+            self.ask(id, ask);
+            Ok(None)
+        } else {
+            Err(Refusal {
+                index: judged.index,
+                status: ErrorStatus::GenErr,
+            })
+        }
+    }
+
+    /// A code is to be put up (dmsActivateMessage): one that is refused changes only what is told of it.
+    fn activate(
+        &mut self,
+        octets: [u8; 12],
+        judged: &Judged<'_>,
+        binds: &Binds<'_>,
+    ) -> Result<Option<Activation>, Refusal>
+        requires settings { AreSettings judged.now.settings (assigned self.old (writes_of self.old binds.now)) }
+        requires limits { AreBindingsInLimits binds.now }
+        requires octets { AreOctets 12 octets }
+        ensures after { self.new ≡ (commanded self.old (assigned self.old (writes_of self.old binds.now)) binds.now judged.now.index (Activate octets)).after }
+        ensures says { Says result (commanded self.old (assigned self.old (writes_of self.old binds.now)) binds.now judged.now.index (Activate octets)) }
+    {
+        let code = activation_of(self.table.order(), &octets);
+        match self
+            .table
+            .decide(&self.face, &judged.settings.defaults, &code, &self.shown)
+        {
+            Ok(shown) => {
+                self.assign(judged.settings, binds);
+                self.accept(shown, octets);
+                Ok(Some(code))
+            }
+            Err(cause) => {
+                self.refuse_code(&cause, octets);
+                Err(Refusal {
+                    index: judged.index,
+                    status: ErrorStatus::GenErr,
+                })
+            }
+        }
+    }
+
+    /// All values are assigned at once.
+    fn assign(&mut self, settings: Settings, binds: &Binds<'_>)
+        requires settings { AreSettings settings (assigned self.old (writes_of self.old binds.now)) }
+        requires limits { AreBindingsInLimits binds.now }
+        ensures { self.new ≡ assigned self.old (writes_of self.old binds.now) }
+    {
+        let counts = self.counts();
+        write_fields(&counts, &self.face, &mut self.table, binds);
+        self.settings = settings;
+    }
+
+    /// Whether a row would take what is asked.
+    fn takes(&self, id: RowId, ask: Ask) -> bool
+        ensures { result ≡ is_some (asked self.now.table id ask) }
+    {
+        self.table.takes(id, ask)
+    }
+
+    /// Asks a row that takes it.
+    fn ask(&mut self, id: RowId, ask: Ask)
+        requires { IsSome (asked self.old.table id ask) }
+        ensures { Some self.new ≡ option_map (λ table. record self.old { table = table }) (asked self.old.table id ask) }
+    {
+        let _ = self.table.ask(id, ask);
+    }
+
+    /// The message of a code that was accepted is up.
+    fn accept(&mut self, shown: Shown, octets: [u8; 12])
+        requires shown { IsShownInRange shown }
+        requires octets { AreOctets 12 octets }
+        ensures { self.new ≡ activated self.old octets shown }
+    {
+        self.source = super::source_of(&shown, self.table.order());
+        self.shown = shown;
+        self.reports = accepted(self.reports, octets);
+    }
+
+    /// The minutes until the end of what is shown (dmsMessageTimeRemaining); where none remains the end has come.
+    fn set_remaining(&mut self, minutes: u16)
+        ensures { self.new ≡ with_remaining self.old minutes }
+    {
+        if minutes == 0 {
+            self.put_up(self.fallbacks().end_duration, mode::END_DURATION);
+        } else {
+            self.remain(seconds_of(minutes));
+        }
+    }
+}
+
+/// The activation of these octets.
+fn activation_of(order: Order, octets: &[u8; 12]) -> Activation
+    ensures { result ≡ activation_of order octets.now }
+{
+    match Activation::from_bytes(order, octets) {
+        Some(activation) => activation,
+        None => Activation {
+            minutes: 0,
+            priority: 0,
+            id: super::own_codes::BLANK,
+            address: [0; 4],
+        },
+    }
+}
+
+/// The seconds of a number of minutes; 65535 minutes have no end.
+fn seconds_of(minutes: u16) -> Option<u32>
+    ensures value { result ≡ seconds_of minutes }
+    ensures range { IsTimeInRange result }
+{
+    if minutes == u16::MAX {
+        None
+    } else {
+        Some(u32::from(minutes) * 60)
+    }
+}
