@@ -9,6 +9,8 @@ mod reports;
 mod settings;
 pub mod sign;
 pub mod step_laws;
+#[cfg(test)]
+mod tests;
 
 pub use config::{Config, ConfigFault};
 pub use dms_objects::{Instance, Scalar};
