@@ -2,6 +2,8 @@
 //! datagram or a text, and returns a sum of what came out, so that nothing of the work can be left away.
 #![tactic(auto)]
 
+pub mod still;
+
 ghost use Rattle.std.specs.Prelude.{◌≡◌, ◌<◌};
 ghost use Rattle.dms_wire.specs.Message.{SnmpMessage};
 ghost use Rattle.dms_wire.specs.Spelling.{Spells};

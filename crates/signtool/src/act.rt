@@ -3,12 +3,12 @@
 ghost use Rattle.std.specs.Prelude.{◌<◌};
 
 use crate::address::address;
-use crate::bench_sign::bench_face;
+use crate::bench_sign::{bench_face, bench_sign};
 use crate::command_line::{Call, CodeWords};
-use crate::sign::{Receipt, Sign};
-use dms_codes::{Activation, MessageId, Order, crc};
+use dms_codes::{Activation, MAX_TEXT, MessageId, Order, crc};
 use dms_face::{MultiFault, check};
 use dms_pages::{Page, PagesFault, pages};
+use dms_sign::Receipt;
 use dms_wire::Out;
 use hex::FromHexError;
 use std::alloc::Global;
@@ -31,17 +31,20 @@ pub fn act<R: Read, W: Write>(
     }
 }
 
-/// Prints the sign's reply to a datagram, in lower case hexadecimal digits.
+/// Prints the bench sign's reply to a datagram, in lower case hexadecimal digits.
 fn answer<W: Write>(alloc: Global, digits: &str, writer: &mut W) -> u8 {
     let datagram = match hex::decode(alloc, digits) {
         Ok(datagram) => datagram,
         Err(FromHexError::OutOfMemory) => return tell(writer, "memory", 1),
         Err(_) => return tell(writer, "not hex", 2),
     };
+    let Some(mut sign) = bench_sign(alloc) else {
+        return tell(writer, "memory", 1);
+    };
     let mut reply = Out::new();
-    match Sign::new().receive(datagram.as_slice(), &mut reply) {
+    match sign.receive(datagram.as_slice(), &mut reply) {
         Receipt::Dropped => tell(writer, "dropped", 1),
-        Receipt::Replied => match hex::encode(alloc, reply.as_slice()) {
+        Receipt::Replied | Receipt::Accepted(_) => match hex::encode(alloc, reply.as_slice()) {
             Ok(text) => tell(writer, text.as_str(), 0),
             Err(_) => tell(writer, "memory", 1),
         },
@@ -58,9 +61,6 @@ fn check_text<W: Write>(alloc: Global, text: &str, writer: &mut W) -> u8 {
         Err(fault) => tell_fault(writer, fault),
     }
 }
-
-/// The most octets of a message's text.
-const MAX_TEXT: usize = 512;
 
 /// Prints the checksum of a message, and the code that puts it up.
 fn code<W: Write>(alloc: Global, words: &CodeWords<'_>, writer: &mut W) -> u8 {

@@ -1,6 +1,9 @@
 //! The bench sign, which the program has where no other is described.
 
+use dms_codes::Order;
 use dms_face::{Defaults, Face, Font};
+use dms_sign::{Config, Sign};
+use dms_table::{Permanent, Stock};
 use std::alloc::Global;
 
 /// The large font of the bench sign.
@@ -39,4 +42,32 @@ pub fn bench_face(alloc: Global) -> Option<Face> {
     fonts.push(Font::from_text(alloc, SMALL).ok()?).ok()?;
     let (width, height) = SIZE;
     Face::new(width, height, fonts, DEFAULTS).ok()
+}
+
+/// Its only permanent row.
+const PERMANENT: Permanent<'static> = Permanent {
+    text: b"B",
+    owner: &[],
+    beacon: 0,
+    pixel: 0,
+    priority: 100,
+};
+
+/// The bench sign: two changeable rows and one volatile row, beacons and no pixel service; `public` reads, `admin` writes. None where
+/// memory is wanting.
+pub fn bench_sign(alloc: Global) -> Option<Sign> {
+    let config = Config {
+        face: bench_face(alloc)?,
+        stock: Stock {
+            permanent: &[PERMANENT],
+            changeable: 2,
+            volatile: 1,
+            beacon: true,
+            pixel: false,
+            order: Order::High,
+        },
+        reader: b"public",
+        writer: b"admin",
+    };
+    Sign::new(alloc, config).ok()
 }

@@ -5,7 +5,6 @@ pub mod act;
 pub mod address;
 pub mod bench_sign;
 pub mod command_line;
-pub mod sign;
 
 use crate::act::act;
 use crate::command_line::asked;

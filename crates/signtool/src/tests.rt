@@ -3,7 +3,7 @@ use crate::command_line::{Call, asked};
 use std::test::Fail;
 
 /// Datagrams, and what `answer` prints for them with which exit status.
-const ANSWERS: [(&str, &str, u8); 13] = [
+const ANSWERS: [(&str, &str, u8); 16] = [
     // a Get of changeable 1 by `public`
     (
         "302e02010004067075626c6963a0210201010201000201003016301406102b0601040189360402030508010903010500",
@@ -51,14 +51,31 @@ const ANSWERS: [(&str, &str, u8); 13] = [
         "dropped\n",
         1,
     ),
-    // another community, and a GetNext
-    (
-        "302f020100040770726976617465a0210201010201000201003016301406102b0601040189360402030508010903010500",
-        "dropped\n",
-        1,
-    ),
+    // GetNext from changeable 1, and from the last blank message
     (
         "302e02010004067075626c6963a1210201010201000201003016301406102b0601040189360402030508010903010500",
+        "302f02010004067075626c6963a2220201010201000201003017301506102b060104018936040203050801090302020101\n",
+        0,
+    ),
+    (
+        "302f02010004067075626c6963a1220201020201000201003017301506112b0601040189360402030508010907817f0500",
+        "302c02010004067075626c6963a21f02010202010002010030143012060d2b060104018936040203050900020102\n",
+        0,
+    ),
+    // changeable 1 is asked to be modified by `admin`, and by `public`
+    (
+        "302e020100040561646d696ea3220201010201000201003017301506102b060104018936040203050801090301020106",
+        "302e020100040561646d696ea2220201010201000201003017301506102b060104018936040203050801090301020106\n",
+        0,
+    ),
+    (
+        "302f02010004067075626c6963a3220201010201000201003017301506102b060104018936040203050801090301020106",
+        "302f02010004067075626c6963a2220201010201020201013017301506102b060104018936040203050801090301020106\n",
+        0,
+    ),
+    // another community
+    (
+        "302f020100040770726976617465a0210201010201000201003016301406102b0601040189360402030508010903010500",
         "dropped\n",
         1,
     ),
@@ -225,5 +242,44 @@ fn reads_the_command_line(rt: HostRuntime) -> Result<(), Fail> {
         .is_err()
     );
     assert!(rt; asked(rt.alloc(), &["signtool", "help"]).is_err());
+    Ok(())
+}
+
+/// Where the output takes nothing, the status says so, whatever was to be printed.
+#[test]
+fn full_output(rt: HostRuntime) {
+    let calls: [&[&str]; 5] = [
+        &["signtool", "answer", "30"],
+        &["signtool", "answer", "3"],
+        &["signtool", "check", "A"],
+        &["signtool", "pages", "A"],
+        &["signtool", "code", "3", "1", "A"],
+    ];
+    for words in calls {
+        let mut input: &[u8] = &[];
+        let mut output: &mut [u8] = &mut [];
+        let Ok(call) = asked(rt.alloc(), words) else {
+            continue;
+        };
+        assert_eq!(rt; act(rt.alloc(), &call, &mut input, &mut output), 1);
+    }
+}
+
+/// The address is looked at before the length of the text.
+#[test]
+fn bad_address_first(rt: HostRuntime) -> Result<(), Fail> {
+    let text = [b'A'; 513];
+    let long = str::from_utf8(&text).map_err(|_| "no text")?;
+    for (address, printed, status) in [
+        ("1.2.3", "bad address\n", 2),
+        ("1.2.3.4", "text too long\n", 1),
+    ] {
+        let words = ["signtool", "code", "3", "1", long, "--address", address];
+        let call = asked(rt.alloc(), &words).map_err(|_| "no call")?;
+        let mut input: &[u8] = &[];
+        let mut output = Vec::new(rt.alloc());
+        assert_eq!(rt; act(rt.alloc(), &call, &mut input, &mut output), status);
+        assert!(rt; output.as_slice() == printed.as_bytes());
+    }
     Ok(())
 }

@@ -1,5 +1,0 @@
-use Rattle.std.proofs.Common.{length}
-use Rattle.signtool.proofs.sign.+are_left.Given as goal
-
-abbrev pub decreases-are_left : goal.decreases-are_left
-decreases-are_left l = length l.numbers.now
