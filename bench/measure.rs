@@ -2,6 +2,7 @@
 //! runs. Each argument is a file with a datagram in hexadecimal.
 
 mod peer;
+mod peer_centre;
 mod peer_text;
 
 use peer_text::Face;
@@ -32,6 +33,14 @@ const MEASURES: [(&str, Exported, Plain); 3] = [
     ("write", dms_bench_write, peer::write_times),
 ];
 
+/// The exports of the central system that take a text, and beside each the same of `peer_centre`.
+const CENTRE: [(&str, Exported, Plain); 4] = [
+    ("publication", dms_bench_centre_publication, peer_centre::publication_times),
+    ("command", dms_bench_centre_command, peer_centre::command_times),
+    ("command, 2 ticks", dms_bench_centre_ticks, peer_centre::ticks_times),
+    ("command, resend", dms_bench_centre_resend, peer_centre::resend_times),
+];
+
 #[link(name = "crc", kind = "static")]
 unsafe extern "C" {
     fn bit_by_bit_crc(text: *const u8, size: usize, times: u32) -> u64;
@@ -40,6 +49,11 @@ unsafe extern "C" {
 #[link(name = "dms_bench", kind = "static")]
 unsafe extern "C" {
     fn dms_bench_cells(fonts: *const u8, fonts_size: usize, text: *const u8, size: usize, times: u32) -> u64;
+    fn dms_bench_centre_command(text: *const u8, size: usize, times: u32) -> u64;
+    fn dms_bench_centre_foreign(datagram: *const u8, size: usize, times: u32) -> u64;
+    fn dms_bench_centre_publication(text: *const u8, size: usize, times: u32) -> u64;
+    fn dms_bench_centre_resend(text: *const u8, size: usize, times: u32) -> u64;
+    fn dms_bench_centre_ticks(text: *const u8, size: usize, times: u32) -> u64;
     fn dms_bench_check(fonts: *const u8, fonts_size: usize, text: *const u8, size: usize, times: u32) -> u64;
     fn dms_bench_crc(text: *const u8, size: usize, times: u32) -> u64;
     fn dms_bench_pages(fonts: *const u8, fonts_size: usize, text: *const u8, size: usize, times: u32) -> u64;
@@ -195,9 +209,52 @@ fn texts() {
     }
 }
 
+/// A good reply to the first request of a publication, with this community and this tag of its value.
+fn first_reply(community: &[u8; 5], tag: u8) -> Vec<u8> {
+    let pdu = b"\xa2\x22\x02\x01\x01\x02\x01\x00\x02\x01\x00\x30\x17\x30\x15";
+    let name = b"\x06\x10\x2b\x06\x01\x04\x01\x89\x36\x04\x02\x03\x05\x08\x01\x09\x03\x01";
+    [b"\x30\x2e\x02\x01\x00\x04\x05".as_slice(), community, pdu, name, &[tag, 1, 6]].concat()
+}
+
+/// Datagrams that do not answer the request that waits, each with a name for it.
+fn foreign() -> [(&'static str, Vec<u8>); 4] {
+    let digits = include_str!("datagrams/full.hex").trim();
+    let full = (0..digits.len()).step_by(2).filter_map(|at| u8::from_str_radix(&digits[at..at + 2], 16).ok());
+    [
+        ("other community, 48 octets", first_reply(b"other", 2)),
+        ("bad last tag, 48 octets", first_reply(b"admin", 3)),
+        ("garbage, 48 octets", vec![255; 48]),
+        ("205 bindings, 1472 octets", full.collect()),
+    ]
+}
+
+/// A call of the central system over octets, beside the same by hand.
+fn centre_call(measure: &str, name: &str, octets: &[u8], exported: Exported, plain: Plain) {
+    let proved = |times| unsafe { exported(octets.as_ptr(), octets.len(), times) };
+    let by_hand = |times| plain(octets, times);
+    assert_eq!(proved(3), by_hand(3), "{measure} of {name}");
+    let [proved, by_hand] = best([&proved, &by_hand]);
+    println!("{measure:<16} {name:<28} {proved:>10.1} {by_hand:>11.1} {:>6.2}", proved / by_hand);
+}
+
+/// The central system: publications, commands with and without ticks, and datagrams that do not answer what waits.
+fn centre() {
+    println!("{:<16} {:<28} {:>10} {:>11} {:>6}", "measure", "text or datagram", "proved, ns", "by hand, ns", "ratio");
+    for (measure, exported, plain) in CENTRE {
+        for pieces in [0, 1, 2, 4, 8] {
+            let text = text_of(pieces);
+            centre_call(measure, &format!("{} octets", text.len()), text.as_bytes(), exported, plain);
+        }
+    }
+    for (name, datagram) in foreign() {
+        centre_call("foreign", name, &datagram, dms_bench_centre_foreign, peer_centre::foreign_times);
+    }
+}
+
 fn main() {
     texts();
     checksums();
+    centre();
     println!("{:<16} {:<24} {:>10} {:>12}", "measure", "datagram", "proved, ns", "by hand, ns");
     for file in env::args().skip(1) {
         let Some(datagram) = datagram_of(&file) else {

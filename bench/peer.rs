@@ -4,6 +4,9 @@
 #![forbid(unsafe_code)]
 
 pub use measures::{read_times, walk_times, write_times};
+pub use message::{Bind, Binds, Kind, MessageParts, Oid, Value};
+pub use reading::read;
+pub use writing::{Out, write};
 
 mod message {
     pub const MAX_DATAGRAM: usize = 1472;
@@ -369,6 +372,16 @@ mod writing {
 
         pub fn as_slice(&self) -> &[u8] {
             &self.octets[..self.len]
+        }
+
+        pub fn clear(&mut self) {
+            self.len = 0;
+        }
+
+        /// Holds these octets, which are a datagram's.
+        pub fn set(&mut self, octets: &[u8]) {
+            self.clear();
+            self.extend(octets);
         }
 
         #[inline]

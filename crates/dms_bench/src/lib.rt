@@ -2,6 +2,7 @@
 //! datagram or a text, and returns a sum of what came out, so that nothing of the work can be left away.
 #![tactic(auto)]
 
+pub mod centre;
 pub mod still;
 
 ghost use Rattle.std.specs.Prelude.{◌≡◌, ◌<◌};
