@@ -4,9 +4,9 @@
 #![forbid(unsafe_code)]
 
 pub use measures::{read_times, walk_times, write_times};
-pub use message::{Bind, Binds, Kind, MessageParts, Oid, Value};
+pub use message::{Bind, Binds, Kind, MAX_DATAGRAM, Message, MessageParts, Oid, Value};
 pub use reading::read;
-pub use writing::{Out, write};
+pub use writing::{Out, size_of_element, size_of_members, size_of_number, write};
 
 mod message {
     pub const MAX_DATAGRAM: usize = 1472;
@@ -397,7 +397,7 @@ mod writing {
         }
 
         #[inline]
-        fn head(&mut self, tag: u8, size: usize) {
+        pub fn head(&mut self, tag: u8, size: usize) {
             self.push(tag);
             if size < 128 {
                 self.push(size as u8);
@@ -412,13 +412,13 @@ mod writing {
         }
 
         #[inline]
-        fn element(&mut self, tag: u8, content: &[u8]) {
+        pub fn element(&mut self, tag: u8, content: &[u8]) {
             self.head(tag, content.len());
             self.extend(content);
         }
 
         #[inline]
-        fn number(&mut self, tag: u8, number: i64) {
+        pub fn number(&mut self, tag: u8, number: i64) {
             let size = size_of_number(number);
             self.head(tag, size);
             for digit in (0..size).rev() {
@@ -427,7 +427,7 @@ mod writing {
         }
 
         #[inline]
-        fn value(&mut self, value: &Value<'_>) {
+        pub fn value(&mut self, value: &Value<'_>) {
             match value {
                 Value::Integer(number) => self.number(2, *number),
                 Value::Octets(octets) => self.element(4, octets),
@@ -444,14 +444,14 @@ mod writing {
 
     /// How many octets a number takes in two's complement.
     #[inline]
-    fn size_of_number(number: i64) -> usize {
+    pub fn size_of_number(number: i64) -> usize {
         let bits = 64 - (if number < 0 { !number } else { number }).leading_zeros() as usize;
         bits / 8 + 1
     }
 
     /// How many octets an element with a content of `size` octets takes.
     #[inline]
-    fn size_of_element(size: usize) -> usize {
+    pub fn size_of_element(size: usize) -> usize {
         let length = match size {
             0..128 => 1,
             128..256 => 2,
@@ -475,7 +475,7 @@ mod writing {
     }
 
     #[inline]
-    fn size_of_members(bind: &Bind<'_>) -> usize {
+    pub fn size_of_members(bind: &Bind<'_>) -> usize {
         size_of_element(bind.name.content.len()) + size_of_value(&bind.value)
     }
 

@@ -3,6 +3,7 @@
 #![tactic(auto)]
 
 pub mod centre;
+pub mod sign;
 pub mod still;
 
 ghost use Rattle.std.specs.Prelude.{◌≡◌, ◌<◌};

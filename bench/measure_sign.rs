@@ -1,0 +1,228 @@
+//! Measures of the sign, beside the same of `peer_sign`: scripts of datagrams and seconds, on a sign with few rows and on one with the most.
+
+use crate::peer::{Bind, Kind, MAX_DATAGRAM, MessageParts, Oid, Out, Value, read, write};
+use crate::peer_sign::{Sign, crc, sign_times};
+use crate::peer_text::Face;
+use crate::run;
+
+/// Runs of a measure, of which the best counts.
+const RUNS: usize = 400;
+
+/// How long a run takes, in nanoseconds: short, since other programs disturb long ones.
+const RUN_NANOSECONDS: f64 = 2e5;
+
+/// The text of each permanent row.
+const PERMANENT_TEXT: &[u8] = b"ROAD CLOSED";
+
+/// The numbers of permanent, changeable and volatile rows of the two signs.
+const ROWS: [(usize, usize, usize); 2] = [(1, 2, 1), (16, 64, 16)];
+
+#[link(name = "dms_bench", kind = "static")]
+unsafe extern "C" {
+    #[allow(clippy::too_many_arguments)]
+    fn dms_bench_sign(
+        fonts: *const u8,
+        fonts_size: usize,
+        before: *const u8,
+        before_size: usize,
+        script: *const u8,
+        script_size: usize,
+        changeable: u32,
+        times: u32,
+    ) -> u64;
+}
+
+/// The first row of changeable memory, which the measures write.
+const ROW: (u8, u8) = (3, 1);
+
+const TEXT: u8 = 3;
+const STATUS: u8 = 9;
+
+/// A second in a script.
+const TICK: Vec<u8> = Vec::new();
+
+fn object(group: u8, number: u8) -> Vec<u8> {
+    vec![43, 6, 1, 4, 1, 137, 54, 4, 2, 3, group, number, 0]
+}
+
+fn cell(column: u8, (memory, number): (u8, u8)) -> Vec<u8> {
+    let mut name = vec![43, 6, 1, 4, 1, 137, 54, 4, 2, 3, 5, 8, 1, column, memory];
+    match number {
+        0..128 => name.push(number),
+        _ => name.extend([129, number - 128]),
+    }
+    name
+}
+
+fn datagram(kind: Kind, community: &[u8], bindings: &[(Vec<u8>, Value<'_>)]) -> Vec<u8> {
+    let binds: Vec<Bind<'_>> = bindings.iter().map(|(content, value)| Bind { name: Oid { content }, value: *value }).collect();
+    let mut out = Out::new();
+    let written = write(&MessageParts { community, kind, request: 12_345, status: 0, index: 0, binds: &binds }, &mut out);
+    assert!(written.is_ok());
+    out.as_slice().to_vec()
+}
+
+fn asking(kind: Kind, names: &[Vec<u8>]) -> Vec<u8> {
+    let bindings: Vec<_> = names.iter().map(|name| (name.clone(), Value::Null)).collect();
+    datagram(kind, b"public", &bindings)
+}
+
+fn setting(bindings: &[(Vec<u8>, Value<'_>)]) -> Vec<u8> {
+    datagram(Kind::Set, b"admin", bindings)
+}
+
+fn status_of(row: (u8, u8), number: i64) -> Vec<u8> {
+    setting(&[(cell(STATUS, row), Value::Integer(number))])
+}
+
+/// The five fields of the first changeable row.
+fn fields(text: &[u8]) -> Vec<u8> {
+    setting(&[
+        (cell(TEXT, ROW), Value::Octets(text)),
+        (cell(4, ROW), Value::Octets(b"traffic centre")),
+        (cell(6, ROW), Value::Integer(1)),
+        (cell(7, ROW), Value::Integer(0)),
+        (cell(8, ROW), Value::Integer(200)),
+    ])
+}
+
+fn activation((memory, number): (u8, u8), checksum: u16) -> Vec<u8> {
+    let [high, low] = checksum.to_be_bytes();
+    setting(&[(object(6, 3), Value::Octets(&[255, 255, 255, memory, 0, number, high, low, 192, 0, 2, 1]))])
+}
+
+/// Beacon, pixel service and priority of twenty changeable rows.
+fn sixty_fields() -> Vec<u8> {
+    let names = (1..=20).flat_map(|number| [6, 7, 8].map(|column| (cell(column, (3, number)), Value::Integer(1))));
+    setting(&names.collect::<Vec<_>>())
+}
+
+/// GetNext by GetNext from 0.0 on, until no instance is left.
+fn walk(sign: &mut Sign) -> Vec<Vec<u8>> {
+    let mut steps = Vec::new();
+    let mut name = vec![0];
+    let mut out = Out::new();
+    loop {
+        let step = asking(Kind::GetNext, &[name]);
+        sign.receive(&step, &mut out);
+        steps.push(step);
+        match read(out.as_slice()) {
+            Ok(mut reply) if reply.status == 0 => name = reply.binds.next().map_or_else(Vec::new, |bind| bind.name.content.to_vec()),
+            _ => return steps,
+        }
+    }
+}
+
+/// What is measured: what the sign is handed once, and then each time, and the error status of the last reply.
+struct Measure {
+    name: &'static str,
+    before: Vec<Vec<u8>>,
+    script: Vec<Vec<u8>>,
+    status: i64,
+}
+
+fn measure(name: &'static str, before: &[Vec<u8>], script: Vec<Vec<u8>>) -> Measure {
+    Measure { name, before: before.to_vec(), script, status: 0 }
+}
+
+impl Measure {
+    /// The same, with another error status at its end.
+    fn ending(self, status: i64) -> Measure {
+        Measure { status, ..self }
+    }
+
+    /// The error status of the last reply of a sign that is handed this.
+    fn last_status(&self, sign: &mut Sign) -> i64 {
+        let mut out = Out::new();
+        let mut status = 0;
+        for datagram in self.before.iter().chain(&self.script) {
+            if datagram.is_empty() {
+                sign.tick();
+            } else if sign.receive(datagram, &mut out) {
+                status = read(out.as_slice()).map_or(-1, |reply| reply.status);
+            }
+        }
+        status
+    }
+}
+
+fn measures(text: &[u8], most: bool, sign: &mut Sign) -> Vec<Measure> {
+    let one = |kind, name| vec![asking(kind, &[name])];
+    let rows = [(2, 1), (3, 1), (3, 2), (4, 1), (5, 1), (7, 1)];
+    let thirty: Vec<_> = rows.iter().flat_map(|row| [5, 6, 7, 8, 9].map(|column| cell(column, *row))).collect();
+    let modified = [status_of(ROW, 6)];
+    let written = [status_of(ROW, 6), fields(text)];
+    let valid = [status_of(ROW, 6), fields(text), status_of(ROW, 7), TICK];
+    let mut measures = vec![
+        measure("Get of one", &[], one(Kind::Get, cell(STATUS, ROW))),
+        measure("Get of 30", &[], vec![asking(Kind::Get, &thirty)]),
+        measure("Get of a text of 512 octets", &valid, one(Kind::Get, cell(TEXT, ROW))),
+        measure("Get of the count of valid rows", &[], one(Kind::Get, object(5, 2))),
+        measure("GetNext at the front", &[], one(Kind::GetNext, vec![0])),
+        measure("GetNext in the table", &[], one(Kind::GetNext, cell(TEXT, ROW))),
+        measure("GetNext between rows", &[], one(Kind::GetNext, cell(TEXT, (3, 200)))),
+        measure("GetNext past the last row", &[], one(Kind::GetNext, cell(STATUS, (7, 255)))),
+        measure("a whole walk by GetNext", &[], walk(sign)).ending(2),
+        measure("SET of one number", &[], vec![setting(&[(object(6, 10), Value::Integer(60))])]),
+        measure("SET of five fields", &modified, vec![fields(text)]),
+        measure("modifyReq", &written, vec![status_of(ROW, 6)]),
+        measure("modifyReq, validateReq, tick", &written, vec![status_of(ROW, 6), status_of(ROW, 7), TICK]),
+        measure("activation, 11 octets", &[], vec![activation((2, 1), crc(PERMANENT_TEXT, 0, 0))]),
+        measure("activation, 512 octets", &valid, vec![activation(ROW, crc(text, 1, 0))]),
+        measure("activation refused, checksum", &valid, vec![activation(ROW, !crc(text, 1, 0))]).ending(5),
+        measure("tick with nothing to do", &[], vec![TICK]),
+    ];
+    if most {
+        let modified: Vec<_> = (1..=20).map(|number| status_of((3, number), 6)).collect();
+        measures.push(measure("SET of 60 fields", &modified, vec![sixty_fields()]));
+    }
+    measures
+}
+
+/// A script's octets: the size of each datagram in two octets, and the datagram.
+fn script_of(datagrams: &[Vec<u8>]) -> Vec<u8> {
+    datagrams.iter().flat_map(|datagram| [&(datagram.len() as u16).to_be_bytes()[..], datagram].concat()).collect()
+}
+
+fn sign_of(fonts: &str, (permanent, changeable, volatile): (usize, usize, usize)) -> Sign {
+    let face = Face::largest(fonts).expect("fonts");
+    Sign::new(face, PERMANENT_TEXT, permanent, changeable, volatile)
+}
+
+/// The best times of the proved sign and of that by hand, in nanoseconds, without what is done once. The runs take turns.
+fn best(measure: &Measure, fonts: &str, rows: (usize, usize, usize)) -> [f64; 2] {
+    assert_eq!(measure.last_status(&mut sign_of(fonts, rows)), measure.status, "{} with {rows:?}", measure.name);
+    let (before, script) = (script_of(&measure.before), script_of(&measure.script));
+    let changeable = rows.1 as u32;
+    let proved = |times| unsafe {
+        let (before, before_size, script, script_size) = (before.as_ptr(), before.len(), script.as_ptr(), script.len());
+        dms_bench_sign(fonts.as_ptr(), fonts.len(), before, before_size, script, script_size, changeable, times)
+    };
+    let by_hand = |times| sign_times(sign_of(fonts, rows), &before, &script, times);
+    let times = if measure.script.len() > 10 { 3 } else { MAX_DATAGRAM as u32 };
+    assert_eq!(proved(times), by_hand(times), "{} with {rows:?}", measure.name);
+    let calls: [&dyn Fn(u32) -> u64; 2] = [&proved, &by_hand];
+    let least = |call: &dyn Fn(u32) -> u64, times| (0..9).map(|_| run(call, times)).fold(f64::INFINITY, f64::min);
+    let once = |call| ((least(call, 50) - least(call, 0)) / 50.0).max(5.0);
+    let times = calls.map(|call| (RUN_NANOSECONDS / once(call)).max(1.0) as u32);
+    let mut best = [[f64::INFINITY; 2]; 2];
+    for _ in 0..RUNS {
+        for at in 0..2 {
+            best[at][0] = best[at][0].min(run(calls[at], 0));
+            best[at][1] = best[at][1].min(run(calls[at], times[at]));
+        }
+    }
+    [0, 1].map(|at| (best[at][1] - best[at][0]) / f64::from(times[at]))
+}
+
+/// Prints the times of the sign with few rows and with the most.
+pub fn signs(fonts: &str, text: &[u8]) {
+    println!("{:<32} {:<10} {:>11} {:>11} {:>6}", "measure of the sign", "rows", "proved, ns", "by hand, ns", "ratio");
+    for rows in ROWS {
+        let name = format!("{}/{}/{}", rows.0, rows.1, rows.2);
+        for measure in measures(text, rows == ROWS[1], &mut sign_of(fonts, rows)) {
+            let [proved, by_hand] = best(&measure, fonts, rows);
+            println!("{:<32} {name:<10} {proved:>11.1} {by_hand:>11.1} {:>6.2}", measure.name, proved / by_hand);
+        }
+    }
+}

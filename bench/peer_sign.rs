@@ -1,0 +1,927 @@
+//! A sign by hand in plain Rust: the same objects, requests, rows, activations and seconds as the proved sign, over the reader and the
+//! writer of `peer` and the texts of `peer_text`. Its defaults are those of the face; a SET of them is not among the measures.
+
+use crate::peer::{Bind, Kind, MAX_DATAGRAM, Message, Oid, Out, Value, read, size_of_element, size_of_members, size_of_number};
+use crate::peer_text::{self, Code, Face};
+use std::hint::black_box;
+
+/// The octets that all names begin with, those of dms, 1.3.6.1.4.1.1206.4.2.3.
+const DMS: [u8; 10] = [43, 6, 1, 4, 1, 137, 54, 4, 2, 3];
+
+/// Types of memory.
+const PERMANENT: u8 = 2;
+const CHANGEABLE: u8 = 3;
+const VOLATILE: u8 = 4;
+const CURRENT_BUFFER: u8 = 5;
+const BLANK: u8 = 7;
+
+/// The defaults, in the order of their objects.
+const DEFAULTS: [u8; 9] = [0, 9, 5, 5, 1, 3, 2, 30, 0];
+
+/// The groups and numbers of the objects before dmsMessageTable, and after it.
+const BEFORE_TABLE: [(u8, u8); 19] = [
+    (2, 3), (2, 4), (4, 1), (4, 2), (4, 3), (4, 4), (4, 5), (4, 6), (4, 7), (4, 8), (4, 9), (4, 11), (5, 1), (5, 2), (5, 3), (5, 4), (5, 5),
+    (5, 6), (5, 7),
+];
+const AFTER_TABLE: [(u8, u8); 17] = [
+    (5, 9), (6, 3), (6, 4), (6, 5), (6, 6), (6, 7), (6, 8), (6, 9), (6, 10), (6, 12), (6, 13), (6, 14), (6, 15), (6, 17), (6, 18), (6, 19),
+    (6, 24),
+];
+
+#[derive(Clone, Copy, PartialEq)]
+enum Status {
+    NotUsed = 1,
+    Modifying,
+    Validating,
+    Valid,
+    Error,
+}
+
+#[derive(Clone, Copy)]
+enum Ask {
+    Modify,
+    Validate,
+    NotUsed,
+}
+
+impl Status {
+    fn next(self, ask: Ask) -> Option<Status> {
+        match (self, ask) {
+            (Status::Validating, _) | (Status::NotUsed, Ask::Validate) => None,
+            (_, Ask::Modify) => Some(Status::Modifying),
+            (_, Ask::Validate) => Some(Status::Validating),
+            (_, Ask::NotUsed) => Some(Status::NotUsed),
+        }
+    }
+}
+
+#[derive(Clone, Copy, PartialEq)]
+struct RowId {
+    memory: u8,
+    number: u8,
+}
+
+struct Row {
+    text: Vec<u8>,
+    owner: Vec<u8>,
+    beacon: u8,
+    pixel: u8,
+    priority: u8,
+    status: Status,
+    checksum: u16,
+}
+
+/// A row as it is read.
+#[derive(Clone, Copy)]
+struct View<'a> {
+    text: &'a [u8],
+    owner: &'a [u8],
+    beacon: u8,
+    pixel: u8,
+    priority: u8,
+    status: Status,
+    checksum: u16,
+}
+
+impl Row {
+    fn unused() -> Row {
+        let (text, owner) = (Vec::with_capacity(512), Vec::with_capacity(127));
+        Row { text, owner, beacon: 0, pixel: 0, priority: 1, status: Status::NotUsed, checksum: 0 }
+    }
+
+    fn permanent(text: &[u8]) -> Row {
+        Row { text: text.to_vec(), priority: 100, status: Status::Valid, checksum: crc(text, 0, 0), ..Row::unused() }
+    }
+
+    fn view(&self) -> View<'_> {
+        let checksum = if self.status == Status::Valid { self.checksum } else { 0 };
+        let Row { beacon, pixel, priority, status, .. } = *self;
+        View { text: &self.text, owner: &self.owner, beacon, pixel, priority, status, checksum }
+    }
+}
+
+#[derive(Clone, Copy)]
+enum Instance {
+    Object(u8, u8),
+    Cell(u8, RowId),
+}
+
+/// A name's content octets.
+struct Name {
+    octets: [u8; 20],
+    len: usize,
+}
+
+impl Name {
+    fn of(instance: Instance) -> Name {
+        let mut octets = [0; 20];
+        octets[..10].copy_from_slice(&DMS);
+        let len = match instance {
+            Instance::Object(group, number) => {
+                octets[10..13].copy_from_slice(&[group, number, 0]);
+                13
+            }
+            Instance::Cell(column, RowId { memory, number }) if number < 128 => {
+                octets[10..16].copy_from_slice(&[5, 8, 1, column, memory, number]);
+                16
+            }
+            Instance::Cell(column, RowId { memory, number }) => {
+                octets[10..17].copy_from_slice(&[5, 8, 1, column, memory, 129, number - 128]);
+                17
+            }
+        };
+        Name { octets, len }
+    }
+
+    fn content(&self) -> &[u8] {
+        &self.octets[..self.len]
+    }
+}
+
+/// The sub-identifiers of a name.
+fn numbers(content: &[u8]) -> impl Iterator<Item = u32> {
+    let mut number = 0_u32;
+    content.iter().filter_map(move |octet| {
+        number = number << 7 | u32::from(octet & 127);
+        (*octet < 128).then(|| std::mem::take(&mut number))
+    })
+}
+
+/// How many rows there are of each type of memory.
+#[derive(Clone, Copy)]
+struct Counts {
+    permanent: usize,
+    changeable: usize,
+    volatile: usize,
+}
+
+impl Counts {
+    fn rows(&self) -> usize {
+        self.permanent + self.changeable + self.volatile + 256
+    }
+
+    fn places(&self) -> usize {
+        36 + 9 * self.rows()
+    }
+
+    /// The rows before those of a type of memory, and how many it has.
+    fn span(&self, memory: u8) -> Option<(usize, usize)> {
+        let stored = self.permanent + self.changeable + self.volatile;
+        match memory {
+            PERMANENT => Some((0, self.permanent)),
+            CHANGEABLE => Some((self.permanent, self.changeable)),
+            VOLATILE => Some((self.permanent + self.changeable, self.volatile)),
+            CURRENT_BUFFER => Some((stored, 1)),
+            BLANK => Some((stored + 1, 255)),
+            _ => None,
+        }
+    }
+
+    fn cell_place(&self, column: u8, memory: u8, number: u8) -> Option<usize> {
+        let (before, count) = self.span(memory)?;
+        if !(1..=9).contains(&column) || number == 0 || usize::from(number) > count {
+            return None;
+        }
+        Some(19 + (usize::from(column) - 1) * self.rows() + before + usize::from(number) - 1)
+    }
+
+    /// The place of the instance of this name.
+    fn place(&self, content: &[u8]) -> Option<usize> {
+        match *content.strip_prefix(&DMS)? {
+            [5, 8, 1, column, memory, number] if number < 128 => self.cell_place(column, memory, number),
+            [5, 8, 1, column, memory, 129, number] if number < 128 => self.cell_place(column, memory, number + 128),
+            [group, number, 0] => {
+                let after = 19 + 9 * self.rows();
+                let number_ = usize::from(number);
+                match (group, number) {
+                    (2, 3..=4) => Some(number_ - 3),
+                    (4, 1..=9) => Some(number_ + 1),
+                    (4, 11) => Some(11),
+                    (5, 1..=7) => Some(number_ + 11),
+                    (5, 9) => Some(after),
+                    (6, 3..=10) => Some(after + number_ - 2),
+                    (6, 12..=15) => Some(after + number_ - 3),
+                    (6, 17..=19) => Some(after + number_ - 4),
+                    (6, 24) => Some(after + 16),
+                    _ => None,
+                }
+            }
+            _ => None,
+        }
+    }
+
+    fn at(&self, place: usize) -> Instance {
+        let rows = self.rows();
+        if place < 19 {
+            let (group, number) = BEFORE_TABLE[place];
+            return Instance::Object(group, number);
+        }
+        if place >= 19 + 9 * rows {
+            let (group, number) = AFTER_TABLE[place - 19 - 9 * rows];
+            return Instance::Object(group, number);
+        }
+        let column = ((place - 19) / rows + 1) as u8;
+        let row = (place - 19) % rows;
+        let changeable = self.permanent + self.changeable;
+        let stored = changeable + self.volatile;
+        let (memory, before) = if row < self.permanent {
+            (PERMANENT, 0)
+        } else if row < changeable {
+            (CHANGEABLE, self.permanent)
+        } else if row < stored {
+            (VOLATILE, changeable)
+        } else if row == stored {
+            (CURRENT_BUFFER, stored)
+        } else {
+            (BLANK, stored + 1)
+        };
+        Instance::Cell(column, RowId { memory, number: (row - before + 1) as u8 })
+    }
+
+    fn named(&self, content: &[u8]) -> Option<Instance> {
+        self.place(content).map(|place| self.at(place))
+    }
+
+    /// The first instance after this name.
+    fn next(&self, content: &[u8]) -> Option<Instance> {
+        let place = match self.place(content) {
+            Some(place) => place + 1,
+            None => {
+                let (mut low, mut high) = (0, self.places());
+                while low < high {
+                    let middle = (low + high) / 2;
+                    if numbers(Name::of(self.at(middle)).content()).gt(numbers(content)) {
+                        high = middle;
+                    } else {
+                        low = middle + 1;
+                    }
+                }
+                low
+            }
+        };
+        (place < self.places()).then(|| self.at(place))
+    }
+}
+
+struct Shown {
+    text: Vec<u8>,
+    owner: Vec<u8>,
+    beacon: u8,
+    pixel: u8,
+    priority: u8,
+    checksum: u16,
+    mode: u8,
+    address: [u8; 4],
+    remaining: Option<u32>,
+}
+
+enum Cause {
+    MemoryType,
+    Number,
+    Status,
+    Checksum,
+    Priority,
+    Syntax(Code, usize),
+}
+
+pub struct Sign {
+    face: Face,
+    counts: Counts,
+    permanent: Vec<Row>,
+    changeable: Vec<Row>,
+    volatile: Vec<Row>,
+    validating: Option<RowId>,
+    shown: Shown,
+    source: [u8; 5],
+    accepted_code: [u8; 12],
+    failed_code: [u8; 12],
+    validate_error: u8,
+    activate_error: u8,
+    syntax_error: u8,
+    syntax_error_position: u16,
+    /// The codes for a short and a long loss of power, a loss of communications, a loss of power, and the end of a duration.
+    fallbacks: [[u8; 5]; 5],
+    short_power_loss_time: u16,
+    time_comm_loss: u16,
+    silent: u32,
+    list: Option<Box<Out>>,
+}
+
+/// What a binding of a SET writes.
+#[derive(Clone, Copy)]
+enum Change<'a> {
+    ShortPowerLossTime(u16),
+    TimeCommLoss(u16),
+    Fallback(usize, [u8; 5]),
+    Text(RowId, &'a [u8]),
+    Owner(RowId, &'a [u8]),
+    Beacon(RowId, u8),
+    Pixel(RowId, u8),
+    Priority(RowId, u8),
+    Ask(RowId, Ask),
+    Activate([u8; 12]),
+    Remaining(u16),
+}
+
+/// A SET is refused at a binding with an error status.
+struct Refusal {
+    index: usize,
+    status: i64,
+}
+
+const TOO_BIG: i64 = 1;
+const NO_SUCH_NAME: i64 = 2;
+const BAD_VALUE: i64 = 3;
+const GEN_ERR: i64 = 5;
+
+fn number_in(low: u16, high: u16, value: &Value<'_>) -> Option<u16> {
+    match *value {
+        Value::Integer(number) if (i64::from(low)..=i64::from(high)).contains(&number) => Some(number as u16),
+        _ => None,
+    }
+}
+
+fn octets_in<'a>(most: usize, value: &Value<'a>) -> Option<&'a [u8]> {
+    match *value {
+        Value::Octets(octets) if octets.len() <= most => Some(octets),
+        _ => None,
+    }
+}
+
+fn code_in<const N: usize>(value: &Value<'_>) -> Option<[u8; N]> {
+    octets_in(N, value)?.try_into().ok()
+}
+
+impl<'a> Change<'a> {
+    /// What a value writes to an instance that can be set: refused where it can't be, none where the value is out of range.
+    fn of(instance: Instance, value: &Value<'a>) -> Result<Option<Change<'a>>, NotSettable> {
+        Ok(match instance {
+            Instance::Object(6, 10) => number_in(0, 65535, value).map(Change::ShortPowerLossTime),
+            Instance::Object(6, 13) => number_in(0, 65535, value).map(Change::TimeCommLoss),
+            Instance::Object(6, number @ (8 | 9 | 12 | 14 | 15)) => {
+                let place = [8, 9, 12, 14, 15].iter().position(|other| *other == number).unwrap_or(0);
+                code_in(value).map(|code| Change::Fallback(place, code))
+            }
+            Instance::Object(6, 3) => code_in(value).map(Change::Activate),
+            Instance::Object(6, 4) => number_in(0, 65535, value).map(Change::Remaining),
+            Instance::Cell(column, id) if id.memory == CHANGEABLE || id.memory == VOLATILE => match column {
+                3 => octets_in(512, value).map(|octets| Change::Text(id, octets)),
+                4 => octets_in(127, value).map(|octets| Change::Owner(id, octets)),
+                6 => number_in(0, 1, value).map(|on| Change::Beacon(id, on as u8)),
+                7 => number_in(0, 1, value).map(|on| Change::Pixel(id, on as u8)),
+                8 => number_in(1, 255, value).map(|priority| Change::Priority(id, priority as u8)),
+                9 => number_in(6, 8, value).map(|number| {
+                    Change::Ask(id, match number {
+                        6 => Ask::Modify,
+                        7 => Ask::Validate,
+                        _ => Ask::NotUsed,
+                    })
+                }),
+                _ => return Err(NotSettable),
+            },
+            _ => return Err(NotSettable),
+        })
+    }
+
+    fn is_command(&self) -> bool {
+        matches!(self, Change::Ask(..) | Change::Activate(_) | Change::Remaining(_))
+    }
+
+    fn row(&self) -> Option<RowId> {
+        match *self {
+            Change::Text(id, _) | Change::Owner(id, _) | Change::Beacon(id, _) | Change::Pixel(id, _) | Change::Priority(id, _) => Some(id),
+            _ => None,
+        }
+    }
+}
+
+struct NotSettable;
+
+const fn remainders() -> [u16; 256] {
+    let mut table = [0; 256];
+    let mut at = 0;
+    while at < 256 {
+        let mut register = at as u16;
+        let mut bit = 0;
+        while bit < 8 {
+            register = if register & 1 == 1 { register >> 1 ^ 0x8408 } else { register >> 1 };
+            bit += 1;
+        }
+        table[at] = register;
+        at += 1;
+    }
+    table
+}
+
+const REMAINDERS: [u16; 256] = remainders();
+
+/// The checksum of a message (ISO/IEC 3309).
+pub fn crc(text: &[u8], beacon: u8, pixel: u8) -> u16 {
+    let after = |register: u16, octet: &u8| REMAINDERS[usize::from(register as u8 ^ octet)] ^ register >> 8;
+    !text.iter().chain([&beacon, &pixel]).fold(u16::MAX, after)
+}
+
+fn syntax_number(code: Code) -> u8 {
+    match code {
+        Code::Tag => 3,
+        Code::Value => 4,
+        Code::TooBig => 5,
+        Code::NoFont => 6,
+        Code::NoCharacter => 7,
+        Code::Conflict => 11,
+        Code::TooManyPages => 12,
+        Code::Version => 13,
+    }
+}
+
+fn integer<'a>(number: usize) -> Value<'a> {
+    Value::Integer(number as i64)
+}
+
+fn count_of(rows: &[Row], status: Status) -> usize {
+    rows.iter().filter(|row| row.status == status).count()
+}
+
+impl Sign {
+    /// A sign with so many rows, each permanent one with this text.
+    pub fn new(face: Face, text: &[u8], permanent: usize, changeable: usize, volatile: usize) -> Sign {
+        let rows = |count| (0..count).map(|_| Row::unused()).collect();
+        let (blank, owner) = (Vec::with_capacity(512), Vec::with_capacity(127));
+        let code = [BLANK, 0, 1, 0, 0];
+        Sign {
+            face,
+            counts: Counts { permanent, changeable, volatile },
+            permanent: (0..permanent).map(|_| Row::permanent(text)).collect(),
+            changeable: rows(changeable),
+            volatile: rows(volatile),
+            validating: None,
+            shown: Shown {
+                text: blank,
+                owner,
+                beacon: 0,
+                pixel: 0,
+                priority: 1,
+                checksum: 0,
+                mode: 10,
+                address: [0; 4],
+                remaining: None,
+            },
+            source: code,
+            accepted_code: [0; 12],
+            failed_code: [0; 12],
+            validate_error: 2,
+            activate_error: 2,
+            syntax_error: 2,
+            syntax_error_position: 0,
+            fallbacks: [code; 5],
+            short_power_loss_time: 0,
+            time_comm_loss: 0,
+            silent: 0,
+            list: Some(Box::new(Out::new())),
+        }
+    }
+
+    fn rows(&self, memory: u8) -> &[Row] {
+        match memory {
+            PERMANENT => &self.permanent,
+            CHANGEABLE => &self.changeable,
+            VOLATILE => &self.volatile,
+            _ => &[],
+        }
+    }
+
+    fn row_mut(&mut self, id: RowId) -> Option<&mut Row> {
+        let rows = match id.memory {
+            CHANGEABLE => &mut self.changeable,
+            VOLATILE => &mut self.volatile,
+            _ => return None,
+        };
+        rows.get_mut(usize::from(id.number).checked_sub(1)?)
+    }
+
+    fn view(&self, id: RowId) -> Option<View<'_>> {
+        match id.memory {
+            BLANK if id.number > 0 => {
+                Some(View { text: &[], owner: &[], beacon: 0, pixel: 0, priority: id.number, status: Status::Valid, checksum: 0 })
+            }
+            CURRENT_BUFFER if id.number == 1 => {
+                let Shown { text, owner, beacon, pixel, priority, checksum, .. } = &self.shown;
+                Some(View { text, owner, beacon: *beacon, pixel: *pixel, priority: *priority, status: Status::Valid, checksum: *checksum })
+            }
+            _ => self.rows(id.memory).get(usize::from(id.number).checked_sub(1)?).map(Row::view),
+        }
+    }
+
+    fn value(&self, instance: Instance) -> Option<Value<'_>> {
+        let (group, number) = match instance {
+            Instance::Object(group, number) => (group, number),
+            Instance::Cell(column, id) => return Some(cell(column, id, self.view(id)?)),
+        };
+        Some(match (group, number) {
+            (2, 3) => integer(64),
+            (2, 4) => integer(256),
+            (4, 11) => integer(3),
+            (4, number) => integer(usize::from(DEFAULTS[usize::from(number) - 1])),
+            (5, 1) => integer(self.permanent.len()),
+            (5, 2) => integer(count_of(&self.changeable, Status::Valid)),
+            (5, 3) => integer(self.changeable.len()),
+            (5, 4) => integer(512 * count_of(&self.changeable, Status::NotUsed)),
+            (5, 5) => integer(count_of(&self.volatile, Status::Valid)),
+            (5, 6) => integer(self.volatile.len()),
+            (5, 7) => integer(512 * count_of(&self.volatile, Status::NotUsed)),
+            (5, 9) => integer(self.validate_error.into()),
+            (6, 3) => Value::Octets(&self.accepted_code),
+            (6, 4) => integer(self.shown.remaining.map_or(65535, |seconds| seconds.div_ceil(60)) as usize),
+            (6, 5) => Value::Octets(&self.source),
+            (6, 6) => Value::Address(self.shown.address),
+            (6, 7) => integer(self.shown.mode.into()),
+            (6, 8) => Value::Octets(&self.fallbacks[0]),
+            (6, 9) => Value::Octets(&self.fallbacks[1]),
+            (6, 10) => integer(self.short_power_loss_time.into()),
+            (6, 12) => Value::Octets(&self.fallbacks[2]),
+            (6, 13) => integer(self.time_comm_loss.into()),
+            (6, 14) => Value::Octets(&self.fallbacks[3]),
+            (6, 15) => Value::Octets(&self.fallbacks[4]),
+            (6, 17) => integer(self.activate_error.into()),
+            (6, 18) => integer(self.syntax_error.into()),
+            (6, 19) => integer(self.syntax_error_position.into()),
+            (6, 24) => Value::Octets(&self.failed_code),
+            _ => return None,
+        })
+    }
+
+    /// Handles a datagram; whether there is a reply, in `out`.
+    pub fn receive(&mut self, datagram: &[u8], out: &mut Out) -> bool {
+        out.clear();
+        let Ok(message) = read(datagram) else {
+            return false;
+        };
+        let may_write = message.community == b"admin";
+        if !may_write && message.community != b"public" {
+            return false;
+        }
+        match message.kind {
+            Kind::Response => return false,
+            Kind::Get => self.read_values(&message, false, out),
+            Kind::GetNext => self.read_values(&message, true, out),
+            Kind::Set => match self.set(may_write, &message) {
+                Ok(()) => self.repeat(&message, 0, 0, out),
+                Err(refusal) => self.repeat(&message, refusal.status, refusal.index as i64, out),
+            },
+        }
+        self.silent = 0;
+        true
+    }
+
+    fn read_values(&mut self, message: &Message<'_>, next: bool, out: &mut Out) {
+        let mut list = self.list.take().unwrap_or_else(|| Box::new(Out::new()));
+        list.clear();
+        let mut status = 0;
+        let mut index = 0;
+        for bind in message.binds {
+            index += 1;
+            let content = bind.name.content;
+            let instance = if next { self.counts.next(content) } else { self.counts.named(content) };
+            let Some((instance, value)) = instance.and_then(|instance| Some((instance, self.value(instance)?))) else {
+                status = NO_SUCH_NAME;
+                break;
+            };
+            let name = Name::of(instance);
+            let name = Oid { content: if next { name.content() } else { content } };
+            if status == 0 && !push(&mut list, &Bind { name, value }) {
+                status = TOO_BIG;
+            }
+        }
+        let sent = status == 0 && reply(message, 0, 0, list.as_slice(), out);
+        self.list = Some(list);
+        match status {
+            _ if sent => {}
+            NO_SUCH_NAME => self.repeat(message, status, index, out),
+            _ => self.repeat(message, TOO_BIG, 0, out),
+        }
+    }
+
+    /// A reply with the request's bindings.
+    fn repeat(&mut self, message: &Message<'_>, status: i64, index: i64, out: &mut Out) {
+        let mut list = self.list.take().unwrap_or_else(|| Box::new(Out::new()));
+        list.clear();
+        for bind in message.binds {
+            push(&mut list, &bind);
+        }
+        if !reply(message, status, index, list.as_slice(), out) {
+            reply(message, TOO_BIG, 0, list.as_slice(), out);
+        }
+        self.list = Some(list);
+    }
+
+    fn change_at<'a>(&self, message: &Message<'a>, index: usize, commanded: bool, bind: &Bind<'a>) -> Result<Change<'a>, i64> {
+        let instance = self.counts.named(bind.name.content).ok_or(NO_SUCH_NAME)?;
+        let change = Change::of(instance, &bind.value).or(Err(NO_SUCH_NAME))?.ok_or(BAD_VALUE)?;
+        let is_among = message.binds.take(index).any(|before| before.name.content == bind.name.content);
+        let is_refused = change.row().is_some_and(|id| self.view(id).is_none_or(|row| row.status != Status::Modifying));
+        if is_among || commanded && change.is_command() || is_refused {
+            return Err(GEN_ERR);
+        }
+        Ok(change)
+    }
+
+    fn set(&mut self, may_write: bool, message: &Message<'_>) -> Result<(), Refusal> {
+        let mut command = None;
+        for (index, bind) in message.binds.enumerate() {
+            let change = if may_write { self.change_at(message, index, command.is_some(), &bind) } else { Err(NO_SUCH_NAME) };
+            match change {
+                Ok(change) if change.is_command() => command = Some((index + 1, change)),
+                Ok(_) => {}
+                Err(status) => return Err(Refusal { index: index + 1, status }),
+            }
+        }
+        let Some((index, command)) = command else {
+            self.assign(message);
+            return Ok(());
+        };
+        let refused = Err(Refusal { index, status: GEN_ERR });
+        match command {
+            Change::Ask(id, ask) => {
+                let status = self.view(id).and_then(|row| row.status.next(ask));
+                let Some(status) = status.filter(|status| *status != Status::Validating || self.validating.is_none()) else {
+                    return refused;
+                };
+                self.assign(message);
+                self.enter(id, status);
+            }
+            Change::Activate(code) => {
+                let id = [code[3], code[4], code[5], code[6], code[7]];
+                match self.decide(id, code[2]) {
+                    Ok(row) => {
+                        self.assign(message);
+                        self.show(row, id, 8);
+                        self.shown.address = [code[8], code[9], code[10], code[11]];
+                        self.shown.remaining = seconds(u16::from_be_bytes([code[0], code[1]]));
+                        self.activate_error = 2;
+                        self.accepted_code = code;
+                    }
+                    Err(cause) => {
+                        self.refuse(cause, code);
+                        return refused;
+                    }
+                }
+            }
+            Change::Remaining(minutes) => {
+                self.assign(message);
+                match minutes {
+                    0 => self.put_up(self.fallbacks[4], 14),
+                    _ => self.shown.remaining = seconds(minutes),
+                }
+            }
+            _ => {}
+        }
+        Ok(())
+    }
+
+    fn assign(&mut self, message: &Message<'_>) {
+        for bind in message.binds {
+            let Some(Ok(Some(change))) = self.counts.named(bind.name.content).map(|instance| Change::of(instance, &bind.value)) else {
+                continue;
+            };
+            match change {
+                Change::ShortPowerLossTime(number) => self.short_power_loss_time = number,
+                Change::TimeCommLoss(number) => self.time_comm_loss = number,
+                Change::Fallback(place, code) => self.fallbacks[place] = code,
+                _ => {
+                    let Some(row) = change.row().and_then(|id| self.row_mut(id)) else {
+                        continue;
+                    };
+                    match change {
+                        Change::Text(_, octets) => replace(&mut row.text, octets),
+                        Change::Owner(_, octets) => replace(&mut row.owner, octets),
+                        Change::Beacon(_, on) => row.beacon = on,
+                        Change::Pixel(_, on) => row.pixel = on,
+                        Change::Priority(_, priority) => row.priority = priority,
+                        _ => {}
+                    }
+                }
+            }
+        }
+    }
+
+    fn enter(&mut self, id: RowId, status: Status) {
+        if status == Status::Validating {
+            self.validating = Some(id);
+        }
+        let Some(row) = self.row_mut(id) else {
+            return;
+        };
+        row.status = status;
+        if status == Status::NotUsed {
+            row.text.clear();
+            row.owner.clear();
+            (row.beacon, row.pixel, row.priority) = (0, 0, 1);
+        }
+    }
+
+    /// The row that a code puts up.
+    fn decide(&self, code: [u8; 5], priority: u8) -> Result<RowId, Cause> {
+        let [memory, high, number, rest @ ..] = code;
+        if !matches!(memory, 2..=5 | 7) {
+            return Err(Cause::MemoryType);
+        }
+        let id = RowId { memory, number };
+        let row = if high == 0 { self.view(id) } else { None };
+        let row = row.ok_or(Cause::Number)?;
+        if row.status != Status::Valid {
+            return Err(Cause::Status);
+        }
+        if memory != BLANK && u16::from_be_bytes(rest) != row.checksum {
+            return Err(Cause::Checksum);
+        }
+        if priority < self.shown.priority {
+            return Err(Cause::Priority);
+        }
+        if memory != CURRENT_BUFFER {
+            peer_text::check(&self.face, row.text).map_err(|(code, place)| Cause::Syntax(code, place))?;
+        }
+        Ok(id)
+    }
+
+    fn refuse(&mut self, cause: Cause, code: [u8; 12]) {
+        self.failed_code = code;
+        self.activate_error = match cause {
+            Cause::Priority => 3,
+            Cause::Status => 4,
+            Cause::MemoryType => 5,
+            Cause::Number => 6,
+            Cause::Checksum => 7,
+            Cause::Syntax(code, place) => {
+                self.syntax_error = syntax_number(code);
+                self.syntax_error_position = place as u16;
+                8
+            }
+        };
+    }
+
+    fn show(&mut self, id: RowId, code: [u8; 5], mode: u8) {
+        self.shown.mode = mode;
+        self.shown.address = [0; 4];
+        self.shown.remaining = None;
+        let rows = match id.memory {
+            PERMANENT => &self.permanent,
+            CHANGEABLE => &self.changeable,
+            VOLATILE => &self.volatile,
+            BLANK => {
+                self.shown.text.clear();
+                self.shown.owner.clear();
+                (self.shown.beacon, self.shown.pixel, self.shown.priority, self.shown.checksum) = (0, 0, id.number, 0);
+                self.source = code;
+                return;
+            }
+            _ => return,
+        };
+        let row = &rows[usize::from(id.number) - 1];
+        replace(&mut self.shown.text, &row.text);
+        replace(&mut self.shown.owner, &row.owner);
+        (self.shown.beacon, self.shown.pixel, self.shown.priority, self.shown.checksum) = (row.beacon, row.pixel, row.priority, row.checksum);
+        self.source = code;
+    }
+
+    fn put_up(&mut self, code: [u8; 5], mode: u8) {
+        if code[0] == CURRENT_BUFFER {
+            self.shown.mode = mode;
+            self.shown.remaining = None;
+            return;
+        }
+        match self.decide(code, 255) {
+            Ok(id) => self.show(id, code, mode),
+            Err(cause) => {
+                self.show(RowId { memory: BLANK, number: 1 }, [BLANK, 0, 1, 0, 0], mode);
+                let mut failed = [255, 255, 255, 0, 0, 0, 0, 0, 0, 0, 0, 0];
+                failed[3..8].copy_from_slice(&code);
+                self.refuse(cause, failed);
+            }
+        }
+    }
+
+    /// A second passes.
+    pub fn tick(&mut self) {
+        if let Some(id) = self.validating.take() {
+            self.settle(id);
+        }
+        match self.shown.remaining {
+            None => {}
+            Some(..=1) => self.put_up(self.fallbacks[4], 14),
+            Some(seconds) => self.shown.remaining = Some(seconds - 1),
+        }
+        let longest = 60 * u32::from(self.time_comm_loss);
+        if self.silent < longest {
+            self.silent += 1;
+            if self.silent == longest {
+                self.put_up(self.fallbacks[2], 12);
+            }
+        }
+    }
+
+    /// Validates a row. (The sign has beacons and a pixel service.)
+    fn settle(&mut self, id: RowId) {
+        let Some(row) = self.view(id) else {
+            return;
+        };
+        let checked = peer_text::check(&self.face, row.text);
+        let (beacon, pixel) = (row.beacon, row.pixel);
+        let checksum = if checked.is_ok() { crc(row.text, beacon, pixel) } else { 0 };
+        (self.validate_error, self.syntax_error, self.syntax_error_position) = match checked {
+            Ok(_) => (2, 2, 0),
+            Err((code, place)) => (5, syntax_number(code), place as u16),
+        };
+        if let Some(row) = self.row_mut(id) {
+            row.status = if checked.is_ok() { Status::Valid } else { Status::Error };
+            row.checksum = checksum;
+        }
+    }
+}
+
+fn cell<'a>(column: u8, id: RowId, row: View<'a>) -> Value<'a> {
+    match column {
+        1 => integer(id.memory.into()),
+        2 => integer(id.number.into()),
+        3 => Value::Octets(row.text),
+        4 => Value::Octets(row.owner),
+        5 => integer(row.checksum.into()),
+        6 => integer(row.beacon.into()),
+        7 => integer(row.pixel.into()),
+        8 => integer(row.priority.into()),
+        _ => integer(row.status as usize),
+    }
+}
+
+fn seconds(minutes: u16) -> Option<u32> {
+    (minutes != u16::MAX).then_some(60 * u32::from(minutes))
+}
+
+fn replace(octets: &mut Vec<u8>, by: &[u8]) {
+    octets.clear();
+    octets.extend_from_slice(by);
+}
+
+/// Writes a binding to the list, where it has room.
+fn push(list: &mut Out, bind: &Bind<'_>) -> bool {
+    let members = size_of_members(bind);
+    if list.as_slice().len() + size_of_element(members) > MAX_DATAGRAM {
+        return false;
+    }
+    list.head(48, members);
+    list.element(6, bind.name.content);
+    list.value(&bind.value);
+    true
+}
+
+/// Writes the response to a message with these bindings, where it is not too big.
+fn reply(message: &Message<'_>, status: i64, index: i64, list: &[u8], out: &mut Out) -> bool {
+    let numbers = [message.request, status, index];
+    let pdu = numbers.iter().map(|number| size_of_element(size_of_number(*number))).sum::<usize>() + size_of_element(list.len());
+    let inside = 3 + size_of_element(message.community.len()) + size_of_element(pdu);
+    if size_of_element(inside) > MAX_DATAGRAM {
+        return false;
+    }
+    out.clear();
+    out.head(48, inside);
+    out.number(2, 0);
+    out.element(4, message.community);
+    out.head(162, pdu);
+    for number in numbers {
+        out.number(2, number);
+    }
+    out.element(48, list);
+    true
+}
+
+fn played(sign: &mut Sign, script: &[u8], place: u32, out: &mut Out) -> u64 {
+    let mut sum = 0_u64;
+    let mut place = place as usize;
+    let mut left = black_box(script);
+    while let [high, low, rest @ ..] = left {
+        let size = usize::from(u16::from_be_bytes([*high, *low]));
+        let Some((datagram, rest)) = rest.split_at_checked(size) else {
+            break;
+        };
+        if datagram.is_empty() {
+            sign.tick();
+        } else {
+            sign.receive(datagram, out);
+            let written = out.as_slice();
+            let octet = written.get(place % MAX_DATAGRAM).copied().unwrap_or(0);
+            sum = sum.wrapping_add(written.len() as u64 + u64::from(octet));
+            place = place.wrapping_add(1);
+        }
+        left = rest;
+    }
+    sum
+}
+
+/// Hands a new sign the script `before` once and then `script` `times` times, as `dms_bench_sign`.
+pub fn sign_times(mut sign: Sign, before: &[u8], script: &[u8], times: u32) -> u64 {
+    let mut out = Out::new();
+    let mut sum = played(&mut sign, before, 0, &mut out);
+    for time in 0..times {
+        sum = sum.wrapping_add(played(&mut sign, script, time, &mut out));
+    }
+    sum
+}
