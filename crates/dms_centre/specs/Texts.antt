@@ -3,6 +3,7 @@ use Rattle.std.specs.Prelude.{ℕ, List, ◌++◌, codes, decimal}
 use Rattle.std.specs.Fmt.{signed_decimal}
 use Rattle.dms_centre.specs.declared.outcome.Outcome.{Outcome}
 use Rattle.dms_centre.specs.declared.outcome.Outcome.TheVariants as outcomes
+use Rattle.dms_centre.specs.declared.ledger.Entry.{Entry}
 use Rattle.dms_centre.specs.declared.ended.Ended.{Ended}
 use Rattle.dms_centre.specs.declared.ended.Ended.TheVariants as endings
 use Rattle.dms_centre.specs.declared.ended.Why.{Why}
@@ -18,6 +19,12 @@ outcome_text outcomes.Accepted = codes "accepted"
 outcome_text (outcomes.Refused status) = codes "refused " ++ signed_decimal status
 outcome_text outcomes.NoReply = codes "noreply"
 outcome_text outcomes.Unknown = codes "unknown"
+
+-- an entry of the ledger: the message that its code names, and its outcome
+abbrev pub entry_text : Entry → List ℕ
+entry_text entry =
+    codes "memory " ++ (decimal entry.code.id.memory ++ (codes " number " ++ (decimal entry.code.id.number
+    ++ (codes " checksum " ++ (decimal entry.code.id.crc ++ (codes ": " ++ outcome_text entry.outcome))))))
 
 abbrev pub why_text : Why → List ℕ
 why_text (reasons.Status status) = codes "error-status " ++ signed_decimal status

@@ -14,12 +14,31 @@ use crate::job::Job;
 use crate::outcome::Outcome;
 use dms_codes::Activation;
 use indexmap::IndexMap;
+use std::fmt;
 
 /// A code that was sent, and what became of it.
 #[derive(Clone, Copy, Debug, PartialEq, Eq)]
 pub struct Entry {
+    /// The code, as the request carried it.
     pub code: Activation,
+    /// What is known of it.
     pub outcome: Outcome,
+}
+
+impl fmt::Display for Entry {
+    ghost use Rattle.std.specs.Prelude.{Some};
+    ghost use Rattle.dms_centre.specs.Texts.{entry_text};
+
+    ghost output = { λ entry. Some (entry_text entry) };
+
+    fn fmt<W: fmt::Write>(&self, f: &mut fmt::Formatter<W>) -> fmt::Result {
+        let id = self.code.id;
+        write!(
+            f,
+            "memory {} number {} checksum {}: {}",
+            id.memory, id.number, id.crc, self.outcome
+        )
+    }
 }
 
 impl Entry {
