@@ -2,7 +2,9 @@
 
 mod cases;
 
-use crate::{Centre, CentreFault, Command, CommandFault, Ended, NoMemory, Outcome, Settings, Why};
+use crate::{
+    Centre, CentreFault, Command, CommandFault, Ended, Entry, NoMemory, Outcome, Settings, Why,
+};
 use dms_codes::{Activation, MessageId, Order};
 use dms_wire::Out;
 use std::alloc::Global;
@@ -437,6 +439,16 @@ fn printed(rt: HostRuntime) -> Result<(), Fail> {
         alloc,
         CentreFault::Community,
         "a community has 1 to 32 octets",
+    )?;
+    let entry = Entry {
+        code: CODE,
+        outcome: Outcome::Refused(5),
+    };
+    check_text(
+        &rt,
+        alloc,
+        entry,
+        "memory 3 number 1 checksum 39526: refused 5",
     )?;
     check_text(&rt, alloc, NoMemory, "out of memory")
 }
