@@ -5,9 +5,10 @@ use Rattle.std.specs.Int.Digits.{AllBelowBase}
 use Rattle.std.proofs.lemmas.List.Elements.{All-from_recursion}
 use Rattle.dms_table.specs.Rows.{RowModel}
 use Rattle.dms_sign.specs.InRange.{IsMadeOfOctets}
-use Rattle.dms_replay.specs.World.{IsFresh, beginning_of}
-use Rattle.dms_replay.proofs.BenchWorld.{bench_sign}
-use Rattle.dms_replay.proofs.BenchText.{can_be_made}
+use Rattle.dms_world.specs.World.{IsFresh}
+use Rattle.dms_replay.specs.Script.{beginning_of}
+use Rattle.dms_description.proofs.BenchValue.{bench_sign}
+use Rattle.dms_description.proofs.BenchText.{can_be_made}
 
 reader_octets : AllBelowBase 256 (codes "public")
 reader_octets = (omega arith, (omega arith, (omega arith, (omega arith, (omega arith, (omega arith, tt))))))

@@ -20,15 +20,10 @@ use Rattle.dms_codes.specs.Status.{status_number}
 use Rattle.dms_multi.specs.Outcomes.{outcomes_within}
 use Rattle.dms_multi.specs.TagReading.{item_at, item_after_opening, item_after_closing, tag_at, body_item, name_at, letters_name, end_name, item_of, flash_of, font_of, times_of, page_time_of}
 use Rattle.dms_multi.specs.Reading.{number_of, decimal_of, value_of, cut, version_of}
-use Rattle.dms_font.specs.Glyph.{glyph_from}
-use Rattle.dms_font.specs.Font.{FontModel}
-use Rattle.dms_face.specs.Face.{FaceModel}
 use Rattle.dms_face.specs.Fit.{fault_of}
 use Rattle.dms_codes.specs.declared.codes.Order.TheVariants.{High}
-use Rattle.dms_codes.specs.declared.status.Status.TheVariants.{Valid}
 use Rattle.dms_codes.specs.Checksum.{octet_bits}
 use Rattle.dms_codes.specs.Codes.{activation_of}
-use Rattle.dms_table.specs.Rows.{unused}
 use Rattle.dms_objects.specs.Names.{name_of}
 use Rattle.dms_instances.specs.Objects.{instances}
 use Rattle.dms_sign.specs.Values.{scalar_value, value_at, value_after, minutes_left}
@@ -44,54 +39,11 @@ use Rattle.dms_centre.specs.Steps.{request_of}
 use Rattle.dms_centre.specs.Sending.{sends}
 use Rattle.dms_centre.specs.Commands.{commanded, Publish, Activate}
 use Rattle.dms_centre.specs.Inputs.{received, ticked, restarted}
-use Rattle.dms_replay.specs.Event.{EventModel, command, sign_tick, to_sign, to_centre, forge_sign}
-use Rattle.dms_replay.specs.Description.{Description}
-use Rattle.dms_replay.specs.World.{WorldModel, world_after, beginning_of}
+use Rattle.dms_world.specs.Event.{EventModel, command, sign_tick, to_sign, to_centre, forge_sign}
+use Rattle.dms_world.specs.World.{WorldModel, world_after}
+use Rattle.dms_replay.specs.Script.{beginning_of}
+use Rattle.dms_description.proofs.BenchValue.{bench_sign}
 use Rattle.dms_replay.specs.Report.{report_of}
-
-abbrev pub tall_font : FontModel
-tall_font = record {
-  number = 1;
-  height = 7;
-  character_spacing = 1;
-  line_spacing = 1;
-  version = 1;
-  glyphs =
-      glyph_from 49 2 7 (0x75 ∷ 0x54 ∷ []) ∷ glyph_from 65 5 7 (0x74 ∷ 0x63 ∷ 0xf8 ∷ 0xc6 ∷ 0x20 ∷ [])
-      ∷ glyph_from 66 5 7 (0xf4 ∷ 0x63 ∷ 0xe8 ∷ 0xc7 ∷ 0xc0 ∷ []) ∷ glyph_from 91 3 7 (0xf2 ∷ 0x49 ∷ 0x38 ∷ [])
-      ∷ glyph_from 93 3 7 (0xe4 ∷ 0x92 ∷ 0x78 ∷ []) ∷ [];
-}
-
-abbrev pub small_font : FontModel
-small_font = record {
-  number = 2;
-  height = 5;
-  character_spacing = 1;
-  line_spacing = 1;
-  version = 2;
-  glyphs = glyph_from 65 3 5 (0x57 ∷ 0xda ∷ []) ∷ [];
-}
-
-abbrev pub face : FaceModel
-face = record {
-  width = 23;
-  height = 14;
-  fonts = tall_font ∷ small_font ∷ [];
-  defaults = record { background = 0; foreground = 9; flash_on = 5; flash_off = 5; font = 1; line = 3; page = 2; on = 30; off = 0 };
-}
-
-abbrev pub bench_sign : Description
-bench_sign = record {
-  config = record { face = face; reader = codes "public"; writer = codes "admin" };
-  table = record {
-    permanent = record { text = codes "B"; owner = []; beacon = 0; pixel = 0; priority = 100; status = Valid } ∷ [];
-    changeable = unused ∷ unused ∷ [];
-    volatile = unused ∷ [];
-    services = record { beacon = true; pixel = false };
-    order = High;
-  };
-  first = 1;
-}
 
 abbrev pub bench : WorldModel
 bench = beginning_of bench_sign

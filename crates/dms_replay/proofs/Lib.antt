@@ -1,27 +1,8 @@
-mod WorldSign
-mod WorldSignRows
-mod WorldSignSteps
-mod WorldSignSound
-mod WorldSignFit
-mod WorldSignGood
-mod WorldSignBacked
 mod BenchWorld
-mod BenchText
 mod ScriptText
 mod Silence
 mod Altered
 mod TableRows
 mod WorkedHeadline
 mod Worked
-pub mod WorldInputs
-pub mod WorldNumbers
-pub mod WorldGrows
-pub mod WorldOrders
-pub mod WorldSent
-pub mod WorldTold
-mod WorldHonestPutUp
-mod WorldHonestRange
-mod WorldHonestCodes
-mod WorldReplies
-mod WorldHonest
 mod BenchFresh

@@ -5,12 +5,14 @@ use Rattle.hex.specs.Hex.{decode_pairs}
 use Rattle.dms_text.specs.Reading.{number_of}
 use Rattle.dms_text.proofs.NumberLaws.{number_found}
 use Rattle.dms_codes.specs.declared.codes.Order.TheVariants.{High}
-use Rattle.dms_replay.specs.Event.{EventModel, sign_tick, centre_tick, to_sign, to_centre}
-use Rattle.dms_replay.specs.Fields.{SpellsFourOctets, SpellsAddressPart}
+use Rattle.dms_world.specs.Event.{EventModel, sign_tick, centre_tick, to_sign, to_centre}
+use Rattle.dms_description.specs.Fields.{SpellsFourOctets}
+use Rattle.dms_replay.specs.EventFields.{SpellsAddressPart}
 use Rattle.dms_replay.specs.EventLine.{SpellsEvent}
 use Rattle.dms_replay.specs.Script.{SpellsScript, the_bench}
-use Rattle.dms_replay.proofs.BenchWorld.{bench_sign, publish}
-use Rattle.dms_replay.proofs.BenchText.{spells_octet, spells_decimal, spells_the_bench_sign}
+use Rattle.dms_replay.proofs.BenchWorld.{publish}
+use Rattle.dms_description.proofs.BenchValue.{bench_sign}
+use Rattle.dms_description.proofs.BenchText.{spells_octet, spells_decimal, spells_the_bench_sign}
 
 -- comments and empty lines say nothing, a carriage return before a newline is no part of its line, and the last newline may be missing
 script : List ℕ

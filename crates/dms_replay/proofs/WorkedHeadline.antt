@@ -15,10 +15,10 @@ use Rattle.dms_wire.specs.Canonical.{canonical}
 use Rattle.dms_objects.specs.Names.{activate_message}
 use Rattle.dms_table.specs.Rows.{RowModel}
 use Rattle.dms_centre.specs.Commands.{CommandModel, Publish}
-use Rattle.dms_replay.specs.Event.{EventModel, sign_tick, centre_tick, to_sign, to_centre}
-use Rattle.dms_replay.specs.World.{world_at, world_after}
-use Rattle.dms_replay.specs.Backed.{WasPutUp, WasHeld}
-use Rattle.dms_replay.specs.Honest.{WasSent, WasOrdered, Carries, shown_checksum}
+use Rattle.dms_world.specs.Event.{EventModel, sign_tick, centre_tick, to_sign, to_centre}
+use Rattle.dms_world.specs.World.{world_at, world_after}
+use Rattle.dms_world.specs.Backed.{WasPutUp, WasHeld}
+use Rattle.dms_world.specs.Honest.{WasSent, WasOrdered, Carries, shown_checksum}
 use Rattle.dms_replay.proofs.BenchWorld.{bench, after, hex, publish, activate, both}
 
 -- ---- "A" is published

@@ -5,8 +5,9 @@ use Rattle.dms_text.specs.Octets.{SpellsOctets}
 use Rattle.dms_codes.specs.declared.codes.Order.{Order}
 use Rattle.dms_centre.specs.State.{PublicationModel}
 use Rattle.dms_centre.specs.Commands.{CommandModel, Publish, Blank, Activate}
-use Rattle.dms_replay.specs.Event.{EventModel, command, sign_tick, centre_tick, to_sign, to_centre, power_lost, power_back, centre_restart, forge_sign, forge_centre}
-use Rattle.dms_replay.specs.Fields.{SpellsOctet, SpellsTwoOctets, SpellsFourOctets, SpellsAddress, SpellsCode}
+use Rattle.dms_world.specs.Event.{EventModel, command, sign_tick, centre_tick, to_sign, to_centre, power_lost, power_back, centre_restart, forge_sign, forge_centre}
+use Rattle.dms_description.specs.Fields.{SpellsOctet, SpellsTwoOctets, SpellsFourOctets}
+use Rattle.dms_replay.specs.EventFields.{SpellsAddress, SpellsCode}
 
 -- `publish MEMORY NUMBER TEXT OWNER BEACON PIXEL RUN MINUTES PRIORITY ADDRESS`
 pub record SpellsPublication (publication : PublicationModel) (words : List (List ℕ)) : Type 0 where

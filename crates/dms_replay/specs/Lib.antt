@@ -1,13 +1,5 @@
--- what a reader must believe: events, the world after them, and what holds of it; scripts, descriptions of signs and reports as text
-pub mod Event
-pub mod Fields
+-- what a reader must believe: scripts of events, and reports of runs, as text
+pub mod EventFields
 pub mod EventLine
-pub mod Description
-pub mod BenchSign
 pub mod Script
-pub mod World
-pub mod Backed
-pub mod GoodRows
-pub mod Honest
-pub mod Headline
 pub mod Report

@@ -8,7 +8,7 @@ use Rattle.dms_table.specs.Activation.{ShownModel}
 use Rattle.dms_sign.specs.Values.{minutes_left}
 use Rattle.dms_centre.specs.State.{Entry}
 use Rattle.dms_centre.specs.Texts.{outcome_text}
-use Rattle.dms_replay.specs.World.{WorldModel}
+use Rattle.dms_world.specs.World.{WorldModel}
 
 -- ---- words
 

@@ -1,20 +1,18 @@
 -- Scripts: a sign, then what happens, an event a line (this profile).
 use Rattle.std.specs.Prelude.{◌≡◌, ℕ, ◌≤◌, List, [], ◌∷◌, ◌++◌, length, codes}
 use Rattle.dms_text.specs.Lines.{kept_lines}
-use Rattle.dms_replay.specs.Event.{EventModel}
-use Rattle.dms_replay.specs.Fields.{SpellsEach}
+use Rattle.dms_world.specs.Event.{EventModel}
+use Rattle.dms_description.specs.Fields.{SpellsEach}
 use Rattle.dms_replay.specs.EventLine.{SpellsEvent}
-use Rattle.dms_replay.specs.Description.{Description, SpellsSign}
-use Rattle.dms_replay.specs.BenchSign.{bench_text}
+use Rattle.dms_sign.specs.State.{start}
+use Rattle.dms_centre.specs.State as centre
+use Rattle.dms_description.specs.Description.{Description, SpellsSign, longest_input}
+use Rattle.dms_world.specs.World.{WorldModel, beginning}
+use Rattle.dms_description.specs.BenchSign.{bench_text}
 
--- inputs have at most so many octets
-abbrev pub longest_input : ℕ
-longest_input = 1048576
-
--- an input that is a sign's description and nothing else
-pub record SpellsDescription (octets : List ℕ) (sign : Description) : Type 0 where
-  pub short : length octets ≤ longest_input
-  pub lines : SpellsSign (kept_lines octets) sign
+-- the world in which a script's events happen: the centre has the sign's writing community and its order
+abbrev pub beginning_of : Description → WorldModel
+beginning_of it = beginning (start it.config it.table) (centre.start (record { community = it.config.writer; order = it.table.order }) it.first)
 
 -- the lines that name a sign: the word `bench`, or the sign's own description
 pub data NamesSign : List (List ℕ) → Description → Type 0 where

@@ -1,7 +1,2 @@
-//! Both ends in one world, with every datagram that was ever sent between them; scripts of events, and the report of a run.
+//! Scripts of events as text, and the report of their run.
 #![tactic(auto)]
-
-pub mod laws;
-pub mod ledger_laws;
-pub mod number_laws;
-pub mod sign_laws;

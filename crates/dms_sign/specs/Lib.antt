@@ -2,6 +2,7 @@
 pub mod Communities
 pub mod Configuration
 pub mod State
+pub mod Construction
 pub mod Values
 pub mod OwnCodes
 pub mod Access

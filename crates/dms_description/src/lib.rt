@@ -1,0 +1,2 @@
+//! Signs as text: a description, a line for each part.
+#![tactic(auto)]

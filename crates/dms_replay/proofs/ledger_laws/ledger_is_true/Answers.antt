@@ -1,5 +1,0 @@
-use Rattle.dms_replay.proofs.WorldHonest.{ledger_is_true}
-use Rattle.dms_replay.proofs.ledger_laws.ledger_is_true.Goals as goal
-
-pub returns : goal.returns
-returns c = ledger_is_true

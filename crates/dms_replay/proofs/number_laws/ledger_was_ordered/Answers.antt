@@ -1,5 +1,0 @@
-use Rattle.dms_replay.proofs.WorldOrders as orders
-use Rattle.dms_replay.proofs.number_laws.ledger_was_ordered.Goals as goal
-
-pub returns : goal.returns
-returns c = orders.ledger_was_ordered

@@ -1,0 +1,28 @@
+-- What single words of an event's line spell (this profile).
+use Rattle.std.specs.Prelude.{◌≡◌, ℕ, ◌==◌, ◌≤◌, List, length, Ok}
+use Rattle.std.specs.List.{slice_split}
+use Rattle.hex.specs.Hex.{decode_of}
+use Rattle.dms_text.specs.Numbers.{SpellsNumber}
+use Rattle.dms_codes.specs.declared.codes.Order.{Order}
+use Rattle.dms_codes.specs.declared.codes.Activation.{Activation}
+use Rattle.dms_codes.specs.Codes.{octets_of_activation, IsActivation}
+use Rattle.dms_description.specs.Fields.{SpellsEach}
+
+-- one number of an address: one to three decimal digits, at most 255
+pub record SpellsAddressPart (number : ℕ) (word : List ℕ) : Type 0 where
+  pub spelled : SpellsNumber 10 3 number word
+  pub small : number ≤ 255
+
+-- what stands before, between and behind the dots of a word
+abbrev pub parts_of : List ℕ → List (List ℕ)
+parts_of word = slice_split (λ octet. octet == 46) word
+
+-- four numbers parted by dots
+pub record SpellsAddress (address : List ℕ) (word : List ℕ) : Type 0 where
+  pub four : length address ≡ 4
+  pub parts : SpellsEach SpellsAddressPart address (parts_of word)
+
+-- the twelve octets of a code, as pairs of hexadecimal digits
+pub record SpellsCode (order : Order) (code : Activation) (word : List ℕ) : Type 0 where
+  pub is_code : IsActivation code
+  pub digits : decode_of word ≡ Ok (octets_of_activation order code)

@@ -1,0 +1,27 @@
+-- Which signs can be made (this profile).
+use Rattle.std.specs.Prelude.{◌≡◌, ◌≢◌, ℕ, ◌&&◌, ◌≤◌, IsTrue, Bool, length, replicate}
+use Rattle.std.specs.List.{list_all}
+use Rattle.dms_face.specs.Face.{FaceModel, is_face}
+use Rattle.dms_table.specs.declared.row.Services.{Services}
+use Rattle.dms_table.specs.Rows.{RowModel, TableModel, unused}
+use Rattle.dms_table.specs.Validation.{verdict_of, passes}
+use Rattle.dms_table.specs.Stock.{has_ranges}
+use Rattle.dms_sign.specs.Communities.{has_community_size}
+use Rattle.dms_sign.specs.State.{ConfigModel}
+
+-- a permanent row is one that could be validated
+abbrev pub may_stand : Services → FaceModel → RowModel → Bool
+may_stand services face row = has_ranges row && passes (verdict_of services face row)
+
+-- At most 16 permanent rows, and 64 changeable and 16 volatile ones that are not used; the communities differ.
+pub record CanBeMade (config : ConfigModel) (table : TableModel) : Type 0 where
+  pub face : IsTrue (is_face config.face)
+  pub permanent : length table.permanent ≤ 16
+  pub rows : IsTrue (list_all (may_stand table.services config.face) table.permanent)
+  pub changeable : length table.changeable ≤ 64
+  pub changeable_unused : table.changeable ≡ replicate (length table.changeable) unused
+  pub volatile : length table.volatile ≤ 16
+  pub volatile_unused : table.volatile ≡ replicate (length table.volatile) unused
+  pub reader : IsTrue (has_community_size config.reader)
+  pub writer : IsTrue (has_community_size config.writer)
+  pub differ : config.reader ≢ config.writer

@@ -1,0 +1,186 @@
+-- What was sent and what was accepted stays in its place, whatever happens later.
+use Rattle.std.proofs.Common.{◌≡◌, ℕ, zero, suc, ◌<◌, ◌≤◌, inl, inr, List, ◌++◌, Option, Some, None, slice_get, option_to_list, refl, sym, subst, arith, append-nil}
+use Rattle.std.proofs.lemmas.Bool.{cases_lt}
+use Rattle.dms_codes.specs.declared.codes.Activation.{Activation}
+use Rattle.dms_sign.specs.Reply as sign_reply
+use Rattle.dms_centre.specs.State.{SettingsModel}
+use Rattle.dms_centre.specs.Sending.{Move}
+use Rattle.dms_centre.specs.Commands.{commanded}
+use Rattle.dms_centre.specs.Inputs.{received, ticked}
+use Rattle.dms_centre.specs.History.{Input, History, move_at}
+use Rattle.dms_centre.specs.RequestNumbers.{HasNumber, Sends, Nothing, Again, New}
+use Rattle.dms_centre.proofs.Lists.{on_left, in_push}
+use Rattle.dms_centre.proofs.Numbers.{one_number, request_number}
+use Rattle.dms_centre.proofs.Keeping.{keeps_input}
+use Rattle.dms_centre.proofs.LedgerLaws.{IsKept}
+use Rattle.dms_world.specs.Event.{EventModel, command, sign_tick, centre_tick, to_sign, to_centre, power_lost, power_back, centre_restart, forge_sign, forge_centre}
+use Rattle.dms_world.specs.World.{WorldModel, noted, by_sign, by_centre, at_sign, at_centre, happens, happens_if, world_at, IsFresh}
+use Rattle.dms_world.specs.Backed.{Has}
+use Rattle.dms_world.specs.Headline.{AreEvents}
+use Rattle.dms_world.proofs.WorldInputs.{history_of, after_if, input_after, moves_at, IsInputIf, is_input_after}
+use Rattle.dms_world.proofs.WorldNumbers.{kept_at}
+
+-- each datagram and each activation is where it was
+pub record Grows (before after : WorldModel) : Type 0 where
+  pub to_sign : (place : ℕ) (datagram : List ℕ) → slice_get before.to_sign place ≡ Some datagram → slice_get after.to_sign place ≡ Some datagram
+  pub to_centre : (place : ℕ) (datagram : List ℕ) → slice_get before.to_centre place ≡ Some datagram → slice_get after.to_centre place ≡ Some datagram
+  pub accepted : (place : ℕ) (one : ℕ × Activation) → slice_get before.accepted place ≡ Some one → slice_get after.accepted place ≡ Some one
+
+-- ---- one event
+
+grows_not : (before after : WorldModel) → after.to_sign ≡ before.to_sign → after.to_centre ≡ before.to_centre → after.accepted ≡ before.accepted → Grows before after
+grows_not before after a b c = record {
+  to_sign = λ place datagram e. subst (λ xs. slice_get xs place ≡ Some datagram) (sym a) e;
+  to_centre = λ place datagram e. subst (λ xs. slice_get xs place ≡ Some datagram) (sym b) e;
+  accepted = λ place one e. subst (λ xs. slice_get xs place ≡ Some one) (sym c) e;
+}
+
+grows_by_sign : (number : ℕ) (world : WorldModel) (did : sign_reply.Received) → Grows world (by_sign number world did)
+grows_by_sign number world did = record {
+  to_sign = λ place datagram e. e;
+  to_centre = λ place datagram e. on_left world.to_centre (option_to_list did.reply) place datagram e;
+  accepted = λ place one e. on_left world.accepted (noted number did.accepted) place one e;
+}
+
+grows_by_centre : (world : WorldModel) (move : Move) → Grows world (by_centre world move)
+grows_by_centre world move = record {
+  to_sign = λ place datagram e. on_left world.to_sign (option_to_list move.sent) place datagram e;
+  to_centre = λ place datagram e. e;
+  accepted = λ place one e. e;
+}
+
+grows_at_sign : (number : ℕ) (world : WorldModel) (o : Option (List ℕ)) → Grows world (at_sign number world o)
+grows_at_sign number world None = grows_not world world refl refl refl
+grows_at_sign number world (Some datagram) = grows_by_sign number world (sign_reply.received world.sign datagram)
+
+grows_at_centre : (world : WorldModel) (o : Option (List ℕ)) → Grows world (at_centre world o)
+grows_at_centre world None = grows_not world world refl refl refl
+grows_at_centre world (Some datagram) = grows_by_centre world (received world.centre datagram)
+
+grows_event : (number : ℕ) (world : WorldModel) (event : EventModel) → Grows world (happens number world event)
+grows_event number world (command asked) = grows_by_centre world (commanded world.centre asked)
+grows_event number world sign_tick = grows_not world (happens number world sign_tick) refl refl refl
+grows_event number world centre_tick = grows_by_centre world (ticked world.centre)
+grows_event number world (to_sign place) = grows_at_sign number world (slice_get world.to_sign place)
+grows_event number world (to_centre place) = grows_at_centre world (slice_get world.to_centre place)
+grows_event number world power_lost = grows_not world (happens number world power_lost) refl refl refl
+grows_event number world (power_back seconds) = grows_not world (happens number world (power_back seconds)) refl refl refl
+grows_event number world centre_restart = grows_not world (happens number world centre_restart) refl refl refl
+grows_event number world (forge_sign datagram) = grows_at_sign number world (Some datagram)
+grows_event number world (forge_centre datagram) = grows_at_centre world (Some datagram)
+
+grows_if : (number : ℕ) (world : WorldModel) (o : Option EventModel) → Grows world (happens_if number world o)
+grows_if number world None = grows_not world world refl refl refl
+grows_if number world (Some event) = grows_event number world event
+
+-- ---- any number of events
+
+pub grows_step : (world : WorldModel) (events : List EventModel) (count : ℕ) → Grows (world_at world events count) (world_at world events (suc count))
+grows_step world events count = grows_if (suc count) (world_at world events count) (slice_get events count)
+
+grows_again : (a b c : WorldModel) → Grows a b → Grows b c → Grows a c
+grows_again a b c first second = record {
+  to_sign = λ place datagram e. second.to_sign place datagram (first.to_sign place datagram e);
+  to_centre = λ place datagram e. second.to_centre place datagram (first.to_centre place datagram e);
+  accepted = λ place one e. second.accepted place one (first.accepted place one e);
+}
+
+pub grows_until : (world : WorldModel) (events : List EventModel) (count later : ℕ) → count ≤ later
+    → Grows (world_at world events count) (world_at world events later)
+grows_until world events count zero le =
+    let same : count ≡ zero = omega (arith, le) in
+    subst (λ n. Grows (world_at world events count) (world_at world events n)) same
+    (grows_not (world_at world events count) (world_at world events count) refl refl refl)
+grows_until world events count (suc later) le =
+    elim (cases_lt later count) [
+      | inl now ↦
+          (let same : count ≡ suc later = omega (arith, le, now) in
+          subst (λ n. Grows (world_at world events count) (world_at world events n)) same
+          (grows_not (world_at world events count) (world_at world events count) refl refl refl))
+      | inr before ↦
+          grows_again (world_at world events count) (world_at world events later) (world_at world events (suc later))
+          (grows_until world events count later before) (grows_step world events later)
+    ]
+
+-- ---- numbers that were taken
+
+-- the next number never falls
+next_by : (settings : SettingsModel) (next : ℕ) (sent : List (List ℕ)) (move : Move) → Sends settings next sent move → next ≤ move.state.next
+next_by settings next sent move (Nothing none same) = omega (arith, same)
+next_by settings next sent move (Again octets k out there same) = omega (arith, same)
+next_by settings next sent move (New octets out is more) = omega (arith, more)
+
+next_if : (history : History) (o : Option Input) → IsKept history → IsInputIf o → history.state.next ≤ (after_if history o).state.next
+next_if history None kept is = omega arith
+next_if history (Some input) kept is =
+    next_by history.state.settings history.state.next history.sent (move_at history.state input) (keeps_input history input kept.numbered is).sends
+
+pub next_step : (world : WorldModel) (events : List EventModel) → IsFresh world → AreEvents events → (count : ℕ)
+    → (world_at world events count).centre.next ≤ (world_at world events (suc count)).centre.next
+next_step world events fresh are count =
+    subst (λ (history : History). (world_at world events count).centre.next ≤ history.state.next) (sym (moves_at world events count))
+    (next_if (history_of (world_at world events count)) (input_after world events count) (kept_at world events fresh are count).kept (is_input_after world events count are))
+
+pub next_until : (world : WorldModel) (events : List EventModel) → IsFresh world → AreEvents events → (count later : ℕ) → count ≤ later
+    → (world_at world events count).centre.next ≤ (world_at world events later).centre.next
+next_until world events fresh are count zero le =
+    let same : count ≡ zero = omega (arith, le) in
+    subst (λ n. (world_at world events count).centre.next ≤ (world_at world events n).centre.next) same (omega arith)
+next_until world events fresh are count (suc later) le =
+    elim (cases_lt later count) [
+      | inl now ↦
+          (let same : count ≡ suc later = omega (arith, le, now) in
+          subst (λ n. (world_at world events count).centre.next ≤ (world_at world events n).centre.next) same (omega arith))
+      | inr before ↦ omega (arith, next_until world events fresh are count later before, next_step world events fresh are later)
+    ]
+
+-- A datagram whose number had been taken before the move was there before it.
+there_by : (settings : SettingsModel) (next : ℕ) (sent : List (List ℕ)) (move : Move) (number : ℕ) → Sends settings next sent move → number < next
+    → (place : ℕ) (datagram : List ℕ) → slice_get (sent ++ option_to_list move.sent) place ≡ Some datagram → HasNumber number datagram → Has sent datagram
+there_by settings next sent move number (Nothing none same) less place datagram e has =
+    let all = subst (λ o. slice_get (sent ++ option_to_list o) place ≡ Some datagram) none e in
+    (place, subst (λ xs. slice_get xs place ≡ Some datagram) (append-nil sent) all)
+there_by settings next sent move number (Again octets k out there same) less place datagram e has =
+    elim (in_push sent octets place datagram (subst (λ o. slice_get (sent ++ option_to_list o) place ≡ Some datagram) out e)) [
+      | inl old ↦ (place, old)
+      | inr last ↦ (k, subst (λ o. slice_get sent k ≡ Some o) last.1 there)
+    ]
+there_by settings next sent move number (New octets out is more) less place datagram e has =
+    elim (in_push sent octets place datagram (subst (λ o. slice_get (sent ++ option_to_list o) place ≡ Some datagram) out e)) [
+      | inl old ↦ (place, old)
+      | inr last ↦
+          (let same = one_number number next datagram has (subst (HasNumber next) last.1 (request_number settings next octets is)) in
+          absurd (omega (arith, same, less)))
+    ]
+
+there_if : (history : History) (o : Option Input) (number : ℕ) → IsKept history → IsInputIf o → number < history.state.next
+    → (place : ℕ) (datagram : List ℕ) → slice_get (after_if history o).sent place ≡ Some datagram → HasNumber number datagram → Has history.sent datagram
+there_if history None number kept is less place datagram e has = (place, e)
+there_if history (Some input) number kept is less place datagram e has =
+    there_by history.state.settings history.state.next history.sent (move_at history.state input) number
+    (keeps_input history input kept.numbered is).sends less place datagram e has
+
+pub there_step : (world : WorldModel) (events : List EventModel) → IsFresh world → AreEvents events → (count number : ℕ)
+    → number < (world_at world events count).centre.next → (datagram : List ℕ) → Has (world_at world events (suc count)).to_sign datagram
+    → HasNumber number datagram → Has (world_at world events count).to_sign datagram
+there_step world events fresh are count number less datagram there has =
+    there_if (history_of (world_at world events count)) (input_after world events count) number (kept_at world events fresh are count).kept
+    (is_input_after world events count are) less there.0 datagram
+    (subst (λ (history : History). slice_get history.sent there.0 ≡ Some datagram) (moves_at world events count) there.1) has
+
+-- What is ever sent with a number that had been taken had been sent by then.
+pub there_before : (world : WorldModel) (events : List EventModel) → IsFresh world → AreEvents events → (count later number : ℕ) → count ≤ later
+    → number < (world_at world events count).centre.next → (datagram : List ℕ) → Has (world_at world events later).to_sign datagram
+    → HasNumber number datagram → Has (world_at world events count).to_sign datagram
+there_before world events fresh are count zero number le less datagram there has =
+    let same : zero ≡ count = omega (arith, le) in
+    subst (λ n. Has (world_at world events n).to_sign datagram) same there
+there_before world events fresh are count (suc later) number le less datagram there has =
+    elim (cases_lt later count) [
+      | inl now ↦
+          (let same : suc later ≡ count = omega (arith, le, now) in
+          subst (λ n. Has (world_at world events n).to_sign datagram) same there)
+      | inr before ↦
+          there_before world events fresh are count later number before less datagram
+          (there_step world events fresh are later number (omega (arith, less, next_until world events fresh are count later before)) datagram there has) has
+    ]

@@ -1,0 +1,153 @@
+-- Each row that is valid after any events was good when it was settled.
+use Rattle.std.proofs.Common.{◌≡◌, ◌≢◌, ℕ, zero, suc, ◌-◌, ◌==◌, Bool, true, false, cond, List, [], ◌∷◌, length, replicate, Some, None, slice_get, refl, ap, sym, subst, ◌∙◌, arith}
+use Rattle.std.specs.List.{list_all}
+use Rattle.std.proofs.lemmas.Bool.{eqb-true, and_parts}
+use Rattle.dms_face.specs.Face.{FaceModel}
+use Rattle.dms_face.specs.Layout.{under}
+use Rattle.dms_codes.specs.declared.status.Status.TheVariants.{NotUsed, Valid, Validating}
+use Rattle.dms_table.specs.declared.row.Services.{Services}
+use Rattle.dms_table.specs.Rows.{RowModel, TableModel, unused, numbered}
+use Rattle.dms_codes.specs.Memory.{permanent_memory, changeable_memory, volatile_memory}
+use Rattle.dms_table.specs.Validation.{verdict_of, passes, IsShowable, CameToBeValid, was_valid, was_settled as came_settled}
+use Rattle.dms_table.specs.Stock.{has_ranges}
+use Rattle.dms_table.proofs.GoodRows.{showable}
+use Rattle.dms_sign.specs.State.{ConfigModel}
+use Rattle.dms_sign.proofs.StepRows.{good_where_passes}
+use Rattle.dms_sign.specs.Construction.{may_stand}
+use Rattle.dms_world.specs.Event.{EventModel}
+use Rattle.dms_world.specs.World.{WorldModel, IsFresh, world_at}
+use Rattle.dms_world.specs.Backed.{stored_row}
+use Rattle.dms_world.specs.GoodRows.{CouldBeShown, WasGood, was_made, was_settled, ValidRowsWereGood}
+use Rattle.dms_world.proofs.WorldSignSteps.{world_step}
+use Rattle.dms_world.proofs.WorldSignSound.{IsSoundAt, sound_at}
+
+abbrev pub GoodRowsAt : WorldModel → List EventModel → ℕ → Type 0
+GoodRowsAt world events count =
+    (memory number : ℕ) (row : RowModel) → stored_row (world_at world events count).sign.table memory number ≡ Some row → row.status ≡ Valid
+    → WasGood world events count memory number row
+
+-- ---- one event more
+
+good_more : (world : WorldModel) (events : List EventModel) (count memory number : ℕ) (row : RowModel) → WasGood world events count memory number row
+    → WasGood world events (suc count) memory number row
+good_more world events count memory number row (was_made is could) = was_made is could
+good_more world events count memory number row (was_settled is before less first then could) = was_settled is before (omega arith) first then could
+
+-- what the sign has, and its face, are those of the start
+could_be : (world : WorldModel) (events : List EventModel) (count : ℕ) (row : RowModel) → IsSoundAt world events count
+    → IsShowable (world_at world events count).sign.table.services (under (world_at world events count).sign.config.face (world_at world events count).sign.defaults) row
+    → CouldBeShown world (world_at world events count).sign.defaults row
+could_be world events count row sound can =
+    let defaults = (world_at world events count).sign.defaults in
+    subst (λ (c : ConfigModel). IsShowable world.sign.table.services (under c.face defaults) row) sound.config
+    (subst (λ (s : Services). IsShowable s (under (world_at world events count).sign.config.face defaults) row) sound.services can)
+
+-- a permanent row is never settled
+not_permanent : (old new : TableModel) (number : ℕ) (row : RowModel) → new.permanent ≡ old.permanent → row.status ≡ Valid
+    → numbered old.permanent number ≡ Some (record row { status = Validating }) → numbered new.permanent number ≡ Some row → {P : Type 0} → P
+not_permanent old new number row same valid before then =
+    let e : Some (record row { status = Validating }) ≡ Some row = sym before ∙ sym (ap (λ rows. numbered rows number) same) ∙ then in
+    let rows : record row { status = Validating } ≡ row = cc in
+    let status : Validating ≡ row.status = ap (λ (r : RowModel). r.status) rows in
+    let wrong : Validating ≡ Valid = status ∙ valid in
+    absurd (cc)
+
+is_changed : (old new : TableModel) (memory number : ℕ) (row : RowModel) → new.permanent ≡ old.permanent → row.status ≡ Valid
+    → stored_row old memory number ≡ Some (record row { status = Validating }) → stored_row new memory number ≡ Some row → memory ≢ permanent_memory
+is_changed old new memory number row same valid before then = λ is.
+    not_permanent old new number row same valid
+    (subst (λ m. stored_row old m number ≡ Some (record row { status = Validating })) is before)
+    (subst (λ m. stored_row new m number ≡ Some row) is then)
+
+good_came : (world : WorldModel) (events : List EventModel) (count memory number : ℕ) (row : RowModel) → GoodRowsAt world events count
+    → stored_row (world_at world events (suc count)).sign.table memory number ≡ Some row → row.status ≡ Valid
+    → IsSoundAt world events count
+    → (world_at world events (suc count)).sign.table.permanent ≡ (world_at world events count).sign.table.permanent
+    → CameToBeValid (world_at world events count).sign.table.services
+    (under (world_at world events count).sign.config.face (world_at world events count).sign.defaults)
+    (stored_row (world_at world events count).sign.table memory number) row
+    → WasGood world events (suc count) memory number row
+good_came world events count memory number row good there valid sound permanent (was_valid before) =
+    good_more world events count memory number row (good memory number row before valid)
+good_came world events count memory number row good there valid sound permanent (came_settled before can) =
+    was_settled
+    (is_changed (world_at world events count).sign.table (world_at world events (suc count)).sign.table memory number row permanent valid before there)
+    count (omega arith) before there (could_be world events count row sound can)
+
+good_next : (world : WorldModel) (events : List EventModel) (count : ℕ) → IsFresh world → GoodRowsAt world events count → GoodRowsAt world events (suc count)
+good_next world events count fresh good = λ memory number row there valid.
+    let table = (world_step world events count).step.table in
+    good_came world events count memory number row good there valid (sound_at world events fresh count) table.permanent (table.rows memory number row there valid)
+
+-- ---- the start
+
+at_place : (test : RowModel → Bool) (rows : List RowModel) (place : ℕ) (row : RowModel) → list_all test rows ≡ true → slice_get rows place ≡ Some row → test row ≡ true
+at_place test [] place row all e = absurd (cc)
+at_place test (x ∷ xs) zero row all e =
+    let same : x ≡ row = cc in subst (λ r. test r ≡ true) same (and_parts (test x) (list_all test xs) all).0
+at_place test (x ∷ xs) (suc place) row all e = at_place test xs place row (and_parts (test x) (list_all test xs) all).1 e
+
+never_at : (n place : ℕ) (row : RowModel) → slice_get (replicate n unused) place ≡ Some row → row.status ≡ Valid → {P : Type 0} → P
+never_at zero place row e valid = absurd (cc)
+never_at (suc n) zero row e valid =
+    let same : unused ≡ row = cc in
+    let status : NotUsed ≡ row.status = ap (λ (r : RowModel). r.status) same in
+    let wrong : NotUsed ≡ Valid = status ∙ valid in
+    absurd (cc)
+never_at (suc n) (suc place) row e valid = never_at n place row e valid
+
+can_stand : (services : Services) (face : FaceModel) (row : RowModel) → may_stand services face row ≡ true → IsShowable services face row
+can_stand services face row e =
+    let pass = (and_parts (has_ranges row) (passes (verdict_of services face row)) e).1 in
+    showable services face row pass (good_where_passes services face row pass)
+
+permanent_can : (b : Bool) (services : Services) (face : FaceModel) (rows : List RowModel) (place : ℕ) (row : RowModel) → list_all (may_stand services face) rows ≡ true
+    → cond b None (slice_get rows place) ≡ Some row → IsShowable services face row
+permanent_can true services face rows place row all e = absurd (cc)
+permanent_can false services face rows place row all e = can_stand services face row (at_place (may_stand services face) rows place row all e)
+
+none_valid : (b : Bool) (rows : List RowModel) (place : ℕ) (row : RowModel) → rows ≡ replicate (length rows) unused → cond b None (slice_get rows place) ≡ Some row
+    → row.status ≡ Valid → {P : Type 0} → P
+none_valid true rows place row are e valid = absurd (cc)
+none_valid false rows place row are e valid =
+    never_at (length rows) place row (subst (λ (xs : List RowModel). slice_get xs place ≡ Some row) are e) valid
+
+none_in_none : (b : Bool) (place : ℕ) (row : RowModel) → cond b None (slice_get [] place) ≡ Some row → {P : Type 0} → P
+none_in_none true place row e = absurd (cc)
+none_in_none false place row e = absurd (cc)
+
+-- a table in which only permanent rows are used
+record IsStart (face : FaceModel) (table : TableModel) : Type 0 where
+  permanent : list_all (may_stand table.services face) table.permanent ≡ true
+  changeable : table.changeable ≡ replicate (length table.changeable) unused
+  volatile : table.volatile ≡ replicate (length table.volatile) unused
+
+start_rows : (is_permanent is_changeable is_volatile : Bool) (face : FaceModel) (table : TableModel) (memory number : ℕ) (row : RowModel) → IsStart face table
+    → (memory == permanent_memory) ≡ is_permanent
+    → numbered (cond is_permanent table.permanent (cond is_changeable table.changeable (cond is_volatile table.volatile []))) number ≡ Some row → row.status ≡ Valid
+    → (memory ≡ permanent_memory) × IsShowable table.services face row
+start_rows true c v face table memory number row start is e valid =
+    (eqb-true memory permanent_memory is, permanent_can (number == 0) table.services face table.permanent (number - 1) row start.permanent e)
+start_rows false true v face table memory number row start is e valid = none_valid (number == 0) table.changeable (number - 1) row start.changeable e valid
+start_rows false false true face table memory number row start is e valid = none_valid (number == 0) table.volatile (number - 1) row start.volatile e valid
+start_rows false false false face table memory number row start is e valid = none_in_none (number == 0) (number - 1) row e
+
+is_start : (world : WorldModel) → IsFresh world → IsStart (under world.sign.config.face world.sign.config.face.defaults) world.sign.table
+is_start world fresh =
+    let made = fresh.can_be_made in
+    subst (λ (w : WorldModel). IsStart (under w.sign.config.face w.sign.config.face.defaults) w.sign.table) (sym fresh.is_beginning)
+    (record { permanent = made.rows; changeable = made.changeable_unused; volatile = made.volatile_unused })
+
+good_first : (world : WorldModel) (events : List EventModel) → IsFresh world → GoodRowsAt world events zero
+good_first world events fresh = λ memory number row there valid.
+    let made =
+    start_rows (memory == permanent_memory) (memory == changeable_memory) (memory == volatile_memory)
+    (under world.sign.config.face world.sign.config.face.defaults) world.sign.table memory number row (is_start world fresh) refl there valid in
+    was_made made.0 made.1
+
+pub good_rows_at : (world : WorldModel) (events : List EventModel) → IsFresh world → (count : ℕ) → GoodRowsAt world events count
+good_rows_at world events fresh zero = good_first world events fresh
+good_rows_at world events fresh (suc count) = good_next world events count fresh (good_rows_at world events fresh count)
+
+pub valid_rows_were_good : (world : WorldModel) (events : List EventModel) → IsFresh world → ValidRowsWereGood world events
+valid_rows_were_good world events fresh = good_rows_at world events fresh (length events)

@@ -1,0 +1,7 @@
+//! A sign and a centre in one world, with every datagram that was ever sent between them: what holds of it after any events.
+#![tactic(auto)]
+
+pub mod laws;
+pub mod ledger_laws;
+pub mod number_laws;
+pub mod sign_laws;
