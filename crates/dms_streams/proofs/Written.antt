@@ -1,0 +1,39 @@
+-- A loop of calls of a writer writes a front of the octets, and tells which call failed.
+use Rattle.std.proofs.Common.{◌≡◌, ℕ, List, [], ◌∷◌, ◌++◌, take, drop, length, refl, sym, ◌∙◌, ap, subst, Option, Result, Ok, append_assoc, ◌==◌, false, if◌then◌else◌, arith}
+use Rattle.std.proofs.lemmas.Bool.Decides.{nat_tests}
+use Rattle.std.proofs.lemmas.List.{take-append-drop}
+use Rattle.std.specs.Io.KnownBytes.{Appends, WriteAppends}
+use Rattle.std.proofs.KnownBytes.{Appends-trans}
+use Rattle.dms_streams.specs.Calls.{one_more, after_write}
+
+whole_still : (octets front rest behind : List ℕ) (count : ℕ) → octets ≡ front ++ rest → behind ≡ drop count rest
+    → octets ≡ (front ++ take count rest) ++ behind
+whole_still octets front rest behind count whole cut =
+    whole ∙ ap (λ xs. front ++ xs) (sym (take-append-drop count rest)) ∙ sym (append_assoc front (take count rest) (drop count rest))
+    ∙ ap (λ xs. (front ++ take count rest) ++ xs) (sym cut)
+
+no_zero : (count : ℕ) → (count ≡ 0 → ⊥) → (count == 0) ≡ false
+no_zero count some = grind (arith, nat_tests)
+
+-- what a call took stands behind what earlier calls took
+pub wrote_more : {E : Type 0} (first now next : Option (List ℕ)) (octets front rest behind : List ℕ) (count : ℕ) (result : Result ℕ E)
+    → octets ≡ front ++ rest → Appends first now front → result ≡ Ok count → WriteAppends now next result rest → behind ≡ drop count rest
+    → (written : List ℕ) × (octets ≡ written ++ behind) × Appends first next written
+wrote_more first now next octets front rest behind count result whole before is_ok wrote cut =
+    let took : Appends now next (take count rest) = subst (λ r. WriteAppends now next r rest) is_ok wrote in
+    (front ++ take count rest, whole_still octets front rest behind count whole cut, Appends-trans first now next front (take count rest) before took)
+
+-- a call that took some is no failure
+pub unfailed : {E : Type 0} (before after count : ℕ) (octets : List ℕ) (result : Result ℕ E) → after ≡ after_write before result octets → result ≡ Ok count
+    → (count ≡ 0 → ⊥) → after ≡ before
+unfailed {E} before after count [] result counted is_ok some = counted ∙ ap (λ r. after_write {E = E} before r []) is_ok
+unfailed {E} before after count (octet ∷ octets) result counted is_ok some =
+    counted ∙ ap (λ r. after_write {E = E} before r (octet ∷ octets)) is_ok
+    ∙ ap (λ b. if b then one_more before else before) (no_zero count some)
+
+-- a call that took none of some octets is one
+pub took_none : {E : Type 0} (before after count : ℕ) (octets : List ℕ) (result : Result ℕ E) → after ≡ after_write before result octets → result ≡ Ok count
+    → count ≡ 0 → (length octets ≡ 0 → ⊥) → after ≡ one_more before
+took_none before after count [] result counted is_ok none some = absurd (some refl)
+took_none {E} before after count (octet ∷ octets) result counted is_ok none some =
+    counted ∙ ap (λ r. after_write {E = E} before r (octet ∷ octets)) (is_ok ∙ ap (λ n. Ok n) none)

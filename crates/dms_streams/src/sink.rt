@@ -1,0 +1,27 @@
+//! What is written to.
+
+ghost use Rattle.std.specs.Prelude.{◌≡◌, ℕ, List, Option, None};
+ghost use Rattle.std.specs.Io.{WritesAtMost};
+ghost use Rattle.std.specs.Io.KnownBytes.{WriteAppends};
+ghost use Rattle.dms_streams.specs.Calls.{after_write};
+
+use crate::failed::Failed;
+
+/// What octets are written to. It counts its calls that failed; to take none of some octets is to fail.
+pub trait Sink {
+    // The octets that it holds, where they are known.
+    ghost contents: { Self → Option (List ℕ) } = { λ _. None };
+
+    // The number of calls that failed.
+    ghost failed: { Self → ℕ };
+
+    /// Takes some octets from the front of these, and gives their number.
+    fn write_some(&mut self, octets: &[u8]) -> Result<usize, Failed>
+        ensures bound { WritesAtMost result octets.now }
+        ensures octets { WriteAppends (contents self.old) (contents self.new) result octets.now }
+        ensures count { failed self.new ≡ after_write (failed self.old) result octets.now };
+
+    /// The number of calls that failed, from 0; it stays at its greatest value.
+    fn failures(&self) -> u64
+        ensures { result ≡ failed self.now };
+}
