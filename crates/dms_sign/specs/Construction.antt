@@ -2,6 +2,7 @@
 use Rattle.std.specs.Prelude.{◌≡◌, ◌≢◌, ℕ, ◌&&◌, ◌≤◌, IsTrue, Bool, length, replicate}
 use Rattle.std.specs.List.{list_all}
 use Rattle.dms_face.specs.Face.{FaceModel, is_face}
+use Rattle.dms_codes.specs.Status.{is_valid}
 use Rattle.dms_table.specs.declared.row.Services.{Services}
 use Rattle.dms_table.specs.Rows.{RowModel, TableModel, unused}
 use Rattle.dms_table.specs.Validation.{verdict_of, passes}
@@ -9,9 +10,9 @@ use Rattle.dms_table.specs.Stock.{has_ranges}
 use Rattle.dms_sign.specs.Communities.{has_community_size}
 use Rattle.dms_sign.specs.State.{ConfigModel}
 
--- a permanent row is one that could be validated
+-- a permanent row is valid, and one that could be validated
 abbrev pub may_stand : Services → FaceModel → RowModel → Bool
-may_stand services face row = has_ranges row && passes (verdict_of services face row)
+may_stand services face row = is_valid row.status && has_ranges row && passes (verdict_of services face row)
 
 -- At most 16 permanent rows, and 64 changeable and 16 volatile ones that are not used; the communities differ.
 pub record CanBeMade (config : ConfigModel) (table : TableModel) : Type 0 where

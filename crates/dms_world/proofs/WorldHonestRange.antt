@@ -1,9 +1,10 @@
 -- The sign of a fresh world is in range after any events.
-use Rattle.std.proofs.Common.{◌≡◌, ℕ, true, IsTrue, List, [], ◌∷◌, sym, subst}
+use Rattle.std.proofs.Common.{◌≡◌, ℕ, ◌&&◌, true, IsTrue, List, [], ◌∷◌, sym, subst}
 use Rattle.std.specs.List.{AllByRecursion, list_all}
 use Rattle.std.proofs.lemmas.Bool.{and_parts}
 use Rattle.std.proofs.lemmas.List.Elements.{All-from_recursion}
 use Rattle.dms_face.specs.Face.{FaceModel}
+use Rattle.dms_codes.specs.Status.{is_valid}
 use Rattle.dms_table.specs.declared.row.Services.{Services}
 use Rattle.dms_table.specs.Rows.{RowModel, TableModel}
 use Rattle.dms_table.specs.Validation.{verdict_of, passes}
@@ -23,7 +24,8 @@ have_ranges : (services : Services) (face : FaceModel) (rows : List RowModel) �
 have_ranges services face [] e = tt
 have_ranges services face (row ∷ rows) e =
     let both = and_parts (may_stand services face row) (list_all (may_stand services face) rows) e in
-    ((and_parts (has_ranges row) (passes (verdict_of services face row)) both.0).0, have_ranges services face rows both.1)
+    let stands = and_parts (is_valid row.status && has_ranges row) (passes (verdict_of services face row)) both.0 in
+    ((and_parts (is_valid row.status) (has_ranges row) stands.0).1, have_ranges services face rows both.1)
 
 stocked : (config : ConfigModel) (table : TableModel) → CanBeMade config table → IsStocked table
 stocked config table can = record {

@@ -1,10 +1,11 @@
 -- Each row that is valid after any events was good when it was settled.
-use Rattle.std.proofs.Common.{◌≡◌, ◌≢◌, ℕ, zero, suc, ◌-◌, ◌==◌, Bool, true, false, cond, List, [], ◌∷◌, length, replicate, Some, None, slice_get, refl, ap, sym, subst, ◌∙◌, arith}
+use Rattle.std.proofs.Common.{◌≡◌, ◌≢◌, ℕ, zero, suc, ◌-◌, ◌==◌, ◌&&◌, Bool, true, false, cond, List, [], ◌∷◌, length, replicate, Some, None, slice_get, refl, ap, sym, subst, ◌∙◌, arith}
 use Rattle.std.specs.List.{list_all}
 use Rattle.std.proofs.lemmas.Bool.{eqb-true, and_parts}
 use Rattle.dms_face.specs.Face.{FaceModel}
 use Rattle.dms_face.specs.Layout.{under}
 use Rattle.dms_codes.specs.declared.status.Status.TheVariants.{NotUsed, Valid, Validating}
+use Rattle.dms_codes.specs.Status.{is_valid}
 use Rattle.dms_table.specs.declared.row.Services.{Services}
 use Rattle.dms_table.specs.Rows.{RowModel, TableModel, unused, numbered}
 use Rattle.dms_codes.specs.Memory.{permanent_memory, changeable_memory, volatile_memory}
@@ -98,7 +99,7 @@ never_at (suc n) (suc place) row e valid = never_at n place row e valid
 
 can_stand : (services : Services) (face : FaceModel) (row : RowModel) → may_stand services face row ≡ true → IsShowable services face row
 can_stand services face row e =
-    let pass = (and_parts (has_ranges row) (passes (verdict_of services face row)) e).1 in
+    let pass = (and_parts (is_valid row.status && has_ranges row) (passes (verdict_of services face row)) e).1 in
     showable services face row pass (good_where_passes services face row pass)
 
 permanent_can : (b : Bool) (services : Services) (face : FaceModel) (rows : List RowModel) (place : ℕ) (row : RowModel) → list_all (may_stand services face) rows ≡ true
