@@ -9,3 +9,4 @@ pub mod GoodLaws
 pub mod WalkState
 pub mod ReadingLaws
 pub mod RuleLaws
+pub mod ApartLaws

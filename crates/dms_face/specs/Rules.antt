@@ -1,6 +1,6 @@
 -- What the rules say of each character and each page of a text (NTCIP 1203, MULTI): what holds for it is what the last item before it
 -- said that says it, and else the default.
-use Rattle.std.specs.Prelude.{ℕ, ◌+◌, List, [], ◌∷◌, ◌++◌, map, flat_map, length, Option, Some, None, unwrap_or}
+use Rattle.std.specs.Prelude.{ℕ, ◌+◌, ◌≤◌, List, [], ◌∷◌, ◌++◌, map, flat_map, length, Option, Some, None, unwrap_or}
 use Rattle.std.specs.List.{count_by}
 use Rattle.dms_multi.specs.declared.item.Item.{Item}
 use Rattle.dms_multi.specs.declared.item.Item.TheVariants.{Char, Background, Foreground, Font, FlashOn, FlashEnd, JustLine, JustPage, NewPage, PageTime}
@@ -10,6 +10,7 @@ use Rattle.dms_font.specs.Font.{FontModel, glyph_of}
 use Rattle.dms_face.specs.Face.{FaceModel, font_of}
 use Rattle.dms_face.specs.Layout.{Style, Character, Line, PageModel, no_font}
 use Rattle.dms_face.specs.Fit.{is_new_page}
+use Rattle.dms_face.specs.Cells.{page_characters, is_lit_by}
 
 -- ---- what an item says of all that follows it; a value that is missing is the default
 
@@ -111,3 +112,9 @@ page_said face before _ = []
 abbrev pub pages_said : FaceModel → List Item → List Item → List PageStyle
 pages_said face before [] = page_style_of (style_after face before) ∷ []
 pages_said face before (item ∷ items) = page_said face before item ++ pages_said face (before ++ item ∷ []) items
+
+-- ---- cells
+
+-- no two characters of a page light one cell
+abbrev pub LightsEachCellOnce : FaceModel → PageModel → Type 0
+LightsEachCellOnce face page = (x y : ℕ) → count_by (is_lit_by x y) (page_characters face page) ≤ 1

@@ -1,12 +1,12 @@
 //! Laws of texts and where they stand, each the contract of a function that does nothing.
 
-ghost use Rattle.std.specs.Prelude.{◌≡◌, ◌↔◌, ℕ, if◌then◌else◌, List, [], ◌∷◌, ◌++◌, length, map, Some, None};
+ghost use Rattle.std.specs.Prelude.{◌≡◌, ◌↔◌, ℕ, if◌then◌else◌, List, [], ◌∷◌, ◌++◌, length, map, Some, None, All};
 ghost use Rattle.dms_multi.specs.Outcomes.{items_of};
 ghost use Rattle.dms_face.specs.Face.{FaceModel, IsFace};
 ghost use Rattle.dms_face.specs.Layout.{Turn, layout_of};
 ghost use Rattle.dms_face.specs.Fit.{fits, Fits, code_of, fault_of, page_count, IsGood};
 ghost use Rattle.dms_face.specs.Cells.{pages_of};
-ghost use Rattle.dms_face.specs.Rules.{page_style, pages_said, characters_from, characters_said};
+ghost use Rattle.dms_face.specs.Rules.{page_style, pages_said, characters_from, characters_said, LightsEachCellOnce};
 ghost use Rattle.dms_face.specs.OnePass.{local_fault};
 
 use crate::face::Face;
@@ -51,4 +51,10 @@ pub fn pages_have_what_was_last_said()
 /// font has not is left out.
 pub fn characters_have_what_was_last_said()
     ensures { (face : FaceModel) (text : List ℕ) → characters_from 0 (pages_of face text) ≡ characters_said face [] (items_of text) }
+{}
+
+/// In a text that is good on a face no two characters light one cell of a page, so a cell has the foreground and the flash of one
+/// character alone.
+pub fn no_cell_is_lit_twice()
+    ensures { (face : FaceModel) (text : List ℕ) → IsFace face → IsGood face text → All (LightsEachCellOnce face) (pages_of face text) }
 {}
