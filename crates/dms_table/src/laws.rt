@@ -4,9 +4,18 @@ ghost use Rattle.std.specs.Prelude.{◌≡◌, Some};
 ghost use Rattle.dms_codes.specs.declared.row_id.RowId.{RowId};
 ghost use Rattle.dms_codes.specs.declared.status.Ask.{Ask};
 ghost use Rattle.dms_face.specs.Face.{FaceModel};
-ghost use Rattle.dms_table.specs.Rows.{asked, written, after_power, TableModel, FieldModel};
+ghost use Rattle.dms_table.specs.Rows.{asked, written, after_power, IsTable, TableModel, FieldModel};
 ghost use Rattle.dms_table.specs.Validation.{settled};
 ghost use Rattle.dms_table.specs.Stock.{PermanentRowsAreGood, KeepsPermanentRows};
+
+use crate::table::Table;
+
+/// At most one row of a table is being validated, whatever was asked of it.
+pub fn one_row_is_validating(table: &Table)
+    ensures { IsTable table.now }
+{
+    table.limits();
+}
 
 /// What a table does leaves its permanent rows as they are, so they stay good on the face that it was made for.
 pub fn permanent_rows_stay()

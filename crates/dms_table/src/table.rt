@@ -90,8 +90,8 @@ impl Table {
         self.services
     }
 
-    /// At most one row is being validated.
-    pub fn one_row_is_validated(&self)
+    /// What holds of every table, by its type.
+    pub(crate) fn limits(&self)
         ensures { IsTable self.now }
     {
         let _ = &self.changeable;
