@@ -5,6 +5,7 @@ ghost use Rattle.dms_centre.specs.declared.fault.CommandFault.TheVariants as fau
 ghost use Rattle.dms_centre.specs.State.{start, is_busy};
 ghost use Rattle.dms_centre.specs.Steps.{is_activating};
 ghost use Rattle.dms_centre.specs.Commands.{commanded, job_of, refusal_of};
+ghost use Rattle.dms_centre.specs.History.{AreSettings};
 ghost use Rattle.dms_centre.specs.Inputs.{ticked, restarted};
 ghost use Rattle.dms_centre.specs.Sending.{ends};
 ghost use Rattle.dms_centre.specs.Room.{enters_at_tick};
@@ -123,6 +124,13 @@ impl Centre {
         ensures { ledger_model result.now.entries ≡ self.now.state.ledger }
     {
         &self.ledger
+    }
+
+    /// What holds of every central system: its community has 1 to 32 octets.
+    pub fn is_kept(&self)
+        ensures { AreSettings self.now.state.settings }
+    {
+        let _ = &self.next;
     }
 
     /// Begins anew, as after a loss of power: the next number and the ledger stay, a job ends, and what was waited for is unknown.

@@ -16,3 +16,5 @@ mod WorldHonestRange
 mod WorldHonestCodes
 mod WorldReplies
 mod WorldHonest
+pub mod Runs
+pub mod Made

@@ -1,6 +1,6 @@
 -- What holds of a sign and its centre after every list of commands, ticks, losses of power, restarts and deliveries, with datagrams lost,
 -- repeated, reordered and forged.
-use Rattle.std.specs.Prelude.{◌≡◌, Bool, true, false, List}
+use Rattle.std.specs.Prelude.{◌≡◌, Bool, true, false, List, ⊤}
 use Rattle.dms_centre.specs.Commands.{CommandModel, IsCommand}
 use Rattle.dms_world.specs.Event.{EventModel, command, forge_sign, forge_centre}
 use Rattle.dms_world.specs.World.{WorldModel, IsFresh}
@@ -10,7 +10,12 @@ use Rattle.dms_world.specs.Honest.{RequestsAgree, AcceptedWasAccepted, RefusedWa
 
 -- ---- premises
 
--- the commands' values are in the ranges of their types
+-- a command's values are in the ranges of their types
+abbrev pub IsEvent : EventModel → Type 0
+IsEvent (command asked) = IsCommand asked
+IsEvent event = ⊤
+
+-- those of all commands are
 abbrev pub AreEvents : List EventModel → Type 0
 AreEvents events = (asked : CommandModel) → Has events (command asked) → IsCommand asked
 

@@ -1,0 +1,37 @@
+-- What holds at every moment between two ends, of what is kept and of what is in flight (this profile).
+use Rattle.std.specs.Prelude.{◌≡◌, ℕ, ◌<◌, List, length, slice_get, Some}
+use Rattle.dms_wire.specs.Message.{SnmpMessage}
+use Rattle.dms_wire.specs.MessageOf.{message_of}
+use Rattle.dms_sign.specs.Reply.{received as sign_received}
+use Rattle.dms_centre.specs.RequestNumbers.{HasNumber}
+use Rattle.dms_world.specs.Event.{EventModel, to_sign}
+use Rattle.dms_world.specs.World.{WorldModel, world_at, world_after}
+use Rattle.dms_world.specs.Backed.{Has, IsBackedAt}
+
+-- the copy that a sign keeps at a loss of power is blank, or a validated message, as what is shown is
+abbrev pub KeptIsBacked : WorldModel → List EventModel → Type 0
+KeptIsBacked world events = IsBackedAt world events (length events) (world_after world events).sign.kept
+
+-- The reply is what the sign sent at an event that handed over a request, and has that request's number.
+pub record WasReplied (world : WorldModel) (events : List EventModel) (reply : List ℕ) : Type 0 where
+  pub before : ℕ
+  pub place : ℕ
+  pub event : slice_get events before ≡ Some (to_sign place)
+  pub datagram : List ℕ
+  pub handed : slice_get (world_at world events before).to_sign place ≡ Some datagram
+  pub answered : (sign_received (world_at world events before).sign datagram).reply ≡ Some reply
+  pub request : SnmpMessage
+  pub asked : message_of datagram ≡ Some request
+  pub response : SnmpMessage
+  pub spelled : message_of reply ≡ Some response
+  pub number : response.request ≡ request.request
+
+-- each datagram to the centre is the sign's answer to the request of its number
+abbrev pub RepliesAreTheSigns : WorldModel → List EventModel → Type 0
+RepliesAreTheSigns world events = (reply : List ℕ) → Has (world_after world events).to_centre reply → WasReplied world events reply
+
+-- the number of each datagram to the sign is below the next one
+abbrev pub NumbersAreBelowNext : WorldModel → List EventModel → Type 0
+NumbersAreBelowNext world events =
+    (datagram : List ℕ) (number : ℕ) → Has (world_after world events).to_sign datagram → HasNumber number datagram
+    → number < (world_after world events).centre.next

@@ -1,0 +1,204 @@
+//! A sign and a centre in one world, with every datagram that was ever sent between them.
+
+ghost use Rattle.std.specs.Prelude.{◌≡◌, ◌<◌, ◌++◌, true, OnOk, OnErr, option_to_list, vec_len, vec_capacity};
+ghost use Rattle.dms_sign.specs.Reply.{received as sign_received};
+ghost use Rattle.dms_centre.specs.CodeView.{command_model, sent_in};
+ghost use Rattle.dms_centre.specs.Commands.{commanded};
+ghost use Rattle.dms_centre.specs.Inputs.{received as centre_received, ticked};
+ghost use Rattle.dms_world.specs.CodeView.{datagrams, event_model, seen};
+ghost use Rattle.dms_world.specs.Construction.{IsNewCentre, IsNewSign};
+ghost use Rattle.dms_world.specs.Growing.{may_grow};
+ghost use Rattle.dms_world.specs.World.{IsFresh, beginning, happens, noted};
+
+use crate::event::Event;
+use dms_centre::{Centre, Command, CommandFault};
+use dms_codes::Activation;
+use dms_face::laws::faces_are_within_their_limits;
+use dms_sign::{Receipt, Sign};
+use dms_wire::Out;
+use std::alloc::{AllocError, Global};
+
+/// A sign and its centre, with all that they ever sent to each other.
+#[derive(Drop)]
+pub struct World {
+    pub sign: Sign,
+    pub centre: Centre,
+    /// The datagrams that the centre ever sent, the oldest first.
+    pub to_sign: Vec<Out>,
+    /// The datagrams that the sign ever sent, the oldest first.
+    pub to_centre: Vec<Out>,
+    /// Each activation that the sign accepted, beside the number of its event: events are counted from 1 in each call of `run`.
+    pub accepted: Vec<(usize, Activation)>,
+}
+
+impl World {
+    /// The world of two ends, in which nothing was sent. It takes no memory; its lists take it from `alloc` as they grow.
+    pub fn new(alloc: Global, sign: Sign, centre: Centre) -> World
+        ensures world { seen result ≡ beginning sign centre.state }
+        ensures fresh { IsNewSign sign → IsNewCentre centre.state → IsFresh (seen result) }
+    {
+        sign.is_kept();
+        faces_are_within_their_limits(sign.face());
+        centre.is_kept();
+        World {
+            sign,
+            centre,
+            to_sign: Vec::new(alloc),
+            to_centre: Vec::new(alloc),
+            accepted: Vec::new(alloc),
+        }
+    }
+
+    /// The event of this number happens. Where memory is wanting, nothing changes: what its lists need is had before either end is
+    /// called.
+    pub(crate) fn happen(&mut self, number: usize, event: &Event<'_>) -> Result<(), AllocError>
+        ensures world { OnOk result (seen self.new ≡ happens number (seen self.old) (event_model event.now)) }
+        ensures unchanged { OnErr result (seen self.new ≡ seen self.old) }
+        ensures grows { OnErr result (may_grow (seen self.old) (event_model event.now) ≡ true) }
+    {
+        match *event {
+            Event::Command(command) => {
+                command_centre(&mut self.centre, &mut self.to_sign, command)
+            }
+            Event::SignTick => {
+                self.sign.tick();
+                Ok(())
+            }
+            Event::CentreTick => tick_centre(&mut self.centre, &mut self.to_sign),
+            Event::ToSign(place) => match self.to_sign.as_slice().get(place as usize) {
+                Some(datagram) => hand_to_sign(
+                    &mut self.sign,
+                    &mut self.to_centre,
+                    &mut self.accepted,
+                    number,
+                    datagram,
+                ),
+                None => Ok(()),
+            },
+            Event::ToCentre(place) => match self.to_centre.as_slice().get(place as usize) {
+                Some(datagram) => hand_to_centre(&mut self.centre, &mut self.to_sign, datagram),
+                None => Ok(()),
+            },
+            Event::PowerLost => {
+                self.sign.power_lost();
+                Ok(())
+            }
+            Event::PowerBack(seconds) => {
+                self.sign.power_back(seconds);
+                Ok(())
+            }
+            Event::CentreRestart => {
+                self.centre.restart();
+                Ok(())
+            }
+            Event::ForgeSign(datagram) => hand_to_sign(
+                &mut self.sign,
+                &mut self.to_centre,
+                &mut self.accepted,
+                number,
+                datagram,
+            ),
+            Event::ForgeCentre(datagram) => {
+                hand_to_centre(&mut self.centre, &mut self.to_sign, datagram)
+            }
+        }
+    }
+}
+
+/// The sign is handed a datagram, at the event of this number.
+fn hand_to_sign(
+    sign: &mut Sign,
+    to_centre: &mut Vec<Out>,
+    accepted: &mut Vec<(usize, Activation)>,
+    number: usize,
+    datagram: &[u8],
+) -> Result<(), AllocError>
+    ensures sign { OnOk result (sign.new ≡ (sign_received sign.old datagram.now).after) }
+    ensures sent { OnOk result (datagrams to_centre.new.items ≡ datagrams to_centre.old.items ++ option_to_list (sign_received sign.old datagram.now).reply) }
+    ensures accepted { OnOk result (accepted.new.items ≡ accepted.old.items ++ noted number (sign_received sign.old datagram.now).accepted) }
+    ensures sign_kept { OnErr result (sign.new ≡ sign.old) }
+    ensures sent_kept { OnErr result (to_centre.new.items ≡ to_centre.old.items) }
+    ensures accepted_kept { OnErr result (accepted.new.items ≡ accepted.old.items) }
+{
+    to_centre.reserve(1)?;
+    accepted.reserve(1)?;
+    let mut reply = Out::new();
+    match sign.receive(datagram, &mut reply) {
+        Receipt::Dropped => {}
+        Receipt::Replied => to_centre.push_reserved(reply),
+        Receipt::Accepted(code) => {
+            to_centre.push_reserved(reply);
+            accepted.push_reserved((number, code));
+        }
+    }
+    Ok(())
+}
+
+/// The centre is handed a datagram.
+fn hand_to_centre(
+    centre: &mut Centre,
+    to_sign: &mut Vec<Out>,
+    datagram: &[u8],
+) -> Result<(), AllocError>
+    ensures state { OnOk result (centre.new.state ≡ (centre_received centre.old.state datagram.now).state) }
+    ensures sent { OnOk result (datagrams to_sign.new.items ≡ datagrams to_sign.old.items ++ option_to_list (centre_received centre.old.state datagram.now).sent) }
+    ensures state_kept { OnErr result (centre.new.state ≡ centre.old.state) }
+    ensures sent_kept { OnErr result (to_sign.new.items ≡ to_sign.old.items) }
+{
+    to_sign.reserve(1)?;
+    let mut request = Out::new();
+    centre.receive(datagram, &mut request);
+    keep(to_sign, request);
+    Ok(())
+}
+
+/// The operator gives the centre a command; one that is refused, but for want of memory, changes nothing.
+#[tactic(auto, unfolding(dms_centre::specs::Commands::commanded))]
+fn command_centre(
+    centre: &mut Centre,
+    to_sign: &mut Vec<Out>,
+    command: Command<'_>,
+) -> Result<(), AllocError>
+    ensures state { OnOk result (centre.new.state ≡ (commanded centre.old.state (command_model command.entry)).state) }
+    ensures sent { OnOk result (datagrams to_sign.new.items ≡ datagrams to_sign.old.items ++ option_to_list (commanded centre.old.state (command_model command.entry)).sent) }
+    ensures state_kept { OnErr result (centre.new.state ≡ centre.old.state) }
+    ensures sent_kept { OnErr result (to_sign.new.items ≡ to_sign.old.items) }
+{
+    to_sign.reserve(1)?;
+    let mut request = Out::new();
+    match centre.command(command, &mut request) {
+        Err(CommandFault::Memory) => Err(AllocError),
+        Ok(()) | Err(_) => {
+            keep(to_sign, request);
+            Ok(())
+        }
+    }
+}
+
+/// The centre's clock ticks.
+fn tick_centre(centre: &mut Centre, to_sign: &mut Vec<Out>) -> Result<(), AllocError>
+    ensures state { OnOk result (centre.new.state ≡ (ticked centre.old.state).state) }
+    ensures sent { OnOk result (datagrams to_sign.new.items ≡ datagrams to_sign.old.items ++ option_to_list (ticked centre.old.state).sent) }
+    ensures state_kept { OnErr result (centre.new.state ≡ centre.old.state) }
+    ensures sent_kept { OnErr result (to_sign.new.items ≡ to_sign.old.items) }
+{
+    to_sign.reserve(1)?;
+    let mut request = Out::new();
+    match centre.tick(&mut request) {
+        Ok(()) => {
+            keep(to_sign, request);
+            Ok(())
+        }
+        Err(_) => Err(AllocError),
+    }
+}
+
+/// Keeps what was sent, where there is room for it; an empty buffer is nothing.
+fn keep(sent: &mut Vec<Out>, datagram: Out)
+    requires { vec_len sent.old < vec_capacity sent.old }
+    ensures { datagrams sent.new.items ≡ datagrams sent.old.items ++ option_to_list (sent_in datagram.items) }
+{
+    if !datagram.is_empty() {
+        sent.push_reserved(datagram);
+    }
+}
