@@ -3,8 +3,9 @@
 use crate::{Config, Receipt, Sign};
 use dms_face::{Defaults, Face, Font};
 use dms_table::{Order, Permanent, Stock};
-use dms_wire::Out;
+use dms_wire::{Bind, Kind, MessageParts, Oid, Out, Value, oid_cmp, read, write};
 use std::alloc::Global;
+use std::cmp::Ordering;
 use std::test::Fail;
 
 mod cases;
@@ -31,26 +32,38 @@ const DEFAULTS: Defaults = Defaults {
     off: 0,
 };
 
+const B: Permanent<'static> = Permanent {
+    text: b"B",
+    owner: &[],
+    beacon: 0,
+    pixel: 0,
+    priority: 100,
+};
+
 fn bench_sign(alloc: Global) -> Result<Sign, Fail> {
+    sign_of(alloc, &[B], 2, 1, Order::High)
+}
+
+/// A sign as the bench sign is, but for its rows and the order of the octets of its checksums.
+fn sign_of(
+    alloc: Global,
+    permanent: &[Permanent<'_>],
+    changeable: u8,
+    volatile: u8,
+    order: Order,
+) -> Result<Sign, Fail> {
     let mut fonts = Vec::new(alloc);
     fonts.push(Font::from_text(alloc, TALL)?)?;
     fonts.push(Font::from_text(alloc, SMALL)?)?;
-    let b = Permanent {
-        text: b"B",
-        owner: &[],
-        beacon: 0,
-        pixel: 0,
-        priority: 100,
-    };
     let config = Config {
         face: Face::new(23, 14, fonts, DEFAULTS)?,
         stock: Stock {
-            permanent: &[b],
-            changeable: 2,
-            volatile: 1,
+            permanent,
+            changeable,
+            volatile,
             beacon: true,
             pixel: false,
-            order: Order::High,
+            order,
         },
         reader: b"public",
         writer: b"admin",
@@ -81,8 +94,7 @@ fn octets(digits: &str) -> Result<Out, Fail> {
 
 /// A datagram is handed over after `>`, and `<` is followed by the reply, or by `dropped`; then there are seconds, losses and returns of
 /// the power, and what is shown with its mode.
-fn play(alloc: Global, script: &str) -> Result<(), Fail> {
-    let mut sign = bench_sign(alloc)?;
+fn play(sign: &mut Sign, script: &str) -> Result<(), Fail> {
     let mut reply = Out::new();
     let mut receipt = Receipt::Dropped;
     for line in script.lines() {
@@ -127,25 +139,90 @@ fn play(alloc: Global, script: &str) -> Result<(), Fail> {
 
 #[test]
 fn requests(rt: HostRuntime) -> Result<(), Fail> {
-    play(rt.alloc(), cases::REQUESTS)
+    play(&mut bench_sign(rt.alloc())?, cases::REQUESTS)
 }
 
 #[test]
 fn activations(rt: HostRuntime) -> Result<(), Fail> {
-    play(rt.alloc(), cases::ACTIVATIONS)
+    play(&mut bench_sign(rt.alloc())?, cases::ACTIVATIONS)
 }
 
 #[test]
 fn commands(rt: HostRuntime) -> Result<(), Fail> {
-    play(rt.alloc(), cases::COMMANDS)
+    play(&mut bench_sign(rt.alloc())?, cases::COMMANDS)
 }
 
 #[test]
 fn power_and_silence(rt: HostRuntime) -> Result<(), Fail> {
-    play(rt.alloc(), cases::POWER)
+    play(&mut bench_sign(rt.alloc())?, cases::POWER)
 }
 
 #[test]
 fn sizes(rt: HostRuntime) -> Result<(), Fail> {
-    play(rt.alloc(), cases::SIZES)
+    play(&mut bench_sign(rt.alloc())?, cases::SIZES)
+}
+
+/// The same number as 29954 in the other order of its octets.
+#[test]
+fn checksum_of_the_other_order(rt: HostRuntime) -> Result<(), Fail> {
+    let mut sign = sign_of(rt.alloc(), &[B], 2, 1, Order::Swapped)?;
+    play(&mut sign, cases::SWAPPED)
+}
+
+/// What a request of one name is answered: the name and the value of the reply's binding, or none where the reply is an error.
+fn asked<'a>(
+    sign: &mut Sign,
+    kind: Kind,
+    name: &Oid<'_>,
+    reply: &'a mut Out,
+) -> Result<Option<Bind<'a>>, Fail> {
+    let mut request = Out::new();
+    let parts = MessageParts {
+        community: b"public",
+        kind,
+        request: 1,
+        status: 0,
+        index: 0,
+        binds: &[Bind {
+            name: name.again(),
+            value: Value::Null,
+        }],
+    };
+    write(&parts, &mut request)?;
+    sign.receive(request.as_slice(), reply);
+    let mut message = read(reply.as_slice())?;
+    if message.status == 0 {
+        Ok(message.binds.next())
+    } else {
+        Ok(None)
+    }
+}
+
+/// A walk from 0.0 on names each instance once, in order, and each reads the same by its name.
+#[test]
+fn walk(rt: HostRuntime) -> Result<(), Fail> {
+    let mut sign = sign_of(rt.alloc(), &[B, B], 1, 1, Order::High)?;
+    let mut last = Out::new();
+    last.try_push(0)?;
+    let mut count: u32 = 0;
+    for _ in 0..3000 {
+        let mut next = Out::new();
+        let mut same = Out::new();
+        let name = Oid::of(last.as_slice()).ok_or("no name")?;
+        let Some(found) = asked(&mut sign, Kind::GetNext, &name, &mut next)? else {
+            break;
+        };
+        if oid_cmp(&name, &found.name) != Ordering::Less {
+            return Err("not in order".into());
+        }
+        if asked(&mut sign, Kind::Get, &found.name, &mut same)?.as_ref() != Some(&found) {
+            return Err("another value".into());
+        }
+        let content = found.name.content();
+        last.clear();
+        last.try_extend_from_slice(content)?;
+        count = u32::wrapping_add(count, 1);
+    }
+    assert_eq!(rt; count, 36 + 9 * (2 + 1 + 1 + 1 + 255));
+    Ok(())
 }
