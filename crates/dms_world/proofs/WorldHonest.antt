@@ -18,7 +18,7 @@ use Rattle.dms_codes.specs.Memory.{current_buffer, blank_memory}
 use Rattle.dms_sign.specs.State.{SignState}
 use Rattle.dms_sign.specs.Requests.{primary}
 use Rattle.dms_sign.specs.Reply as sign_reply
-use Rattle.dms_sign.specs.Reply.{heard}
+use Rattle.dms_sign.specs.Reply.{heard, is_heard}
 use Rattle.dms_sign.specs.InRange.{response_sent, IsSpelledReply}
 use Rattle.dms_sign.specs.Promises.{activates}
 use Rattle.dms_sign.proofs.Accepted.{accepted_was_asked_for, accepted_where_no_error}
@@ -34,7 +34,7 @@ use Rattle.dms_world.specs.Event.{EventModel, to_sign, forge_centre}
 use Rattle.dms_world.specs.World.{WorldModel, noted, by_sign, world_at, world_after, IsFresh}
 use Rattle.dms_world.specs.Backed.{Has}
 use Rattle.dms_world.specs.Headline.{AreEvents, NothingIsForged, LedgerIsTrue}
-use Rattle.dms_world.specs.Honest.{WasSent, WasDelivered, shown_checksum, WasAccepted, WasRefused, AcceptedWasAccepted, RefusedWasRefused}
+use Rattle.dms_world.specs.Honest.{WasSent, WasDelivered, WasAnswered, shown_checksum, WasAccepted, WasRefused, AcceptedWasAccepted, RefusedWasRefused}
 use Rattle.dms_world.proofs.WorldSignSound.{sound_at}
 use Rattle.dms_world.proofs.WorldNumbers.{codes_at}
 use Rattle.dms_world.proofs.WorldGrows.{grows_until}
@@ -42,7 +42,7 @@ use Rattle.dms_world.proofs.WorldOrders.{CameBy}
 use Rattle.dms_world.proofs.WorldSent.{first_sent}
 use Rattle.dms_world.proofs.WorldTold.{WasHeard, WasTold, told_at}
 use Rattle.dms_world.proofs.WorldHonestRange.{in_range_at}
-use Rattle.dms_world.proofs.WorldReplies.{heard_message, status_told, answered_at, turned}
+use Rattle.dms_world.proofs.WorldReplies.{heard_message, answered_is_heard, status_told, answered_at, turned}
 use Rattle.dms_world.proofs.WorldHonestPutUp.{accepted_is_up}
 use Rattle.dms_world.proofs.WorldHonestCodes.{octets_back, alike}
 
@@ -69,7 +69,7 @@ request_number world number code = refl
 -- ---- an answer to it
 
 -- the sign answered the request with this status, at an event that handed it over
-record WasAnswered (world : WorldModel) (events : List EventModel) (count number : ℕ) (code : Activation) (status : ℤ) : Type 0 where
+record IsAnsweredWith (world : WorldModel) (events : List EventModel) (count number : ℕ) (code : Activation) (status : ℤ) : Type 0 where
   before : ℕ
   earlier : before < count
   place : ℕ
@@ -77,6 +77,7 @@ record WasAnswered (world : WorldModel) (events : List EventModel) (count number
   datagram : List ℕ
   handed : slice_get (world_at world events before).to_sign place ≡ Some datagram
   puts_up : PutsUp world.centre.settings number code datagram
+  hears : is_heard (world_at world events before).sign (request_for world number code) ≡ true
   heard_is : sign_reply.received (world_at world events before).sign datagram ≡ heard (world_at world events before).sign (request_for world number code)
   status_is : pos (error_status_number (primary (world_at world events before).sign (request_for world number code)).status) ≡ status
 
@@ -90,7 +91,7 @@ AllPutUp world events count number code =
 told : (world : WorldModel) (events : List EventModel) → IsFresh world → NothingIsForged events → (count number : ℕ) (code : Activation)
     → (octets : List ℕ) (reply : SnmpMessage) → Has (world_at world events count).to_centre octets → message_of octets ≡ Some reply
     → Answers world.centre.settings number reply → AllPutUp world events count number code
-    → WasAnswered world events count number code reply.status
+    → IsAnsweredWith world events count number code reply.status
 told world events fresh fair count number code octets reply there spelled answers all =
     let is = answered_at world events fresh fair count there.0 octets there.1 in
     let s : SignState = (world_at world events is.before).sign in
@@ -114,6 +115,7 @@ told world events fresh fair count number code octets reply there spelled answer
       datagram = is.datagram;
       handed = is.handed;
       puts_up = up;
+      hears = answered_is_heard s is.datagram octets request is.answered up;
       heard_is = heard_message s is.datagram octets request is.answered up;
       status_is = sym (status_told s request is.datagram up (request_kind world number code) one) ∙ ap (λ (m : SnmpMessage). m.status) meant;
     }
@@ -130,7 +132,7 @@ in_flight world events fair count octets came =
     ]
 
 later_answer : (world : WorldModel) (events : List EventModel) (count later number : ℕ) (code : Activation) (status : ℤ) → count ≤ later
-    → WasAnswered world events count number code status → WasAnswered world events later number code status
+    → IsAnsweredWith world events count number code status → IsAnsweredWith world events later number code status
 later_answer world events count later number code status le was = record {
   before = was.before;
   earlier = omega (arith, was.earlier, le);
@@ -139,6 +141,7 @@ later_answer world events count later number code status le was = record {
   datagram = was.datagram;
   handed = was.handed;
   puts_up = was.puts_up;
+  hears = was.hears;
   heard_is = was.heard_is;
   status_is = was.status_is;
 }
@@ -146,19 +149,19 @@ later_answer world events count later number code status le was = record {
 -- the reply that told it was the sign's
 answer_heard : (world : WorldModel) (events : List EventModel) → IsFresh world → AreEvents events → NothingIsForged events → (count number : ℕ)
     → (code : Activation) (status : ℤ) (was : WasHeard world events count number code) → was.reply.status ≡ status
-    → WasAnswered world events count number code status
+    → IsAnsweredWith world events count number code status
 answer_heard world events fresh are fair count number code status was e =
     let all : AllPutUp world events was.before number code =
     λ place datagram sent has. codes_at world events fresh are was.before was.waited.0 place _ datagram was.waited.1 sent has in
     let there = in_flight world events fair was.before was.datagram was.came in
     let answer = told world events fresh fair was.before number code was.datagram was.reply there was.spelled was.answers all in
     later_answer world events was.before count number code status (omega (arith, was.less))
-    (subst (WasAnswered world events was.before number code) e answer)
+    (subst (IsAnsweredWith world events was.before number code) e answer)
 
 -- ---- the request was delivered
 
 delivered : (world : WorldModel) (events : List EventModel) → IsFresh world → AreEvents events → (number : ℕ) (code : Activation) (status : ℤ)
-    → (was : WasAnswered world events (length events) number code status) → WasDelivered world events number was.before
+    → (was : IsAnsweredWith world events (length events) number code status) → WasDelivered world events number was.before
 delivered world events fresh are number code status was =
     let has : HasNumber number was.datagram =
     record { message = request_for world number code; spelled = was.puts_up; is = request_number world number code } in
@@ -171,18 +174,23 @@ delivered world events fresh are number code status was =
       place = was.place;
       event = was.event;
       datagram = was.datagram;
-      handed = (grows_until world events was.before (length events) (omega (arith, was.earlier))).to_sign was.place was.datagram was.handed;
+      handed = was.handed;
       has_number = has;
     }
+
+answered : (world : WorldModel) (events : List EventModel) → IsFresh world → AreEvents events → (number : ℕ) (code : Activation) (status : ℤ)
+    → (was : IsAnsweredWith world events (length events) number code status) → WasAnswered world events number was.before
+unfolding delivered
+answered world events fresh are number code status was = record { delivered = delivered world events fresh are number code status was; heard = was.hears }
 
 -- ---- refused
 
 was_refused : (world : WorldModel) (events : List EventModel) → IsFresh world → AreEvents events → (entry : Entry) (status : ℤ)
-    → WasAnswered world events (length events) entry.number entry.code status → WasRefused world events entry status
-unfolding delivered
+    → IsAnsweredWith world events (length events) entry.number entry.code status → WasRefused world events entry status
+unfolding delivered answered
 was_refused world events fresh are entry status was = record {
   before = was.before;
-  delivered = delivered world events fresh are entry.number entry.code status was;
+  answered = answered world events fresh are entry.number entry.code status was;
   status_is = was.status_is;
 }
 
@@ -232,7 +240,7 @@ is_taken world s number code datagram order up none =
 
 -- the world after the event
 after_it : (world : WorldModel) (events : List EventModel) (number : ℕ) (code : Activation) (status : ℤ) (count : ℕ)
-    → (was : WasAnswered world events count number code status)
+    → (was : IsAnsweredWith world events count number code status)
     → world_at world events (suc was.before)
     ≡ by_sign (suc was.before) (world_at world events was.before) (heard (world_at world events was.before).sign (request_for world number code))
 after_it world events number code status count was =
@@ -240,7 +248,7 @@ after_it world events number code status count was =
     ∙ ap (by_sign (suc was.before) (world_at world events was.before)) was.heard_is
 
 listed : (world : WorldModel) (events : List EventModel) (number : ℕ) (code taken : Activation) (status : ℤ)
-    → (was : WasAnswered world events (length events) number code status)
+    → (was : IsAnsweredWith world events (length events) number code status)
     → (primary (world_at world events was.before).sign (request_for world number code)).accepted ≡ Some taken
     → Has (world_after world events).accepted (suc was.before, taken)
 listed world events number code taken status was accepted =
@@ -254,7 +262,7 @@ listed world events number code taken status was accepted =
 
 -- what is up after the event has the code's checksum
 is_up : (world : WorldModel) (events : List EventModel) (number : ℕ) (code taken : Activation) (status : ℤ) (count : ℕ)
-    → (was : WasAnswered world events count number code status)
+    → (was : IsAnsweredWith world events count number code status)
     → IsTaken world (world_at world events was.before).sign number code taken
     → code.id.memory ≢ current_buffer → code.id.memory ≢ blank_memory → world.sign.table.order ≡ world.centre.settings.order
     → shown_checksum (world_at world events (suc was.before)).sign.shown ≡ code.id.crc
@@ -269,8 +277,8 @@ is_up world events number code taken status count was is not_current not_blank o
     ap (λ (w : WorldModel). shown_checksum w.sign.shown) (after_it world events number code status count was) ∙ up ∙ both.crc
 
 was_accepted : (world : WorldModel) (events : List EventModel) → IsFresh world → AreEvents events → (entry : Entry)
-    → WasAnswered world events (length events) entry.number entry.code (pos 0) → WasAccepted world events entry
-unfolding delivered
+    → IsAnsweredWith world events (length events) entry.number entry.code (pos 0) → WasAccepted world events entry
+unfolding delivered answered
 was_accepted world events fresh are entry was =
     let s : SignState = (world_at world events was.before).sign in
     let none : (primary s (request_for world entry.number entry.code)).status ≡ NoError = status_zero _ was.status_is in
@@ -279,8 +287,9 @@ was_accepted world events fresh are entry was =
     is_taken world s entry.number entry.code was.datagram (sound_at world events fresh was.before).order was.puts_up none in
     record {
       before = was.before;
-      delivered = delivered world events fresh are entry.number entry.code (pos 0) was;
+      answered = answered world events fresh are entry.number entry.code (pos 0) was;
       code = taken;
+      accepted = is.accepted;
       listed = listed world events entry.number entry.code taken (pos 0) was is.accepted;
       same = is.same;
       carries = request_bindings world entry.number entry.code;

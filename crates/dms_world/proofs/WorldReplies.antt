@@ -39,6 +39,17 @@ heard_message s datagram reply m e spelled =
     let same : (on_message_if s (Some m)).reply ≡ Some reply = ap (λ (r : sign_reply.Received). r.reply) (sym by) ∙ e in
     by ∙ heard_if s m (is_heard s m) reply same
 
+heard_test : (s : SignState) (m : SnmpMessage) (b : Bool) (reply : List ℕ) → (cond b (heard s m) (dropped s)).reply ≡ Some reply → b ≡ true
+heard_test s m true reply e = refl
+heard_test s m false reply e = absurd (cc)
+
+-- the sign had power, and the request was of one of its communities
+pub answered_is_heard : (s : SignState) (datagram reply : List ℕ) (m : SnmpMessage) → (sign_reply.received s datagram).reply ≡ Some reply
+    → message_of datagram ≡ Some m → is_heard s m ≡ true
+unfolding sign_reply.received
+answered_is_heard s datagram reply m e spelled =
+    heard_test s m (is_heard s m) reply (ap (λ o. (on_message_if s o).reply) (sym spelled) ∙ e)
+
 -- ---- the status that a reply tells
 
 status_by : (m : SnmpMessage) (a : Answer) (b : Bool) → b ≡ true → (cond b (response_of m a) (response_to m too_big 0)).status ≡ pos (error_status_number a.status)

@@ -1,5 +1,5 @@
--- The ledger of a centre is honest: its requests have numbers of their own, and what it says of a code is what the sign did.
-use Rattle.std.specs.Prelude.{◌≡◌, ◌≢◌, ℕ, ℤ, pos, suc, ◌<◌, ◌≤◌, List, [], ◌∷◌, slice_get, Some, None}
+-- The ledger of a centre is honest: its requests have numbers of their own, and what it says of a code is what the sign did (this profile).
+use Rattle.std.specs.Prelude.{◌≡◌, ◌≢◌, ℕ, ℤ, pos, suc, ◌<◌, ◌≤◌, true, List, [], ◌∷◌, slice_get, Some, None}
 use Rattle.dms_wire.specs.ErrorStatus.{error_status_number}
 use Rattle.dms_wire.specs.Message.{SnmpMessage}
 use Rattle.dms_codes.specs.declared.codes.Activation.{Activation}
@@ -7,7 +7,8 @@ use Rattle.dms_codes.specs.Checksum.{message_checksum}
 use Rattle.dms_codes.specs.Codes.{octets_of_activation}
 use Rattle.dms_codes.specs.Memory.{current_buffer, blank_memory}
 use Rattle.dms_table.specs.Activation.{ShownModel}
-use Rattle.dms_sign.specs.Requests.{primary}
+use Rattle.dms_sign.specs.Requests.{Answer, primary}
+use Rattle.dms_sign.specs.Reply.{is_heard}
 use Rattle.dms_sign.specs.Promises.{activates}
 use Rattle.dms_centre.specs.declared.outcome.Outcome.TheVariants.{Accepted, Refused}
 use Rattle.dms_centre.specs.State.{Entry}
@@ -38,7 +39,7 @@ pub record IsSentAt (world : WorldModel) (events : List EventModel) (number coun
   pub sent : WasSent world events number count
   pub least : (fewer : ℕ) → WasSent world events number fewer → count ≤ fewer
 
--- The event that follows on so many others handed over a datagram that spells the request of this number, which had been sent before.
+-- The event that follows on so many others handed the sign a datagram that spells the request of this number, and that had been sent before.
 pub record WasDelivered (world : WorldModel) (events : List EventModel) (number before : ℕ) : Type 0 where
   pub sent_at : ℕ
   pub is_sent_at : IsSentAt world events number sent_at
@@ -46,8 +47,21 @@ pub record WasDelivered (world : WorldModel) (events : List EventModel) (number 
   pub place : ℕ
   pub event : slice_get events before ≡ Some (to_sign place)
   pub datagram : List ℕ
-  pub handed : slice_get (world_after world events).to_sign place ≡ Some datagram
+  pub handed : slice_get (world_at world events before).to_sign place ≡ Some datagram
   pub has_number : HasNumber number datagram
+
+-- The sign answered it: it had power then, and heard a request of one of its two communities.
+pub record WasAnswered (world : WorldModel) (events : List EventModel) (number before : ℕ) : Type 0 where
+  pub delivered : WasDelivered world events number before
+  pub heard : is_heard (world_at world events before).sign delivered.has_number.message ≡ true
+
+-- the request that it answered
+abbrev pub request_in : {world : WorldModel} {events : List EventModel} {number before : ℕ} → WasAnswered world events number before → SnmpMessage
+request_in answered = answered.delivered.has_number.message
+
+-- what it answered
+abbrev pub answer_in : {world : WorldModel} {events : List EventModel} {number before : ℕ} → WasAnswered world events number before → Answer
+answer_in {world} {events} {number} {before} answered = primary (world_at world events before).sign (request_in answered)
 
 -- ---- what the ledger says
 
@@ -58,15 +72,16 @@ Carries message octets = message.bindings ≡ activates octets ∷ []
 abbrev pub shown_checksum : ShownModel → ℕ
 shown_checksum shown = message_checksum shown.text shown.beacon shown.pixel
 
--- The sign accepted the code of the entry at an event that delivered its request: the same octets, whatever the orders of the two ends.
--- Where they have one order, and the code names a row, what was put up then has the code's checksum.
+-- The sign accepted the code of the entry as it answered its request: the same octets, whatever the orders of the two ends. Where they
+-- have one order, and the code names a row, what was put up then has the code's checksum.
 pub record WasAccepted (world : WorldModel) (events : List EventModel) (entry : Entry) : Type 0 where
   pub before : ℕ
-  pub delivered : WasDelivered world events entry.number before
+  pub answered : WasAnswered world events entry.number before
   pub code : Activation
+  pub accepted : (answer_in answered).accepted ≡ Some code
   pub listed : Has (world_after world events).accepted (suc before, code)
   pub same : octets_of_activation world.sign.table.order code ≡ octets_of_activation world.centre.settings.order entry.code
-  pub carries : Carries delivered.has_number.message (octets_of_activation world.centre.settings.order entry.code)
+  pub carries : Carries (request_in answered) (octets_of_activation world.centre.settings.order entry.code)
   pub put_up : entry.code.id.memory ≢ current_buffer → entry.code.id.memory ≢ blank_memory
       → world.sign.table.order ≡ world.centre.settings.order
       → shown_checksum (world_at world events (suc before)).sign.shown ≡ entry.code.id.crc
@@ -74,8 +89,8 @@ pub record WasAccepted (world : WorldModel) (events : List EventModel) (entry : 
 -- the sign answered the entry's request with this status
 pub record WasRefused (world : WorldModel) (events : List EventModel) (entry : Entry) (status : ℤ) : Type 0 where
   pub before : ℕ
-  pub delivered : WasDelivered world events entry.number before
-  pub status_is : pos (error_status_number (primary (world_at world events before).sign delivered.has_number.message).status) ≡ status
+  pub answered : WasAnswered world events entry.number before
+  pub status_is : pos (error_status_number (answer_in answered).status) ≡ status
 
 -- each entry that is accepted
 abbrev pub AcceptedWasAccepted : WorldModel → List EventModel → Type 0
