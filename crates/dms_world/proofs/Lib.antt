@@ -18,3 +18,4 @@ mod WorldReplies
 mod WorldHonest
 pub mod Runs
 pub mod Made
+mod WorldInFlight

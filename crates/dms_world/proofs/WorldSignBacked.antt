@@ -15,6 +15,7 @@ use Rattle.dms_sign.proofs.StepShown.{checksum_as}
 use Rattle.dms_world.specs.Event.{EventModel}
 use Rattle.dms_world.specs.World.{WorldModel, IsFresh, world_at}
 use Rattle.dms_world.specs.Backed.{Has, IsBlank, WasPutUp, WasTheSigns, stored_row, Held, WasHeld, IsValidated, IsBackedAt, IsBacked}
+use Rattle.dms_world.specs.InFlight.{KeptIsBacked}
 use Rattle.dms_world.specs.GoodRows.{WasGood, was_made, was_settled}
 use Rattle.dms_world.proofs.WorldSignSteps.{world_step}
 use Rattle.dms_world.proofs.WorldSignSound.{sound_at}
@@ -190,3 +191,7 @@ sure_at world events fresh (suc count) = sure_next world events count fresh (sur
 
 pub is_backed : (world : WorldModel) (events : List EventModel) → IsFresh world → IsBacked world events
 is_backed world events fresh = (sure_at world events fresh (length events)).shown
+
+-- the copy that is kept at a loss of power too
+pub kept_is_backed : (world : WorldModel) (events : List EventModel) → IsFresh world → KeptIsBacked world events
+kept_is_backed world events fresh = (sure_at world events fresh (length events)).kept

@@ -1,4 +1,4 @@
--- What a sign shows is blank, or a message that was validated and whose checksum stands in the code that put it up.
+-- What a sign shows is blank, or a message that was validated and whose checksum stands in the code that put it up (this profile).
 use Rattle.std.specs.Prelude.{◌≡◌, ◌⊎◌, ℕ, ◌≤◌, List, [], length, slice_get, Option, Some}
 use Rattle.dms_face.specs.declared.defaults.Defaults.{Defaults}
 use Rattle.dms_face.specs.Layout.{under}

@@ -1,4 +1,4 @@
--- What can happen to a sign and a centre that send datagrams to each other.
+-- What can happen to a sign and a centre that send datagrams to each other (this profile).
 use Rattle.std.specs.Prelude.{ℕ, List}
 use Rattle.dms_centre.specs.Commands.{CommandModel}
 

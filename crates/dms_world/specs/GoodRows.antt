@@ -1,4 +1,4 @@
--- What holds of a sign's rows and defaults after any events.
+-- What holds of a sign's rows and defaults after any events (this profile).
 use Rattle.std.specs.Prelude.{◌≡◌, ◌≢◌, ℕ, suc, ◌<◌, IsTrue, List, length, Some}
 use Rattle.dms_face.specs.declared.defaults.Defaults.{Defaults}
 use Rattle.dms_face.specs.Face.{fit}

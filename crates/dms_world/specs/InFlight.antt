@@ -3,6 +3,7 @@ use Rattle.std.specs.Prelude.{◌≡◌, ℕ, ◌<◌, List, length, slice_get, 
 use Rattle.dms_wire.specs.Message.{SnmpMessage}
 use Rattle.dms_wire.specs.MessageOf.{message_of}
 use Rattle.dms_sign.specs.Reply.{received as sign_received}
+use Rattle.dms_centre.specs.State.{Job, Pending, Awaits}
 use Rattle.dms_centre.specs.RequestNumbers.{HasNumber}
 use Rattle.dms_world.specs.Event.{EventModel, to_sign}
 use Rattle.dms_world.specs.World.{WorldModel, world_at, world_after}
@@ -35,3 +36,8 @@ abbrev pub NumbersAreBelowNext : WorldModel → List EventModel → Type 0
 NumbersAreBelowNext world events =
     (datagram : List ℕ) (number : ℕ) → Has (world_after world events).to_sign datagram → HasNumber number datagram
     → number < (world_after world events).centre.next
+
+-- the octets of the request that the centre waits for
+abbrev pub WaitingWasSent : WorldModel → List EventModel → Type 0
+WaitingWasSent world events =
+    (job : Job) (pending : Pending) → (world_after world events).centre.phase ≡ Awaits job pending → Has (world_after world events).to_sign pending.octets

@@ -1,18 +1,16 @@
--- A sign and a centre, with every datagram that was ever sent between them, under any list of events.
+-- A sign and a centre, with every datagram that was ever sent between them, under any list of events (this profile).
 use Rattle.std.specs.Prelude.{◌≡◌, ℕ, zero, suc, List, [], ◌∷◌, ◌++◌, length, slice_get, Option, Some, None, option_to_list}
 use Rattle.dms_codes.specs.declared.codes.Activation.{Activation}
 use Rattle.dms_table.specs.Rows.{TableModel}
-use Rattle.dms_sign.specs.State.{ConfigModel, SignState}
-use Rattle.dms_sign.specs.State as sign
-use Rattle.dms_sign.specs.Reply as sign_reply
+use Rattle.dms_sign.specs.State.{ConfigModel, SignState, start as sign_start}
+use Rattle.dms_sign.specs.Reply.{Received, received as sign_received}
 use Rattle.dms_sign.specs.InRange.{IsMadeOfOctets}
 use Rattle.dms_sign.specs.Events.{after_tick, after_power_loss, after_power_return}
-use Rattle.dms_centre.specs.State.{SettingsModel, CentreState}
-use Rattle.dms_centre.specs.State as centre
+use Rattle.dms_centre.specs.State.{SettingsModel, CentreState, start as centre_start}
 use Rattle.dms_centre.specs.Sending.{Move}
 use Rattle.dms_centre.specs.Commands.{commanded}
 use Rattle.dms_centre.specs.History.{AreSettings}
-use Rattle.dms_centre.specs.Inputs.{received, ticked, restarted}
+use Rattle.dms_centre.specs.Inputs.{received as centre_received, ticked, restarted}
 use Rattle.dms_sign.specs.Construction.{CanBeMade}
 use Rattle.dms_world.specs.Event.{EventModel, command, sign_tick, centre_tick, to_sign, to_centre, power_lost, power_back, centre_restart, forge_sign, forge_centre}
 
@@ -32,11 +30,11 @@ noted number None = []
 noted number (Some code) = (number, code) ∷ []
 
 -- the sign did this at the event of this number
-abbrev pub by_sign : ℕ → WorldModel → sign_reply.Received → WorldModel
-by_sign number world received = record world {
-  sign = received.after;
-  to_centre = world.to_centre ++ option_to_list received.reply;
-  accepted = world.accepted ++ noted number received.accepted;
+abbrev pub by_sign : ℕ → WorldModel → Received → WorldModel
+by_sign number world did = record world {
+  sign = did.after;
+  to_centre = world.to_centre ++ option_to_list did.reply;
+  accepted = world.accepted ++ noted number did.accepted;
 }
 
 -- the centre did this
@@ -46,11 +44,11 @@ by_centre world move = record world { centre = move.state; to_sign = world.to_si
 -- a datagram is handed to the sign; none is handed where none was sent
 abbrev pub at_sign : ℕ → WorldModel → Option (List ℕ) → WorldModel
 at_sign number world None = world
-at_sign number world (Some datagram) = by_sign number world (sign_reply.received world.sign datagram)
+at_sign number world (Some datagram) = by_sign number world (sign_received world.sign datagram)
 
 abbrev pub at_centre : WorldModel → Option (List ℕ) → WorldModel
 at_centre world None = world
-at_centre world (Some datagram) = by_centre world (received world.centre datagram)
+at_centre world (Some datagram) = by_centre world (centre_received world.centre datagram)
 
 abbrev pub with_sign : WorldModel → SignState → WorldModel
 with_sign world state = record world { sign = state }
@@ -98,4 +96,4 @@ pub record IsFresh (world : WorldModel) : Type 0 where
   pub can_be_made : CanBeMade config table
   pub made_of_octets : IsMadeOfOctets config table
   pub are_settings : AreSettings settings
-  pub is_beginning : world ≡ beginning (sign.start config table) (centre.start settings first)
+  pub is_beginning : world ≡ beginning (sign_start config table) (centre_start settings first)

@@ -2,6 +2,7 @@
 #![tactic(auto)]
 
 pub mod event;
+pub mod flight_laws;
 pub mod laws;
 pub mod ledger_laws;
 pub mod number_laws;
