@@ -1,5 +1,5 @@
 -- At most one row is being validated.
-use Rattle.std.proofs.Common.{◌≡◌, ℕ, zero, suc, ◌+◌, ◌-◌, ◌<◌, ◌≤◌, ◌==◌, ◌&&◌, ◌||◌, Bool, true, false, not, cond, if◌then◌else◌, List, [], ◌∷◌, ◌++◌, map, replicate, length, get_or, set, take, slice_set, Option, Some, None, slice_get, Result, Ok, Err, refl, ap, sym, ◌∙◌, arith}
+use Rattle.std.proofs.Common.{◌≡◌, ℕ, zero, suc, ◌+◌, ◌-◌, ◌<◌, ◌≤◌, ◌==◌, ◌&&◌, ◌||◌, Bool, true, false, not, cond, if◌then◌else◌, List, [], ◌∷◌, ◌++◌, map, replicate, length, get_or, set, take, slice_set, Option, Some, None, slice_get, Result, Ok, Err, find, refl, ap, sym, ◌∙◌, arith}
 use Rattle.std.specs.Prelude.{OnOk, OnErr, option_map, option_and_then, count_by}
 use Rattle.std.specs.List.{list_any}
 use Rattle.std.proofs.lemmas.List.Sums.{sum_by-set, sum_by-cons}
@@ -14,7 +14,7 @@ use Rattle.dms_codes.specs.Status.{next_status, is_validate, is_validating, is_m
 use Rattle.dms_face.specs.Face.{FaceModel}
 use Rattle.dms_table.specs.declared.row.Services.{Services}
 use Rattle.dms_table.specs.Validation.{passes, verdict_of, settled_row}
-use Rattle.dms_table.specs.Rows.{RowModel, TableModel, FieldModel, Text, Owner, Beacon, Pixel, Priority, row_is_validating, unused, may_ask, changed_in, asked_row, written_row, is_in_range, with_status, with_field, interrupted, released}
+use Rattle.dms_table.specs.Rows.{RowModel, TableModel, FieldModel, Text, Owner, Beacon, Pixel, Priority, row_is_validating, unused, is_settling, may_ask, changed_in, asked_row, written_row, is_in_range, with_status, with_field, interrupted, released}
 
 -- how many rows are being validated
 abbrev pub count : List RowModel → ℕ
@@ -36,35 +36,33 @@ count-set rows i old new e =
 -- ---- a change of one row
 
 changed_one : (rows more : List RowModel) (i extra : ℕ) (row : RowModel) (o : Option RowModel)
-    → ((new : RowModel) → o ≡ Some new → weight new ≤ weight row + extra)
-    → slice_get rows i ≡ Some row → option_map (slice_set rows i) o ≡ Some more → count more ≤ count rows + extra
+    → ((new : RowModel) → o ≡ Some new → weight new ≡ weight row + extra)
+    → slice_get rows i ≡ Some row → option_map (slice_set rows i) o ≡ Some more → count more ≡ count rows + extra
 changed_one rows more i extra row None each there h = cc
 changed_one rows more i extra row (Some new) each there h =
     let e : set rows i new ≡ more = cc in
     let counted : count (set rows i new) + weight row ≡ count rows + weight new = count-set rows i row new there in
-    let least : weight new ≤ weight row + extra = each new refl in
+    let grown : weight new ≡ weight row + extra = each new refl in
     let same : count (set rows i new) ≡ count more = ap count e in
     omega arith
 
 changed_there : (rows more : List RowModel) (i extra : ℕ) (change : RowModel → Option RowModel) (o : Option RowModel)
-    → ((row new : RowModel) → change row ≡ Some new → weight new ≤ weight row + extra)
-    → slice_get rows i ≡ o → option_and_then (λ row. option_map (slice_set rows i) (change row)) o ≡ Some more → count more ≤ count rows + extra
+    → ((row new : RowModel) → change row ≡ Some new → weight new ≡ weight row + extra)
+    → slice_get rows i ≡ o → option_and_then (λ row. option_map (slice_set rows i) (change row)) o ≡ Some more → count more ≡ count rows + extra
 changed_there rows more i extra change None each there h = cc
 changed_there rows more i extra change (Some row) each there h = changed_one rows more i extra row (change row) (each row) there h
 
 changed_by : (b : Bool) (rows more : List RowModel) (i extra : ℕ) (change : RowModel → Option RowModel)
-    → ((row new : RowModel) → change row ≡ Some new → weight new ≤ weight row + extra)
-    → option_and_then (λ row. option_map (slice_set rows i) (change row)) (if b then None else slice_get rows i) ≡ Some more → count more ≤ count rows + extra
+    → ((row new : RowModel) → change row ≡ Some new → weight new ≡ weight row + extra)
+    → option_and_then (λ row. option_map (slice_set rows i) (change row)) (if b then None else slice_get rows i) ≡ Some more → count more ≡ count rows + extra
 changed_by true rows more i extra change each h = cc
 changed_by false rows more i extra change each h = changed_there rows more i extra change (slice_get rows i) each refl h
 
--- of a call that changes a row or is refused
-changed_or_not : (result : Result Unit Refused) (rows more : List RowModel) (number extra : ℕ) (change : RowModel → Option RowModel)
-    → ((row new : RowModel) → change row ≡ Some new → weight new ≤ weight row + extra)
-    → OnOk result (changed_in rows number change ≡ Some more) → OnErr result (more ≡ rows) → count more ≤ count rows + extra
-changed_or_not (Ok done) rows more number extra change each ok unchanged = changed_by (number == 0) rows more (number - 1) extra change each ok
-changed_or_not (Err refused) rows more number extra change each ok unchanged =
-    let same : count more ≡ count rows = ap count unchanged in omega arith
+-- of a call that changes a row
+pub changed_one_row : (rows more : List RowModel) (number extra : ℕ) (change : RowModel → Option RowModel)
+    → ((row new : RowModel) → change row ≡ Some new → weight new ≡ weight row + extra)
+    → changed_in rows number change ≡ Some more → count more ≡ count rows + extra
+changed_one_row rows more number extra change each changed = changed_by (number == 0) rows more (number - 1) extra change each changed
 
 -- ---- asking
 
@@ -74,23 +72,35 @@ extra_of ask = cond (is_validate ask) 1 0
 same_weight : (row new : RowModel) → Some row ≡ Some new → weight row ≡ weight new
 same_weight row new e = let same : row ≡ new = cc in ap weight same
 
-next_weight : (row new : RowModel) (status : Status) (ask : Ask) → option_map (with_status row) (next_status status ask) ≡ Some new → weight new ≤ weight row + extra_of ask
-next_weight row new NotUsed asks.Modify e = let k : 0 ≡ weight new = same_weight (with_status row Modifying) new e in omega arith
-next_weight row new NotUsed asks.Validate e = cc
-next_weight row new NotUsed asks.NotUsed e = let k : 0 ≡ weight new = same_weight unused new e in omega arith
-next_weight row new Validating ask e = cc
-next_weight row new Modifying asks.Modify e = let k : 0 ≡ weight new = same_weight (with_status row Modifying) new e in omega arith
-next_weight row new Modifying asks.Validate e = let k : 1 ≡ weight new = same_weight (with_status row Validating) new e in omega arith
-next_weight row new Modifying asks.NotUsed e = let k : 0 ≡ weight new = same_weight unused new e in omega arith
-next_weight row new Valid asks.Modify e = let k : 0 ≡ weight new = same_weight (with_status row Modifying) new e in omega arith
-next_weight row new Valid asks.Validate e = let k : 1 ≡ weight new = same_weight (with_status row Validating) new e in omega arith
-next_weight row new Valid asks.NotUsed e = let k : 0 ≡ weight new = same_weight unused new e in omega arith
-next_weight row new Error asks.Modify e = let k : 0 ≡ weight new = same_weight (with_status row Modifying) new e in omega arith
-next_weight row new Error asks.Validate e = let k : 1 ≡ weight new = same_weight (with_status row Validating) new e in omega arith
-next_weight row new Error asks.NotUsed e = let k : 0 ≡ weight new = same_weight unused new e in omega arith
+-- a row that takes what it is asked was not being validated, and is now where it was asked to be
+record Grows (status : Status) (new : RowModel) (ask : Ask) : Type 0 where
+  before : is_validating status ≡ false
+  now : weight new ≡ extra_of ask
 
-asked_weight : (ask : Ask) (row new : RowModel) → asked_row ask row ≡ Some new → weight new ≤ weight row + extra_of ask
-asked_weight ask row new e = next_weight row new row.status ask e
+grown : (status : Status) (ask : Ask) (to new : RowModel) → is_validating status ≡ false → weight to ≡ extra_of ask → Some to ≡ Some new → Grows status new ask
+grown status ask to new before weighs e = record { before = before; now = sym (same_weight to new e) ∙ weighs }
+
+next_weight : (row new : RowModel) (status : Status) (ask : Ask) → option_map (with_status row) (next_status status ask) ≡ Some new → Grows status new ask
+next_weight row new NotUsed asks.Modify e = grown NotUsed asks.Modify (with_status row Modifying) new refl refl e
+next_weight row new NotUsed asks.Validate e = cc
+next_weight row new NotUsed asks.NotUsed e = grown NotUsed asks.NotUsed unused new refl refl e
+next_weight row new Modifying asks.Modify e = grown Modifying asks.Modify (with_status row Modifying) new refl refl e
+next_weight row new Modifying asks.Validate e = grown Modifying asks.Validate (with_status row Validating) new refl refl e
+next_weight row new Modifying asks.NotUsed e = grown Modifying asks.NotUsed unused new refl refl e
+next_weight row new Valid asks.Modify e = grown Valid asks.Modify (with_status row Modifying) new refl refl e
+next_weight row new Valid asks.Validate e = grown Valid asks.Validate (with_status row Validating) new refl refl e
+next_weight row new Valid asks.NotUsed e = grown Valid asks.NotUsed unused new refl refl e
+next_weight row new Error asks.Modify e = grown Error asks.Modify (with_status row Modifying) new refl refl e
+next_weight row new Error asks.Validate e = grown Error asks.Validate (with_status row Validating) new refl refl e
+next_weight row new Error asks.NotUsed e = grown Error asks.NotUsed unused new refl refl e
+next_weight row new Validating ask e = cc
+
+asked_weight : (ask : Ask) (row new : RowModel) → asked_row ask row ≡ Some new → weight new ≡ weight row + extra_of ask
+asked_weight ask row new e =
+    let grows = next_weight row new row.status ask e in
+    let before : weight row ≡ 0 = ap (λ b. cond {A = ℕ} b 1 0) grows.before in
+    let now : weight new ≡ extra_of ask = grows.now in
+    omega (arith, before, now)
 
 none_in : (b : Bool) (row : RowModel) (rows : List RowModel) → (list_any row_is_validating rows ≡ false → count rows ≡ 0)
     → row_is_validating row ≡ b → (b || list_any row_is_validating rows) ≡ false → count (row ∷ rows) ≡ 0
@@ -102,36 +112,53 @@ none_validating : (rows : List RowModel) → list_any row_is_validating rows ≡
 none_validating [] h = refl
 none_validating (row ∷ rows) h = none_in (row_is_validating row) row rows (none_validating rows) refl h
 
-room_by : (asks one other : Bool) (m n : ℕ) → (one ≡ false → m ≡ 0) → (other ≡ false → n ≡ 0) → m + n ≤ 1
-    → not (asks && (one || other)) ≡ true → m + n + cond {A = ℕ} asks 1 0 ≤ 1
-room_by false one other m n no_one no_other most may = omega arith
-room_by true true other m n no_one no_other most may = cc
-room_by true false true m n no_one no_other most may = cc
-room_by true false false m n no_one no_other most may = omega (arith, no_one refl, no_other refl)
+-- ---- whether a row is being validated
 
--- what may be asked leaves room for it
-room : (ask : Ask) (xs ys : List RowModel) → count xs + count ys ≤ 1
-    → not (is_validate ask && (list_any row_is_validating xs || list_any row_is_validating ys)) ≡ true → count xs + count ys + extra_of ask ≤ 1
-room ask xs ys most may =
-    room_by (is_validate ask) (list_any row_is_validating xs) (list_any row_is_validating ys) (count xs) (count ys) (none_validating xs) (none_validating ys) most may
+not_none : (b : Bool) (n : ℕ) → (b ≡ false → n ≡ 0) → n ≡ 1 → b ≡ true
+not_none true n none one = refl
+not_none false n none one = absurd (let zero_is : n ≡ 0 = none refl in omega (arith, zero_is, one))
 
-may_of : (table : TableModel) (ask : Ask) (b : Bool) (xs ys : List RowModel) → b ≡ may_ask table ask → b ≡ true → xs ≡ table.changeable → ys ≡ table.volatile
-    → not (is_validate ask && (list_any row_is_validating xs || list_any row_is_validating ys)) ≡ true
-may_of table ask b xs ys is may changeable volatile = rw (changeable, volatile) (sym is ∙ may)
+some_in : (b : Bool) (row : RowModel) (rows : List RowModel) → (count rows ≡ 0 → list_any row_is_validating rows ≡ false)
+    → row_is_validating row ≡ b → count (row ∷ rows) ≡ 0 → (b || list_any row_is_validating rows) ≡ false
+some_in true row rows more is none =
+    absurd (let one : weight row ≡ 1 = ap (λ b. cond {A = ℕ} b 1 0) is in omega (arith, count-cons row rows, one, none))
+some_in false row rows more is none = more (omega (arith, count-cons row rows, none))
 
--- asking a changeable row
-pub one_asked_changeable : (table : TableModel) (ask : Ask) (b : Bool) (xs ys new : List RowModel) (number : ℕ) (result : Result Unit Refused)
-    → b ≡ may_ask table ask → b ≡ true → xs ≡ table.changeable → ys ≡ table.volatile → count xs + count ys ≤ 1
-    → OnOk result (changed_in xs number (asked_row ask) ≡ Some new) → OnErr result (new ≡ xs) → count new + count ys ≤ 1
-one_asked_changeable table ask b xs ys new number result is may changeable volatile most ok unchanged =
-    omega (arith, room ask xs ys most (may_of table ask b xs ys is may changeable volatile), changed_or_not result xs new number (extra_of ask) (asked_row ask) (asked_weight ask) ok unchanged)
+any_validating : (rows : List RowModel) → count rows ≡ 0 → list_any row_is_validating rows ≡ false
+any_validating [] none = refl
+any_validating (row ∷ rows) none = some_in (row_is_validating row) row rows (any_validating rows) refl none
 
--- asking a volatile row
-pub one_asked_volatile : (table : TableModel) (ask : Ask) (b : Bool) (xs ys new : List RowModel) (number : ℕ) (result : Result Unit Refused)
-    → b ≡ may_ask table ask → b ≡ true → xs ≡ table.changeable → ys ≡ table.volatile → count xs + count ys ≤ 1
-    → OnOk result (changed_in ys number (asked_row ask) ≡ Some new) → OnErr result (new ≡ ys) → count xs + count new ≤ 1
-one_asked_volatile table ask b xs ys new number result is may changeable volatile most ok unchanged =
-    omega (arith, room ask xs ys most (may_of table ask b xs ys is may changeable volatile), changed_or_not result ys new number (extra_of ask) (asked_row ask) (asked_weight ask) ok unchanged)
+either_by : (one other : Bool) (m n : ℕ) → (one ≡ false → m ≡ 0) → (other ≡ false → n ≡ 0) → m + n ≡ 1 → (one || other) ≡ true
+either_by true other m n no_one no_other sum = refl
+either_by false other m n no_one no_other sum = not_none other n no_other (let none : m ≡ 0 = no_one refl in omega (arith, none, sum))
+
+-- so many rows tell whether there is one
+pub settling_is : (b : Bool) (xs ys : List RowModel) → count xs + count ys ≡ cond b 1 0 → (list_any row_is_validating xs || list_any row_is_validating ys) ≡ b
+settling_is true xs ys sum = either_by (list_any row_is_validating xs) (list_any row_is_validating ys) (count xs) (count ys) (none_validating xs) (none_validating ys) sum
+settling_is false xs ys sum =
+    let none : list_any row_is_validating xs ≡ false = any_validating xs (omega (arith, sum)) in
+    ap (λ b. b || list_any row_is_validating ys) none ∙ any_validating ys (omega (arith, sum))
+
+pub at_most_one : (b : Bool) (n : ℕ) → n ≡ cond b 1 0 → n ≤ 1
+at_most_one true n is = omega (arith, is)
+at_most_one false n is = omega (arith, is)
+
+-- after a row took what it was asked
+pub one_more : (table : TableModel) (ask : Ask) (asks before : Bool) (xs ys new : List RowModel) (number : ℕ)
+    → may_ask table ask ≡ true → asks ≡ is_validate ask → before ≡ is_settling table → count xs + count ys ≡ cond before 1 0
+    → changed_in xs number (asked_row ask) ≡ Some new → count new + count ys ≡ cond (before || asks) 1 0
+one_more table ask asks before xs ys new number may asks_is known sum changed =
+    let grows : count new ≡ count xs + extra_of ask = changed_one_row xs new number (extra_of ask) (asked_row ask) (asked_weight ask) changed in
+    let extra : extra_of ask ≡ cond {A = ℕ} asks 1 0 = ap (λ b. cond {A = ℕ} b 1 0) (sym asks_is) in
+    let both : count new + count ys ≡ cond {A = ℕ} before 1 0 + cond {A = ℕ} asks 1 0 = omega (arith, grows, extra, sum) in
+    let free : not (asks && before) ≡ true = ap (λ b. not (b && before)) asks_is ∙ ap (λ b. not (is_validate ask && b)) known ∙ may in
+    both ∙ by_bits asks before free
+  where
+    by_bits : (asks before : Bool) → not (asks && before) ≡ true → cond {A = ℕ} before 1 0 + cond {A = ℕ} asks 1 0 ≡ cond (before || asks) 1 0
+    by_bits true true may = cc
+    by_bits true false may = omega arith
+    by_bits false true may = omega arith
+    by_bits false false may = omega arith
 
 -- ---- writing
 
@@ -142,18 +169,45 @@ field_weight row (Beacon on) = refl
 field_weight row (Pixel on) = refl
 field_weight row (Priority priority) = refl
 
-written_if : (b : Bool) (row other new : RowModel) → weight other ≡ weight row → (if b then Some other else None) ≡ Some new → weight new ≤ weight row + 0
+written_if : (b : Bool) (row other new : RowModel) → weight other ≡ weight row → (if b then Some other else None) ≡ Some new → weight new ≡ weight row + 0
 written_if true row other new same e = let is : weight other ≡ weight new = (let k : other ≡ new = cc in ap weight k) in omega arith
 written_if false row other new same e = cc
 
-written_weight : (field : FieldModel) (row new : RowModel) → written_row field row ≡ Some new → weight new ≤ weight row + 0
+written_weight : (field : FieldModel) (row new : RowModel) → written_row field row ≡ Some new → weight new ≡ weight row + 0
 written_weight field row new e = written_if (is_modifying row.status && is_in_range field) row (with_field row field) new (field_weight row field) e
 
 -- writing a row validates none
 pub none_more_written : (field : FieldModel) (rows new : List RowModel) (number : ℕ) (result : Result Unit Refused)
-    → OnOk result (changed_in rows number (written_row field) ≡ Some new) → OnErr result (new ≡ rows) → count new ≤ count rows
-none_more_written field rows new number result ok unchanged =
-    omega (arith, changed_or_not result rows new number 0 (written_row field) (written_weight field) ok unchanged)
+    → OnOk result (changed_in rows number (written_row field) ≡ Some new) → OnErr result (new ≡ rows) → count new ≡ count rows
+none_more_written field rows new number (Ok done) ok unchanged = omega (arith, changed_one_row rows new number 0 (written_row field) (written_weight field) ok)
+none_more_written field rows new number (Err refused) ok unchanged = ap count unchanged
+
+-- ---- nothing to settle
+
+unsettled_by : (b : Bool) (row settled : RowModel) → b ≡ false → (if b then settled else row) ≡ row
+unsettled_by false row settled is = refl
+unsettled_by true row settled is = cc
+
+-- where no row is being validated, settling leaves all as they are
+pub unsettled : (services : Services) (face : FaceModel) (rows : List RowModel) → list_any row_is_validating rows ≡ false → map (settled_row services face) rows ≡ rows
+unsettled services face [] none = refl
+unsettled services face (row ∷ rows) none =
+    let parts = neither (row_is_validating row) (list_any row_is_validating rows) none in
+    ap (λ first. first ∷ map (settled_row services face) rows) (unsettled_by (row_is_validating row) row _ parts.0)
+    ∙ ap (λ rest. row ∷ rest) (unsettled services face rows parts.1)
+  where
+    neither : (a b : Bool) → (a || b) ≡ false → (a ≡ false) × (b ≡ false)
+    neither false b none = (refl, none)
+    neither true b none = cc
+
+pub not_found : (rows : List RowModel) → list_any row_is_validating rows ≡ false → find row_is_validating rows ≡ None
+not_found [] none = refl
+not_found (row ∷ rows) none = by_first (row_is_validating row) row rows none (not_found rows)
+  where
+    by_first : (b : Bool) (row : RowModel) (rows : List RowModel) → (b || list_any row_is_validating rows) ≡ false
+        → (list_any row_is_validating rows ≡ false → find row_is_validating rows ≡ None) → cond b (Some row) (find row_is_validating rows) ≡ None
+    by_first true row rows none more = cc
+    by_first false row rows none more = more none
 
 -- ---- a function of each row
 

@@ -3,10 +3,11 @@
 ghost use Rattle.std.specs.Prelude.{◌≡◌, ◌⊎◌, ◌<◌, ◌+◌, IfNone, map, find, All, IsTrue, IfOk, IfErr, OnOk, OnErr, Some, None, IfSome, option_map, is_some};
 ghost use Rattle.std.specs.Option.{option_copied};
 ghost use Rattle.std.specs.List.{list_any};
-ghost use Rattle.dms_table.specs.Rows.{row_is_validating, rows_of, numbered, row_read, valid_count, unused_count, row_count, may_ask, changed_in, asked_row, asked, written_row, written, interrupted, released, after_power, IsTable, TableModel, FieldModel};
+ghost use Rattle.dms_table.specs.Rows.{row_is_validating, rows_of, numbered, row_read, valid_count, unused_count, row_count, is_settling, may_ask, changed_in, asked_row, asked, written_row, written, interrupted, released, after_power, IsTable, TableModel, FieldModel};
 ghost use Rattle.dms_table.specs.RowsView.{field_of, reading_of, IsShort};
 ghost use Rattle.dms_codes.specs.declared.row_id.RowId.{RowId};
 ghost use Rattle.dms_codes.specs.declared.status.Ask.{Ask};
+ghost use Rattle.dms_codes.specs.Status.{is_validate};
 ghost use Rattle.dms_face.specs.Face.{FaceModel, fit};
 ghost use Rattle.dms_face.specs.Layout.{under};
 ghost use Rattle.dms_table.specs.Validation.{settled, verdict, ValidRowsAreGood};
@@ -32,16 +33,19 @@ pub struct Table {
     volatile: Vec<Row>,
     services: Services,
     order: Order,
+    /// Whether a row is being validated.
+    validating: bool,
 }
 
 impl Model for Table {
-    ghost use Rattle.dms_table.specs.Rows.{TableModel, IsTable};
+    ghost use Rattle.std.specs.Prelude.{◌≡◌, if◌then◌else◌};
+    ghost use Rattle.dms_table.specs.Rows.{TableModel, validating_count};
 
     ghost Value = { TableModel };
 
     ghost view = { λ t. record { permanent = t.permanent.items; changeable = t.changeable.items; volatile = t.volatile.items; services = t.services; order = t.order } };
 
-    ghost invariant = { λ t. IsTable (record { permanent = t.permanent.items; changeable = t.changeable.items; volatile = t.volatile.items; services = t.services; order = t.order }) };
+    ghost invariant = { λ t. validating_count (record { permanent = t.permanent.items; changeable = t.changeable.items; volatile = t.volatile.items; services = t.services; order = t.order }) ≡ (if t.validating then 1 else 0) };
 }
 
 impl Table {
@@ -73,6 +77,7 @@ impl Table {
             volatile: unused_rows(alloc, stock.volatile)?,
             services: stock.services(),
             order: stock.order,
+            validating: false,
         })
     }
 
@@ -144,13 +149,18 @@ impl Table {
         }
     }
 
+    /// Whether a row is being validated.
+    fn is_settling(&self) -> bool
+        ensures { result ≡ is_settling self.now }
+    {
+        self.validating
+    }
+
     /// One row is validated at a time.
     fn may_ask(&self, ask: Ask) -> bool
         ensures { result ≡ may_ask self.now ask }
     {
-        ask != Ask::Validate
-            || !is_any_validating(self.changeable.as_slice())
-                && !is_any_validating(self.volatile.as_slice())
+        !is_validate(ask) || !self.is_settling()
     }
 
     /// Whether `ask` would take this now.
@@ -175,8 +185,16 @@ impl Table {
             return Err(Refused);
         }
         match id.memory {
-            memory::CHANGEABLE => ask_in(self.changeable.as_mut_slice(), id.number, ask),
-            memory::VOLATILE => ask_in(self.volatile.as_mut_slice(), id.number, ask),
+            memory::CHANGEABLE => {
+                ask_in(self.changeable.as_mut_slice(), id.number, ask)?;
+                self.validating |= is_validate(ask);
+                Ok(())
+            }
+            memory::VOLATILE => {
+                ask_in(self.volatile.as_mut_slice(), id.number, ask)?;
+                self.validating |= is_validate(ask);
+                Ok(())
+            }
             _ => Err(Refused),
         }
     }
@@ -202,6 +220,9 @@ impl Table {
         ensures verdict { result ≡ verdict (under face.now defaults.now) self.old }
         ensures good { ValidRowsAreGood (under face.now defaults.now) self.old self.new }
     {
+        if !self.is_settling() {
+            return None;
+        }
         let validator = Validator {
             services: self.services,
             face,
@@ -209,6 +230,7 @@ impl Table {
         };
         let changeable = settle_all(self.changeable.as_mut_slice(), &validator);
         let volatile = settle_all(self.volatile.as_mut_slice(), &validator);
+        self.validating = false;
         changeable.or(volatile)
     }
 
@@ -218,7 +240,14 @@ impl Table {
     {
         interrupt_all(self.changeable.as_mut_slice());
         release_all(self.volatile.as_mut_slice());
+        self.validating = false;
     }
+}
+
+fn is_validate(ask: Ask) -> bool
+    ensures { result ≡ is_validate ask }
+{
+    ask == Ask::Validate
 }
 
 /// The row of a number, from 1.
@@ -235,12 +264,6 @@ fn place_of(number: u16, count: usize) -> Option<usize>
 {
     let place = usize::from(number).checked_sub(1)?;
     if place < count { Some(place) } else { None }
-}
-
-fn is_any_validating(rows: &[Row]) -> bool
-    ensures { result ≡ list_any row_is_validating rows.now }
-{
-    rows.iter().any(|row| row.is_validating())
 }
 
 fn takes_in(rows: &[Row], number: u16, ask: Ask) -> bool

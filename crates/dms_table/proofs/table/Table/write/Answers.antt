@@ -14,7 +14,7 @@ invariant_of-self c =
     c.write_in.result
     (rw c.as_mut_slice.ensures.value at c.write_in.ensures.ok)
     (rw c.as_mut_slice.ensures.value at c.write_in.ensures.unchanged) in
-    record { one = rw filled (omega (arith, few, c.self.invariant.one)) }
+    rw filled (omega (arith, few, c.self.invariant))
 
 pub invariant_of-self-in-4 : goal.invariant_of-self-in-4
 invariant_of-self-in-4 c =
@@ -27,4 +27,4 @@ invariant_of-self-in-4 c =
     c.write_in-in-4.result
     (rw c.as_mut_slice-in-4.ensures.value at c.write_in-in-4.ensures.ok)
     (rw c.as_mut_slice-in-4.ensures.value at c.write_in-in-4.ensures.unchanged) in
-    record { one = rw filled (omega (arith, few, c.self.invariant.one)) }
+    rw filled (omega (arith, few, c.self.invariant))
