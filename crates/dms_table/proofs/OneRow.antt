@@ -112,6 +112,46 @@ none_validating : (rows : List RowModel) → list_any row_is_validating rows ≡
 none_validating [] h = refl
 none_validating (row ∷ rows) h = none_in (row_is_validating row) row rows (none_validating rows) refl h
 
+-- of a call that changes a row or is refused
+changed_or_not : (result : Result Unit Refused) (rows more : List RowModel) (number extra : ℕ) (change : RowModel → Option RowModel)
+    → ((row new : RowModel) → change row ≡ Some new → weight new ≡ weight row + extra)
+    → OnOk result (changed_in rows number change ≡ Some more) → OnErr result (more ≡ rows) → count more ≤ count rows + extra
+changed_or_not (Ok done) rows more number extra change each ok unchanged =
+    let grows : count more ≡ count rows + extra = changed_one_row rows more number extra change each ok in omega (arith, grows)
+changed_or_not (Err refused) rows more number extra change each ok unchanged =
+    let same : count more ≡ count rows = ap count unchanged in omega (arith, same)
+
+room_by : (asks one other : Bool) (m n : ℕ) → (one ≡ false → m ≡ 0) → (other ≡ false → n ≡ 0) → m + n ≤ 1
+    → not (asks && (one || other)) ≡ true → m + n + cond {A = ℕ} asks 1 0 ≤ 1
+room_by false one other m n no_one no_other most may = omega arith
+room_by true true other m n no_one no_other most may = cc
+room_by true false true m n no_one no_other most may = cc
+room_by true false false m n no_one no_other most may = omega (arith, no_one refl, no_other refl)
+
+-- what may be asked leaves room for it
+room : (ask : Ask) (xs ys : List RowModel) → count xs + count ys ≤ 1
+    → not (is_validate ask && (list_any row_is_validating xs || list_any row_is_validating ys)) ≡ true → count xs + count ys + extra_of ask ≤ 1
+room ask xs ys most may =
+    room_by (is_validate ask) (list_any row_is_validating xs) (list_any row_is_validating ys) (count xs) (count ys) (none_validating xs) (none_validating ys) most may
+
+may_of : (table : TableModel) (ask : Ask) (b : Bool) (xs ys : List RowModel) → b ≡ may_ask table ask → b ≡ true → xs ≡ table.changeable → ys ≡ table.volatile
+    → not (is_validate ask && (list_any row_is_validating xs || list_any row_is_validating ys)) ≡ true
+may_of table ask b xs ys is may changeable volatile = rw (changeable, volatile) (sym is ∙ may)
+
+-- asking a changeable row
+pub one_asked_changeable : (table : TableModel) (ask : Ask) (b : Bool) (xs ys new : List RowModel) (number : ℕ) (result : Result Unit Refused)
+    → b ≡ may_ask table ask → b ≡ true → xs ≡ table.changeable → ys ≡ table.volatile → count xs + count ys ≤ 1
+    → OnOk result (changed_in xs number (asked_row ask) ≡ Some new) → OnErr result (new ≡ xs) → count new + count ys ≤ 1
+one_asked_changeable table ask b xs ys new number result is may changeable volatile most ok unchanged =
+    omega (arith, room ask xs ys most (may_of table ask b xs ys is may changeable volatile), changed_or_not result xs new number (extra_of ask) (asked_row ask) (asked_weight ask) ok unchanged)
+
+-- asking a volatile row
+pub one_asked_volatile : (table : TableModel) (ask : Ask) (b : Bool) (xs ys new : List RowModel) (number : ℕ) (result : Result Unit Refused)
+    → b ≡ may_ask table ask → b ≡ true → xs ≡ table.changeable → ys ≡ table.volatile → count xs + count ys ≤ 1
+    → OnOk result (changed_in ys number (asked_row ask) ≡ Some new) → OnErr result (new ≡ ys) → count xs + count new ≤ 1
+one_asked_volatile table ask b xs ys new number result is may changeable volatile most ok unchanged =
+    omega (arith, room ask xs ys most (may_of table ask b xs ys is may changeable volatile), changed_or_not result ys new number (extra_of ask) (asked_row ask) (asked_weight ask) ok unchanged)
+
 -- ---- whether a row is being validated
 
 not_none : (b : Bool) (n : ℕ) → (b ≡ false → n ≡ 0) → n ≡ 1 → b ≡ true
