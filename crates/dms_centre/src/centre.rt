@@ -211,8 +211,8 @@ impl Centre {
         self.order
     }
 
-    /// The first thing that keeps a command.
-    fn refusal(&self, command: &Command<'_>) -> Option<CommandFault>
+    /// The first thing that keeps a command from being taken, want of memory aside.
+    pub fn refusal(&self, command: &Command<'_>) -> Option<CommandFault>
         ensures { result ≡ refusal_of self.now.state (command_model command.now) }
     {
         if self.busy() {

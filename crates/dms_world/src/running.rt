@@ -35,7 +35,7 @@ impl fmt::Display for Stopped {
 impl Error for Stopped {}
 
 /// The events happen in a world, one after another, counted from 1. Where there is no memory for one, the run stops before it, with the world
-/// after those that happened; only a command, a tick of the centre, a forged datagram and the delivery of a datagram that was sent can want
+/// after those that happened; only a command that is taken, a tick of the centre, a forged datagram and the delivery of a datagram that was sent can want
 /// memory. A command that the centre refuses for another reason changes nothing.
 ///
 /// What holds of the events that happened, from a fresh world on, is said beside: no request number is given to two requests; what is shown

@@ -1,9 +1,9 @@
 //! A sign and a centre in one world, with every datagram that was ever sent between them.
 
-ghost use Rattle.std.specs.Prelude.{◌≡◌, ◌<◌, ◌++◌, true, OnOk, OnErr, option_to_list, vec_len, vec_capacity};
+ghost use Rattle.std.specs.Prelude.{◌≡◌, ◌<◌, ◌++◌, true, None, OnOk, OnErr, option_to_list, vec_len, vec_capacity};
 ghost use Rattle.dms_sign.specs.Reply.{received as sign_received};
 ghost use Rattle.dms_centre.specs.CodeView.{command_model, sent_in};
-ghost use Rattle.dms_centre.specs.Commands.{commanded};
+ghost use Rattle.dms_centre.specs.Commands.{commanded, refusal_of};
 ghost use Rattle.dms_centre.specs.Inputs.{received as centre_received, ticked};
 ghost use Rattle.dms_world.specs.CodeView.{datagrams, event_model, seen};
 ghost use Rattle.dms_world.specs.Construction.{IsNewCentre, IsNewSign};
@@ -11,7 +11,7 @@ ghost use Rattle.dms_world.specs.Growing.{may_grow};
 ghost use Rattle.dms_world.specs.World.{IsFresh, beginning, happens, noted};
 
 use crate::event::Event;
-use dms_centre::{Centre, Command, CommandFault};
+use dms_centre::{Centre, Command};
 use dms_codes::Activation;
 use dms_face::laws::faces_are_within_their_limits;
 use dms_sign::{Receipt, Sign};
@@ -163,15 +163,19 @@ fn command_centre(
     ensures sent { OnOk result (datagrams to_sign.new.items ≡ datagrams to_sign.old.items ++ option_to_list (commanded centre.old.state (command_model command.entry)).sent) }
     ensures state_kept { OnErr result (centre.new.state ≡ centre.old.state) }
     ensures sent_kept { OnErr result (to_sign.new.items ≡ to_sign.old.items) }
+    ensures taken { OnErr result (refusal_of centre.old.state (command_model command.entry) ≡ None) }
 {
+    if centre.refusal(&command).is_some() {
+        return Ok(());
+    }
     to_sign.reserve(1)?;
     let mut request = Out::new();
     match centre.command(command, &mut request) {
-        Err(CommandFault::Memory) => Err(AllocError),
-        Ok(()) | Err(_) => {
+        Ok(()) => {
             keep(to_sign, request);
             Ok(())
         }
+        Err(_) => Err(AllocError),
     }
 }
 
