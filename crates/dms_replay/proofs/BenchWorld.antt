@@ -28,7 +28,7 @@ use Rattle.dms_objects.specs.Names.{name_of}
 use Rattle.dms_instances.specs.Objects.{instances}
 use Rattle.dms_sign.specs.Values.{scalar_value, value_at, value_after, minutes_left}
 use Rattle.dms_sign.specs.Values as values
-use Rattle.dms_sign.specs.Access.{is_settable_object, object_write, cell_write, write_of}
+use Rattle.dms_access.specs.Access.{is_settable_object, object_write, cell_write, write_of}
 use Rattle.dms_sign.specs.SetRequest.{settable_instance, write_at, causes, assigned}
 use Rattle.dms_sign.specs.Requests.{primary, set}
 use Rattle.dms_sign.specs.Reply.{reply_to}

@@ -1,10 +1,10 @@
 -- The state in which the values of a SET are assigned, and what a command makes of it.
-use Rattle.std.proofs.Common.{◌≡◌, ℕ, ◌≤◌, Bool, true, false, cond, List, [], ◌∷◌, ◌++◌, find, Option, Some, None, Result, Ok, Err, is_some, IsSome, IsTrue, refl, sym, ap, subst, ◌∙◌, arith, true≢false}
-use Rattle.std.specs.Prelude.{option_map, option_and_then, unwrap_or, slice_get}
+use Rattle.std.proofs.Common.{◌≡◌, ℕ, Bool, true, false, cond, List, [], ◌∷◌, ◌++◌, find, Option, Some, None, Result, Ok, Err, is_some, IsSome, IsTrue, refl, sym, ap, subst, ◌∙◌, true≢false}
+use Rattle.std.specs.Prelude.{option_map, option_and_then, slice_get}
 use Rattle.std.specs.Option.{IfSome}
 use Rattle.std.specs.Result.{OnOk, OnErr}
 use Rattle.std.specs.List.{cons_option}
-use Rattle.dms_wire.specs.declared.error_status.ErrorStatus.TheVariants.{NoError, GenErr}
+use Rattle.dms_wire.specs.declared.error_status.ErrorStatus.TheVariants.{NoError}
 use Rattle.dms_wire.specs.Message.{VarBind}
 use Rattle.dms_wire.specs.Limits.{AreBindingsInLimits}
 use Rattle.dms_face.specs.declared.defaults.Defaults.{Defaults}
@@ -21,21 +21,24 @@ use Rattle.dms_table.specs.declared.row.Refused.{Refused}
 use Rattle.dms_table.specs.declared.activation.Cause.{Cause}
 use Rattle.dms_table.specs.Rows.{TableModel, asked}
 use Rattle.dms_table.specs.Activation.{ShownModel, decided}
-use Rattle.dms_sign.specs.declared.settings.Settings.{Settings}
+use Rattle.dms_access.specs.declared.settings.Settings.{Settings}
 use Rattle.dms_sign.specs.declared.reports.Reports.{Reports}
 use Rattle.dms_sign.specs.declared.sign.Sign.TheInside.{Inside}
-use Rattle.dms_sign.specs.State.{FallbacksModel, ReportsModel, SignState}
-use Rattle.dms_sign.specs.Access.{Write, SetNumber, SetCode, SetField, AskRow, Activate, SetRemaining, is_command, is_settable, write_of}
-use Rattle.dms_sign.specs.SetRequest.{given, number_for, code_for, with_writes, assigned, SetCause, causes, if_settable, settable_instance, write_at}
-use Rattle.dms_sign.specs.Requests.{Answer, as_decided, as_asked, commanded, commanded_if, command_index, writes_of, activated, set, set_unless}
+use Rattle.dms_sign.specs.Communities.{are_communities}
+use Rattle.dms_sign.specs.State.{ConfigModel, FallbacksModel, SignState}
+use Rattle.dms_access.specs.Access.{Write, SetNumber, SetCode, SetField, AskRow, Activate, SetRemaining, is_command, is_settable, write_of}
+use Rattle.dms_access.specs.Assignment.{given, number_for, code_for}
+use Rattle.dms_sign.specs.SetRequest.{with_writes, assigned, SetCause, causes, if_settable, settable_instance, write_at}
+use Rattle.dms_sign.specs.Requests.{as_decided, as_asked, commanded, commanded_if, command_index, writes_of, set, set_unless}
 use Rattle.dms_sign.specs.OwnCodes.{showing}
 use Rattle.dms_sign.specs.InRange.{AreOctets, IsTableInRange, IsShownInRange, IsCauseInRange, AreReportsInRange, IsSignInRange}
 use Rattle.dms_sign.specs.Transitions.{HasFitDefaults}
 use Rattle.dms_sign.specs.Kept.{IsKept}
 use Rattle.dms_sign.specs.FallbacksView.{fallbacks_of}
 use Rattle.dms_sign.specs.SignView.{reports_of, state_of, IsWhole}
-use Rattle.dms_sign.specs.SettingsView.{codes_by, set_by, AreSettings}
-use Rattle.dms_sign.specs.ChangeView.{IsCommandInRange}
+use Rattle.dms_access.specs.SettingsView.{codes_by, set_by}
+use Rattle.dms_sign.specs.SetView.{AreSettings}
+use Rattle.dms_sign.specs.SetView.{IsCommandInRange}
 use Rattle.dms_sign.proofs.InRangeLists.{if_found}
 use Rattle.dms_sign.proofs.InRangeShown.{showing_in_range, telling_in_range, with_table_in_range, activation_is, IsDecisionInRange, decided_in_range}
 use Rattle.dms_sign.proofs.InRangeSets.{IsWriteInRange, writes_in_range, assigned_in_range, asked_in_range, accepted_reports}
@@ -103,6 +106,10 @@ state_assigned old ws settings table t is =
     ∙ ap (λ (n : ℕ). record (assigned (state_of old) ws) { time_comm_loss = n; defaults = settings.defaults }) is.time_comm_loss
     ∙ ap (λ (d : Defaults). record (assigned (state_of old) ws) { defaults = d }) is.defaults
 
+assigned_config : (s : SignState) (ws : List Write) → (assigned s ws).config ≡ s.config
+unfolding assigned
+assigned_config s ws = refl
+
 pub assigned_whole : (old : Inside) (bindings : List VarBind) (settings : Settings) (table : TableModel) → IsWhole old → AreBindingsInLimits bindings
     → table ≡ with_writes old.table (writes_of (state_of old) bindings) → AreSettings settings (assigned (state_of old) (writes_of (state_of old) bindings))
     → IsWhole (record old { table = table; settings = settings })
@@ -112,6 +119,7 @@ assigned_whole old bindings settings table is within t are =
     let kept : IsKept (assigned s ws) = record {
       in_range = assigned_in_range s ws is.kept.in_range (writes_in_range s bindings within);
       fit = assigned_fit s ws (writes_fit s bindings) is.kept.fit;
+      communities = subst (λ (c : ConfigModel). IsTrue (are_communities c.reader c.writer)) (sym (assigned_config s ws)) is.kept.communities;
     } in
     let order : table.order ≡ old.table.order = ap (λ (t : TableModel). t.order) t ∙ (writes_keep old.table ws).order in
     record {
@@ -126,7 +134,7 @@ pub asked_whole : (old : Inside) (table : TableModel) (id : RowId) (ask : Ask) �
 asked_whole old table id ask is e =
     let range : IsTableInRange table = subst (λ (o : Option TableModel). IfSome o IsTableInRange) e (asked_in_range old.table id ask is.kept.in_range.table) in
     record {
-      kept = record { in_range = with_table_in_range (state_of old) table is.kept.in_range range; fit = is.kept.fit };
+      kept = record { in_range = with_table_in_range (state_of old) table is.kept.in_range range; fit = is.kept.fit; communities = is.kept.communities };
       source = is.source ∙ ap (λ (o : Order). octets_of_id o old.shown.source) (sym (asked_keeps old.table table id ask e).order);
     }
 
@@ -162,6 +170,7 @@ accepted_whole old shown source octets reports is range twelve s r = record {
     in_range = telling_in_range (showing (state_of old) shown) (reports_of reports) (showing_in_range (state_of old) shown is.kept.in_range range)
         (subst AreReportsInRange (sym r) (accepted_reports (reports_of old.reports) octets is.kept.in_range.reports twelve));
     fit = is.kept.fit;
+    communities = is.kept.communities;
   };
   source = s;
 }

@@ -29,7 +29,7 @@ use Rattle.dms_instances.specs.Objects.{instances}
 use Rattle.dms_sign.specs.State.{ConfigModel, SignState, start}
 use Rattle.dms_sign.specs.Values.{scalar_value, value_at, value_of, value_after, bound}
 use Rattle.dms_sign.specs.OwnCodes.{put_up_code}
-use Rattle.dms_sign.specs.Access.{is_settable_object, object_write, cell_write, write_of}
+use Rattle.dms_access.specs.Access.{is_settable_object, object_write, cell_write, write_of}
 use Rattle.dms_sign.specs.SetRequest.{settable_instance, write_at, causes, assigned}
 use Rattle.dms_sign.specs.Requests.{Answer, primary}
 use Rattle.dms_sign.specs.Reply.{Received, reply_to, received}

@@ -1,19 +1,20 @@
 -- The walk over the bindings of a SET: what they write up to an index, where none has a cause of a refusal.
-use Rattle.std.proofs.Common.{◌≡◌, ℕ, zero, suc, ◌+◌, ◌-◌, ◌<◌, ◌≤◌, ◌||◌, Bool, true, false, cond, List, [], ◌∷◌, ◌++◌, map, length, take, find, Option, Some, None, is_some, refl, sym, ap, subst, ◌∙◌, arith, true≢false}
-use Rattle.std.specs.Prelude.{option_map, unwrap_or, filter_map, slice_get}
+use Rattle.std.proofs.Common.{◌≡◌, ℕ, ◌+◌, ◌||◌, Bool, true, false, cond, List, [], ◌∷◌, ◌++◌, length, take, find, Option, Some, None, is_some, refl, sym, ap, ◌∙◌, arith, true≢false}
+use Rattle.std.specs.Prelude.{option_map, unwrap_or, slice_get}
 use Rattle.std.specs.List.{list_any, cons_option, position_from}
 use Rattle.std.proofs.Math.Seq.{take-append_seam}
 use Rattle.std.proofs.lemmas.List.{append_assoc, append-nil, length-append}
 use Rattle.dms_wire.specs.Message.{VarBind}
 use Rattle.dms_wire.specs.declared.error_status.ErrorStatus.{ErrorStatus}
-use Rattle.dms_sign.specs.declared.settings.Fallbacks.{Fallbacks}
-use Rattle.dms_sign.specs.declared.settings.Settings.{Settings}
+use Rattle.dms_access.specs.declared.settings.Fallbacks.{Fallbacks}
+use Rattle.dms_access.specs.declared.settings.Settings.{Settings}
 use Rattle.dms_table.specs.Rows.{TableModel}
 use Rattle.dms_sign.specs.State.{SignState}
-use Rattle.dms_sign.specs.Access.{Write, is_command}
-use Rattle.dms_sign.specs.SetRequest.{SetCause, write_at, is_command_at, causes_at, causes_behind, causes, given, with_write, with_writes, assigned}
+use Rattle.dms_access.specs.Access.{Write, is_command}
+use Rattle.dms_access.specs.Assignment.{given}
+use Rattle.dms_sign.specs.SetRequest.{SetCause, write_at, is_command_at, causes_at, causes_behind, causes, with_write, with_writes}
 use Rattle.dms_sign.specs.Requests.{writes_of, command_index}
-use Rattle.dms_sign.specs.SettingsView.{codes_by, set_by}
+use Rattle.dms_access.specs.SettingsView.{codes_by, set_by}
 
 -- ---- lists with one element more
 
@@ -49,7 +50,7 @@ set_empty : (s : Settings) → s ≡ set_by s []
 unfolding set_by
 set_empty s = ap (λ (f : Fallbacks). record s { fallbacks = f }) (codes_empty s.fallbacks)
 
-any_push : {X : Type 0} (p : X → Bool) (xs : List X) (x : X) → list_any p (xs ++ x ∷ []) ≡ (list_any p xs || p x)
+pub any_push : {X : Type 0} (p : X → Bool) (xs : List X) (x : X) → list_any p (xs ++ x ∷ []) ≡ (list_any p xs || p x)
 any_push p [] x = or_false (p x)
   where
     or_false : (b : Bool) → (b || false) ≡ b

@@ -6,7 +6,7 @@ use Rattle.std.specs.List.{AllByRecursion, position_from}
 use Rattle.dms_wire.specs.declared.message.Kind.{Kind}
 use Rattle.dms_wire.specs.declared.message.Kind.TheVariants.{Get, GetNext, Response, Set}
 use Rattle.dms_wire.specs.declared.error_status.ErrorStatus.{ErrorStatus}
-use Rattle.dms_wire.specs.declared.error_status.ErrorStatus.TheVariants.{NoError, NoSuchName, GenErr}
+use Rattle.dms_wire.specs.declared.error_status.ErrorStatus.TheVariants.{NoSuchName, GenErr}
 use Rattle.dms_wire.specs.ErrorStatus.{error_status_number}
 use Rattle.dms_wire.specs.Message.{VarBind, SnmpMessage}
 use Rattle.dms_wire.specs.MessageOf.{message_of}
@@ -25,7 +25,7 @@ use Rattle.dms_codes.specs.Codes.{activation_of}
 use Rattle.dms_table.specs.Activation.{ShownModel, decided}
 use Rattle.dms_sign.specs.State.{SignState}
 use Rattle.dms_sign.specs.Values.{value_of, value_after}
-use Rattle.dms_sign.specs.Access.{Write, SetNumber, SetCode, SetField, AskRow, Activate, SetRemaining, is_command}
+use Rattle.dms_access.specs.Access.{Write, SetNumber, SetCode, SetField, AskRow, Activate, SetRemaining, is_command}
 use Rattle.dms_sign.specs.SetRequest.{SetCause, is_command_at, tests_at, cause_if, causes_at, causes_behind, causes, assigned}
 use Rattle.dms_sign.specs.Reply.{too_big}
 use Rattle.dms_sign.specs.Requests.{Answer, refused, granted, found_unless, has_no_value, with_value, get, is_last, next_after, get_next, as_decided, as_asked, with_remaining, commanded, commanded_if, writes_of, command_index, set_unless, may_write, answer_by, primary}

@@ -34,8 +34,9 @@ use Rattle.dms_objects.specs.declared.instance.Instance.TheVariants.{The, Cell}
 use Rattle.dms_objects.specs.Names.{scalar_number}
 use Rattle.dms_sign.specs.State.{ReportsModel, SignState, end_duration_mode}
 use Rattle.dms_sign.specs.OwnCodes.{showing, put_up_code}
-use Rattle.dms_sign.specs.Access.{Write, SetNumber, SetCode, SetField, AskRow, Activate, SetRemaining, is_command, number_in, octets_in, font_in, ask_of, object_write, cell_write, write_of}
-use Rattle.dms_sign.specs.SetRequest.{SetCause, settable_instance, write_at, causes, given, is_same, number_for, code_for, with_write, with_writes, assigned}
+use Rattle.dms_access.specs.Access.{Write, SetNumber, SetCode, SetField, AskRow, Activate, SetRemaining, is_command, number_in, octets_in, font_in, ask_of, object_write, cell_write, write_of}
+use Rattle.dms_access.specs.Assignment.{given, is_same, number_for, code_for}
+use Rattle.dms_sign.specs.SetRequest.{SetCause, settable_instance, write_at, causes, with_write, with_writes, assigned}
 use Rattle.dms_sign.specs.Requests.{found_unless, has_no_value, is_last, as_decided, as_asked, with_remaining, commanded, commanded_if, writes_of, command_index, set_unless, may_write, answer_by, primary}
 use Rattle.dms_sign.specs.Reply.{is_heard, dropped, heard, on_message, on_message_if, received}
 use Rattle.dms_sign.specs.InRange.{AreOctets, AreOctetsUpTo, IsRowInRange, IsTableInRange, AreReportsInRange, IsSignInRange, IsBindingInLimits}

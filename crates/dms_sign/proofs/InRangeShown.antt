@@ -1,6 +1,6 @@
 -- What a code puts up is in range, and so is what is told of a code that is refused.
 use Rattle.std.proofs.Common.{◌≡◌, ℕ, zero, suc, ◌+◌, ◌*◌, ◌^◌, ◌<◌, ◌≤◌, ◌==◌, Bool, true, false, not, cond, List, [], ◌∷◌, length, get_or, Option, Some, None, Result, Ok, Err, refl, arith}
-use Rattle.std.specs.Prelude.{option_map, nat_lt, ⊤}
+use Rattle.std.specs.Prelude.{option_map, nat_lt}
 use Rattle.std.specs.Option.{IfSome}
 use Rattle.std.specs.Int.Digits.{AllBelowBase}
 use Rattle.dms_face.specs.declared.defaults.Defaults.{Defaults}

@@ -23,9 +23,9 @@ pub mod WorkedDefaults
 pub mod WorkedSizes
 pub mod WorkedPictures
 pub mod Wholes
-pub mod Found
 pub mod Walks
 pub mod Sending
 pub mod Writes
 pub mod Causes
+pub mod TakenSlots
 pub mod Assigned

@@ -21,7 +21,7 @@ use Rattle.dms_table.specs.Activation.{ShownModel, decided}
 use Rattle.dms_table.proofs.OneRow.{count, one_asked_changeable, one_asked_volatile, none_more_written, none_settled, none_interrupted, none_released, none_unused}
 use Rattle.dms_sign.specs.State.{ConfigModel, SignState, start}
 use Rattle.dms_sign.specs.OwnCodes.{put_up_as_decided, staying, own_activation, put_up_code}
-use Rattle.dms_sign.specs.Access.{Write, SetNumber, SetCode, SetField, AskRow, Activate, SetRemaining, is_command}
+use Rattle.dms_access.specs.Access.{Write, SetNumber, SetCode, SetField, AskRow, Activate, SetRemaining, is_command}
 use Rattle.dms_sign.specs.SetRequest.{SetCause, with_write, with_writes, causes, assigned}
 use Rattle.dms_sign.specs.Requests.{found_unless, as_decided, as_asked, with_remaining, commanded, commanded_if, writes_of, set_unless, may_write, answer_by, primary}
 use Rattle.dms_sign.specs.Reply.{is_heard, heard, dropped, on_message_if, received}

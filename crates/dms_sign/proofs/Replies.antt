@@ -21,7 +21,7 @@ use Rattle.dms_table.specs.Rows.{TableModel, asked}
 use Rattle.dms_codes.specs.Codes.{activation_of}
 use Rattle.dms_table.specs.Activation.{ShownModel, decided}
 use Rattle.dms_sign.specs.State.{SignState}
-use Rattle.dms_sign.specs.Access.{Write, SetNumber, SetCode, SetField, AskRow, Activate, SetRemaining, is_command}
+use Rattle.dms_access.specs.Access.{Write, SetNumber, SetCode, SetField, AskRow, Activate, SetRemaining, is_command}
 use Rattle.dms_sign.specs.SetRequest.{SetCause, is_command_at, tests_at, cause_if, causes_at, causes_behind, causes, assigned}
 use Rattle.dms_sign.specs.Reply.{too_big}
 use Rattle.dms_sign.specs.Requests.{Answer, refused, granted, as_decided, as_asked, commanded, commanded_if, with_remaining, command_index, writes_of, set_unless, may_write, answer_by, primary}

@@ -1,10 +1,9 @@
 -- What is written of a reply: itself where it fits a datagram, or tooBig.
-use Rattle.std.proofs.Common.{◌≡◌, ℕ, ◌<◌, ◌≤◌, ◌*◌, Bool, cond, List, length, Result, Ok, Err, refl, sym, ap, subst, ◌∙◌, arith}
+use Rattle.std.proofs.Common.{◌≡◌, ℕ, ◌<◌, ◌≤◌, List, length, Result, Ok, Err, sym, ap, subst, ◌∙◌, arith}
 use Rattle.std.specs.Prelude.{nat_le}
 use Rattle.std.proofs.lemmas.Bool.{cond-true, cond-false, le-leb, leb-true, false_from_ne_true}
 use Rattle.dms_wire.specs.declared.fault.TooBig.{TooBig}
 use Rattle.dms_wire.specs.Message.{VarBind, SnmpMessage}
-use Rattle.dms_wire.specs.Spelling.{Spells}
 use Rattle.dms_wire.specs.Canonical.{canonical}
 use Rattle.dms_wire.specs.Response.{response_to, response_with}
 use Rattle.dms_wire.specs.Written.{IsWritten}

@@ -25,8 +25,9 @@ use Rattle.dms_objects.specs.declared.instance.Instance.TheVariants.{The, Cell}
 use Rattle.dms_objects.specs.Names.{scalar_number}
 use Rattle.dms_sign.specs.State.{ConfigModel, SignState, power_recovery_mode, communications_loss_mode, power_loss_mode, end_duration_mode}
 use Rattle.dms_sign.specs.OwnCodes.{showing, put_up_code}
-use Rattle.dms_sign.specs.Access.{Write, SetNumber, SetCode, SetField, AskRow, Activate, SetRemaining, is_command, number_in, octets_in, font_in, ask_of, object_write, cell_write, write_of}
-use Rattle.dms_sign.specs.SetRequest.{SetCause, settable_instance, write_at, causes, given, is_same, number_for, assigned}
+use Rattle.dms_access.specs.Access.{Write, SetNumber, SetCode, SetField, AskRow, Activate, SetRemaining, is_command, number_in, octets_in, font_in, ask_of, object_write, cell_write, write_of}
+use Rattle.dms_access.specs.Assignment.{given, is_same, number_for}
+use Rattle.dms_sign.specs.SetRequest.{SetCause, settable_instance, write_at, causes, assigned}
 use Rattle.dms_sign.specs.Requests.{found_unless, with_value, has_no_value, next_after, is_last, as_decided, as_asked, with_remaining, commanded, commanded_if, writes_of, set_unless, may_write, answer_by, primary}
 use Rattle.dms_sign.specs.Reply.{is_heard, heard, dropped, on_message_if, received}
 use Rattle.dms_sign.specs.Events.{after_settling, counted_down, after_duration, longest_silence, quieter, after_silence, after_tick, recovery_code, restored, after_power_loss, after_power_return}

@@ -15,7 +15,7 @@ use Rattle.dms_table.specs.Rows.{TableModel, asked, after_power}
 use Rattle.dms_table.specs.Activation.{ShownModel, seconds_of, decided}
 use Rattle.dms_sign.specs.State.{ConfigModel, FallbacksModel, SignState, power_recovery_mode, communications_loss_mode, power_loss_mode, end_duration_mode}
 use Rattle.dms_sign.specs.OwnCodes.{showing, put_up_code}
-use Rattle.dms_sign.specs.Access.{Write, SetNumber, SetCode, SetField, AskRow, Activate, SetRemaining, is_command}
+use Rattle.dms_access.specs.Access.{Write, SetNumber, SetCode, SetField, AskRow, Activate, SetRemaining, is_command}
 use Rattle.dms_sign.specs.SetRequest.{SetCause, causes, assigned}
 use Rattle.dms_sign.specs.Requests.{Answer, found_unless, as_decided, as_asked, with_remaining, commanded, commanded_if, writes_of, set_unless, may_write, answer_by, primary}
 use Rattle.dms_sign.specs.Reply.{is_heard, heard, dropped, on_message_if, received}

@@ -18,7 +18,7 @@ use Rattle.dms_table.specs.Rows.{RowModel, TableModel, FieldModel, Text, Owner, 
 use Rattle.dms_codes.specs.Memory.{permanent_memory, changeable_memory, volatile_memory, blank_memory}
 use Rattle.dms_table.specs.Validation.{text_verdict, verdict_of, passes, settled, CameToBeValid, was_valid, ValidRowsAreGood}
 use Rattle.dms_table.proofs.GoodRows.{settled_rows_are_good}
-use Rattle.dms_sign.specs.Access.{Write, SetNumber, SetCode, SetField, AskRow, Activate, SetRemaining}
+use Rattle.dms_access.specs.Access.{Write, SetNumber, SetCode, SetField, AskRow, Activate, SetRemaining}
 use Rattle.dms_sign.specs.SetRequest.{with_write, with_writes}
 use Rattle.dms_sign.specs.Transitions.{TableStep}
 

@@ -1,5 +1,5 @@
 -- A walk over the bindings of a request that writes what it finds, and stops where nothing is found.
-use Rattle.std.proofs.Common.{◌≡◌, ℕ, zero, suc, ◌+◌, ◌≤◌, Bool, true, false, cond, List, [], ◌∷◌, ◌++◌, map, length, Option, Some, None, refl, sym, ap, subst, ◌∙◌, arith, length-append}
+use Rattle.std.proofs.Common.{◌≡◌, ℕ, ◌+◌, Bool, true, false, cond, List, [], ◌∷◌, ◌++◌, map, length, Option, Some, None, refl, sym, ap, ◌∙◌, arith}
 use Rattle.std.specs.Prelude.{is_none, unwrap_or}
 use Rattle.std.specs.List.{position_from}
 use Rattle.std.proofs.lemmas.List.{append_assoc, append-nil}
@@ -8,7 +8,7 @@ use Rattle.dms_objects.specs.declared.instance.Instance.{Instance}
 use Rattle.dms_objects.specs.Names.{name_of}
 use Rattle.dms_sign.specs.State.{SignState}
 use Rattle.dms_sign.specs.Values.{value_of, value_after, bound}
-use Rattle.dms_sign.specs.Requests.{has_no_value, with_value, is_last, next_after, found_unless, get, get_next, granted}
+use Rattle.dms_sign.specs.Requests.{has_no_value, with_value, is_last, next_after}
 use Rattle.dms_wire.specs.Written.{octets_of_bindings}
 
 pub mapped_push : {X Y : Type 0} (f : X → Y) (xs : List X) (x : X) → map f (xs ++ x ∷ []) ≡ map f xs ++ f x ∷ []

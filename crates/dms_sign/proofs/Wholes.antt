@@ -1,5 +1,5 @@
 -- What a change of some fields leaves whole.
-use Rattle.std.proofs.Common.{◌≡◌, ℕ, ◌≤◌, ◌==◌, Bool, true, List, Option, Some, None, Result, Ok, Err, refl, sym, subst, ap, ◌∙◌, ◌*◌, arith}
+use Rattle.std.proofs.Common.{◌≡◌, ℕ, ◌≤◌, true, List, Option, Some, None, Ok, Err, refl, sym, subst, ap, ◌∙◌, ◌*◌}
 use Rattle.std.specs.Option.{IfSome}
 use Rattle.std.specs.Prelude.{All, IsTrue}
 use Rattle.std.specs.Int.Digits.{AllBelowBase}
@@ -11,7 +11,7 @@ use Rattle.dms_codes.specs.declared.codes.Order.TheVariants.{High, Swapped}
 use Rattle.dms_table.specs.Stock.{HasOctets}
 use Rattle.dms_codes.specs.declared.codes.MessageId.{MessageId}
 use Rattle.dms_codes.specs.declared.codes.Activation.{Activation}
-use Rattle.dms_codes.specs.Codes.{octets_of_id, octets_of_activation, id_of, IsMessageId}
+use Rattle.dms_codes.specs.Codes.{octets_of_id, id_of, IsMessageId}
 use Rattle.dms_table.specs.declared.activation.Cause.{Cause}
 use Rattle.dms_table.specs.declared.validation.Verdict.{Verdict}
 use Rattle.dms_table.specs.Rows.{TableModel, after_power}
@@ -19,20 +19,21 @@ use Rattle.dms_table.specs.Validation.{settled, verdict}
 use Rattle.dms_table.specs.Activation.{ShownModel, decided}
 use Rattle.dms_sign.specs.declared.reports.Reports.{Reports}
 use Rattle.dms_sign.specs.declared.sign.Sign.TheInside.{Inside}
+use Rattle.dms_sign.specs.Communities.{are_communities}
 use Rattle.dms_sign.specs.State.{ConfigModel, SignState, start, blank_code, blank_id, blank_shown, power_recovery_mode}
 use Rattle.dms_sign.specs.Kept.{IsKept}
 use Rattle.dms_sign.specs.OwnCodes.{own_activation, refused_reports}
 use Rattle.dms_sign.specs.Events.{settled_reports}
 use Rattle.dms_sign.specs.InRange.{IsStocked, AreDefaultsInRange, AreOctets, IsTableInRange, IsShownInRange, IsCauseInRange, IsTimeInRange, AreReportsInRange, IsSignInRange, most_minutes}
 use Rattle.dms_sign.specs.SignView.{reports_of, state_of, IsWhole}
-use Rattle.dms_sign.proofs.InRangeShown.{showing_in_range, telling_in_range, with_table_in_range, with_mode, with_time, own_is, own_octets, id_is, IsDecisionInRange, decided_in_range, refused_in_range, refused_code_in_range}
+use Rattle.dms_sign.proofs.InRangeShown.{showing_in_range, telling_in_range, with_table_in_range, with_mode, with_time, own_is, id_is, IsDecisionInRange, decided_in_range, refused_in_range}
 use Rattle.dms_sign.proofs.InRangeStart.{start_in_range, stocked_in_range}
 use Rattle.dms_sign.proofs.InRangeEvents.{IsVerdictInRange, settled_in_range, settled_verdict, verdict_told, with_silence, restored_in_range}
 
 pub shown_whole : (old : Inside) (shown : ShownModel) (source : List ℕ) → IsWhole old → IsShownInRange shown
     → source ≡ octets_of_id old.table.order shown.source → IsWhole (record old { shown = shown; source = source })
 shown_whole old shown source is range octets = record {
-  kept = record { in_range = showing_in_range (state_of old) shown is.kept.in_range range; fit = is.kept.fit };
+  kept = record { in_range = showing_in_range (state_of old) shown is.kept.in_range range; fit = is.kept.fit; communities = is.kept.communities };
   source = octets;
 }
 
@@ -43,6 +44,7 @@ staying_whole old mode is small = record {
     in_range = showing_in_range (state_of old) (record old.shown { mode = mode; remaining = None }) is.kept.in_range
         (with_time (record old.shown { mode = mode }) None (with_mode old.shown mode is.kept.in_range.shown small) tt);
     fit = is.kept.fit;
+    communities = is.kept.communities;
   };
   source = is.source;
 }
@@ -54,6 +56,7 @@ remaining_whole old remaining is time = record {
     in_range = showing_in_range (state_of old) (record old.shown { remaining = remaining }) is.kept.in_range
         (with_time old.shown remaining is.kept.in_range.shown time);
     fit = is.kept.fit;
+    communities = is.kept.communities;
   };
   source = is.source;
 }
@@ -61,7 +64,7 @@ remaining_whole old remaining is time = record {
 pub reports_whole : (old : Inside) (reports : Reports) → IsWhole old → AreReportsInRange (reports_of reports)
     → IsWhole (record old { reports = reports })
 reports_whole old reports is range = record {
-  kept = record { in_range = telling_in_range (state_of old) (reports_of reports) is.kept.in_range range; fit = is.kept.fit };
+  kept = record { in_range = telling_in_range (state_of old) (reports_of reports) is.kept.in_range range; fit = is.kept.fit; communities = is.kept.communities };
   source = is.source;
 }
 
@@ -87,13 +90,14 @@ kept_whole old is = record {
       reports = is.kept.in_range.reports;
     };
     fit = is.kept.fit;
+    communities = is.kept.communities;
   };
   source = is.source;
 }
 
 pub silent_whole : (old : Inside) (silent : ℕ) → IsWhole old → silent ≤ 60 * most_minutes → IsWhole (record old { silent = silent })
 silent_whole old silent is few = record {
-  kept = record { in_range = with_silence (state_of old) silent is.kept.in_range few; fit = is.kept.fit };
+  kept = record { in_range = with_silence (state_of old) silent is.kept.in_range few; fit = is.kept.fit; communities = is.kept.communities };
   source = is.source;
 }
 
@@ -125,6 +129,7 @@ settled_whole old table o reports is t v r = record {
   kept = record {
     in_range = settled_as_told old table reports is t (r ∙ ap (settled_reports (reports_of old.reports)) v);
     fit = is.kept.fit;
+    communities = is.kept.communities;
   };
   source = is.source ∙ ap (λ (t : TableModel). octets_of_id t.order old.shown.source) (sym t);
 }
@@ -139,6 +144,7 @@ restored_whole old table shown source is t e octets = record {
         ∙ ap (λ (shown : ShownModel). record (state_of old) { table = table; shown = shown; powered = true; silent = 0 }) (sym e))
         (restored_in_range (state_of old) is.kept.in_range);
     fit = is.kept.fit;
+    communities = is.kept.communities;
   };
   source = octets;
 }
@@ -171,9 +177,9 @@ blank_source High = refl
 blank_source Swapped = refl
 
 pub made_kept : (config : ConfigModel) (table : TableModel) → config.face.width ≤ 256 → config.face.height ≤ 64 → IsTrue (fit config.face.fonts config.face.defaults)
-    → AreDefaultsInRange config.face.defaults → AllBelowBase 256 config.reader → AllBelowBase 256 config.writer → IsStocked table → All HasOctets table.permanent
+    → IsTrue (are_communities config.reader config.writer) → AreDefaultsInRange config.face.defaults → AllBelowBase 256 config.reader → AllBelowBase 256 config.writer → IsStocked table → All HasOctets table.permanent
     → IsKept (start config table)
-made_kept config table width height fits are reader writer stocked octets = record {
+made_kept config table width height fits communities are reader writer stocked octets = record {
   in_range = start_in_range config table (record { width = width; height = height; reader = reader; writer = writer }) are
       (stocked_in_range config table stocked (record {
         reader = reader;
@@ -183,6 +189,7 @@ made_kept config table width height fits are reader writer stocked octets = reco
         owners = λ k d h. (octets k d h).owner;
       }));
   fit = fits;
+  communities = communities;
 }
 
 pub made_state : (config : ConfigModel) (table : TableModel) (defaults : Defaults) (shown kept : ShownModel) → defaults ≡ config.face.defaults

@@ -1,11 +1,10 @@
 -- What the writes of a SET leave: rows that are not being modified stay as they are, so a command is judged alike before and after them.
-use Rattle.std.proofs.Common.{◌≡◌, ◌⊎◌, inl, inr, ℕ, zero, suc, ◌-◌, ◌==◌, ◌&&◌, ◌||◌, Bool, true, false, not, cond, List, [], ◌∷◌, ◌++◌, find, Option, Some, None, Result, Ok, Err, is_some, refl, sym, ap, subst, ◌∙◌}
-use Rattle.std.specs.Prelude.{option_map, option_and_then, unwrap_or, slice_get, slice_set, filter_map, nat_lt, ⊤}
+use Rattle.std.proofs.Common.{◌≡◌, ◌⊎◌, inl, inr, ℕ, zero, suc, ◌-◌, ◌==◌, ◌&&◌, ◌||◌, Bool, true, false, not, cond, List, [], ◌∷◌, Option, Some, None, Result, Err, is_some, refl, sym, ap, subst, ◌∙◌}
+use Rattle.std.specs.Prelude.{option_map, option_and_then, unwrap_or, slice_get, slice_set, ⊤}
 use Rattle.std.specs.Option.{IfSome}
-use Rattle.std.specs.List.{list_any, cons_option}
+use Rattle.std.specs.List.{list_any}
 use Rattle.dms_face.specs.declared.defaults.Defaults.{Defaults}
 use Rattle.dms_face.specs.Face.{FaceModel}
-use Rattle.dms_face.specs.Layout.{under}
 use Rattle.dms_codes.specs.declared.status.Status.{Status}
 use Rattle.dms_codes.specs.declared.status.Status.TheVariants.{NotUsed, Modifying, Validating, Valid, Error}
 use Rattle.dms_codes.specs.declared.status.Ask.{Ask}
@@ -16,8 +15,8 @@ use Rattle.dms_codes.specs.Memory.{permanent_memory, changeable_memory, volatile
 use Rattle.dms_table.specs.declared.activation.Cause.{Cause}
 use Rattle.dms_table.specs.declared.activation.Cause.TheVariants as causes
 use Rattle.dms_table.specs.Rows.{RowModel, TableModel, FieldModel, Text, Owner, Beacon, Pixel, Priority, RowReading, reading, blank_reading, blank_at, numbered, rows_of, row_read, changed_in, with_changeable, with_volatile, changed, with_status, asked_row, asked, may_ask, is_settling, row_is_validating, is_in_range, with_field, written_row, written}
-use Rattle.dms_table.specs.Activation.{ShownModel, is_memory, named, row_id, message_at, shown_reading, has_checksum, text_error, activation_error, put_up, unless_refused, decided_on, decided}
-use Rattle.dms_sign.specs.Access.{Write, SetNumber, SetCode, SetField, AskRow, Activate, SetRemaining}
+use Rattle.dms_table.specs.Activation.{ShownModel, is_memory, row_id, shown_reading, put_up, unless_refused, decided_on, decided}
+use Rattle.dms_access.specs.Access.{Write, SetNumber, SetCode, SetField, AskRow, Activate, SetRemaining}
 use Rattle.dms_sign.specs.SetRequest.{with_write, with_writes}
 use Rattle.dms_sign.proofs.InRangeLists.{if_either, if_mapped}
 

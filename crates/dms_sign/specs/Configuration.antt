@@ -1,6 +1,5 @@
 -- What a sign is made with, and why there is none (this profile).
 use Rattle.std.specs.Prelude.{◌≡◌, ℕ, List, if◌then◌else◌, codes, Option, Some, None, option_map}
-use Rattle.dms_table.specs.declared.stock.TableFault.{TableFault}
 use Rattle.dms_table.specs.declared.stock.TableFault.TheVariants.{Memory}
 use Rattle.dms_table.specs.Stock.{stock_fault}
 use Rattle.dms_table.specs.FaultTexts.{table_fault_text}

@@ -1,5 +1,5 @@
 -- Which signs can be made (this profile).
-use Rattle.std.specs.Prelude.{◌≡◌, ◌≢◌, ℕ, ◌&&◌, ◌≤◌, IsTrue, Bool, length, replicate}
+use Rattle.std.specs.Prelude.{◌≡◌, ◌≢◌, ◌&&◌, ◌≤◌, IsTrue, Bool, length, replicate}
 use Rattle.std.specs.List.{list_all}
 use Rattle.dms_face.specs.Face.{FaceModel, is_face}
 use Rattle.dms_codes.specs.Status.{is_valid}

@@ -1,5 +1,5 @@
 -- The codes of a sign's own as the code holds them.
-use Rattle.dms_sign.specs.declared.settings.Fallbacks.{Fallbacks}
+use Rattle.dms_access.specs.declared.settings.Fallbacks.{Fallbacks}
 use Rattle.dms_sign.specs.State.{FallbacksModel}
 
 abbrev pub fallbacks_of : Fallbacks → FallbacksModel

@@ -1,5 +1,5 @@
 -- The ranges of what a sign holds. They hold of a sign as it is made and after every event, so that each value which its objects read
--- can be said in a message.
+-- can be said in a message (this profile).
 use Rattle.std.specs.Prelude.{◌≡◌, ℕ, ◌*◌, ◌≤◌, if◌then◌else◌, List, length, nat_le, Option, Some, None, ⊤, IsTrue, All, replicate}
 use Rattle.std.specs.List.{AllByRecursion}
 use Rattle.std.specs.Int.Digits.{AllBelowBase}

@@ -5,7 +5,6 @@ pub mod State
 pub mod Construction
 pub mod Values
 pub mod OwnCodes
-pub mod Access
 pub mod SetRequest
 pub mod Requests
 pub mod Reply
@@ -19,6 +18,5 @@ pub mod FallbacksView
 pub mod SignView
 pub mod ReplyView
 -- what only proofs go through
-pub mod ChangeView
-pub mod SettingsView
 pub mod SetView
+pub mod Slots

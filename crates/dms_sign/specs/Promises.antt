@@ -1,4 +1,4 @@
--- What holds of every reply, and of every activation that is accepted.
+-- What holds of every reply, and of every activation that is accepted (RFC 1157, 4.1, and this profile).
 use Rattle.std.specs.Prelude.{◌≡◌, ℕ, IsTrue, List, length, Some}
 use Rattle.std.specs.List.{Contains}
 use Rattle.dms_wire.specs.declared.message.Kind.TheVariants.{Response}

@@ -15,7 +15,7 @@ use Rattle.dms_table.specs.Activation.{ShownModel, decided, seconds_of}
 use Rattle.dms_sign.specs.State.{SignState, end_duration_mode}
 use Rattle.dms_sign.specs.Values.{value_of, value_after}
 use Rattle.dms_sign.specs.OwnCodes.{showing, with_refused_code, put_up_code}
-use Rattle.dms_sign.specs.Access.{Write, SetNumber, SetCode, SetField, AskRow, Activate, SetRemaining, is_command}
+use Rattle.dms_access.specs.Access.{Write, SetNumber, SetCode, SetField, AskRow, Activate, SetRemaining, is_command}
 use Rattle.dms_sign.specs.SetRequest.{SetCause, is_command_at, write_at, causes, assigned}
 
 -- what is answered: status, index and bindings; the state after it; and the activation that was accepted

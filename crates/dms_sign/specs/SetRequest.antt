@@ -1,5 +1,6 @@
--- What a SET writes, what keeps it from doing so, and the state in which all that it assigns is assigned at once.
-use Rattle.std.specs.Prelude.{ℕ, ◌+◌, ◌==◌, ◌&&◌, ◌||◌, Bool, false, not, if◌then◌else◌, List, [], ◌∷◌, ◌++◌, length, nat_eq, filter_map, Option, Some, None, is_none, option_map, option_and_then, unwrap_or}
+-- What a SET writes, what keeps it from doing so, and the state in which all that it assigns is assigned at once (RFC 1157, 4.1.5, and this
+-- profile).
+use Rattle.std.specs.Prelude.{ℕ, ◌+◌, ◌&&◌, ◌||◌, Bool, false, not, if◌then◌else◌, List, [], ◌∷◌, ◌++◌, length, nat_eq, filter_map, Option, Some, None, is_none, option_map, option_and_then, unwrap_or}
 use Rattle.std.specs.List.{list_any}
 use Rattle.std.specs.Cmp.Lexicographic.{pointwise}
 use Rattle.dms_wire.specs.declared.error_status.ErrorStatus.{ErrorStatus}
@@ -7,13 +8,12 @@ use Rattle.dms_wire.specs.declared.error_status.ErrorStatus.TheVariants.{NoSuchN
 use Rattle.dms_wire.specs.Message.{VarBind}
 use Rattle.dms_codes.specs.Status.{is_modifying}
 use Rattle.dms_table.specs.Rows.{TableModel, RowReading, row_read, written}
-use Rattle.dms_objects.specs.declared.scalar.Scalar.{Scalar}
 use Rattle.dms_objects.specs.declared.scalar.Scalar.TheVariants.{DefaultBackgroundColor, DefaultForegroundColor, DefaultFlashOn, DefaultFlashOff, DefaultFont, DefaultJustificationLine, DefaultJustificationPage, DefaultPageOnTime, DefaultPageOffTime, ShortPowerRecoveryMessage, LongPowerRecoveryMessage, ShortPowerLossTime, CommunicationsLossMessage, TimeCommLoss, PowerLossMessage, EndDurationMessage}
 use Rattle.dms_objects.specs.declared.instance.Instance.{Instance}
-use Rattle.dms_objects.specs.Names.{scalar_number}
 use Rattle.dms_instances.specs.Objects.{instance_named}
 use Rattle.dms_sign.specs.State.{SignState}
-use Rattle.dms_sign.specs.Access.{Write, SetNumber, SetCode, SetField, is_command, is_settable, write_of}
+use Rattle.dms_access.specs.Access.{Write, SetField, is_command, is_settable, write_of}
+use Rattle.dms_access.specs.Assignment.{given, number_for, code_for}
 
 -- ---- what keeps a SET from writing
 
@@ -76,24 +76,6 @@ unfoldable pub causes : SignState → Bool → List VarBind → List SetCause
 causes s may_write bindings = causes_behind s may_write [] bindings
 
 -- ---- assignment
-
--- the value that these give, the last of it where there are more, or else the old one: a SET that is not refused names no object twice
-abbrev pub given : {A B : Type 0} → (A → Option B) → List A → B → B
-given pick [] old = old
-given pick (x ∷ xs) old = given pick xs (unwrap_or (pick x) old)
-
--- two objects are one: they have one number
-abbrev pub is_same : Scalar → Scalar → Bool
-is_same a b = (scalar_number a).0 == (scalar_number b).0 && (scalar_number a).1 == (scalar_number b).1
-
--- what a write gives to an object
-abbrev pub number_for : Scalar → Write → Option ℕ
-number_for object (SetNumber other number) = if is_same object other then Some number else None
-number_for object _ = None
-
-abbrev pub code_for : Scalar → Write → Option (List ℕ)
-code_for object (SetCode other octets) = if is_same object other then Some octets else None
-code_for object _ = None
 
 -- the table with a field written, where its row takes it
 abbrev pub with_write : TableModel → Write → TableModel

@@ -1,4 +1,5 @@
--- What one thing that comes to a sign makes of its rows and of what it shows: a datagram, a second, a loss of power or its return.
+-- What one thing that comes to a sign makes of its rows and of what it shows: a datagram, a second, a loss of power or its return (this
+-- profile).
 use Rattle.std.specs.Prelude.{IsTrue, ◌≡◌, ◌⊎◌, ℕ, [], Option, Some}
 use Rattle.dms_face.specs.declared.defaults.Defaults.{Defaults}
 use Rattle.dms_face.specs.Face.{FaceModel, fit}

@@ -1,12 +1,10 @@
 //! The controller of a dynamic message sign: its objects, and what holds of it as a machine.
 #![tactic(auto)]
 
-mod access;
 pub mod config;
 pub mod laws;
 pub mod range_laws;
 mod reports;
-mod settings;
 pub mod sign;
 pub mod step_laws;
 #[cfg(test)]

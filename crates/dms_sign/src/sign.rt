@@ -1,9 +1,10 @@
 //! The controller of a dynamic message sign.
 
-ghost use Rattle.std.specs.Prelude.{◌≡◌, ◌≤◌, ◌*◌, None, length, All, IfOk, IfErr, OnOk};
+ghost use Rattle.std.specs.Prelude.{◌≡◌, ◌≤◌, ◌*◌, None, length, All, IsTrue, IfOk, IfErr, OnOk};
 ghost use Rattle.std.specs.Int.Digits.{AllBelowBase};
 ghost use Rattle.dms_codes.specs.Codes.{octets_of_id};
 ghost use Rattle.dms_table.specs.Stock.{table_of, PermanentRowsAreGood, HasOctets};
+ghost use Rattle.dms_sign.specs.Communities.{are_communities};
 ghost use Rattle.dms_sign.specs.State.{start};
 ghost use Rattle.dms_sign.specs.Configuration.{config_of, config_fault, IsFirstConfigFault};
 ghost use Rattle.dms_sign.specs.InRange.{IsStocked, AreDefaultsInRange, AreOctets, IsShownInRange, IsTimeInRange, IsCauseInRange, IsSignInRange, AreFallbacksInRange, most_minutes};
@@ -14,10 +15,10 @@ ghost use Rattle.dms_sign.specs.FallbacksView.{fallbacks_of};
 
 use crate::config::{Config, ConfigFault, are_communities};
 use crate::reports::{Reports, with_refusal, with_verdict};
-use crate::settings::{Fallbacks, Settings};
 use crate::sign::events::mode;
 use crate::sign::own_codes::blank_shown;
 use arrayvec::ArrayVec;
+use dms_access::{Fallbacks, Settings};
 use dms_codes::Order;
 use dms_face::{Defaults, Face};
 use dms_table::{Cause, Shown, Table};
@@ -26,6 +27,7 @@ use std::marker::Model;
 
 mod commands;
 mod events;
+mod met_names;
 mod own_codes;
 pub mod reply;
 mod requests;
@@ -94,6 +96,7 @@ impl Sign {
         writer: ArrayVec<u8, MAX_COMMUNITY>,
         table: Table,
     ) -> Sign
+        requires communities { IsTrue (are_communities reader.items writer.items) }
         requires stocked { IsStocked table }
         requires octets { All HasOctets table.permanent }
         requires reader { AllBelowBase 256 reader.items }
@@ -165,10 +168,11 @@ impl Sign {
         self.table.order()
     }
 
-    /// What holds of every sign: its values are in range, and its defaults fit its face.
+    /// What holds of every sign: its values are in range, its defaults fit its face, and its communities have 1 to 32 octets and differ.
     pub fn is_kept(&self)
         ensures in_range { IsSignInRange self.now }
         ensures fit { HasFitDefaults self.now }
+        ensures communities { IsTrue (are_communities self.now.config.reader self.now.config.writer) }
     {
         let _ = &self.powered;
     }

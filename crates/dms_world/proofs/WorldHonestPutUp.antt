@@ -18,7 +18,7 @@ use Rattle.dms_codes.specs.Memory.{current_buffer, blank_memory}
 use Rattle.dms_codes.specs.Codes.{activation_of}
 use Rattle.dms_table.specs.Activation.{ShownModel, shown_reading, row_id, named, is_memory, has_checksum, activation_error, put_up, unless_refused, decided_on, decided}
 use Rattle.dms_sign.specs.State.{SignState}
-use Rattle.dms_sign.specs.Access.{Write, SetNumber, SetCode, SetField, AskRow, Activate, SetRemaining, is_command}
+use Rattle.dms_access.specs.Access.{Write, SetNumber, SetCode, SetField, AskRow, Activate, SetRemaining, is_command}
 use Rattle.dms_sign.specs.SetRequest.{SetCause, causes, assigned}
 use Rattle.dms_sign.specs.Requests.{found_unless, as_decided, as_asked, commanded, commanded_if, writes_of, set_unless, may_write, answer_by, primary}
 use Rattle.dms_centre.proofs.Lists.{by_test}

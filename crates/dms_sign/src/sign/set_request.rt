@@ -5,16 +5,18 @@ ghost use Rattle.std.specs.List.{list_any, cons_option};
 ghost use Rattle.dms_wire.specs.View.{var_bind};
 ghost use Rattle.dms_instances.specs.Places.{HasCounts};
 ghost use Rattle.dms_sign.specs.State.{SignState};
-ghost use Rattle.dms_sign.specs.Access.{is_command};
-ghost use Rattle.dms_sign.specs.ChangeView.{write_by, IsChange};
+ghost use Rattle.dms_access.specs.Access.{is_command};
+ghost use Rattle.dms_access.specs.ChangeView.{write_by, IsChange};
 ghost use Rattle.dms_sign.specs.SetView.{refusal_of};
-ghost use Rattle.dms_sign.specs.SettingsView.{set_by, AreSettings};
+ghost use Rattle.dms_access.specs.SettingsView.{set_by};
+ghost use Rattle.dms_sign.specs.SetView.{AreSettings};
 ghost use Rattle.dms_sign.specs.SetRequest.{settable_instance, write_at, is_among, is_command_at, is_refused_field, causes_at, causes, with_writes};
+ghost use Rattle.dms_sign.specs.Slots.{AreTaken};
 ghost use Rattle.dms_sign.specs.Requests.{writes_of, command_index};
 
-use crate::access::{Change, is_settable, write_of};
-use crate::settings::{Settings, with_change};
 use crate::sign::Sign;
+use crate::sign::met_names::{Slots, is_taken, with_name};
+use dms_access::{Change, Settings, is_settable, with_change, write_of};
 use dms_codes::Status;
 use dms_face::Face;
 use dms_instances::Counts;
@@ -71,10 +73,12 @@ impl Sign {
         may_write: bool,
         before: &Binds<'_>,
         index: u32,
+        slots: &Slots,
         commanded: bool,
         binding: &Bind<'a>,
     ) -> Result<Change<'a>, ErrorStatus>
-        requires { commanded ≡ list_any (is_command_at self.now) (take index before.now) }
+        requires taken { AreTaken slots.now (take index before.now) }
+        requires commanded { commanded ≡ list_any (is_command_at self.now) (take index before.now) }
         ensures none { OnOk result (causes_at self.now may_write (take index before.now) (var_bind binding.now) ≡ []) }
         ensures change { IfOk result (λ change. write_at self.now (var_bind binding.now) ≡ Some (write_by change)) }
         ensures number { IfOk result (λ change. IsChange change) }
@@ -91,7 +95,7 @@ impl Sign {
         let Some(change) = write_of(&self.face, instance, &binding.value) else {
             return Err(ErrorStatus::BadValue);
         };
-        if is_among(&binding.name, before.again(), index) {
+        if was_given(slots, &binding.name, before, index) {
             return Err(ErrorStatus::GenErr);
         }
         if change.is_command() && commanded {
@@ -123,11 +127,14 @@ impl Sign {
             command: None,
         };
         let mut index = 0;
+        let mut slots: Slots = [0; 16];
         let mut rest = binds.again();
         while let Some(binding) = rest.next() {
-            match self.change_at(may_write, binds, index, judged.command.is_some(), &binding) {
+            let commanded = judged.command.is_some();
+            match self.change_at(may_write, binds, index, &slots, commanded, &binding) {
                 Ok(change) => {
                     index += 1;
+                    slots = with_name(slots, &binding.name);
                     judged = with(judged, index, change);
                 }
                 Err(status) => {
@@ -163,6 +170,14 @@ fn with<'a>(judged: Judged<'a>, index: u32, change: Change<'a>) -> Judged<'a>
             command: judged.command,
         }
     }
+}
+
+/// The name is that of one of the first `count` bindings, whose names have their slots taken: they are looked at only where its slot is.
+fn was_given(slots: &Slots, name: &Oid<'_>, before: &Binds<'_>, count: u32) -> bool
+    requires { AreTaken slots.now (take count before.now) }
+    ensures { result ≡ is_among name.now (take count before.now) }
+{
+    is_taken(slots, name) && is_among(name, before.again(), count)
 }
 
 /// The name is that of one of the first `count` bindings.

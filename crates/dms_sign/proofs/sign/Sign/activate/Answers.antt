@@ -1,13 +1,12 @@
-use Rattle.std.proofs.Common.{◌≡◌, Some, None, Result, Ok, Err, refl, sym, subst, ap, ◌∙◌}
-use Rattle.std.specs.Prelude.{option_map}
+use Rattle.std.proofs.Common.{◌≡◌, Some, None, Ok, Err, refl, sym, subst, ap, ◌∙◌}
 use Rattle.dms_wire.specs.declared.error_status.ErrorStatus.TheVariants.{GenErr}
 use Rattle.dms_codes.specs.declared.codes.Order.{Order}
 use Rattle.dms_codes.specs.Codes.{activation_of}
 use Rattle.dms_sign.specs.State.{SignState}
-use Rattle.dms_sign.specs.Access.{AskRow, Activate}
+use Rattle.dms_access.specs.Access.{Activate}
 use Rattle.dms_sign.specs.SetRequest.{assigned}
 use Rattle.dms_sign.specs.Requests.{Answer, writes_of, commanded, as_decided, activated}
-use Rattle.dms_sign.specs.SettingsView.{AreSettings}
+use Rattle.dms_sign.specs.SetView.{AreSettings}
 use Rattle.dms_sign.specs.SetView.{Says}
 use Rattle.dms_sign.specs.SignView.{state_of}
 use Rattle.dms_sign.proofs.Assigned.{fit_new, accepted_shown, refused_cause, activation_answer}

@@ -1,4 +1,4 @@
-use Rattle.std.proofs.Common.{◌≡◌, Bool, Ok, Err, ap, sym, subst, ◌∙◌}
+use Rattle.std.proofs.Common.{Bool, Ok, Err, subst, ◌∙◌}
 use Rattle.dms_wire.proofs.LimitsLaws.{spelled_in_limits}
 use Rattle.dms_wire.specs.declared.error_status.ErrorStatus.TheVariants.{NoError}
 use Rattle.dms_wire.specs.View.{snmp_message}

@@ -1,4 +1,4 @@
-use Rattle.std.proofs.Common.{◌≡◌, Some, IsSome, sym, subst, ap, ◌∙◌}
+use Rattle.std.proofs.Common.{IsSome, sym, subst, ap, ◌∙◌}
 use Rattle.std.specs.Prelude.{option_map}
 use Rattle.dms_table.specs.Rows.{TableModel, asked}
 use Rattle.dms_sign.specs.State.{SignState}

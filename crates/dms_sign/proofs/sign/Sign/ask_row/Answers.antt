@@ -1,10 +1,9 @@
-use Rattle.std.proofs.Common.{◌≡◌, true, false, None, IsSome, is_some, refl, sym, subst, ap, ◌∙◌}
+use Rattle.std.proofs.Common.{◌≡◌, true, false, None, is_some, refl, sym, subst, ap, ◌∙◌}
 use Rattle.dms_wire.specs.declared.error_status.ErrorStatus.TheVariants.{GenErr}
 use Rattle.dms_table.specs.Rows.{asked}
 use Rattle.dms_sign.specs.State.{SignState}
-use Rattle.dms_sign.specs.SetRequest.{assigned}
-use Rattle.dms_sign.specs.Requests.{Answer, writes_of, as_asked}
-use Rattle.dms_sign.proofs.Assigned.{ask_refused, ask_granted, takes_after}
+use Rattle.dms_sign.specs.Requests.{Answer, writes_of}
+use Rattle.dms_sign.proofs.Assigned.{ask_refused, takes_after}
 use Rattle.dms_sign.proofs.sign.Sign.ask_row.Goals as goal
 
 pub ask-requires : goal.ask-requires

@@ -3,7 +3,7 @@ use Rattle.dms_instances.specs.Places.{HasCounts}
 use Rattle.dms_sign.specs.State.{SignState}
 use Rattle.dms_sign.specs.SetRequest.{assigned}
 use Rattle.dms_sign.specs.Requests.{writes_of}
-use Rattle.dms_sign.specs.SettingsView.{AreSettings}
+use Rattle.dms_sign.specs.SetView.{AreSettings}
 use Rattle.dms_sign.specs.SignView.{state_of}
 use Rattle.dms_sign.proofs.Assigned.{assigned_whole, state_assigned}
 use Rattle.dms_sign.proofs.sign.Sign.assign.Goals as goal

@@ -1,48 +1,60 @@
-use Rattle.std.proofs.Common.{◌≡◌, ◌+◌, [], None, true, false, take, is_some, sym, subst, ap, ◌∙◌}
+use Rattle.std.proofs.Common.{◌≡◌, true, false, take, is_some, refl, true≢false, sym, subst, ◌∙◌}
 use Rattle.std.specs.Prelude.{option_map}
 use Rattle.dms_wire.specs.View.{var_bind}
-use Rattle.dms_sign.specs.Access.{is_command}
-use Rattle.dms_sign.specs.ChangeView.{write_by}
+use Rattle.dms_access.specs.Access.{is_command}
+use Rattle.dms_access.specs.ChangeView.{write_by}
 use Rattle.dms_sign.proofs.Causes.{judged_starts, judged_more, judged_refused, judged_all, mapped_some}
+use Rattle.dms_sign.specs.Slots.{AreTaken}
+use Rattle.dms_sign.proofs.TakenSlots.{one_more}
 use Rattle.dms_sign.proofs.sign.Sign.judged.Goals as goal
 
 pub loop-binding-init : goal.loop-binding-init
-loop-binding-init c = judged_starts c.args.self.now c.args.may_write c.args.binds.now c.again-rest.result c.args.settings c.again-rest.ensures
+loop-binding-init c = (
+  judged_starts c.args.self.now c.args.may_write c.args.binds.now c.again-rest.result c.args.settings c.again-rest.ensures,
+  λ name e. absurd (true≢false (sym e)),
+)
 
 pub loop-binding-preserved : goal.loop-binding-preserved
 loop-binding-preserved c =
+    let b = var_bind c.in-Some.binding in
     let w = write_by c.in-Ok.change in
     let alone : is_command w ≡ true → is_some (option_map write_by c.loop-binding.judged.command) ≡ false =
-    λ h. mapped_some write_by c.loop-binding.judged.command ∙ sym c.is_some.ensures ∙ c.in-Ok.ensures.alone h
+    λ h. mapped_some write_by c.loop-binding.judged.command ∙ sym c.is_some-commanded.ensures ∙ c.in-Ok.ensures.alone h
     in
-    judged_more c.args.self.now c.args.may_write c.args.binds.now c.args.settings c.loop-binding.index c.loop-binding.judged.settings
-    c.loop-binding.judged.index (option_map write_by c.loop-binding.judged.command) c.loop-binding.rest c.next.new.self (var_bind c.in-Some.binding) w
-    c.with-judged.result.settings c.with-judged.result.index (option_map write_by c.with-judged.result.command) c.loop-binding.invariant
-    c.in-Some.ensures.steps c.in-Ok.ensures.none c.in-Ok.ensures.change alone c.with-judged.ensures.settings c.with-judged.ensures.command
-    c.with-judged.ensures.index
+    let index = c.loop-binding.index in
+    let command = option_map write_by c.loop-binding.judged.command in (
+      judged_more c.args.self.now c.args.may_write c.args.binds.now c.args.settings index c.loop-binding.judged.settings c.loop-binding.judged.index
+          command c.loop-binding.rest c.next.new.self b w c.with-judged.result.settings c.with-judged.result.index
+          (option_map write_by c.with-judged.result.command) c.loop-binding.invariant.0 c.in-Some.ensures.steps c.in-Ok.ensures.none c.in-Ok.ensures.change
+          alone c.with-judged.ensures.settings c.with-judged.ensures.command c.with-judged.ensures.index,
+      subst (AreTaken c.with_name-slots.result)
+          (one_more c.args.self.now c.args.may_write c.args.binds.now c.args.settings index c.loop-binding.judged.settings c.loop-binding.judged.index command
+          c.loop-binding.rest c.next.new.self b c.loop-binding.invariant.0 c.in-Some.ensures.steps)
+          (c.with_name-slots.ensures (take index c.args.binds.now) b refl c.loop-binding.invariant.1),
+    )
 
 pub returns-in-Err-clause-first : goal.returns-in-Err-clause-first
 returns-in-Err-clause-first c =
     judged_refused c.args.self.now c.args.may_write c.args.binds.now c.args.settings c.loop-binding.index c.loop-binding.judged.settings
     c.loop-binding.judged.index (option_map write_by c.loop-binding.judged.command) c.loop-binding.rest c.next.new.self (var_bind c.in-Some.binding)
-    c.in-Err.status c.loop-binding.invariant c.in-Some.ensures.steps c.in-Err.ensures.refusal
+    c.in-Err.status c.loop-binding.invariant.0 c.in-Some.ensures.steps c.in-Err.ensures.refusal
 
 pub returns-clause-none : goal.returns-clause-none
 returns-clause-none c =
     (judged_all c.args.self.now c.args.may_write c.args.binds.now c.args.settings c.loop-binding.index c.loop-binding.judged.settings
-    c.loop-binding.judged.index (option_map write_by c.loop-binding.judged.command) c.loop-binding.rest c.loop-binding.invariant c.in_default.ensures.steps.0).none
+    c.loop-binding.judged.index (option_map write_by c.loop-binding.judged.command) c.loop-binding.rest c.loop-binding.invariant.0 c.in_default.ensures.steps.0).none
 
 pub returns-clause-settings : goal.returns-clause-settings
 returns-clause-settings c =
     (judged_all c.args.self.now c.args.may_write c.args.binds.now c.args.settings c.loop-binding.index c.loop-binding.judged.settings
-    c.loop-binding.judged.index (option_map write_by c.loop-binding.judged.command) c.loop-binding.rest c.loop-binding.invariant c.in_default.ensures.steps.0).set
+    c.loop-binding.judged.index (option_map write_by c.loop-binding.judged.command) c.loop-binding.rest c.loop-binding.invariant.0 c.in_default.ensures.steps.0).set
 
 pub returns-clause-command : goal.returns-clause-command
 returns-clause-command c =
     (judged_all c.args.self.now c.args.may_write c.args.binds.now c.args.settings c.loop-binding.index c.loop-binding.judged.settings
-    c.loop-binding.judged.index (option_map write_by c.loop-binding.judged.command) c.loop-binding.rest c.loop-binding.invariant c.in_default.ensures.steps.0).found
+    c.loop-binding.judged.index (option_map write_by c.loop-binding.judged.command) c.loop-binding.rest c.loop-binding.invariant.0 c.in_default.ensures.steps.0).found
 
 pub returns-clause-index : goal.returns-clause-index
 returns-clause-index c =
     (judged_all c.args.self.now c.args.may_write c.args.binds.now c.args.settings c.loop-binding.index c.loop-binding.judged.settings
-    c.loop-binding.judged.index (option_map write_by c.loop-binding.judged.command) c.loop-binding.rest c.loop-binding.invariant c.in_default.ensures.steps.0).place
+    c.loop-binding.judged.index (option_map write_by c.loop-binding.judged.command) c.loop-binding.rest c.loop-binding.invariant.0 c.in_default.ensures.steps.0).place

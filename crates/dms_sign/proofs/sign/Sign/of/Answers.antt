@@ -1,4 +1,4 @@
-use Rattle.std.proofs.Common.{◌≤◌, ap, sym, subst}
+use Rattle.std.proofs.Common.{◌≤◌, subst}
 use Rattle.std.specs.Prelude.{IsTrue}
 use Rattle.dms_face.specs.declared.defaults.Defaults.{Defaults}
 use Rattle.dms_face.specs.Face.{fit}
@@ -14,7 +14,7 @@ invariant_of-result c =
     made_kept config c.args.table (subst (λ n. n ≤ 256) c.width.ensures.value c.width.ensures.most)
     (subst (λ n. n ≤ 64) c.height.ensures.value c.height.ensures.most)
     (subst (λ (d : Defaults). IsTrue (fit c.args.face.fonts d)) c.defaults-defaults.ensures.value c.defaults-defaults.ensures.fit)
-    (subst AreDefaultsInRange c.defaults-defaults.ensures.value c.are_octets.ensures) c.requires.reader c.requires.writer c.requires.stocked
+    c.requires.communities (subst AreDefaultsInRange c.defaults-defaults.ensures.value c.are_octets.ensures) c.requires.reader c.requires.writer c.requires.stocked
     c.requires.octets
     in
     record {

@@ -3,8 +3,9 @@ use Rattle.std.specs.Prelude.{option_map}
 use Rattle.dms_sign.specs.State.{SignState}
 use Rattle.dms_sign.specs.SetRequest.{assigned}
 use Rattle.dms_sign.specs.Requests.{Answer, writes_of}
-use Rattle.dms_sign.specs.ChangeView.{write_by}
-use Rattle.dms_sign.specs.SettingsView.{set_by, AreSettings}
+use Rattle.dms_access.specs.ChangeView.{write_by}
+use Rattle.dms_access.specs.SettingsView.{set_by}
+use Rattle.dms_sign.specs.SetView.{AreSettings}
 use Rattle.dms_sign.specs.SetView.{refusal_of, Says}
 use Rattle.dms_sign.specs.SignView.{state_of}
 use Rattle.dms_sign.proofs.Assigned.{judged_settings, command_in_range, set_commanded, set_refused}

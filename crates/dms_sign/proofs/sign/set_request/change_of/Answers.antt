@@ -1,9 +1,9 @@
-use Rattle.std.proofs.Common.{◌≡◌, true, false, sym, subst, ap, ◌∙◌}
+use Rattle.std.proofs.Common.{◌≡◌, true, false, sym, ap, ◌∙◌}
 use Rattle.std.specs.Prelude.{option_map}
 use Rattle.dms_face.specs.Face.{FaceModel}
 use Rattle.dms_wire.specs.View.{object_value, var_bind}
-use Rattle.dms_sign.specs.Access.{is_settable, write_of}
-use Rattle.dms_sign.specs.ChangeView.{write_by}
+use Rattle.dms_access.specs.Access.{is_settable, write_of}
+use Rattle.dms_access.specs.ChangeView.{write_by}
 use Rattle.dms_sign.proofs.Assigned.{settable_there, settable_not, settable_none}
 use Rattle.dms_sign.proofs.sign.set_request.change_of.Goals as goal
 

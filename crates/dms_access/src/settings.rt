@@ -1,10 +1,10 @@
 //! What a SET assigns beside the fields of rows.
 
 ghost use Rattle.std.specs.Prelude.{◌≡◌, [], ◌∷◌};
-ghost use Rattle.dms_sign.specs.declared.access.Change.TheVariants as changes;
-ghost use Rattle.dms_sign.specs.Access.{SetNumber, SetCode};
-ghost use Rattle.dms_sign.specs.ChangeView.{write_by, IsChange};
-ghost use Rattle.dms_sign.specs.SettingsView.{codes_by, set_by};
+ghost use Rattle.dms_access.specs.declared.access.Change.TheVariants as changes;
+ghost use Rattle.dms_access.specs.Access.{SetNumber, SetCode};
+ghost use Rattle.dms_access.specs.ChangeView.{write_by, IsChange};
+ghost use Rattle.dms_access.specs.SettingsView.{codes_by, set_by};
 
 use crate::access::Change;
 use dms_face::Defaults;
@@ -12,7 +12,7 @@ use dms_objects::Scalar;
 
 /// The codes of the messages that a sign puts up by itself, each the five octets that were written (MessageIDCode).
 #[derive(Clone, Copy, Debug, PartialEq, Eq)]
-pub(crate) struct Fallbacks {
+pub struct Fallbacks {
     /// dmsShortPowerRecoveryMessage
     pub short_power_recovery: [u8; 5],
     /// dmsLongPowerRecoveryMessage
@@ -27,7 +27,7 @@ pub(crate) struct Fallbacks {
 
 /// The values of the objects that can be set, but for those of the message table.
 #[derive(Clone, Copy, Debug, PartialEq, Eq)]
-pub(crate) struct Settings {
+pub struct Settings {
     pub fallbacks: Fallbacks,
     /// dmsShortPowerLossTime: seconds
     pub short_power_loss_time: u16,
@@ -38,7 +38,7 @@ pub(crate) struct Settings {
 
 /// With what a binding writes beside the fields of rows.
 #[tactic(auto, unfolding(crate::specs::SettingsView::set_by, crate::specs::SettingsView::codes_by))]
-pub(crate) fn with_change(settings: Settings, change: &Change<'_>) -> Settings
+pub fn with_change(settings: Settings, change: &Change<'_>) -> Settings
     requires { IsChange change.now }
     ensures { result ≡ set_by settings (write_by change.now ∷ []) }
 {

@@ -1,11 +1,10 @@
--- What the code's changes write; only proofs go through these.
+-- What the changes of the code write (this profile).
 use Rattle.std.specs.Prelude.{◌<◌, ⊤}
 use Rattle.dms_objects.specs.declared.scalar.Scalar.TheVariants.{ShortPowerLossTime, TimeCommLoss}
 use Rattle.dms_table.specs.RowsView.{field_of}
-use Rattle.dms_sign.specs.declared.access.Change.{Change}
-use Rattle.dms_sign.specs.declared.access.Change.TheVariants as changes
-use Rattle.dms_sign.specs.InRange.{AreOctets}
-use Rattle.dms_sign.specs.Access.{Write, SetNumber, SetCode, SetField, AskRow, Activate, SetRemaining}
+use Rattle.dms_access.specs.declared.access.Change.{Change}
+use Rattle.dms_access.specs.declared.access.Change.TheVariants as changes
+use Rattle.dms_access.specs.Access.{Write, SetNumber, SetCode, SetField, AskRow, Activate, SetRemaining}
 
 abbrev pub write_by : Change → Write
 write_by (changes.Number object number) = SetNumber object number
@@ -21,12 +20,3 @@ IsChange (changes.Number ShortPowerLossTime number) = ⊤
 IsChange (changes.Number TimeCommLoss number) = ⊤
 IsChange (changes.Number _ number) = number < 256
 IsChange _ = ⊤
-
--- the octets of an activation
-abbrev pub IsCommandInRange : Write → Type 0
-IsCommandInRange (Activate octets) = AreOctets 12 octets
-IsCommandInRange (SetNumber object number) = ⊤
-IsCommandInRange (SetCode object octets) = ⊤
-IsCommandInRange (SetField id field) = ⊤
-IsCommandInRange (AskRow id ask) = ⊤
-IsCommandInRange (SetRemaining minutes) = ⊤

@@ -1,8 +1,8 @@
 use Rattle.std.proofs.Common.{◌≡◌, true, false, Some, None, cond, ap, sym, ◌∙◌}
 use Rattle.std.specs.Prelude.{option_and_then, is_some}
 use Rattle.dms_face.specs.Face.{has_font}
-use Rattle.dms_sign.proofs.Found.{font_found}
-use Rattle.dms_sign.proofs.access.font_in.Goals as goal
+use Rattle.dms_access.proofs.Found.{font_found}
+use Rattle.dms_access.proofs.access.font_in.Goals as goal
 
 pub returns-in-Some-clause-exact : goal.returns-in-Some-clause-exact
 returns-in-Some-clause-exact c =

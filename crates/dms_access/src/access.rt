@@ -3,8 +3,8 @@
 ghost use Rattle.std.specs.Prelude.{◌≡◌, ◌≤◌, option_map, IfSome};
 ghost use Rattle.dms_wire.specs.View.{object_value};
 ghost use Rattle.dms_objects.specs.declared.scalar.Scalar.TheVariants.{DefaultFont};
-ghost use Rattle.dms_sign.specs.Access.{has_writable_rows, is_settable_column, is_settable_object, is_settable, is_command, number_in, octets_in, font_in, ask_of, SetNumber, SetCode, Activate, SetRemaining, object_write, cell_write, write_of};
-ghost use Rattle.dms_sign.specs.ChangeView.{write_by, IsChange};
+ghost use Rattle.dms_access.specs.Access.{has_writable_rows, is_settable_column, is_settable_object, is_settable, is_command, number_in, octets_in, font_in, ask_of, SetNumber, SetCode, Activate, SetRemaining, object_write, cell_write, write_of};
+ghost use Rattle.dms_access.specs.ChangeView.{write_by, IsChange};
 
 use dms_codes::{Ask, MAX_OWNER, MAX_TEXT, RowId, memory};
 use dms_face::Face;
@@ -14,7 +14,7 @@ use dms_wire::Value;
 
 /// What a binding writes. The last three are commands.
 #[derive(Clone, Copy, Debug, PartialEq, Eq)]
-pub(crate) enum Change<'a> {
+pub enum Change<'a> {
     Number(Scalar, u16),
     /// The code of a message that the sign puts up by itself.
     Code(Scalar, [u8; 5]),
@@ -26,7 +26,7 @@ pub(crate) enum Change<'a> {
 }
 
 impl<'a> Change<'a> {
-    pub(crate) fn is_command(&self) -> bool
+    pub fn is_command(&self) -> bool
         ensures { result ≡ is_command (write_by self.now) }
     {
         matches!(
@@ -77,7 +77,7 @@ fn is_settable_object(object: Scalar) -> bool
 }
 
 /// Whether an instance can be set.
-pub(crate) fn is_settable(instance: Instance) -> bool
+pub fn is_settable(instance: Instance) -> bool
     ensures { result ≡ is_settable instance }
 {
     match instance {
@@ -233,7 +233,7 @@ fn cell_write<'a>(column: Column, id: RowId, value: &Value<'a>) -> Option<Change
 
 /// What a value writes to an instance.
 #[tactic(auto, unfolding(crate::specs::Access::write_of))]
-pub(crate) fn write_of<'a>(face: &Face, instance: Instance, value: &Value<'a>) -> Option<Change<'a>>
+pub fn write_of<'a>(face: &Face, instance: Instance, value: &Value<'a>) -> Option<Change<'a>>
     ensures exact { option_map write_by result ≡ write_of face.now instance (object_value value.now) }
     ensures change { IfSome result IsChange }
 {

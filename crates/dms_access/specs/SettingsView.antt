@@ -1,12 +1,10 @@
--- The settings that a SET leaves; only proofs go through these.
-use Rattle.std.specs.Prelude.{◌≡◌, List}
+-- The settings that the writes of a SET leave (this profile).
+use Rattle.std.specs.Prelude.{List}
 use Rattle.dms_objects.specs.declared.scalar.Scalar.TheVariants.{ShortPowerRecoveryMessage, LongPowerRecoveryMessage, PowerLossMessage, EndDurationMessage, CommunicationsLossMessage, DefaultBackgroundColor, DefaultForegroundColor, DefaultFlashOn, DefaultFlashOff, DefaultFont, DefaultJustificationLine, DefaultJustificationPage, DefaultPageOnTime, DefaultPageOffTime, ShortPowerLossTime, TimeCommLoss}
-use Rattle.dms_sign.specs.declared.settings.Fallbacks.{Fallbacks}
-use Rattle.dms_sign.specs.declared.settings.Settings.{Settings}
-use Rattle.dms_sign.specs.State.{SignState}
-use Rattle.dms_sign.specs.Access.{Write}
-use Rattle.dms_sign.specs.SetRequest.{given, number_for, code_for}
-use Rattle.dms_sign.specs.FallbacksView.{fallbacks_of}
+use Rattle.dms_access.specs.declared.settings.Fallbacks.{Fallbacks}
+use Rattle.dms_access.specs.declared.settings.Settings.{Settings}
+use Rattle.dms_access.specs.Access.{Write}
+use Rattle.dms_access.specs.Assignment.{given, number_for, code_for}
 
 unfoldable pub codes_by : Fallbacks → List Write → Fallbacks
 codes_by f writes = record {
@@ -34,10 +32,3 @@ set_by s writes = record {
     off = given (number_for DefaultPageOffTime) writes s.defaults.off;
   };
 }
-
--- the settings are those of the state
-pub record AreSettings (settings : Settings) (s : SignState) : Type 0 where
-  pub fallbacks : fallbacks_of settings.fallbacks ≡ s.fallbacks
-  pub short_power_loss_time : settings.short_power_loss_time ≡ s.short_power_loss_time
-  pub time_comm_loss : settings.time_comm_loss ≡ s.time_comm_loss
-  pub defaults : settings.defaults ≡ s.defaults

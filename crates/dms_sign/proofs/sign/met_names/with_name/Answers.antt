@@ -1,0 +1,17 @@
+use Rattle.std.proofs.Common.{◌≡◌, ◌<◌, ◌/◌, ◌%◌, true, length, ap, sym, subst, ◌∙◌, arith}
+use Rattle.dms_ber.specs.ObjectIdentifier.{name_octets}
+use Rattle.dms_sign.specs.Slots.{content_slot, slot_of, is_taken}
+use Rattle.dms_sign.proofs.TakenSlots.{marked, taken_stays, marked_taken, more_taken}
+use Rattle.dms_sign.proofs.sign.met_names.with_name.Goals as goal
+
+pub returns : goal.returns
+returns c = λ bindings b e taken.
+    let slot = c.content_slot-slot.result in
+    let few = c.content_slot-slot.ensures.few in
+    let small : slot % 64 < 64 = omega arith in
+    let there : slot / 64 < length c.args.slots = omega arith in
+    let is : slot ≡ slot_of b.name =
+    c.content_slot-slot.ensures.slot ∙ ap content_slot c.content.ensures ∙ ap (λ n. content_slot (name_octets n)) (sym e)
+    in
+    more_taken c.args.slots (marked c.args.slots slot) bindings b (λ other h. taken_stays c.args.slots slot other small there h)
+    (subst (λ k. is_taken (marked c.args.slots slot) k ≡ true) is (marked_taken c.args.slots slot small there)) taken

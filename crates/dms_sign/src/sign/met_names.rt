@@ -1,0 +1,46 @@
+//! The names that the bindings of a SET gave so far, each marked in its slot: so a name is not compared with every earlier one.
+
+ghost use Rattle.std.specs.Prelude.{◌≡◌, ◌<◌, ◌++◌, List, [], ◌∷◌};
+ghost use Rattle.dms_wire.specs.Message.{VarBind};
+ghost use Rattle.dms_sign.specs.Slots.{content_slot, slot_of, is_taken, AreTaken};
+
+use dms_wire::Oid;
+
+/// A bit for each slot.
+pub(super) type Slots = [u64; 16];
+
+/// The slot of a name with these content octets. No two objects that can be set, of a table of at most 64 changeable and 16 volatile rows,
+/// share a slot; other names may.
+#[tactic(auto, unfolding(crate::specs::Slots::content_slot))]
+fn content_slot(content: &[u8]) -> usize
+    ensures slot { result ≡ content_slot content.now }
+    ensures few { result < 1024 }
+{
+    let size = content.len();
+    if size < 3 {
+        return 0;
+    }
+    let group = usize::from(content[size - 3]);
+    let object = usize::from(content[size - 2]);
+    let number = usize::from(content[size - 1]);
+    (group * 108 + object * 305 + number) % 1024
+}
+
+/// Whether the slot of a name is marked.
+pub(super) fn is_taken(slots: &Slots, name: &Oid<'_>) -> bool
+    ensures { result ≡ is_taken slots.now (slot_of name.now) }
+{
+    let slot = content_slot(name.content());
+    (slots[slot / 64] >> (slot % 64)) & 1 == 1
+}
+
+/// Marks the slot of a binding's name.
+pub(super) fn with_name(slots: Slots, name: &Oid<'_>) -> Slots
+    ensures { (bindings : List VarBind) (binding : VarBind) → binding.name ≡ name.now → AreTaken slots bindings
+        → AreTaken result (bindings ++ binding ∷ []) }
+{
+    let slot = content_slot(name.content());
+    let mut slots = slots;
+    slots[slot / 64] |= 1 << (slot % 64);
+    slots
+}
