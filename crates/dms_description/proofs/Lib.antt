@@ -1,2 +1,12 @@
 pub mod BenchValue
 pub mod BenchText
+pub mod MadeLaws
+pub mod WordReading
+pub mod HeadLaws
+pub mod DefaultsLaws
+pub mod RowReading
+pub mod FontReading
+pub mod FirstLines
+pub mod DescriptionLaws
+pub mod SetupLaws
+pub mod BenchRead

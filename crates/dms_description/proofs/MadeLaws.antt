@@ -1,0 +1,178 @@
+-- A sign that was made is one that can be made, and one that was refused is none.
+use Rattle.std.proofs.Common.{◌≡◌, ◌≢◌, ℕ, ◌+◌, ◌≤◌, ◌&&◌, Bool, true, false, cond, not, List, [], ◌∷◌, length, map, Option, Some, None, Result, Ok, Err, refl, sym, ap, ◌∙◌, arith, inl, inr}
+use Rattle.std.specs.Prelude.{nat_eq, nat_le, option_map, position, replicate}
+use Rattle.std.specs.List.{position_from, list_all}
+use Rattle.std.specs.Cmp.Lexicographic.{pointwise, bytes_decides}
+use Rattle.std.proofs.lemmas.Bool.{and_parts, and_from, cases_Bool, leb-true, le-leb, false_from_ne_true}
+use Rattle.std.proofs.lemmas.List.Folds.{list_all-map}
+use Rattle.std.proofs.lemmas.List.{length-map, length-replicate}
+use Rattle.std.proofs.lemmas.Iterator.Adapters.{position_from-zero}
+use Rattle.dms_face.specs.Face.{FaceModel, is_face, is_matrix, are_fonts, fit, checked}
+use Rattle.dms_face.specs.declared.fault.FaceFault.{FaceFault}
+use Rattle.dms_face.specs.declared.fault.FaceFault.TheVariants as face_faults
+use Rattle.dms_table.specs.declared.stock.Permanent.{Permanent}
+use Rattle.dms_table.specs.declared.stock.Stock.{Stock}
+use Rattle.dms_table.specs.declared.stock.TableFault.TheVariants as faults
+use Rattle.dms_table.specs.Rows.{RowModel, unused}
+use Rattle.dms_table.specs.Stock.{permanent_row, services_of, may_not_stand, are_counts, permanent_fault, stock_fault, table_of}
+use Rattle.dms_sign.specs.declared.config.Config.{Config}
+use Rattle.dms_sign.specs.declared.config.ConfigFault.{ConfigFault}
+use Rattle.dms_sign.specs.declared.config.ConfigFault.TheVariants as config_faults
+use Rattle.dms_sign.specs.Communities.{has_community_size, are_communities}
+use Rattle.dms_sign.specs.Configuration.{config_of, config_fault, IsFirstConfigFault}
+use Rattle.dms_sign.specs.Construction.{may_stand, CanBeMade}
+use Rattle.dms_font.specs.Font.{FontModel}
+use Rattle.dms_description.specs.declared.head.Head.{Head}
+use Rattle.dms_description.specs.declared.rows.OwnedRow.{OwnedRow}
+use Rattle.dms_description.specs.Views.{is_memory, described_with, head_seen, row_seen}
+use Rattle.dms_description.specs.DescriptionReading.{described}
+
+-- ---- none fails where all pass
+
+all_pass : {A : Type 0} (test : A → Bool) (i : ℕ) (xs : List A) → position_from (λ x. not (test x)) i xs ≡ None → list_all test xs ≡ true
+all_pass test i [] e = refl
+all_pass test i (x ∷ xs) e = elim (cases_Bool (test x)) [
+  | inl passes ↦ and_from _ _ passes (all_pass test (i + 1) xs (ap (λ b. cond (not b) (Some i) (position_from (λ y. not (test y)) (i + 1) xs)) (sym passes) ∙ e))
+  | inr fails ↦ let wrong : Some i ≡ None = ap (λ b. cond (not b) (Some i) (position_from (λ y. not (test y)) (i + 1) xs)) (sym fails) ∙ e in absurd (cc)
+]
+
+none_fails : {A : Type 0} (test : A → Bool) (i : ℕ) (xs : List A) → list_all test xs ≡ true → position_from (λ x. not (test x)) i xs ≡ None
+none_fails test i [] e = refl
+none_fails test i (x ∷ xs) e =
+    let parts = and_parts (test x) (list_all test xs) e in
+    ap (λ b. cond (not b) (Some i) (position_from (λ y. not (test y)) (i + 1) xs)) parts.0 ∙ none_fails test (i + 1) xs parts.1
+
+-- ---- a stock
+
+none_behind : {A : Type 0} (b : Bool) (o : Option A) (x : A) → cond b o (Some x) ≡ None → (b ≡ true) × (o ≡ None)
+none_behind true o x e = (refl, e)
+none_behind false o x e = absurd (let wrong : Some x ≡ None = e in cc)
+
+none_mapped : {A B : Type 0} (f : A → B) (o : Option A) → option_map f o ≡ None → o ≡ None
+none_mapped f None e = refl
+none_mapped f (Some x) e = absurd (let wrong : Some (f x) ≡ None = e in cc)
+
+record HasCounts (stock : Stock) : Type 0 where
+  permanent : length stock.permanent.now ≤ 16
+  changeable : stock.changeable ≤ 64
+  volatile : stock.volatile ≤ 16
+
+counts_found : (stock : Stock) → are_counts stock ≡ true → HasCounts stock
+counts_found stock e =
+    let both = and_parts (nat_le (length stock.permanent.now) 16 && nat_le stock.changeable 64) (nat_le stock.volatile 16) e in
+    let first = and_parts (nat_le (length stock.permanent.now) 16) (nat_le stock.changeable 64) both.0 in
+    record { permanent = leb-true _ _ first.0; changeable = leb-true _ _ first.1; volatile = leb-true _ _ both.1 }
+
+-- the rows of a stock without a fault may all stand
+rows_found : (face : FaceModel) (stock : Stock) → position (may_not_stand (services_of stock) face) stock.permanent.now ≡ None
+    → list_all (may_stand (services_of stock) face) (map permanent_row stock.permanent.now) ≡ true
+rows_found face stock e =
+    list_all-map (may_stand (services_of stock) face) permanent_row stock.permanent.now
+    ∙ all_pass (λ (message : Permanent). may_stand (services_of stock) face (permanent_row message)) 0 stock.permanent.now
+    (sym (position_from-zero (may_not_stand (services_of stock) face) stock.permanent.now) ∙ e)
+
+rows_only : (face : FaceModel) (stock : Stock) → list_all (may_stand (services_of stock) face) (map permanent_row stock.permanent.now) ≡ true
+    → position (may_not_stand (services_of stock) face) stock.permanent.now ≡ None
+rows_only face stock e =
+    position_from-zero (may_not_stand (services_of stock) face) stock.permanent.now
+    ∙ none_fails (λ (message : Permanent). may_stand (services_of stock) face (permanent_row message)) 0 stock.permanent.now
+    (sym (list_all-map (may_stand (services_of stock) face) permanent_row stock.permanent.now) ∙ e)
+
+-- ---- a configuration
+
+differ_found : (reader writer : List ℕ) → not (pointwise nat_eq reader writer) ≡ true → reader ≢ writer
+differ_found reader writer e same =
+    let wrong : false ≡ true = sym (ap not ((bytes_decides reader writer).1 same)) ∙ e in
+    absurd (cc)
+
+differ_only : (reader writer : List ℕ) → reader ≢ writer → not (pointwise nat_eq reader writer) ≡ true
+differ_only reader writer differ = ap not (false_from_ne_true (pointwise nat_eq reader writer) (λ e. differ ((bytes_decides reader writer).0 e)))
+
+-- what has no fault can be made
+pub faultless_can_be_made : (config : Config) → is_face config.face ≡ true → config_fault config ≡ None → CanBeMade (config_of config) (table_of config.stock)
+faultless_can_be_made config is_made e =
+    let stock = config.stock in
+    let reader = config.reader.now in
+    let writer = config.writer.now in
+    let tests = none_behind (are_communities reader writer) _ _ e in
+    let both = and_parts (has_community_size reader && has_community_size writer) (not (pointwise nat_eq reader writer)) tests.0 in
+    let sizes = and_parts (has_community_size reader) (has_community_size writer) both.0 in
+    let faultless = none_mapped config_faults.Table (stock_fault config.face stock) tests.1 in
+    let parts = none_behind (are_counts stock) _ _ faultless in
+    let counts = counts_found stock parts.0 in
+    let standing = none_mapped permanent_fault (position (may_not_stand (services_of stock) config.face) stock.permanent.now) parts.1 in
+    record {
+      face = is_made;
+      permanent = omega (arith, length-map stock.permanent.now permanent_row, counts.permanent);
+      rows = rows_found config.face stock standing;
+      changeable = omega (arith, length-replicate stock.changeable unused, counts.changeable);
+      changeable_unused = ap (λ n. replicate n unused) (sym (length-replicate stock.changeable unused));
+      volatile = omega (arith, length-replicate stock.volatile unused, counts.volatile);
+      volatile_unused = ap (λ n. replicate n unused) (sym (length-replicate stock.volatile unused));
+      reader = sizes.0;
+      writer = sizes.1;
+      differ = differ_found reader writer both.1;
+    }
+
+-- what can be made has no fault
+pub can_be_made_is_faultless : (config : Config) → CanBeMade (config_of config) (table_of config.stock) → config_fault config ≡ None
+can_be_made_is_faultless config is =
+    let stock = config.stock in
+    let reader = config.reader.now in
+    let writer = config.writer.now in
+    let communities : are_communities reader writer ≡ true = and_from _ _ (and_from _ _ is.reader is.writer) (differ_only reader writer is.differ) in
+    let permanent : nat_le (length stock.permanent.now) 16 ≡ true = le-leb _ _ (omega (arith, length-map stock.permanent.now permanent_row, is.permanent)) in
+    let changeable : nat_le stock.changeable 64 ≡ true = le-leb _ _ (omega (arith, length-replicate stock.changeable unused, is.changeable)) in
+    let volatile : nat_le stock.volatile 16 ≡ true = le-leb _ _ (omega (arith, length-replicate stock.volatile unused, is.volatile)) in
+    let counts : are_counts stock ≡ true = and_from _ _ (and_from _ _ permanent changeable) volatile in
+    ap (λ b. cond b (option_map config_faults.Table (stock_fault config.face stock)) (Some config_faults.Community)) communities
+    ∙ ap (λ b. option_map config_faults.Table (cond b (option_map permanent_fault (position (may_not_stand (services_of stock) config.face) stock.permanent.now)) (Some faults.Counts))) counts
+    ∙ ap (λ place. option_map config_faults.Table (option_map permanent_fault place)) (rows_only config.face stock is.rows)
+
+-- ---- faces
+
+if_not : {A E : Type 0} (b : Bool) (fault : E) (other : Result A E) (face : A) → cond (not b) (Err fault) other ≡ Ok face → (b ≡ true) × (other ≡ Ok face)
+if_not true fault other face e = (refl, e)
+if_not false fault other face e = absurd (let wrong : Err fault ≡ Ok face = e in cc)
+
+pub checked_is_face : (it face : FaceModel) → Ok face ≡ checked it → (is_face it ≡ true) × (it ≡ face)
+checked_is_face it face e =
+    let size = if_not (is_matrix it.width it.height) face_faults.Size _ face (sym e) in
+    let fonts = if_not (are_fonts it.fonts) face_faults.Fonts _ face size.1 in
+    let defaults = if_not (fit it.fonts it.defaults) face_faults.Default (Ok it) face fonts.1 in
+    (and_from _ _ (and_from _ _ size.0 fonts.0) defaults.0, let same : Ok it ≡ Ok face = defaults.1 in cc)
+
+pub face_is_checked : (it : FaceModel) → is_face it ≡ true → checked it ≡ Ok it
+face_is_checked it e =
+    let both = and_parts (is_matrix it.width it.height && are_fonts it.fonts) (fit it.fonts it.defaults) e in
+    let first = and_parts (is_matrix it.width it.height) (are_fonts it.fonts) both.0 in
+    ap (λ b. cond (not b) (Err face_faults.Size) (cond (not (are_fonts it.fonts)) (Err face_faults.Fonts) (cond (not (fit it.fonts it.defaults)) (Err face_faults.Default) (Ok it)))) first.0
+    ∙ ap (λ b. cond (not b) (Err face_faults.Fonts) (cond (not (fit it.fonts it.defaults)) (Err face_faults.Default) (Ok it))) first.1
+    ∙ ap (λ b. cond (not b) (Err face_faults.Default) (Ok it)) both.1
+
+-- where nothing is wrong, memory is wanting
+first_fault_is_memory : (o : Option ConfigFault) (fault : ConfigFault) → o ≡ None → IsFirstConfigFault o fault → is_memory fault ≡ true
+first_fault_is_memory None fault none is = ap is_memory is
+first_fault_is_memory (Some first) fault none is = absurd (let wrong : Some first ≡ None = none in cc)
+
+-- a configuration was refused
+pub refused_is_none : (config : Config) (fault : ConfigFault) → is_memory fault ≡ false → IsFirstConfigFault (config_fault config) fault
+    → CanBeMade (config_of config) (table_of config.stock) → ⊥
+refused_is_none config fault other is can =
+    let memory = first_fault_is_memory (config_fault config) fault (can_be_made_is_faultless config can) is in
+    let wrong : false ≡ true = sym other ∙ memory in
+    absurd (cc)
+
+-- a face was refused
+pub refused_face_is_none : (it : FaceModel) (fault : FaceFault) → Err fault ≡ checked it → is_face it ≡ true → ⊥
+refused_face_is_none it fault e is = absurd (let wrong : Err fault ≡ Ok it = e ∙ face_is_checked it is in cc)
+
+-- the parts of a description, and what a sign is made of
+pub described_alike : (head : Head) (permanent : List Permanent) (rows : List OwnedRow) (fonts : List FontModel) (face : FaceModel)
+    → Ok face ≡ checked (record { width = head.beginning.size.width; height = head.beginning.size.height; fonts = fonts; defaults = head.defaults })
+    → map permanent_row permanent ≡ map row_seen rows → described_with head permanent face ≡ described (head_seen head) (map row_seen rows) fonts
+described_alike head permanent rows fonts face checks are =
+    let it : FaceModel = record { width = head.beginning.size.width; height = head.beginning.size.height; fonts = fonts; defaults = head.defaults } in
+    let same : it ≡ face = (checked_is_face it face checks).1 in
+    ap (λ (made : FaceModel). described_with head permanent made) (sym same)
+    ∙ ap (λ (rows : List RowModel). record (described (head_seen head) rows fonts) { first = head.first }) are

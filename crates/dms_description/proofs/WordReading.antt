@@ -1,0 +1,160 @@
+-- What single words and whole lines of words spell is what is read of them.
+use Rattle.std.proofs.Common.{◌≡◌, ℕ, ◌<◌, ◌≤◌, ◌==◌, Bool, true, false, cond, List, [], ◌∷◌, length, Option, Some, None, refl, sym, ap, subst, ◌∙◌, arith, inl, inr}
+use Rattle.std.specs.Prelude.{codes}
+use Rattle.std.proofs.lemmas.Bool.{and_parts, eqb-true, eqb-false, eq-eqb, cases_Bool}
+use Rattle.std.proofs.lemmas.Option.{cond_some, same_Some}
+use Rattle.dms_text.specs.Numbers.{SpellsNumber, SpellsDecimal}
+use Rattle.dms_text.specs.Reading.{keyword_at, decimal_at, same_octets, is_end, ◌>>=◌}
+use Rattle.dms_text.proofs.WordLaws.{begun, goes_on, word_found, word_only, keyword_found, keyword_only, decimal_found, decimal_only}
+use Rattle.dms_text.proofs.NumberLaws.{number_found, number_only, within_found, within_only}
+use Rattle.dms_codes.specs.declared.codes.Order.{Order}
+use Rattle.dms_codes.specs.declared.codes.Order.TheVariants.{High, Swapped}
+use Rattle.dms_description.specs.Fields.{SpellsFlag, SpellsOrder, SpellsFourOctets}
+use Rattle.dms_description.specs.DescriptionReading.{if_last, order_named}
+
+-- ---- octets
+
+pub same_found : (xs ys : List ℕ) → same_octets xs ys ≡ true → xs ≡ ys
+same_found [] [] e = refl
+same_found [] (y ∷ ys) e = absurd (let never : false ≡ true = e in cc)
+same_found (x ∷ xs) [] e = absurd (let never : false ≡ true = e in cc)
+same_found (x ∷ xs) (y ∷ ys) e =
+    let parts = and_parts _ _ e in
+    let head : x ≡ y = eqb-true x y parts.0 in
+    let tail : xs ≡ ys = same_found xs ys parts.1 in
+    cc
+
+-- ---- the end of a line
+
+ended : (words : List (List ℕ)) → is_end words ≡ true → words ≡ []
+ended [] e = refl
+ended (word ∷ words) e = absurd (let never : false ≡ true = e in cc)
+
+pub last_found : {A : Type 0} (value : A) (words : List (List ℕ)) (found : A) → if_last value words ≡ Some found → (words ≡ []) × (value ≡ found)
+last_found value words found e = let tests = cond_some _ _ _ e in (ended words tests.0, tests.1)
+
+-- ---- two numbers behind a keyword
+
+pub record FoundTwo {A : Type 0} (keyword : List ℕ) (high : ℕ) (make : ℕ → ℕ → A) (words : List (List ℕ)) (found : A) : Type 0 where
+  pub one : ℕ
+  pub other : ℕ
+  pub one_word : List ℕ
+  pub other_word : List ℕ
+  pub words_are : words ≡ keyword ∷ one_word ∷ other_word ∷ []
+  pub one_spelled : SpellsDecimal 0 high one one_word
+  pub other_spelled : SpellsDecimal 0 high other other_word
+  pub is : make one other ≡ found
+
+abbrev pub two_at : {A : Type 0} → List ℕ → ℕ → (ℕ → ℕ → A) → List (List ℕ) → Option A
+two_at keyword high make words = do
+  behind ← keyword_at keyword words
+  one ← decimal_at 5 0 high behind
+  other ← decimal_at 5 0 high one.1
+  if_last (make one.0 other.0) other.1
+
+pub two_found : {A : Type 0} (keyword : List ℕ) (high : ℕ) (make : ℕ → ℕ → A) (words : List (List ℕ)) (found : A) → two_at keyword high make words ≡ Some found → FoundTwo keyword high make words found
+two_found keyword high make words found e =
+    let read = begun _ _ _ e in
+    let one = begun _ _ _ read.2 in
+    let other = begun _ _ _ one.2 in
+    let end = last_found _ _ found other.2 in
+    let at_one = decimal_found 0 high read.0 one.0 one.1 in
+    let at_other = decimal_found 0 high one.0.1 other.0 other.1 in
+    record {
+      one = one.0.0;
+      other = other.0.0;
+      one_word = at_one.word;
+      other_word = at_other.word;
+      words_are = keyword_found keyword words read.0 read.1
+          ∙ ap (λ rest. keyword ∷ rest) (at_one.words_are
+          ∙ ap (λ rest. at_one.word ∷ rest) (at_other.words_are ∙ ap (λ rest. at_other.word ∷ rest) end.0));
+      one_spelled = at_one.spelled;
+      other_spelled = at_other.spelled;
+      is = end.1;
+    }
+
+pub two_only : {A : Type 0} (keyword : List ℕ) (high : ℕ) (make : ℕ → ℕ → A) (one other : ℕ) (one_word other_word : List ℕ) → 0 < length keyword
+    → SpellsDecimal 0 high one one_word → SpellsDecimal 0 high other other_word → two_at keyword high make (keyword ∷ one_word ∷ other_word ∷ []) ≡ Some (make one other)
+two_only keyword high make one other one_word other_word some at_one at_other =
+    goes_on _ _ _ (keyword_only keyword (one_word ∷ other_word ∷ []) some)
+    ∙ goes_on _ _ _ (decimal_only 0 high one one_word (other_word ∷ []) at_one)
+    ∙ goes_on _ _ _ (decimal_only 0 high other other_word [] at_other)
+
+-- ---- flags
+
+pub flag_found : (flag : Bool) (number : ℕ) (word : List ℕ) → SpellsDecimal 0 1 number word → (number == 1) ≡ flag → SpellsFlag flag word
+flag_found true number word spelled is =
+    let one : number ≡ 1 = eqb-true number 1 is in
+    record { spelled = subst (λ n. SpellsNumber 10 5 n word) one spelled.spelled; least = omega arith; greatest = omega arith }
+flag_found false number word spelled is =
+    let none : number ≡ 0 = small number spelled.greatest is in
+    record { spelled = subst (λ n. SpellsNumber 10 5 n word) none spelled.spelled; least = omega arith; greatest = omega arith }
+  where
+    small : (n : ℕ) → n ≤ 1 → (n == 1) ≡ false → n ≡ 0
+    small n most is = elim (cases_Bool (n == 0)) [
+      | inl same ↦ eqb-true n 0 same
+      | inr other ↦ let one : n ≡ 1 = omega (arith, most, eqb-false n 0 other) in absurd (let wrong : false ≡ true = sym is ∙ eq-eqb n 1 one in cc)
+    ]
+
+abbrev pub flag_number : Bool → ℕ
+flag_number true = 1
+flag_number false = 0
+
+pub flag_only : (flag : Bool) (word : List ℕ) → SpellsFlag flag word → SpellsDecimal 0 1 (flag_number flag) word
+flag_only true word spelled = record { spelled = spelled.spelled; least = omega arith; greatest = omega arith }
+flag_only false word spelled = record { spelled = spelled.spelled; least = omega arith; greatest = omega arith }
+
+pub flag_is : (flag : Bool) → (flag_number flag == 1) ≡ flag
+flag_is true = refl
+flag_is false = refl
+
+-- ---- orders
+
+pub order_found : (order : Order) (word : List ℕ) → order_named word ≡ Some order → SpellsOrder order word
+order_found order word e = by_tests order word (same_octets word (codes "high")) (same_octets word (codes "swapped")) refl refl e
+  where
+    by_tests : (order : Order) (word : List ℕ) (high swapped : Bool) → same_octets word (codes "high") ≡ high → same_octets word (codes "swapped") ≡ swapped
+        → cond high (Some High) (cond swapped (Some Swapped) None) ≡ Some order → SpellsOrder order word
+    by_tests High word true swapped h s e = same_found word (codes "high") h
+    by_tests Swapped word true swapped h s e = absurd (let wrong : High ≡ Swapped = same_Some _ _ e in cc)
+    by_tests High word false true h s e = absurd (let wrong : Swapped ≡ High = same_Some _ _ e in cc)
+    by_tests Swapped word false true h s e = same_found word (codes "swapped") s
+    by_tests order word false false h s e = absurd (let wrong : None ≡ Some order = e in cc)
+
+pub order_only : (order : Order) (word : List ℕ) → SpellsOrder order word → order_named word ≡ Some order
+order_only High word spelled = ap order_named spelled
+order_only Swapped word spelled = ap order_named spelled
+
+-- ---- a number of four octets
+
+pub record FoundFour (words : List (List ℕ)) (found : ℕ × List (List ℕ)) : Type 0 where
+  pub word : List ℕ
+  pub words_are : words ≡ word ∷ found.1
+  pub spelled : SpellsFourOctets found.0 word
+
+pub four_found : (words : List (List ℕ)) (found : ℕ × List (List ℕ)) → decimal_at 10 0 4294967295 words ≡ Some found → FoundFour words found
+unfolding decimal_at
+four_found words found e =
+    let read = begun _ _ _ e in
+    let number = begun _ _ _ read.2 in
+    let inside = begun _ _ _ number.2 in
+    let after = word_found words read.0 read.1 in
+    let bounds = within_found 0 4294967295 number.0 inside.0 inside.1 in
+    let same : (inside.0, read.0.1) ≡ found = same_Some _ _ inside.2 in
+    let value : inside.0 ≡ found.0 = ap (λ (pair : ℕ × List (List ℕ)). pair.0) same in
+    let rest : read.0.1 ≡ found.1 = ap (λ (pair : ℕ × List (List ℕ)). pair.1) same in
+    record {
+      word = read.0.0;
+      words_are = after.0 ∙ ap (λ words. read.0.0 ∷ words) rest;
+      spelled = record {
+        spelled = subst (λ n. SpellsNumber 10 10 n read.0.0) (bounds.0 ∙ value) (number_found 10 10 number.0 read.0.0 number.1);
+        small = omega (arith, bounds.0, bounds.2, value);
+      };
+    }
+
+pub four_only : (number : ℕ) (word : List ℕ) (rest : List (List ℕ)) → SpellsFourOctets number word → decimal_at 10 0 4294967295 (word ∷ rest) ≡ Some (number, rest)
+unfolding decimal_at
+four_only number word rest spelled =
+    goes_on _ _ _ (word_only word rest spelled.spelled.numeral.0)
+    ∙ goes_on _ _ _ (number_only 10 10 number word spelled.spelled)
+    ∙ goes_on _ _ _ (within_only 0 4294967295 number (omega arith) (let small = spelled.small in omega (arith, small)))

@@ -1,0 +1,9 @@
+use Rattle.std.proofs.Common.{◌≡◌, [], length}
+use Rattle.dms_description.specs.DescriptionReading.{fonts_from}
+use Rattle.dms_description.proofs.fonts.fonts_from.Given as goal
+
+abbrev pub invariant-loop-line : goal.invariant-loop-line
+invariant-loop-line l = fonts_from l.fonts.items l.font l.lines ≡ fonts_from [] l.fn.first l.fn.lines
+
+abbrev pub decreases-loop-line : goal.decreases-loop-line
+decreases-loop-line l = length l.lines

@@ -1,0 +1,83 @@
+-- What the code's parts of a description are (this profile).
+use Rattle.std.specs.Prelude.{◌≡◌, ◌⊎◌, ℕ, Bool, true, false, List, [], ◌∷◌, Option, Some, None, Result, Ok, Err, option_map, map, replicate}
+use Rattle.dms_text.specs.Lines.{TextLeft}
+use Rattle.dms_text.specs.declared.lines.Line.{Line}
+use Rattle.dms_codes.specs.declared.status.Status.TheVariants.{Valid}
+use Rattle.dms_face.specs.Face.{FaceModel}
+use Rattle.dms_table.specs.declared.stock.Permanent.{Permanent}
+use Rattle.dms_table.specs.Stock.{permanent_row}
+use Rattle.dms_table.specs.Rows.{RowModel, unused}
+use Rattle.dms_table.specs.declared.stock.TableFault.TheVariants as table
+use Rattle.dms_sign.specs.declared.config.ConfigFault.{ConfigFault}
+use Rattle.dms_sign.specs.declared.config.ConfigFault.TheVariants as config
+use Rattle.dms_sign.specs.State.{SignState, start}
+use Rattle.dms_sign.specs.Construction.{CanBeMade}
+use Rattle.dms_description.specs.declared.fault.DescriptionFault.{DescriptionFault}
+use Rattle.dms_description.specs.declared.fault.DescriptionFault.TheVariants.{Memory}
+use Rattle.dms_description.specs.declared.head.Communities.{Communities}
+use Rattle.dms_description.specs.declared.head.Beginning.{Beginning}
+use Rattle.dms_description.specs.declared.head.Head.{Head}
+use Rattle.dms_description.specs.declared.rows.RowLine.{RowLine}
+use Rattle.dms_description.specs.declared.rows.OwnedRow.{OwnedRow}
+use Rattle.dms_description.specs.Description.{Description}
+use Rattle.dms_description.specs.Setups.{octets_left}
+use Rattle.dms_description.specs.DescriptionReading.{CommunityWords, BeginningModel, HeadModel, RowWords, end_at}
+
+abbrev pub communities_seen : Communities → CommunityWords
+communities_seen words = record { reader = words.reader.now; writer = words.writer.now }
+
+abbrev pub beginning_seen : Beginning → BeginningModel
+beginning_seen it = record { size = it.size; communities = communities_seen it.communities; rows = it.rows; order = it.order }
+
+abbrev pub head_seen : Head → HeadModel
+head_seen head = record { beginning = beginning_seen head.beginning; services = head.services; defaults = head.defaults; first = head.first }
+
+abbrev pub row_line : RowLine → RowWords
+row_line said = record { text = said.text.now; owner = said.owner.now; beacon = said.beacon; pixel = said.pixel; priority = said.priority }
+
+abbrev pub row_seen : OwnedRow → RowModel
+row_seen row = record { text = row.text.items; owner = row.owner.items; beacon = row.beacon; pixel = row.pixel; priority = row.priority; status = Valid }
+
+-- the line that comes next and those behind it
+abbrev pub upcoming : Option Line → TextLeft → List (List ℕ)
+upcoming None left = []
+upcoming (Some line) left = line.octets.now ∷ octets_left left
+
+-- the lines behind the next one
+abbrev pub behind : List (List ℕ) → List (List ℕ)
+behind [] = []
+behind (line ∷ lines) = lines
+
+-- the answer is the expected one; without one, there is none or memory is wanting
+abbrev pub ReadsOrMemory : {A B : Type 0} → (A → B) → Result A DescriptionFault → Option B → Type 0
+ReadsOrMemory view (Ok value) expected = expected ≡ Some (view value)
+ReadsOrMemory view (Err fault) expected = (fault ≡ Memory) ⊎ (expected ≡ None)
+
+-- the lines behind the line `end`, or no such line comes first
+abbrev pub EndsOrNot : Option TextLeft → List (List ℕ) → Type 0
+EndsOrNot found lines = option_map octets_left found ≡ end_at lines
+
+-- a sign that was made is the described one at its start; where there is none, none can be made
+abbrev pub MadeOrRefused : Description → Option SignState → Type 0
+MadeOrRefused it None = CanBeMade it.config it.table → ⊥
+MadeOrRefused it (Some sign) = (sign ≡ start it.config it.table) × CanBeMade it.config it.table
+
+abbrev pub is_memory : ConfigFault → Bool
+is_memory config.Community = false
+is_memory (config.Table table.Counts) = false
+is_memory (config.Table (table.Permanent number)) = false
+is_memory (config.Table table.Memory) = true
+
+-- the sign of a head, with these rows and this face
+abbrev pub described_with : Head → List Permanent → FaceModel → Description
+described_with head permanent face = record {
+  config = record { face = face; reader = head.beginning.communities.reader.now; writer = head.beginning.communities.writer.now };
+  table = record {
+    permanent = map permanent_row permanent;
+    changeable = replicate head.beginning.rows.changeable unused;
+    volatile = replicate head.beginning.rows.volatile unused;
+    services = head.services;
+    order = head.beginning.order;
+  };
+  first = head.first;
+}

@@ -1,0 +1,297 @@
+//! The first seven lines of a description.
+
+ghost use Rattle.std.specs.Prelude.{◌≡◌, ◌∷◌, [], Some, None, option_map, IfOk, IfErr, IfSome};
+ghost use Rattle.dms_text.specs.Words.{words_of};
+ghost use Rattle.dms_text.specs.Reading.{same_octets};
+ghost use Rattle.dms_description.specs.Setups.{octets_left};
+ghost use Rattle.dms_description.specs.Views.{communities_seen, beginning_seen, head_seen};
+ghost use Rattle.dms_description.specs.DescriptionReading.{size_of, communities_of, row_counts_of, order_named, order_of, services_of, octet_at, first_defaults_at, all_defaults, defaults_of, first_of, beginning_at, head_at};
+
+use crate::fault::DescriptionFault;
+use dms_codes::Order;
+use dms_face::Defaults;
+use dms_table::Services;
+use dms_text::{Line, Lines, Words};
+
+/// The columns and rows of a matrix.
+#[derive(Clone, Copy)]
+pub(crate) struct Size {
+    pub width: u16,
+    pub height: u16,
+}
+
+/// The community that may read, and the one that may also write.
+#[derive(Clone, Copy)]
+pub(crate) struct Communities<'a> {
+    pub reader: &'a [u8],
+    pub writer: &'a [u8],
+}
+
+/// How many changeable and volatile rows there are.
+#[derive(Clone, Copy)]
+pub(crate) struct RowCounts {
+    pub changeable: u8,
+    pub volatile: u8,
+}
+
+/// The four defaults that stand first.
+#[derive(Clone, Copy)]
+pub(crate) struct FirstDefaults {
+    pub background: u8,
+    pub foreground: u8,
+    pub flash_on: u8,
+    pub flash_off: u8,
+}
+
+/// What the first four lines say.
+#[derive(Clone, Copy)]
+pub(crate) struct Beginning<'a> {
+    pub size: Size,
+    pub communities: Communities<'a>,
+    pub rows: RowCounts,
+    pub order: Order,
+}
+
+/// What the first seven lines say.
+#[derive(Clone, Copy)]
+pub(crate) struct Head<'a> {
+    pub beginning: Beginning<'a>,
+    pub services: Services,
+    pub defaults: Defaults,
+    pub first: u32,
+}
+
+/// `size WIDTH HEIGHT`.
+#[tactic(auto, unfolding(crate::specs::DescriptionReading::size_of))]
+fn size_of(line: &[u8]) -> Option<Size>
+    ensures { result ≡ size_of (words_of line.now) }
+{
+    let words = Words::of(line).keyword(b"size")?;
+    let (width, words) = words.decimal(5, 0, 65535)?;
+    let (height, words) = words.decimal(5, 0, 65535)?;
+    if words.is_empty() {
+        Some(Size {
+            width: width as u16,
+            height: height as u16,
+        })
+    } else {
+        None
+    }
+}
+
+/// `communities READER WRITER`.
+#[tactic(auto, unfolding(crate::specs::DescriptionReading::communities_of))]
+fn communities_of(line: &[u8]) -> Option<Communities<'_>>
+    ensures { option_map communities_seen result ≡ communities_of (words_of line.now) }
+{
+    let words = Words::of(line).keyword(b"communities")?;
+    let (reader, words) = words.next_word()?;
+    let (writer, words) = words.next_word()?;
+    if words.is_empty() {
+        Some(Communities { reader, writer })
+    } else {
+        None
+    }
+}
+
+/// `rows CHANGEABLE VOLATILE`.
+#[tactic(auto, unfolding(crate::specs::DescriptionReading::row_counts_of))]
+fn row_counts_of(line: &[u8]) -> Option<RowCounts>
+    ensures { result ≡ row_counts_of (words_of line.now) }
+{
+    let words = Words::of(line).keyword(b"rows")?;
+    let (changeable, words) = octet(words)?;
+    let (volatile, words) = octet(words)?;
+    if words.is_empty() {
+        Some(RowCounts {
+            changeable,
+            volatile,
+        })
+    } else {
+        None
+    }
+}
+
+/// A number of one octet, and the words behind it.
+pub(crate) fn octet(words: Words<'_>) -> Option<(u8, Words<'_>)>
+    ensures { result ≡ octet_at words.entry }
+{
+    let (number, words) = words.decimal(5, 0, 255)?;
+    Some((number as u8, words))
+}
+
+/// Whether these are the same octets.
+pub(crate) fn are_same(word: &[u8], other: &[u8]) -> bool
+    ensures { result ≡ same_octets word.now other.now }
+{
+    word == other
+}
+
+fn order_named(word: &[u8]) -> Option<Order>
+    ensures { result ≡ order_named word.now }
+{
+    if are_same(word, b"high") {
+        Some(Order::High)
+    } else if are_same(word, b"swapped") {
+        Some(Order::Swapped)
+    } else {
+        None
+    }
+}
+
+/// `order high` or `order swapped`.
+#[tactic(auto, unfolding(crate::specs::DescriptionReading::order_of))]
+fn order_of(line: &[u8]) -> Option<Order>
+    ensures { result ≡ order_of (words_of line.now) }
+{
+    let words = Words::of(line).keyword(b"order")?;
+    let (word, words) = words.next_word()?;
+    let order = order_named(word)?;
+    if words.is_empty() { Some(order) } else { None }
+}
+
+/// `has BEACON PIXEL`, each 0 or 1.
+#[tactic(auto, unfolding(crate::specs::DescriptionReading::services_of))]
+fn services_of(line: &[u8]) -> Option<Services>
+    ensures { result ≡ services_of (words_of line.now) }
+{
+    let words = Words::of(line).keyword(b"has")?;
+    let (beacon, words) = words.decimal(5, 0, 1)?;
+    let (pixel, words) = words.decimal(5, 0, 1)?;
+    if words.is_empty() {
+        Some(Services {
+            beacon: beacon == 1,
+            pixel: pixel == 1,
+        })
+    } else {
+        None
+    }
+}
+
+#[tactic(auto, unfolding(crate::specs::DescriptionReading::first_defaults_at))]
+fn first_defaults(words: Words<'_>) -> Option<(FirstDefaults, Words<'_>)>
+    ensures { result ≡ first_defaults_at words.entry }
+{
+    let (background, words) = octet(words)?;
+    let (foreground, words) = octet(words)?;
+    let (flash_on, words) = octet(words)?;
+    let (flash_off, words) = octet(words)?;
+    let first = FirstDefaults {
+        background,
+        foreground,
+        flash_on,
+        flash_off,
+    };
+    Some((first, words))
+}
+
+#[tactic(auto, unfolding(crate::specs::DescriptionReading::all_defaults))]
+fn all_defaults(first: FirstDefaults, words: Words<'_>) -> Option<Defaults>
+    ensures { result ≡ all_defaults first words.entry }
+{
+    let (font, words) = octet(words)?;
+    let (line, words) = octet(words)?;
+    let (page, words) = octet(words)?;
+    let (on, words) = octet(words)?;
+    let (off, words) = octet(words)?;
+    if words.is_empty() {
+        Some(Defaults {
+            background: first.background,
+            foreground: first.foreground,
+            flash_on: first.flash_on,
+            flash_off: first.flash_off,
+            font,
+            line,
+            page,
+            on,
+            off,
+        })
+    } else {
+        None
+    }
+}
+
+/// `defaults` and nine numbers.
+#[tactic(auto, unfolding(crate::specs::DescriptionReading::defaults_of))]
+fn defaults_of(line: &[u8]) -> Option<Defaults>
+    ensures { result ≡ defaults_of (words_of line.now) }
+{
+    let words = Words::of(line).keyword(b"defaults")?;
+    let (first, words) = first_defaults(words)?;
+    all_defaults(first, words)
+}
+
+/// `first NUMBER`.
+#[tactic(auto, unfolding(crate::specs::DescriptionReading::first_of))]
+fn first_of(line: &[u8]) -> Option<u32>
+    ensures { result ≡ first_of (words_of line.now) }
+{
+    let words = Words::of(line).keyword(b"first")?;
+    let (first, words) = words.decimal(10, 0, 4_294_967_295)?;
+    if words.is_empty() {
+        Some(first as u32)
+    } else {
+        None
+    }
+}
+
+/// The next line, and the lines behind it.
+fn next_line(lines: Lines<'_>) -> Result<(Line<'_>, Lines<'_>), DescriptionFault>
+    ensures found { IfOk result (λ x. octets_left lines.entry ≡ x.0.octets.now ∷ octets_left x.1) }
+    ensures missing { IfErr result (λ fault. octets_left lines.entry ≡ []) }
+{
+    let mut lines = lines;
+    match lines.next_line() {
+        Some(line) => Ok((line, lines)),
+        None => Err(DescriptionFault::Line(lines.number())),
+    }
+}
+
+impl<'a> Beginning<'a> {
+    /// The first four lines, and the lines behind them.
+    #[tactic(auto, unfolding(crate::specs::DescriptionReading::beginning_at))]
+    fn read(lines: Lines<'a>) -> Result<(Beginning<'a>, Lines<'a>), DescriptionFault>
+        ensures found { IfOk result (λ x. beginning_at (octets_left lines.entry) ≡ Some (beginning_seen x.0, octets_left x.1)) }
+        ensures none { IfErr result (λ fault. beginning_at (octets_left lines.entry) ≡ None) }
+    {
+        let (line, lines) = next_line(lines)?;
+        let size = size_of(line.octets).ok_or(DescriptionFault::Line(line.number))?;
+        let (line, lines) = next_line(lines)?;
+        let communities = communities_of(line.octets).ok_or(DescriptionFault::Line(line.number))?;
+        let (line, lines) = next_line(lines)?;
+        let rows = row_counts_of(line.octets).ok_or(DescriptionFault::Line(line.number))?;
+        let (line, lines) = next_line(lines)?;
+        let order = order_of(line.octets).ok_or(DescriptionFault::Line(line.number))?;
+        let beginning = Beginning {
+            size,
+            communities,
+            rows,
+            order,
+        };
+        Ok((beginning, lines))
+    }
+}
+
+impl<'a> Head<'a> {
+    /// The first seven lines, and the lines behind them.
+    #[tactic(auto, unfolding(crate::specs::DescriptionReading::head_at))]
+    pub(crate) fn read(lines: Lines<'a>) -> Result<(Head<'a>, Lines<'a>), DescriptionFault>
+        ensures found { IfOk result (λ x. head_at (octets_left lines.entry) ≡ Some (head_seen x.0, octets_left x.1)) }
+        ensures none { IfErr result (λ fault. head_at (octets_left lines.entry) ≡ None) }
+    {
+        let (beginning, lines) = Beginning::read(lines)?;
+        let (line, lines) = next_line(lines)?;
+        let services = services_of(line.octets).ok_or(DescriptionFault::Line(line.number))?;
+        let (line, lines) = next_line(lines)?;
+        let defaults = defaults_of(line.octets).ok_or(DescriptionFault::Line(line.number))?;
+        let (line, lines) = next_line(lines)?;
+        let first = first_of(line.octets).ok_or(DescriptionFault::Line(line.number))?;
+        let head = Head {
+            beginning,
+            services,
+            defaults,
+            first,
+        };
+        Ok((head, lines))
+    }
+}
