@@ -2,6 +2,7 @@
 
 use crate::{Config, Receipt, Sign};
 use dms_face::{Defaults, Face, Font};
+use dms_pages::pages_with;
 use dms_table::{Order, Permanent, Stock};
 use dms_wire::{Bind, Kind, MessageParts, Oid, Out, Value, oid_cmp, read, write};
 use std::alloc::Global;
@@ -224,5 +225,40 @@ fn walk(rt: HostRuntime) -> Result<(), Fail> {
         count = u32::wrapping_add(count, 1);
     }
     assert_eq!(rt; count, 36 + 9 * (2 + 1 + 1 + 1 + 255));
+    Ok(())
+}
+
+/// What is shown, drawn under its own copy of the defaults: the digit of a lit cell's colour, and a point where nothing is lit.
+fn picture(alloc: Global, sign: &Sign) -> Result<String, Fail> {
+    let shown = sign.shown();
+    if !shown.defaults.fits(sign.face()) {
+        return Err("no such defaults".into());
+    }
+    let pages = pages_with(alloc, sign.face(), &shown.defaults, shown.text.as_slice())?;
+    let page = pages.first().ok_or("no page")?;
+    let mut text = String::new(alloc);
+    for y in 0..page.height() {
+        for x in 0..page.width() {
+            let cell = page.cell(x, y);
+            if cell.lit {
+                text.push(char::from(b'0' + cell.colour % 10))?;
+            } else {
+                text.push('.')?;
+            }
+        }
+        text.push('\n')?;
+    }
+    Ok(text)
+}
+
+/// A message keeps the font under which it came up, until it is put up again.
+#[test]
+fn pictures(rt: HostRuntime) -> Result<(), Fail> {
+    let alloc = rt.alloc();
+    let mut sign = bench_sign(alloc)?;
+    play(&mut sign, cases::PUT_UP)?;
+    assert_eq!(rt; picture(alloc, &sign)?.as_str(), cases::FONT_ONE);
+    play(&mut sign, cases::PUT_UP_AGAIN)?;
+    assert_eq!(rt; picture(alloc, &sign)?.as_str(), cases::FONT_TWO);
     Ok(())
 }
