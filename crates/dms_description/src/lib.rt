@@ -23,6 +23,8 @@ mod making;
 pub mod reader;
 mod rows;
 pub mod setup;
+#[cfg(test)]
+mod tests;
 mod upcoming;
 
 pub use bench_sign::{BENCH, bench};
