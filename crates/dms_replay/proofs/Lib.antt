@@ -6,3 +6,4 @@ mod TableRows
 mod WorkedHeadline
 mod Worked
 mod BenchFresh
+pub mod EventLaws

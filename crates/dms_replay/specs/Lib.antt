@@ -3,3 +3,6 @@ pub mod EventFields
 pub mod EventLine
 pub mod Script
 pub mod Report
+-- what the calls say of themselves
+pub mod EventReading
+pub mod EventView
