@@ -205,7 +205,7 @@ impl Centre {
     }
 
     /// Which octet of a checksum its sign has first.
-    pub(crate) fn order(&self) -> Order
+    pub fn order(&self) -> Order
         ensures { result ≡ self.now.state.settings.order }
     {
         self.order

@@ -1,6 +1,6 @@
 -- The event of a line is the one that the line spells.
 use Rattle.std.proofs.Common.{◌≡◌, ℕ, ◌<◌, ◌≤◌, ◌==◌, ◌&&◌, true, false, cond, List, [], ◌∷◌, ◌++◌, length, Option, Some, None, option_map, Result, Ok, Err, refl, sym, ap, subst, ◌∙◌, arith, rules, inl, inr}
-use Rattle.std.specs.Prelude.{codes, ◌+◌, ◌*◌, ◌/◌, ◌%◌, ◌⊎◌, All, suc, slice_index}
+use Rattle.std.specs.Prelude.{codes, IfSome, IfNone, ◌+◌, ◌*◌, ◌/◌, ◌%◌, ◌⊎◌, All, suc, slice_index}
 use Rattle.std.proofs.lemmas.Slice.Eq.{text_from_reads}
 use Rattle.std.proofs.lemmas.List.Elements.{All-nil, All-cons}
 use Rattle.std.proofs.lemmas.Bool.{and_parts, and_from, eqb-true, eq-eqb, cases_Bool}
@@ -610,3 +610,30 @@ event_only order line (forge_sign datagram) spelled =
     line_read order key.ForgeSign line _ spelled.words_are ∙ ap (option_map forge_sign) (last_octets_only datagram spelled.word spelled.spelled)
 event_only order line (forge_centre datagram) spelled =
     line_read order key.ForgeCentre line _ spelled.words_are ∙ ap (option_map forge_centre) (last_octets_only datagram spelled.word spelled.spelled)
+
+pub spelled_if_read : {A : Type 0} (model : A → EventModel) (order : Order) (line : List ℕ) (found : Option A) → option_map model found ≡ event_of order line
+    → IfSome found (λ event. SpellsEvent order (model event) line)
+spelled_if_read model order line None e = tt
+spelled_if_read model order line (Some event) e = event_found order line (model event) (sym e)
+
+pub none_if_not_read : {A : Type 0} (model : A → EventModel) (order : Order) (line : List ℕ) (found : Option A) → option_map model found ≡ event_of order line
+    → IfNone found ((event : EventModel) → SpellsEvent order event line → ⊥)
+none_if_not_read model order line None e = λ event spelled. let never : None ≡ Some event = e ∙ event_only order line event spelled in cc
+none_if_not_read model order line (Some found) e = tt
+
+-- a line spells at most one event
+pub one_event : (order : Order) (line : List ℕ) (one other : EventModel) → SpellsEvent order one line → SpellsEvent order other line → one ≡ other
+one_event order line one other this that = same_Some _ _ (sym (event_only order line one this) ∙ event_only order line other that)
+
+-- lines spell at most one list of events
+pub one_list : (order : Order) (lines : List (List ℕ)) (one other : List EventModel) → SpellsEach (SpellsEvent order) one lines → SpellsEach (SpellsEvent order) other lines
+    → one ≡ other
+one_list order [] [] [] this that = refl
+one_list order [] [] (event ∷ other) this that = absurd that
+one_list order [] (event ∷ one) other this that = absurd this
+one_list order (line ∷ lines) [] other this that = absurd (let never : line ∷ lines ≡ [] = this in cc)
+one_list order (line ∷ lines) (event ∷ one) [] this that = absurd (let never : line ∷ lines ≡ [] = that in cc)
+one_list order (line ∷ lines) (event ∷ one) (another ∷ other) this that =
+    let first : event ≡ another = one_event order line event another this.0 that.0 in
+    let rest : one ≡ other = one_list order lines one other this.1 that.1 in
+    cc

@@ -7,3 +7,5 @@ mod WorkedHeadline
 mod Worked
 mod BenchFresh
 pub mod EventLaws
+mod EventsRead
+mod ReportLines

@@ -1,5 +1,5 @@
 -- What the code's events and their parts are (this profile).
-use Rattle.std.specs.Prelude.{ℕ, List, Option, Vec, option_map}
+use Rattle.std.specs.Prelude.{ℕ, List, map, Option, Vec, option_map}
 use Rattle.std.specs.declared.alloc.Global.{Global}
 use Rattle.dms_centre.specs.State.{PublicationModel}
 use Rattle.dms_centre.specs.Commands as centre
@@ -47,3 +47,6 @@ script_event_model (script.PowerBack seconds) = power_back seconds
 script_event_model script.CentreRestart = centre_restart
 script_event_model (script.ForgeSign datagram) = forge_sign datagram.items
 script_event_model (script.ForgeCentre datagram) = forge_centre datagram.items
+
+abbrev pub script_events_model : List ScriptEvent → List EventModel
+script_events_model events = map script_event_model events

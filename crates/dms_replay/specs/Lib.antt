@@ -6,3 +6,4 @@ pub mod Report
 -- what the calls say of themselves
 pub mod EventReading
 pub mod EventView
+pub mod Faults

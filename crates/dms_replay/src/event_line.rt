@@ -1,6 +1,8 @@
 //! The lines of a script's events.
 
-ghost use Rattle.std.specs.Prelude.{◌≡◌, IfOk, option_map};
+ghost use Rattle.std.specs.Prelude.{◌≡◌, IfOk, IfSome, IfNone, option_map};
+ghost use Rattle.dms_world.specs.Event.{EventModel};
+ghost use Rattle.dms_replay.specs.EventLine.{SpellsEvent};
 ghost use Rattle.dms_replay.specs.EventReading.{alone, publication_at, blank_at, event_of};
 ghost use Rattle.dms_replay.specs.EventView.{publication_model, script_event_model};
 
@@ -13,9 +15,22 @@ use dms_codes::Order;
 use dms_text::Words;
 use std::alloc::{AllocError, Global};
 
-/// The event that a line spells, or none where it spells none. A code is in this order.
-#[tactic(auto, unfolding(crate::specs::EventReading::event_of))]
+/// The event that a line spells, or none where it spells none; it spells no other. A code is in this order.
+#[tactic(auto, using(crate::proofs::EventLaws::spelled_if_read, crate::proofs::EventLaws::none_if_not_read))]
 pub fn event(alloc: Global, order: Order, line: &[u8]) -> Result<Option<ScriptEvent>, AllocError>
+    ensures read { IfOk result (λ found. IfSome found (λ event. SpellsEvent order (script_event_model event) line.now)) }
+    ensures none { IfOk result (λ found. IfNone found ((event : EventModel) → SpellsEvent order event line.now → ⊥)) }
+{
+    read_event(alloc, order, line)
+}
+
+/// The event that is read of a line.
+#[tactic(auto, unfolding(crate::specs::EventReading::event_of))]
+pub(crate) fn read_event(
+    alloc: Global,
+    order: Order,
+    line: &[u8],
+) -> Result<Option<ScriptEvent>, AllocError>
     ensures { IfOk result (λ found. option_map script_event_model found ≡ event_of order line.now) }
 {
     let Some((word, words)) = Words::of(line).next_word() else {

@@ -1,6 +1,8 @@
 //! Events as they are read, which own their octets.
 
+use dms_centre::Command;
 use dms_codes::Activation;
+use dms_world::Event;
 
 /// A message to be written into a row and put up.
 #[derive(Debug, Drop)]
@@ -63,4 +65,66 @@ pub enum ScriptEvent {
     ForgeSign(Vec<u8>),
     /// A datagram that the sign never sent reaches the centre.
     ForgeCentre(Vec<u8>),
+}
+
+impl Publication {
+    ghost use Rattle.std.specs.Prelude.{◌≡◌};
+    ghost use Rattle.dms_centre.specs.CodeView.{command_model};
+    ghost use Rattle.dms_centre.specs.Commands.{Publish};
+    ghost use Rattle.dms_replay.specs.EventView.{publication_model};
+
+    /// The command, which borrows the octets.
+    fn lent(&self) -> Command<'_>
+        ensures { command_model result ≡ Publish (publication_model self.now) }
+    {
+        let address = self.address;
+        Command::Publish {
+            memory: self.memory,
+            number: self.number,
+            text: self.text.as_slice(),
+            owner: self.owner.as_slice(),
+            beacon: self.beacon,
+            pixel: self.pixel,
+            run_priority: self.run_priority,
+            minutes: self.minutes,
+            priority: self.priority,
+            address,
+        }
+    }
+}
+
+impl ScriptEvent {
+    ghost use Rattle.std.specs.Prelude.{◌≡◌};
+    ghost use Rattle.dms_world.specs.CodeView.{event_model};
+    ghost use Rattle.dms_replay.specs.EventView.{script_event_model};
+
+    /// As an event of the world, which borrows the octets.
+    pub fn lent(&self) -> Event<'_>
+        ensures { event_model result ≡ script_event_model self.now }
+    {
+        match self {
+            ScriptEvent::Publish(publication) => Event::Command(publication.lent()),
+            ScriptEvent::Blank {
+                number,
+                minutes,
+                priority,
+                address,
+            } => Event::Command(Command::Blank {
+                number: *number,
+                minutes: *minutes,
+                priority: *priority,
+                address: *address,
+            }),
+            ScriptEvent::Activate(code) => Event::Command(Command::Activate(*code)),
+            ScriptEvent::SignTick => Event::SignTick,
+            ScriptEvent::CentreTick => Event::CentreTick,
+            ScriptEvent::ToSign(place) => Event::ToSign(*place),
+            ScriptEvent::ToCentre(place) => Event::ToCentre(*place),
+            ScriptEvent::PowerLost => Event::PowerLost,
+            ScriptEvent::PowerBack(seconds) => Event::PowerBack(*seconds),
+            ScriptEvent::CentreRestart => Event::CentreRestart,
+            ScriptEvent::ForgeSign(datagram) => Event::ForgeSign(datagram.as_slice()),
+            ScriptEvent::ForgeCentre(datagram) => Event::ForgeCentre(datagram.as_slice()),
+        }
+    }
 }

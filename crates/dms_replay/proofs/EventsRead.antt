@@ -1,0 +1,77 @@
+-- The events of a list of lines, one line after another.
+use Rattle.std.proofs.Common.{◌≡◌, ℕ, List, [], ◌∷◌, ◌++◌, map, length, Option, Some, None, option_map, refl, sym, ap, subst, ◌∙◌, append_assoc}
+use Rattle.std.proofs.lemmas.List.{append-nil}
+use Rattle.std.specs.Prelude.{◌⊎◌}
+use Rattle.std.proofs.Common.{inl, inr}
+use Rattle.dms_replay.specs.declared.fault.ReplayFault.{ReplayFault}
+use Rattle.dms_replay.specs.declared.fault.ReplayFault.TheVariants.{Memory}
+use Rattle.dms_replay.specs.Faults.{IsLine}
+use Rattle.std.proofs.lemmas.List.{map-append}
+use Rattle.dms_text.specs.declared.lines.Line.{Line}
+use Rattle.dms_text.specs.Lines.{NumberedLine}
+use Rattle.dms_text.specs.Views.{numbered_line}
+use Rattle.dms_text.proofs.LineFilter.{octets_of_lines}
+use Rattle.dms_codes.specs.declared.codes.Order.{Order}
+use Rattle.dms_world.specs.Event.{EventModel}
+use Rattle.dms_description.specs.Fields.{SpellsEach}
+use Rattle.dms_replay.specs.EventLine.{SpellsEvent}
+use Rattle.dms_replay.specs.EventReading.{event_of}
+use Rattle.dms_replay.specs.EventView.{script_event_model, script_events_model}
+use Rattle.dms_replay.specs.declared.script_event.ScriptEvent.{ScriptEvent}
+use Rattle.dms_replay.proofs.EventLaws.{event_found, event_only}
+
+-- some of the lines are read, and these are left
+pub record AreRead (order : Order) (all left : List (List ℕ)) (events : List EventModel) : Type 0 where
+  pub front : List (List ℕ)
+  pub lines_are : all ≡ front ++ left
+  pub spelled : SpellsEach (SpellsEvent order) events front
+
+pub none_read : (order : Order) (all : List (List ℕ)) → AreRead order all all []
+none_read order all = record { front = []; lines_are = refl; spelled = refl }
+
+each_more : (order : Order) (events : List EventModel) (front : List (List ℕ)) (event : EventModel) (line : List ℕ) → SpellsEach (SpellsEvent order) events front
+    → SpellsEvent order event line → SpellsEach (SpellsEvent order) (events ++ event ∷ []) (front ++ line ∷ [])
+each_more order [] [] event line each spelled = (spelled, refl)
+each_more order [] (first ∷ front) event line each spelled = absurd (let never : first ∷ front ≡ [] = each in cc)
+each_more order (first ∷ events) [] event line each spelled = absurd each
+each_more order (first ∷ events) (word ∷ front) event line each spelled = (each.0, each_more order events front event line each.1 spelled)
+
+pub one_more_read : (order : Order) (all : List (List ℕ)) (left next : List NumberedLine) (line : Line) (events now : List ScriptEvent) (event : ScriptEvent)
+    → AreRead order all (octets_of_lines left) (script_events_model events) → left ≡ numbered_line line ∷ next
+    → Some (script_event_model event) ≡ event_of order line.octets.now → now ≡ events ++ event ∷ []
+    → AreRead order all (octets_of_lines next) (script_events_model now)
+one_more_read order all left next line events now event read split found added =
+    subst (λ events. AreRead order all (octets_of_lines next) (script_events_model events)) (sym added) (record {
+      front = read.front ++ line.octets.now ∷ [];
+      lines_are = read.lines_are ∙ ap (λ rest. read.front ++ octets_of_lines rest) split ∙ sym (append_assoc read.front (line.octets.now ∷ []) (octets_of_lines next));
+      spelled = subst (λ models. SpellsEach (SpellsEvent order) models (read.front ++ line.octets.now ∷ [])) (sym (map-append script_event_model events (event ∷ [])))
+          (each_more order (script_events_model events) read.front (script_event_model event) line.octets.now read.spelled (event_found order line.octets.now _ (sym found)));
+    })
+
+each_at : (order : Order) (events : List EventModel) (front : List (List ℕ)) (line : List ℕ) (rest : List (List ℕ))
+    → SpellsEach (SpellsEvent order) events (front ++ line ∷ rest) → (event : EventModel) × SpellsEvent order event line
+each_at order [] [] line rest each = absurd (let never : line ∷ rest ≡ [] = each in cc)
+each_at order [] (first ∷ front) line rest each = absurd (let never : first ∷ (front ++ line ∷ rest) ≡ [] = each in cc)
+each_at order (event ∷ events) [] line rest each = (event, each.0)
+each_at order (event ∷ events) (first ∷ front) line rest each = each_at order events front line rest each.1
+
+pub none_spelled : (order : Order) (all : List (List ℕ)) (left next : List NumberedLine) (line : Line) (events : List EventModel)
+    → AreRead order all (octets_of_lines left) events → left ≡ numbered_line line ∷ next → None ≡ event_of order line.octets.now
+    → (others : List EventModel) → SpellsEach (SpellsEvent order) others all → ⊥
+none_spelled order all left next line events read split none others each =
+    let whole = read.lines_are ∙ ap (λ rest. read.front ++ octets_of_lines rest) split in
+    let found = each_at order others read.front line.octets.now (octets_of_lines next) (subst (SpellsEach (SpellsEvent order) others) whole each) in
+    let never : None ≡ Some found.0 = none ∙ event_only order line.octets.now found.0 found.1 in
+    cc
+
+pub refused : (order : Order) (all : List (List ℕ)) (left next : List NumberedLine) (line : Line) (events : List EventModel) (fault : ReplayFault)
+    → AreRead order all (octets_of_lines left) events → left ≡ numbered_line line ∷ next
+    → (fault ≡ Memory) ⊎ (IsLine fault × (None ≡ event_of order line.octets.now))
+    → (fault ≡ Memory) ⊎ (IsLine fault × ((others : List EventModel) → SpellsEach (SpellsEvent order) others all → ⊥))
+refused order all left next line events fault read split (inl memory) = inl memory
+refused order all left next line events fault read split (inr bad) = inr (bad.0, none_spelled order all left next line events read split bad.1)
+
+pub all_read : (order : Order) (all : List (List ℕ)) (left : List NumberedLine) (events : List EventModel) → AreRead order all (octets_of_lines left) events → left ≡ []
+    → SpellsEach (SpellsEvent order) events all
+all_read order all left events read end =
+    subst (SpellsEach (SpellsEvent order) events) (sym (read.lines_are ∙ ap (λ rest. read.front ++ octets_of_lines rest) end ∙ append-nil read.front)) read.spelled
