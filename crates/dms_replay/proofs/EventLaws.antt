@@ -1,6 +1,6 @@
 -- The event of a line is the one that the line spells.
 use Rattle.std.proofs.Common.{◌≡◌, ℕ, ◌<◌, ◌≤◌, ◌==◌, ◌&&◌, true, false, cond, List, [], ◌∷◌, ◌++◌, length, Option, Some, None, option_map, Result, Ok, Err, refl, sym, ap, subst, ◌∙◌, arith, rules, inl, inr}
-use Rattle.std.specs.Prelude.{codes, IfSome, IfNone, ◌+◌, ◌*◌, ◌/◌, ◌%◌, ◌⊎◌, All, suc, slice_index}
+use Rattle.std.specs.Prelude.{codes, IfOk, IfSome, IfNone, ◌+◌, ◌*◌, ◌/◌, ◌%◌, ◌⊎◌, All, suc, slice_index}
 use Rattle.std.proofs.lemmas.Slice.Eq.{text_from_reads}
 use Rattle.std.proofs.lemmas.List.Elements.{All-nil, All-cons}
 use Rattle.std.proofs.lemmas.Bool.{and_parts, and_from, eqb-true, eq-eqb, cases_Bool}
@@ -26,6 +26,8 @@ use Rattle.dms_description.specs.Fields.{SpellsEach, SpellsOctet, SpellsTwoOctet
 use Rattle.dms_replay.specs.EventFields.{SpellsAddressPart, SpellsAddress, SpellsCode}
 use Rattle.dms_replay.specs.EventLine.{SpellsPublication, SpellsBlank, SpellsOne, SpellsEventWords, SpellsEvent}
 use Rattle.dms_replay.specs.EventReading.{alone, octet_at, two_octets_at, last_number_at, octets_at, last_octets_at, address_at, address_of, code_from, last_code_at, TermsModel, last_terms_at, publication_at, blank_at, keyword_of, later_keyword, event_behind, event_of}
+use Rattle.dms_replay.specs.EventView.{script_event_model}
+use Rattle.dms_replay.specs.declared.script_event.ScriptEvent.{ScriptEvent}
 use Rattle.dms_replay.specs.declared.keyword.Keyword.{Keyword}
 use Rattle.dms_replay.specs.declared.keyword.Keyword.TheVariants as key
 
@@ -611,15 +613,20 @@ event_only order line (forge_sign datagram) spelled =
 event_only order line (forge_centre datagram) spelled =
     line_read order key.ForgeCentre line _ spelled.words_are ∙ ap (option_map forge_centre) (last_octets_only datagram spelled.word spelled.spelled)
 
-pub spelled_if_read : {A : Type 0} (model : A → EventModel) (order : Order) (line : List ℕ) (found : Option A) → option_map model found ≡ event_of order line
-    → IfSome found (λ event. SpellsEvent order (model event) line)
-spelled_if_read model order line None e = tt
-spelled_if_read model order line (Some event) e = event_found order line (model event) (sym e)
+spelled_if_read : (order : Order) (line : List ℕ) (found : Option ScriptEvent) → option_map script_event_model found ≡ event_of order line
+    → IfSome found (λ event. SpellsEvent order (script_event_model event) line)
+spelled_if_read order line None e = tt
+spelled_if_read order line (Some event) e = event_found order line (script_event_model event) (sym e)
 
-pub none_if_not_read : {A : Type 0} (model : A → EventModel) (order : Order) (line : List ℕ) (found : Option A) → option_map model found ≡ event_of order line
+pub none_if_not_read : (order : Order) (line : List ℕ) (found : Option ScriptEvent) → option_map script_event_model found ≡ event_of order line
     → IfNone found ((event : EventModel) → SpellsEvent order event line → ⊥)
-none_if_not_read model order line None e = λ event spelled. let never : None ≡ Some event = e ∙ event_only order line event spelled in cc
-none_if_not_read model order line (Some found) e = tt
+none_if_not_read order line None e = λ event spelled. let never : None ≡ Some event = e ∙ event_only order line event spelled in cc
+none_if_not_read order line (Some found) e = tt
+
+pub spelled_if_ok : {E : Type 0} (order : Order) (line : List ℕ) (result : Result (Option ScriptEvent) E)
+    → IfOk result (λ found. option_map script_event_model found ≡ event_of order line) → IfOk result (λ found. IfSome found (λ event. SpellsEvent order (script_event_model event) line))
+spelled_if_ok order line (Ok found) e = spelled_if_read order line found e
+spelled_if_ok order line (Err fault) e = tt
 
 -- a line spells at most one event
 pub one_event : (order : Order) (line : List ℕ) (one other : EventModel) → SpellsEvent order one line → SpellsEvent order other line → one ≡ other

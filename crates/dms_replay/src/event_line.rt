@@ -16,7 +16,7 @@ use dms_text::Words;
 use std::alloc::{AllocError, Global};
 
 /// The event that a line spells, or none where it spells none; it spells no other. A code is in this order.
-#[tactic(auto, using(crate::proofs::EventLaws::spelled_if_read, crate::proofs::EventLaws::none_if_not_read))]
+#[tactic(auto, using(crate::proofs::EventLaws::none_if_not_read))]
 pub fn event(alloc: Global, order: Order, line: &[u8]) -> Result<Option<ScriptEvent>, AllocError>
     ensures read { IfOk result (λ found. IfSome found (λ event. SpellsEvent order (script_event_model event) line.now)) }
     ensures none { IfOk result (λ found. IfNone found ((event : EventModel) → SpellsEvent order event line.now → ⊥)) }
