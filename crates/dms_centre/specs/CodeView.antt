@@ -1,4 +1,4 @@
--- What the code's types say: the models of commands, jobs, waiting requests and the ledger.
+-- What the code's types say: the models of commands, jobs, waiting requests and the ledger (this profile).
 use Rattle.std.specs.Prelude.{◌≡◌, ℕ, pos, List, [], ◌∷◌, ◌++◌, map, Option, Some, None, if◌then◌else◌}
 use Rattle.dms_centre.specs.declared.command.Command.{Command}
 use Rattle.dms_centre.specs.declared.command.Command.TheVariants as commands

@@ -1,4 +1,4 @@
--- The checksum of 16 bits of ISO/IEC 3309, by division of polynomials over bits.
+-- The checksum of a message, 16 bits, by division of polynomials over bits (ISO/IEC 3309).
 use Rattle.std.specs.Prelude.{ℕ, zero, suc, ◌+◌, ◌-◌, ◌*◌, ◌/◌, ◌%◌, ◌==◌, Bool, true, false, not, if◌then◌else◌, List, [], ◌∷◌, ◌++◌, length, map, take, drop, replicate}
 use Rattle.std.specs.List.{flat_map}
 

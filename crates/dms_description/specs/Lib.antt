@@ -1,8 +1,7 @@
--- what a reader must believe: signs as text
+-- what a reader must believe: signs as text, and what the calls answer
 pub mod Fields
 pub mod Description
 pub mod BenchSign
--- what the calls answer
 pub mod Setups
 pub mod FaultTexts
 -- reading from the front, which only proofs go through: `read_is_spelled` and `spelled_is_read` in proofs/ join it to the above

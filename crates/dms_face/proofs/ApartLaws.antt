@@ -312,7 +312,7 @@ heights_of : (line : Line) (characters : List Character) → line.characters ≡
 heights_of line [] is = tt
 heights_of line (it ∷ more) is =
     subst (λ (all : List Character). AllByRecursion (λ (one : Character). one.style.font.height
-        ≤ cond (is_blank all) line.font.height (fold max 0 (map (λ (character : Character). character.style.font.height) all))) (it ∷ more)) (sym is)
+    ≤ cond (is_blank all) line.font.height (fold max 0 (map (λ (character : Character). character.style.font.height) all))) (it ∷ more)) (sym is)
     ((bounded (λ (character : Character). character.style.font.height) (it ∷ more) 0).1)
 
 line_lights : (face : FaceModel) (x y : ℕ) (line : Line) → (characters_fit face line.characters ≡ true) × AllByRecursion IsPictured line.characters

@@ -8,17 +8,24 @@ ghost use Rattle.dms_face.specs.Totals.{Sums, TellsBlocks, AreWithin};
 /// tag gives before it.
 #[derive(Clone, Copy)]
 pub struct Block {
+    /// Left or top 2, centre or middle 3, right or bottom 4.
     pub place: u8,
+    /// Its columns or rows.
     pub size: u8,
+    /// The spacing of its font, or the greatest of its fonts, in columns or rows.
     pub spacing: u8,
+    /// The gap before it that a tag gives, in rows; none where the spacings give it.
     pub gap: Option<u8>,
 }
 
 /// Blocks in a row: whether there are any, how much room they take, and the spacing of the last.
 #[derive(Clone, Copy)]
 pub struct Run {
+    /// Whether there is a block.
     pub any: bool,
+    /// The room of all blocks and the gaps between them, in columns or rows.
     pub size: u32,
+    /// The spacing of the last block.
     pub spacing: u8,
 }
 
@@ -30,6 +37,7 @@ fn average(a: u8, b: u8) -> u8
 }
 
 impl Run {
+    /// No block.
     pub const EMPTY: Run = Run {
         any: false,
         size: 0,

@@ -1,4 +1,5 @@
--- Fonts as text: a line `font N height H space C line L version V`, then a line `glyph CHARACTER WIDTH BITS` for each character.
+-- Fonts as text: a line `font N height H space C line L version V`, then a line `glyph CHARACTER WIDTH BITS` for each character (this
+-- profile).
 use Rattle.std.specs.Prelude.{◌≡◌, ℕ, ◌≤◌, IsTrue, List, [], ◌∷◌, length, codes}
 use Rattle.dms_text.specs.Lines.{kept_lines}
 use Rattle.dms_text.specs.Words.{words_of}

@@ -73,8 +73,11 @@ const COLUMNS: [Column; 9] = [
 /// How many rows a sign has of each type of memory that it stores. They say which instances it has.
 #[derive(Clone, Copy, Debug, PartialEq, Eq)]
 pub struct Counts {
+    /// Rows of memory type 2.
     pub permanent: u8,
+    /// Rows of memory type 3.
     pub changeable: u8,
+    /// Rows of memory type 4.
     pub volatile: u8,
 }
 

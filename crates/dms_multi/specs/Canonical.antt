@@ -1,4 +1,5 @@
--- The canonical text of items, a choice of the profile's own: small letters in names, numbers without leading zeros, a background as `pb`.
+-- The canonical text of items, a choice of the profile's own: small letters in names, numbers without leading zeros, a background as `pb`
+-- (this profile).
 use Rattle.std.specs.Prelude.{ℕ, ◌/◌, ◌%◌, Bool, true, false, if◌then◌else◌, List, [], ◌∷◌, ◌++◌, nat_lt, Option, Some, None, codes, decimal, flat_map}
 use Rattle.std.specs.Fmt.{digits, digit_glyph}
 use Rattle.dms_multi.specs.declared.item.Item.{Item}

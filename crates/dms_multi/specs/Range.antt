@@ -1,4 +1,4 @@
--- The range of a value.
+-- The range of a value (NTCIP 1203, MULTI).
 use Rattle.std.specs.Prelude.{ℕ, ◌≤◌, Option, Some, None}
 
 -- a value from low to high, or none

@@ -1,4 +1,4 @@
--- A text's pages, drawn cell by cell.
+-- A text's pages, drawn cell by cell (this profile).
 use Rattle.std.specs.Prelude.{ℕ, ◌+◌, ◌*◌, ◌/◌, ◌%◌, false, List, map, None, slice_index_or, Result}
 use Rattle.std.specs.List.{range_with_len}
 use Rattle.dms_face.specs.declared.cell.Cell.{Cell}

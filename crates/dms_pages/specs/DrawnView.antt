@@ -1,4 +1,4 @@
--- What the calls that make pages answer.
+-- What the calls that make pages answer (this profile).
 use Rattle.std.specs.Prelude.{◌≡◌, List, IsTrue, Result, Ok, Err, is_ok}
 use Rattle.dms_face.specs.declared.multi_fault.MultiFault.{MultiFault}
 use Rattle.dms_pages.specs.declared.text_pages.PagesFault.{PagesFault}

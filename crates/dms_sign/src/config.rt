@@ -12,9 +12,13 @@ use std::fmt;
 /// differ.
 #[derive(Drop)]
 pub struct Config<'a> {
+    /// The matrix, its fonts and its first defaults.
     pub face: Face,
+    /// The rows of the message table, the services and the order of a checksum's octets.
     pub stock: Stock<'a>,
+    /// The community that may read, of 1 to 32 octets.
     pub reader: &'a [u8],
+    /// The community that may read and write, of 1 to 32 octets.
     pub writer: &'a [u8],
 }
 

@@ -1,4 +1,4 @@
--- What a table is made of.
+-- What a table is made of (this profile).
 use Rattle.std.specs.Prelude.{◌≡◌, ℕ, ◌+◌, ◌&&◌, Bool, not, if◌then◌else◌, length, map, replicate, Option, Some, None, option_map, nat_le, position, All}
 use Rattle.std.specs.Int.Digits.{AllBelowBase}
 use Rattle.dms_face.specs.Face.{FaceModel}

@@ -12,7 +12,9 @@ use std::marker::Model;
 /// A line without its newline, and its number among all lines, from 1.
 #[derive(Drop)]
 pub struct Line<'a> {
+    /// Its number among all lines of the text, from 1, skipped ones too.
     pub number: usize,
+    /// Its octets, without the newline and a carriage return before it.
     pub octets: &'a [u8],
 }
 

@@ -1,4 +1,5 @@
--- The shortest spelling of a message: each length in its shortest form, each number without needless digits.
+-- The shortest spelling of a message: each length in its shortest form, each number without needless digits (X.690, 10.1, and this
+-- profile).
 use Rattle.std.specs.Prelude.{ℕ, pos, List, [], ◌∷◌, ◌++◌}
 use Rattle.std.specs.List.{flat_map}
 use Rattle.dms_wire.specs.Message.{ObjectValue, integer, octet_string, null, object_identifier, ip_address, counter, gauge, time_ticks, opaque, VarBind, SnmpMessage}

@@ -1,4 +1,4 @@
--- The limits of what a message can say: its numbers, its names and its values.
+-- The limits of what a message can say: its numbers, its names and its values (RFC 1157 and this profile).
 use Rattle.std.specs.Prelude.{◌≡◌, ◌^◌, ◌<◌, IsTrue, List, [], ◌∷◌, length}
 use Rattle.std.specs.Int.Digits.{AllBelowBase}
 use Rattle.dms_wire.specs.Message.{ObjectValue, integer, octet_string, null, object_identifier, ip_address, counter, gauge, time_ticks, opaque, VarBind, SnmpMessage}

@@ -1,4 +1,4 @@
--- What writing leaves, where a datagram has at most 1,472 octets.
+-- What writing leaves, where a datagram has at most 1,472 octets (this profile).
 use Rattle.std.specs.Prelude.{◌≡◌, ℕ, ◌<◌, ◌≤◌, nat_le, List, [], length, Option, Some, None, Result, Ok, Err, if◌then◌else◌}
 use Rattle.std.specs.List.{flat_map}
 use Rattle.dms_wire.specs.declared.fault.TooBig.{TooBig}
