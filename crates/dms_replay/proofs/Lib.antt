@@ -8,4 +8,6 @@ mod Worked
 mod BenchFresh
 pub mod EventLaws
 mod EventsRead
+mod Lent
+mod ScriptRead
 mod ReportLines

@@ -3,6 +3,7 @@ pub mod EventFields
 pub mod EventLine
 pub mod Script
 pub mod Report
+pub mod Replayed
 -- what the calls say of themselves
 pub mod EventReading
 pub mod EventView

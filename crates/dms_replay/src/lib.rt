@@ -6,5 +6,8 @@ mod events;
 pub mod fault;
 pub mod fields;
 pub mod keyword;
+pub mod laws;
+pub mod replay;
 pub mod report;
+mod script;
 pub mod script_event;

@@ -1,0 +1,205 @@
+-- A text spells at most one script, and what is read of it is that script.
+use Rattle.std.proofs.Common.{◌≡◌, ℕ, ◌≤◌, List, [], ◌∷◌, ◌++◌, map, length, Option, Some, None, Result, Err, refl, sym, ap, subst, ◌∙◌, arith, inl, inr}
+use Rattle.std.specs.Prelude.{codes, ◌⊎◌, IfSome}
+use Rattle.std.specs.Str.Lines.{lines}
+use Rattle.std.proofs.lemmas.List.{length-map}
+use Rattle.dms_text.specs.Lines.{NumberedLine, TextLeft, lines_left, kept_lines}
+use Rattle.dms_text.specs.Words.{words_of}
+use Rattle.dms_text.specs.Views.{numbered_line}
+use Rattle.dms_text.specs.declared.lines.Line.{Line}
+use Rattle.dms_text.proofs.LineFilter.{octets_of_lines, octets-numbered}
+use Rattle.dms_codes.specs.declared.codes.Order.{Order}
+use Rattle.dms_sign.specs.State.{SignState, start}
+use Rattle.dms_centre.specs.State as centre
+use Rattle.dms_world.specs.Event.{EventModel}
+use Rattle.dms_world.specs.World.{WorldModel, beginning, world_after}
+use Rattle.dms_description.specs.BenchSign.{bench_text}
+use Rattle.dms_description.specs.Description.{Description, SpellsSign, SpellsDescription, longest_input}
+use Rattle.dms_description.specs.Fields.{SpellsEach}
+use Rattle.dms_description.specs.Setups.{octets_left, BeginsWith, IsMade}
+use Rattle.dms_description.specs.declared.setup.Setup.{Setup}
+use Rattle.dms_description.proofs.DescriptionLaws.{one_front, one_sign}
+use Rattle.dms_replay.specs.EventLine.{SpellsEvent}
+use Rattle.dms_replay.specs.Faults.{IsLine}
+use Rattle.dms_replay.specs.Script.{NamesSign, the_bench, described, NamesFront, SpellsScript}
+use Rattle.dms_replay.specs.declared.fault.ReplayFault.{ReplayFault}
+use Rattle.dms_replay.specs.declared.script_event.ScriptEvent.{ScriptEvent}
+use Rattle.dms_replay.specs.EventView.{script_event_model, script_events_model}
+use Rattle.dms_replay.specs.declared.fault.ReplayFault.TheVariants.{Memory, Line as LineFault}
+use Rattle.dms_replay.specs.Report.{report_of}
+use Rattle.dms_replay.specs.Replayed.{IsReport, NoScript}
+use Rattle.dms_replay.proofs.EventLaws.{one_list}
+
+abbrev head_or : List ℕ → List (List ℕ) → List ℕ
+head_or otherwise [] = otherwise
+head_or otherwise (line ∷ lines) = line
+
+abbrev tail_of : List (List ℕ) → List (List ℕ)
+tail_of [] = []
+tail_of (line ∷ lines) = lines
+
+same_head : (line other : List ℕ) (lines others : List (List ℕ)) → line ∷ lines ≡ other ∷ others → line ≡ other
+same_head line other lines others e = ap (head_or []) e
+
+same_tail : (line other : List ℕ) (lines others : List (List ℕ)) → line ∷ lines ≡ other ∷ others → lines ≡ others
+same_tail line other lines others e = ap tail_of e
+
+-- a description does not begin with the word `bench`
+no_bench : (front rest others : List (List ℕ)) (it : Description) → SpellsSign front it → front ++ rest ≡ codes "bench" ∷ others → ⊥
+no_bench front rest others it spelled e =
+    let first : spelled.size_line ≡ codes "bench" = same_head _ _ _ _ (ap (λ lines. lines ++ rest) (sym spelled.lines_are) ∙ e) in
+    let words = ap words_of (sym first) ∙ spelled.size.words_are in
+    let three : 1 ≡ 3 = ap length words in
+    absurd (omega (arith, three))
+
+pub one_name : (lines rest others : List (List ℕ)) (it that : Description) → NamesFront lines rest it → NamesFront lines others that → (it ≡ that) × (rest ≡ others)
+one_name lines rest others it that this other = names_are lines rest others this.front other.front it that this.lines_are other.lines_are this.names other.names
+  where
+    names_are : (lines rest others front another : List (List ℕ)) (it that : Description) → lines ≡ front ++ rest → lines ≡ another ++ others → NamesSign front it → NamesSign another that
+        → (it ≡ that) × (rest ≡ others)
+    names_are lines rest others front another it that e h (the_bench sign spelled) (the_bench other says) =
+        (one_sign _ _ _ spelled says, same_tail _ _ _ _ (sym e ∙ h))
+    names_are lines rest others front another it that e h (the_bench sign spelled) (described front_lines other says) = absurd (no_bench _ _ _ _ says (sym h ∙ e))
+    names_are lines rest others front another it that e h (described front_lines sign spelled) (the_bench other says) = absurd (no_bench _ _ _ _ spelled (sym e ∙ h))
+    names_are lines rest others front another it that e h (described front_lines sign spelled) (described other_lines other says) =
+        one_front lines rest others it that (record { front = front_lines; lines_are = e; spelled = spelled }) (record { front = other_lines; lines_are = h; spelled = says })
+
+named_by : (octets : List ℕ) (it : Description) (events : List EventModel) (script : SpellsScript octets it events) → NamesFront (kept_lines octets) script.event_lines it
+named_by octets it events script = record { front = script.sign_lines; lines_are = script.lines_are; names = script.names }
+
+moved : (it that : Description) (lines others : List (List ℕ)) (events : List EventModel) → it ≡ that → lines ≡ others → SpellsEach (SpellsEvent that.table.order) events others
+    → SpellsEach (SpellsEvent it.table.order) events lines
+moved it that lines others events same same_lines each =
+    subst (λ (sign : Description). SpellsEach (SpellsEvent sign.table.order) events lines) (sym same)
+    (subst (SpellsEach (SpellsEvent that.table.order) events) (sym same_lines) each)
+
+-- a text spells at most one script
+pub one_script : (octets : List ℕ) (it that : Description) (events others : List EventModel) → SpellsScript octets it events → SpellsScript octets that others
+    → (it ≡ that) × (events ≡ others)
+one_script octets it that events others this other =
+    let same = one_name (kept_lines octets) this.event_lines other.event_lines it that (named_by octets it events this) (named_by octets that others other) in
+    (same.0, one_list it.table.order this.event_lines events others this.spelled (moved it that this.event_lines other.event_lines others same.0 same.1 other.spelled))
+
+-- ---- what is read
+
+abbrev from_start : List ℕ → TextLeft
+from_start octets = record { number = 1; text = octets }
+
+kept : (octets : List ℕ) → octets_left (from_start octets) ≡ kept_lines octets
+kept octets = octets-numbered 1 (lines octets)
+
+pub bench_first : (octets : List ℕ) (start left : TextLeft) (line : Line) → start ≡ from_start octets → lines_left start ≡ numbered_line line ∷ lines_left left → line.octets.now ≡ codes "bench"
+    → kept_lines octets ≡ codes "bench" ∷ octets_left left
+bench_first octets start left line from split is =
+    sym (kept octets) ∙ ap octets_left (sym from) ∙ ap octets_of_lines split ∙ ap (λ first. first ∷ octets_left left) is
+
+pub other_first : (octets : List ℕ) (start left : TextLeft) (line : Line) → start ≡ from_start octets → lines_left start ≡ numbered_line line ∷ lines_left left
+    → (line.octets.now ≡ codes "bench" → ⊥) → (rest : List (List ℕ)) → kept_lines octets ≡ codes "bench" ∷ rest → ⊥
+other_first octets start left line from split is_not rest e =
+    is_not (same_head _ _ _ _ (sym (sym (kept octets) ∙ ap octets_left (sym from) ∙ ap octets_of_lines split) ∙ e))
+
+pub nothing_first : (octets : List ℕ) (start : TextLeft) → start ≡ from_start octets → lines_left start ≡ [] → (rest : List (List ℕ)) → kept_lines octets ≡ codes "bench" ∷ rest → ⊥
+nothing_first octets start from none rest e =
+    let never : [] ≡ codes "bench" ∷ rest = sym (sym (kept octets) ∙ ap octets_left (sym from) ∙ ap octets_of_lines none) ∙ e in
+    cc
+
+pub bench_is_named : (octets : List ℕ) (rest : List (List ℕ)) (setup : Setup) → kept_lines octets ≡ codes "bench" ∷ rest
+    → (it : Description) × SpellsSign (kept_lines bench_text) it × IsMade it setup → (it : Description) × NamesFront (kept_lines octets) rest it × IsMade it setup
+bench_is_named octets rest setup e found = (found.0, record { front = codes "bench" ∷ []; lines_are = e; names = the_bench found.0 found.1 }, found.2)
+
+pub sign_is_named : (octets : List ℕ) (start : TextLeft) (rest : List (List ℕ)) (setup : Setup) → start ≡ from_start octets
+    → (it : Description) × BeginsWith (octets_left start) rest it × IsMade it setup → (it : Description) × NamesFront (kept_lines octets) rest it × IsMade it setup
+sign_is_named octets start rest setup from found = (
+  found.0,
+  record { front = found.1.front; lines_are = sym (kept octets) ∙ ap octets_left (sym from) ∙ found.1.lines_are; names = described found.1.front found.0 found.1.spelled },
+  found.2,
+)
+
+pub none_is_named : (octets : List ℕ) (start : TextLeft) → start ≡ from_start octets → ((rest : List (List ℕ)) → kept_lines octets ≡ codes "bench" ∷ rest → ⊥)
+    → ((it : Description) (rest : List (List ℕ)) → BeginsWith (octets_left start) rest it → ⊥) → (it : Description) (rest : List (List ℕ)) → NamesFront (kept_lines octets) rest it → ⊥
+none_is_named octets start from no_word no_sign it rest named = none named.front it rest named.lines_are named.names
+  where
+    none : (front : List (List ℕ)) (it : Description) (rest : List (List ℕ)) → kept_lines octets ≡ front ++ rest → NamesSign front it → ⊥
+    none front it rest e (the_bench sign spelled) = no_word rest e
+    none front it rest e (described lines sign spelled) =
+        no_sign sign rest (record { front = lines; lines_are = ap octets_left from ∙ kept octets ∙ e; spelled = spelled })
+
+pub is_script : (octets : List ℕ) (rest : List (List ℕ)) (setup : Setup) (order : Order) (events : List EventModel) → length octets ≤ longest_input
+    → (it : Description) × NamesFront (kept_lines octets) rest it × IsMade it setup → order ≡ setup.sign.table.order → SpellsEach (SpellsEvent order) events rest
+    → (it : Description) × SpellsScript octets it events × IsMade it setup
+is_script octets rest setup order events short named is_order each =
+    let its_order : order ≡ named.0.table.order = is_order ∙ ap (λ sign. sign.table.order) named.2.sign in (
+      named.0,
+      record {
+        short = short;
+        sign_lines = named.1.front;
+        event_lines = rest;
+        lines_are = named.1.lines_are;
+        names = named.1.names;
+        spelled = subst (λ order. SpellsEach (SpellsEvent order) events rest) its_order each;
+      },
+      named.2,
+    )
+
+pub no_sign : (octets : List ℕ) (fault : ReplayFault) → (fault ≡ Memory) ⊎ (IsLine fault × ((it : Description) (rest : List (List ℕ)) → NamesFront (kept_lines octets) rest it → ⊥))
+    → (fault ≡ Memory) ⊎ (IsLine fault × ((it : Description) (events : List EventModel) → SpellsScript octets it events → ⊥))
+no_sign octets fault (inl memory) = inl memory
+no_sign octets fault (inr bad) = inr (bad.0, λ it events script. bad.1 it script.event_lines (named_by octets it events script))
+
+pub no_events : (octets : List ℕ) (rest : List (List ℕ)) (setup : Setup) (order : Order) (fault : ReplayFault)
+    → (it : Description) × NamesFront (kept_lines octets) rest it × IsMade it setup → order ≡ setup.sign.table.order
+    → (fault ≡ Memory) ⊎ (IsLine fault × ((events : List EventModel) → SpellsEach (SpellsEvent order) events rest → ⊥))
+    → (fault ≡ Memory) ⊎ (IsLine fault × ((it : Description) (events : List EventModel) → SpellsScript octets it events → ⊥))
+no_events octets rest setup order fault named is_order (inl memory) = inl memory
+no_events octets rest setup order fault named is_order (inr bad) = inr (
+  bad.0,
+  λ that events script.
+      let its_order : order ≡ named.0.table.order = is_order ∙ ap (λ sign. sign.table.order) named.2.sign in
+      let same = one_name (kept_lines octets) rest script.event_lines named.0 that named.1 (named_by octets that events script) in
+      let each = moved named.0 that rest script.event_lines events same.0 same.1 script.spelled in
+      bad.1 events (subst (λ order. SpellsEach (SpellsEvent order) events rest) (sym its_order) each),
+)
+
+-- ---- what a replay answers
+
+pub not_described : (slice octets : List ℕ) (all : Option (List ℕ)) → slice ≡ octets → length octets ≤ longest_input → IfSome all (λ whole. octets ≡ whole)
+    → ((it : Description) → SpellsSign (kept_lines slice) it → ⊥)
+    → IfSome all (λ whole. (length whole ≤ longest_input) × ((it : Description) → SpellsDescription whole it → ⊥))
+not_described slice octets None lent short same bad = tt
+not_described slice octets (Some whole) lent short same bad = (
+  subst (λ xs. length xs ≤ longest_input) same short,
+  λ it spelled. bad it (subst (λ xs. SpellsSign (kept_lines xs) it) (sym (lent ∙ same)) spelled.lines),
+)
+
+-- of a fault of the reader of scripts
+pub no_script : (slice octets : List ℕ) (all : Option (List ℕ)) (fault : ReplayFault) (number : ℕ) → slice ≡ octets → length octets ≤ longest_input
+    → IfSome all (λ whole. octets ≡ whole) → (fault ≡ Memory) ⊎ (IsLine fault × NoScript slice) → fault ≡ LineFault number
+    → IfSome all (λ whole. (length whole ≤ longest_input) × NoScript whole)
+no_script slice octets None fault number lent short same bad is = tt
+no_script slice octets (Some whole) fault number lent short same (inl memory) is = absurd (let wrong : Memory ≡ LineFault number = sym memory ∙ is in cc)
+no_script slice octets (Some whole) fault number lent short same (inr bad) is = (
+  subst (λ xs. length xs ≤ longest_input) same short,
+  λ it events script. bad.1 it events (subst (λ xs. SpellsScript xs it events) (sym (lent ∙ same)) script),
+)
+
+pub same_fault : (fault other : ReplayFault) → ◌≡◌ {A = Result Unit ReplayFault} (Err fault) (Err other) → fault ≡ other
+same_fault fault other e = cc
+
+pub is_report : (octets : List ℕ) (setup : Setup) (events slice : List ScriptEvent) (before now : WorldModel) (report : List ℕ) (count : ℕ)
+    → (it : Description) × SpellsScript octets it (script_events_model events) × IsMade it setup
+    → before ≡ beginning setup.sign (centre.start (record { community = setup.sign.config.writer; order = setup.sign.table.order }) setup.first)
+    → slice ≡ events → now ≡ world_after before (script_events_model slice) → count ≡ length events → report ≡ report_of now count → IsReport octets report
+is_report octets setup events slice before now report count found begins lent runs counts told =
+    let said : List EventModel = script_events_model events in
+    let number : count ≡ length said = counts ∙ sym (length-map events script_event_model) in
+    record {
+      sign = found.0;
+      events = said;
+      spelled = found.1;
+      report_is =
+          told ∙ ap (report_of now) number ∙ ap (λ world. report_of world (length said)) (runs ∙ ap (λ l. world_after before (script_events_model l)) lent)
+          ∙ ap (λ world. report_of (world_after world said) (length said))
+          (begins
+          ∙ ap (λ (sign : SignState). beginning sign (centre.start (record { community = sign.config.writer; order = sign.table.order }) setup.first)) found.2.sign
+          ∙ ap (λ first. beginning (start found.0.config found.0.table) (centre.start (record { community = found.0.config.writer; order = found.0.table.order }) first)) found.2.first);
+    }

@@ -1,0 +1,21 @@
+//! Laws of scripts, each the contract of a function that does nothing.
+
+ghost use Rattle.std.specs.Prelude.{◌≡◌, ℕ, List};
+ghost use Rattle.dms_codes.specs.declared.codes.Order.{Order};
+ghost use Rattle.dms_world.specs.Event.{EventModel};
+ghost use Rattle.dms_description.specs.Description.{Description};
+ghost use Rattle.dms_replay.specs.EventLine.{SpellsEvent};
+ghost use Rattle.dms_replay.specs.Script.{SpellsScript};
+
+/// A text spells at most one script.
+#[tactic(auto, using(crate::proofs::ScriptRead::one_script))]
+pub fn a_text_spells_at_most_one_script()
+    ensures { (octets : List ℕ) (one other : Description) (events others : List EventModel) → SpellsScript octets one events
+        → SpellsScript octets other others → (one ≡ other) × (events ≡ others) }
+{}
+
+/// A line spells at most one event.
+#[tactic(auto, using(crate::proofs::EventLaws::one_event))]
+pub fn a_line_spells_at_most_one_event()
+    ensures { (order : Order) (line : List ℕ) (one other : EventModel) → SpellsEvent order one line → SpellsEvent order other line → one ≡ other }
+{}

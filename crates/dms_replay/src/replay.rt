@@ -1,0 +1,171 @@
+//! A script, run to its report.
+
+ghost use Rattle.std.specs.Prelude.{◌≡◌, ◌≢◌, ◌⊎◌, ◌≤◌, ◌<◌, ◌++◌, ◌∷◌, [], List, ℕ, length, Ok, Err, IfOk, IfErr, OnOk, OnErr, IfSome};
+ghost use Rattle.std.specs.Io.KnownBytes.{Keeps};
+ghost use Rattle.dms_streams.specs.Calls.{one_more};
+ghost use Rattle.dms_text.specs.Lines.{kept_lines};
+ghost use Rattle.dms_centre.specs.State.{start};
+ghost use Rattle.dms_world.specs.Event.{EventModel};
+ghost use Rattle.dms_world.specs.World.{beginning, world_after};
+ghost use Rattle.dms_world.specs.CodeView.{events_model, seen};
+ghost use Rattle.dms_description.specs.BenchSign.{bench_text};
+ghost use Rattle.dms_description.specs.Description.{Description, SpellsSign, SpellsDescription, longest_input};
+ghost use Rattle.dms_description.specs.Setups.{IsMade};
+ghost use Rattle.dms_replay.specs.EventView.{script_events_model};
+ghost use Rattle.dms_replay.specs.Faults.{IsLine};
+ghost use Rattle.dms_replay.specs.Replayed.{IsReport, Replayed, ReplayedFront, NoScript};
+ghost use Rattle.dms_replay.specs.Script.{SpellsScript};
+ghost use Rattle.dms_replay.specs.declared.fault.ReplayFault.TheVariants as faults;
+
+use crate::fault::ReplayFault;
+use crate::report::report;
+use crate::script::{Script, read_script};
+use crate::script_event::ScriptEvent;
+use dms_centre::{Centre, Settings};
+use dms_description::{DescriptionFault, Setup, description};
+use dms_streams::{ReadFault, Sink, Source, read_whole, write_whole};
+use dms_world::{Event, World, run};
+use std::alloc::Global;
+
+/// The most octets that an input has.
+pub const LONGEST_INPUT: usize = 1_048_576;
+
+/// Reads a script to its end, runs its events, and writes the report. Nothing is written before the whole report is there.
+pub fn replay<R: Source, W: Sink>(
+    alloc: Global,
+    reader: &mut R,
+    writer: &mut W,
+) -> Result<(), ReplayFault>
+    ensures report { OnOk result (IfSome (R.remaining reader.old) (λ octets. Replayed octets (W.contents writer.old) (W.contents writer.new))) }
+    ensures front { result ≡ Err faults.Write → IfSome (R.remaining reader.old) (λ octets. ReplayedFront octets (W.contents writer.old) (W.contents writer.new)) }
+    ensures nothing { OnErr result (result ≢ Err faults.Write → Keeps (W.contents writer.old) (W.contents writer.new)) }
+    ensures line { (number : ℕ) → result ≡ Err (faults.Line number) → IfSome (R.remaining reader.old) (λ octets. (length octets ≤ longest_input) × NoScript octets) }
+    ensures too_long { result ≡ Err faults.TooLong → IfSome (R.remaining reader.old) (λ octets. longest_input < length octets) }
+    ensures read { result ≡ Err faults.Read → R.failed reader.new ≡ one_more (R.failed reader.old) }
+    ensures all_read { result ≢ Err faults.Read → R.failed reader.new ≡ R.failed reader.old }
+    ensures write { result ≡ Err faults.Write → W.failed writer.new ≡ one_more (W.failed writer.old) }
+    ensures all_written { result ≢ Err faults.Write → W.failed writer.new ≡ W.failed writer.old }
+{
+    let octets = input(alloc, reader)?;
+    let report = match script_report(alloc, octets.as_slice()) {
+        Ok(report) => report,
+        Err(fault) => return Err(fault),
+    };
+    match write_whole(writer, report.as_slice()) {
+        Ok(()) => Ok(()),
+        Err(_) => Err(ReplayFault::Write),
+    }
+}
+
+/// All octets of the reader.
+fn input<R: Source>(alloc: Global, reader: &mut R) -> Result<Vec<u8>, ReplayFault>
+    ensures whole { IfOk result (λ octets. IfSome (R.remaining reader.old) (λ all. octets.items ≡ all)) }
+    ensures short { IfOk result (λ octets. length octets.items ≤ longest_input) }
+    ensures too_long { result ≡ Err faults.TooLong → IfSome (R.remaining reader.old) (λ all. longest_input < length all) }
+    ensures failed { result ≡ Err faults.Read → R.failed reader.new ≡ one_more (R.failed reader.old) }
+    ensures unfailed { result ≢ Err faults.Read → R.failed reader.new ≡ R.failed reader.old }
+    ensures no_write { result ≢ Err faults.Write }
+    ensures no_line { (number : ℕ) → result ≢ Err (faults.Line number) }
+{
+    match read_whole(alloc, reader, LONGEST_INPUT) {
+        Ok(octets) => Ok(octets),
+        Err(ReadFault::Read) => Err(ReplayFault::Read),
+        Err(ReadFault::TooLong) => Err(ReplayFault::TooLong),
+        Err(ReadFault::Memory) => Err(ReplayFault::Memory),
+    }
+}
+
+/// The report of the script that a text spells.
+fn script_report(alloc: Global, octets: &[u8]) -> Result<Vec<u8>, ReplayFault>
+    requires { length octets.now ≤ longest_input }
+    ensures report { IfOk result (λ report. IsReport octets.now report.items) }
+    ensures line { IfErr result (λ fault. (fault ≡ faults.Memory) ⊎ (IsLine fault × NoScript octets.now)) }
+{
+    let Script { setup, events } = read_script(alloc, octets)?;
+    let mut world = fresh_world(alloc, setup)?;
+    run_events(alloc, &mut world, events.as_slice())?;
+    match report(alloc, &world, events.len()) {
+        Ok(report) => Ok(report),
+        Err(_) => Err(ReplayFault::Memory),
+    }
+}
+
+/// The world of a sign and of its centre, which has the sign's writing community and its order.
+fn fresh_world(alloc: Global, setup: Setup) -> Result<World, ReplayFault>
+    ensures world { IfOk result (λ world. seen world ≡ beginning setup.sign
+        (start (record { community = setup.sign.config.writer; order = setup.sign.table.order }) setup.first)) }
+    ensures memory { IfErr result (λ fault. fault ≡ faults.Memory) }
+{
+    let Setup { sign, first } = setup;
+    let settings = Settings {
+        community: sign.writer(),
+        order: sign.order(),
+    };
+    match Centre::new(alloc, settings, first) {
+        Ok(centre) => Ok(World::new(alloc, sign, centre)),
+        Err(_) => Err(ReplayFault::Memory),
+    }
+}
+
+fn run_events(alloc: Global, world: &mut World, events: &[ScriptEvent]) -> Result<(), ReplayFault>
+    ensures world { OnOk result (seen world.new ≡ world_after (seen world.old) (script_events_model events.now)) }
+    ensures memory { IfErr result (λ fault. fault ≡ faults.Memory) }
+{
+    let lent = lend(alloc, events)?;
+    match run(world, lent.as_slice()) {
+        Ok(()) => Ok(()),
+        Err(_) => Err(ReplayFault::Memory),
+    }
+}
+
+/// The events, which borrow their octets.
+#[tactic(auto, using(crate::proofs::Lent::one_more_lent))]
+fn lend(alloc: Global, events: &[ScriptEvent]) -> Result<Vec<Event<'_>>, ReplayFault>
+    ensures events { IfOk result (λ lent. events_model lent.items ≡ script_events_model events.now) }
+    ensures memory { IfErr result (λ fault. fault ≡ faults.Memory) }
+{
+    let mut lent = Vec::new(alloc);
+    for event in events {
+        add(&mut lent, event.lent())?;
+    }
+    Ok(lent)
+}
+
+fn add<'a>(lent: &mut Vec<Event<'a>>, event: Event<'a>) -> Result<(), ReplayFault>
+    ensures added { OnOk result (lent.new.items ≡ lent.old.items ++ event.entry ∷ []) }
+    ensures memory { IfErr result (λ fault. fault ≡ faults.Memory) }
+{
+    match lent.push(event) {
+        Ok(()) => Ok(()),
+        Err(_) => Err(ReplayFault::Memory),
+    }
+}
+
+/// Reads a sign's description to its end.
+pub fn described<R: Source>(alloc: Global, reader: &mut R) -> Result<Setup, ReplayFault>
+    ensures sign { IfOk result (λ setup. IfSome (R.remaining reader.old) (λ octets. (it : Description) × SpellsDescription octets it × IsMade it setup)) }
+    ensures line { (number : ℕ) → result ≡ Err (faults.Line number) → IfSome (R.remaining reader.old) (λ octets.
+        (length octets ≤ longest_input) × ((it : Description) → SpellsDescription octets it → ⊥)) }
+    ensures too_long { result ≡ Err faults.TooLong → IfSome (R.remaining reader.old) (λ octets. longest_input < length octets) }
+    ensures read { result ≡ Err faults.Read → R.failed reader.new ≡ one_more (R.failed reader.old) }
+    ensures all_read { result ≢ Err faults.Read → R.failed reader.new ≡ R.failed reader.old }
+    ensures no_write { result ≢ Err faults.Write }
+{
+    let octets = input(alloc, reader)?;
+    match description(alloc, octets.as_slice()) {
+        Ok(setup) => Ok(setup),
+        Err(DescriptionFault::Line(number)) => Err(ReplayFault::Line(number)),
+        Err(DescriptionFault::Memory) => Err(ReplayFault::Memory),
+    }
+}
+
+/// The bench sign.
+pub fn bench(alloc: Global) -> Result<Setup, ReplayFault>
+    ensures sign { IfOk result (λ setup. (it : Description) × SpellsSign (kept_lines bench_text) it × IsMade it setup) }
+    ensures memory { IfErr result (λ fault. fault ≡ faults.Memory) }
+{
+    match dms_description::bench(alloc) {
+        Ok(setup) => Ok(setup),
+        Err(_) => Err(ReplayFault::Memory),
+    }
+}

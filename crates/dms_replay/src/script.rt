@@ -1,0 +1,80 @@
+//! Scripts: a sign, then what happens, an event a line.
+
+ghost use Rattle.std.specs.Prelude.{◌≡◌, ◌⊎◌, ◌≤◌, ◌∷◌, List, ℕ, codes, length, IfOk, IfErr, IfSome, IfNone};
+ghost use Rattle.dms_text.specs.Lines.{kept_lines};
+ghost use Rattle.dms_world.specs.Event.{EventModel};
+ghost use Rattle.dms_description.specs.Description.{Description, longest_input};
+ghost use Rattle.dms_description.specs.Setups.{octets_left, IsMade};
+ghost use Rattle.dms_replay.specs.EventView.{script_events_model};
+ghost use Rattle.dms_replay.specs.Faults.{IsLine};
+ghost use Rattle.dms_replay.specs.Script.{NamesFront, SpellsScript};
+ghost use Rattle.dms_replay.specs.declared.fault.ReplayFault.TheVariants as faults;
+
+use crate::events::events;
+use crate::fault::ReplayFault;
+use crate::script_event::ScriptEvent;
+use dms_description::{DescriptionFault, Setup, sign_of_lines};
+use dms_text::Lines;
+use std::alloc::Global;
+
+/// What a script says.
+#[derive(Drop)]
+pub(crate) struct Script {
+    /// The sign, and the number of the first request of its centre.
+    pub setup: Setup,
+    /// What happens.
+    pub events: Vec<ScriptEvent>,
+}
+
+/// The script that a text spells.
+#[tactic(auto, using(crate::proofs::ScriptRead::is_script, crate::proofs::ScriptRead::no_sign, crate::proofs::ScriptRead::no_events))]
+pub(crate) fn read_script(alloc: Global, octets: &[u8]) -> Result<Script, ReplayFault>
+    requires { length octets.now ≤ longest_input }
+    ensures read { IfOk result (λ script. (it : Description) × SpellsScript octets.now it (script_events_model script.events.items) × IsMade it script.setup) }
+    ensures line { IfErr result (λ fault. (fault ≡ faults.Memory)
+        ⊎ (IsLine fault × ((it : Description) (events : List EventModel) → SpellsScript octets.now it events → ⊥))) }
+{
+    let (setup, lines) = match named_sign(alloc, octets) {
+        Ok(found) => found,
+        Err(fault) => return Err(fault),
+    };
+    match events(alloc, setup.sign.order(), lines) {
+        Ok(events) => Ok(Script { setup, events }),
+        Err(fault) => Err(fault),
+    }
+}
+
+/// The sign that the first lines name, and the lines behind these.
+#[tactic(auto, using(crate::proofs::ScriptRead::bench_is_named, crate::proofs::ScriptRead::sign_is_named, crate::proofs::ScriptRead::none_is_named))]
+fn named_sign(alloc: Global, octets: &[u8]) -> Result<(Setup, Lines<'_>), ReplayFault>
+    ensures read { IfOk result (λ x. (it : Description) × NamesFront (kept_lines octets.now) (octets_left x.1) it × IsMade it x.0) }
+    ensures line { IfErr result (λ fault. (fault ≡ faults.Memory)
+        ⊎ (IsLine fault × ((it : Description) (rest : List (List ℕ)) → NamesFront (kept_lines octets.now) rest it → ⊥))) }
+{
+    if let Some(rest) = behind_bench(octets) {
+        return match dms_description::bench(alloc) {
+            Ok(setup) => Ok((setup, rest)),
+            Err(_) => Err(ReplayFault::Memory),
+        };
+    }
+    match sign_of_lines(alloc, Lines::of(octets)) {
+        Ok((setup, rest)) => Ok((setup, rest)),
+        Err(DescriptionFault::Line(number)) => Err(ReplayFault::Line(number)),
+        Err(DescriptionFault::Memory) => Err(ReplayFault::Memory),
+    }
+}
+
+/// The lines behind the word `bench`, where that is the first line.
+#[tactic(auto, using(crate::proofs::ScriptRead::bench_first, crate::proofs::ScriptRead::other_first, crate::proofs::ScriptRead::nothing_first))]
+fn behind_bench(octets: &[u8]) -> Option<Lines<'_>>
+    ensures bench { IfSome result (λ rest. kept_lines octets.now ≡ codes "bench" ∷ octets_left rest) }
+    ensures other { IfNone result ((rest : List (List ℕ)) → kept_lines octets.now ≡ codes "bench" ∷ rest → ⊥) }
+{
+    let mut lines = Lines::of(octets);
+    let line = lines.next_line()?;
+    if line.octets == b"bench".as_slice() {
+        Some(lines)
+    } else {
+        None
+    }
+}
