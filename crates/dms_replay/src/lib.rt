@@ -7,7 +7,14 @@ pub mod fault;
 pub mod fields;
 pub mod keyword;
 pub mod laws;
-pub mod replay;
+pub mod replaying;
 pub mod report;
 mod script;
 pub mod script_event;
+
+pub use fault::ReplayFault;
+pub use fields::address;
+pub use replaying::{LONGEST_INPUT, bench, described, replay};
+
+#[cfg(test)]
+mod tests;

@@ -2,13 +2,14 @@
 
 ghost use Rattle.std.specs.Prelude.{◌<◌};
 
-use crate::address::address;
-use crate::bench_sign::{bench_face, bench_sign};
-use crate::command_line::{Call, CodeWords};
+use crate::command_line::{Call, CodeWords, SignWanted};
 use dms_codes::{Activation, MAX_TEXT, MessageId, Order, crc};
+use dms_description::Setup;
 use dms_face::{MultiFault, check};
 use dms_pages::{Page, PagesFault, pages};
+use dms_replay::{ReplayFault, address, bench, described, replay};
 use dms_sign::Receipt;
+use dms_streams::Counted;
 use dms_wire::Out;
 use hex::FromHexError;
 use std::alloc::Global;
@@ -20,29 +21,56 @@ use std::io::{Read, Write};
 pub fn act<R: Read, W: Write>(
     alloc: Global,
     call: &Call<'_>,
-    _reader: &mut R,
+    reader: &mut R,
     writer: &mut W,
 ) -> u8 {
-    match call {
-        Call::Answer { hex } => answer(alloc, hex, writer),
-        Call::Check { text } => check_text(alloc, text, writer),
-        Call::Pages { text } => print_pages(alloc, text, writer),
-        Call::Code(words) => code(alloc, words, writer),
+    match *call {
+        Call::Answer { hex, sign } => answer(alloc, hex, sign, reader, writer),
+        Call::Check { text, sign } => check_text(alloc, text, sign, reader, writer),
+        Call::Pages { text, sign } => print_pages(alloc, text, sign, reader, writer),
+        Call::Code(words) => code(alloc, &words, writer),
+        Call::Replay => print_report(alloc, reader, writer),
     }
 }
 
-/// Prints the bench sign's reply to a datagram, in lower case hexadecimal digits.
-fn answer<W: Write>(alloc: Global, digits: &str, writer: &mut W) -> u8 {
+/// The sign that a call is about, and the number of its centre's first request.
+fn setup<R: Read>(alloc: Global, sign: SignWanted, reader: &mut R) -> Result<Setup, ReplayFault> {
+    match sign {
+        SignWanted::Bench => bench(alloc),
+        SignWanted::Described => described(alloc, &mut Counted::new(&mut *reader)),
+    }
+}
+
+/// Prints the report of the script on the standard input.
+fn print_report<R: Read, W: Write>(alloc: Global, reader: &mut R, writer: &mut W) -> u8 {
+    let mut source = Counted::new(&mut *reader);
+    let mut sink = Counted::new(&mut *writer);
+    match replay(alloc, &mut source, &mut sink) {
+        Ok(()) => 0,
+        Err(ReplayFault::Write) => 1,
+        Err(fault) => tell_input_fault(writer, fault),
+    }
+}
+
+/// Prints the sign's reply to a datagram, in lower case hexadecimal digits.
+fn answer<R: Read, W: Write>(
+    alloc: Global,
+    digits: &str,
+    sign: SignWanted,
+    reader: &mut R,
+    writer: &mut W,
+) -> u8 {
     let datagram = match hex::decode(alloc, digits) {
         Ok(datagram) => datagram,
         Err(FromHexError::OutOfMemory) => return tell(writer, "memory", 1),
         Err(_) => return tell(writer, "not hex", 2),
     };
-    let Some(mut sign) = bench_sign(alloc) else {
-        return tell(writer, "memory", 1);
+    let mut setup = match setup(alloc, sign, reader) {
+        Ok(setup) => setup,
+        Err(fault) => return tell_input_fault(writer, fault),
     };
     let mut reply = Out::new();
-    match sign.receive(datagram.as_slice(), &mut reply) {
+    match setup.sign.receive(datagram.as_slice(), &mut reply) {
         Receipt::Dropped => tell(writer, "dropped", 1),
         Receipt::Replied | Receipt::Accepted(_) => match hex::encode(alloc, reply.as_slice()) {
             Ok(text) => tell(writer, text.as_str(), 0),
@@ -51,12 +79,19 @@ fn answer<W: Write>(alloc: Global, digits: &str, writer: &mut W) -> u8 {
     }
 }
 
-/// Prints the number of a text's pages on the bench sign, or its fault.
-fn check_text<W: Write>(alloc: Global, text: &str, writer: &mut W) -> u8 {
-    let Some(face) = bench_face(alloc) else {
-        return tell(writer, "memory", 1);
+/// Prints the number of a text's pages on the sign, or its fault.
+fn check_text<R: Read, W: Write>(
+    alloc: Global,
+    text: &str,
+    sign: SignWanted,
+    reader: &mut R,
+    writer: &mut W,
+) -> u8 {
+    let setup = match setup(alloc, sign, reader) {
+        Ok(setup) => setup,
+        Err(fault) => return tell_input_fault(writer, fault),
     };
-    match check(&face, text.as_bytes()) {
+    match check(setup.sign.face(), text.as_bytes()) {
         Ok(pages) => tell_done(writer, pages),
         Err(fault) => tell_fault(writer, fault),
     }
@@ -64,7 +99,7 @@ fn check_text<W: Write>(alloc: Global, text: &str, writer: &mut W) -> u8 {
 
 /// Prints the checksum of a message, and the code that puts it up.
 fn code<W: Write>(alloc: Global, words: &CodeWords<'_>, writer: &mut W) -> u8 {
-    let Some(address) = address(words.address) else {
+    let Some(address) = address(words.address.as_bytes()) else {
         return tell(writer, "bad address", 2);
     };
     if words.text.len() > MAX_TEXT {
@@ -99,12 +134,19 @@ fn code<W: Write>(alloc: Global, words: &CodeWords<'_>, writer: &mut W) -> u8 {
     }
 }
 
-/// Prints the pages of a text on the bench sign, or its fault.
-fn print_pages<W: Write>(alloc: Global, text: &str, writer: &mut W) -> u8 {
-    let Some(face) = bench_face(alloc) else {
-        return tell(writer, "memory", 1);
+/// Prints the pages of a text on the sign, or its fault.
+fn print_pages<R: Read, W: Write>(
+    alloc: Global,
+    text: &str,
+    sign: SignWanted,
+    reader: &mut R,
+    writer: &mut W,
+) -> u8 {
+    let setup = match setup(alloc, sign, reader) {
+        Ok(setup) => setup,
+        Err(fault) => return tell_input_fault(writer, fault),
     };
-    match pages(alloc, &face, text.as_bytes()) {
+    match pages(alloc, setup.sign.face(), text.as_bytes()) {
         Ok(pages) => match write_pages(pages.as_slice(), writer) {
             Ok(()) => 0,
             Err(_) => 1,
@@ -157,6 +199,12 @@ fn tell_done<W: Write>(writer: &mut W, pages: usize) -> u8 {
 /// Prints the fault of a text, which is refused.
 fn tell_fault<W: Write>(writer: &mut W, fault: MultiFault) -> u8 {
     let _ = writeln!(writer, "fault {} at {}", fault.code.number(), fault.place);
+    1
+}
+
+/// Prints what is wrong with a script or a description on the standard input, or that there is no memory.
+fn tell_input_fault<W: Write>(writer: &mut W, fault: ReplayFault) -> u8 {
+    let _ = writeln!(writer, "{fault}");
     1
 }
 

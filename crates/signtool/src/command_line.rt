@@ -11,16 +11,27 @@ use std::fmt;
 #[derive(Clone, Copy, Debug)]
 pub enum Call<'a> {
     /// The sign's reply to a datagram in hexadecimal digits.
-    Answer { hex: &'a str },
+    Answer { hex: &'a str, sign: SignWanted },
     /// The number of a text's pages, or its fault.
-    Check { text: &'a str },
+    Check { text: &'a str, sign: SignWanted },
     /// The pages of a text, cell by cell, or its fault.
-    Pages { text: &'a str },
-    /// The checksum of a message, and the code that puts it up.
+    Pages { text: &'a str, sign: SignWanted },
+    /// The checksum of a message, and the code that activates it.
     Code(CodeWords<'a>),
+    /// The report of the script on the standard input.
+    Replay,
 }
 
-/// A message of the table, and how it is to be put up.
+/// Which sign a call is about.
+#[derive(Clone, Copy, Debug, PartialEq, Eq)]
+pub enum SignWanted {
+    /// The bench sign.
+    Bench,
+    /// The sign that the standard input describes.
+    Described,
+}
+
+/// A message of the table, and how it is to be activated.
 #[derive(Clone, Copy, Debug)]
 pub struct CodeWords<'a> {
     /// The type of its memory, 2 to 4.
@@ -71,18 +82,31 @@ pub fn asked<S: AsStr>(alloc: Global, words: &[S]) -> Result<Call<'_>, Usage> {
     match matches.subcommand() {
         Some(("answer", answer)) => {
             let hex = answer.get_str("HEX").ok_or(Usage::NoCall)?;
-            Ok(Call::Answer { hex })
+            let sign = sign_wanted(answer);
+            Ok(Call::Answer { hex, sign })
         }
         Some(("check", check)) => {
             let text = check.get_str("TEXT").ok_or(Usage::NoCall)?;
-            Ok(Call::Check { text })
+            let sign = sign_wanted(check);
+            Ok(Call::Check { text, sign })
         }
         Some(("pages", pages)) => {
             let text = pages.get_str("TEXT").ok_or(Usage::NoCall)?;
-            Ok(Call::Pages { text })
+            let sign = sign_wanted(pages);
+            Ok(Call::Pages { text, sign })
         }
         Some(("code", code)) => code_words(code).map(Call::Code).ok_or(Usage::NoCall),
+        Some(("replay", _)) => Ok(Call::Replay),
         _ => Err(Usage::NoCall),
+    }
+}
+
+/// Which sign the words of a subcommand name.
+fn sign_wanted(words: &ArgMatches<'_>) -> SignWanted {
+    if words.get_flag("sign") {
+        SignWanted::Described
+    } else {
+        SignWanted::Bench
     }
 }
 
@@ -114,7 +138,8 @@ fn command<'a>(alloc: Global) -> Result<Command<'a>, AllocError> {
         .subcommand(answer_command(alloc)?)?
         .subcommand(check_command(alloc)?)?
         .subcommand(pages_command(alloc)?)?
-        .subcommand(code_command(alloc)?)
+        .subcommand(code_command(alloc)?)?
+        .subcommand(replay_command(alloc))
 }
 
 fn answer_command<'a>(alloc: Global) -> Result<Command<'a>, AllocError> {
@@ -123,19 +148,37 @@ fn answer_command<'a>(alloc: Global) -> Result<Command<'a>, AllocError> {
         .help("the datagram, in hexadecimal digits");
     Command::new(alloc, "answer")
         .about("Prints the sign's reply to a datagram")
+        .arg(sign(alloc))?
         .arg(hex)
 }
 
 fn check_command<'a>(alloc: Global) -> Result<Command<'a>, AllocError> {
     Command::new(alloc, "check")
         .about("Prints the number of a text's pages on the sign, or the text's fault")
+        .arg(sign(alloc))?
         .arg(text(alloc))
 }
 
 fn pages_command<'a>(alloc: Global) -> Result<Command<'a>, AllocError> {
     Command::new(alloc, "pages")
         .about("Prints the pages of a text on the sign, cell by cell, or the text's fault")
+        .arg(sign(alloc))?
         .arg(text(alloc))
+}
+
+fn replay_command<'a>(alloc: Global) -> Command<'a> {
+    Command::new(alloc, "replay").about(
+        "Runs the script on the standard input, and prints the report",
+    )
+}
+
+/// The option that names the sign which the standard input describes.
+fn sign<'a>(alloc: Global) -> Arg<'a> {
+    flag(
+        alloc,
+        "sign",
+        "the sign that the standard input describes, in place of the bench sign",
+    )
 }
 
 /// A message's text, as a word.
@@ -155,7 +198,7 @@ fn code_command<'a>(alloc: Global) -> Result<Command<'a>, AllocError> {
         .value_parser(value_parser!(u16).range(1..))
         .help("the message's number");
     let command = Command::new(alloc, "code")
-        .about("Prints a message's checksum and the code that puts it up")
+        .about("Prints a message's checksum and the code that activates it")
         .arg(memory)?
         .arg(number)?
         .arg(text(alloc))?;

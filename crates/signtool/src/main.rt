@@ -2,8 +2,6 @@
 #![tactic(auto)]
 
 pub mod act;
-pub mod address;
-pub mod bench_sign;
 pub mod command_line;
 
 use crate::act::act;

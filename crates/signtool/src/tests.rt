@@ -1,5 +1,5 @@
 use crate::act::act;
-use crate::command_line::{Call, asked};
+use crate::command_line::{Call, SignWanted, asked};
 use std::test::Fail;
 
 /// Datagrams, and what `answer` prints for them with which exit status.
@@ -89,7 +89,13 @@ fn answers(rt: HostRuntime) -> Result<(), Fail> {
     for (hex, printed, status) in ANSWERS {
         let mut output = Vec::new(rt.alloc());
         let mut input: &[u8] = &[];
-        let found = act(rt.alloc(), &Call::Answer { hex }, &mut input, &mut output);
+        let sign = SignWanted::Bench;
+        let found = act(
+            rt.alloc(),
+            &Call::Answer { hex, sign },
+            &mut input,
+            &mut output,
+        );
         assert!(rt; output.as_slice() == printed.as_bytes(), "for {hex}");
         assert_eq!(rt; found, status, "for {hex}");
     }
@@ -213,10 +219,16 @@ fn refuses_a_long_text(rt: HostRuntime) -> Result<(), Fail> {
 
 #[test]
 fn reads_the_command_line(rt: HostRuntime) -> Result<(), Fail> {
-    let Ok(Call::Answer { hex }) = asked(rt.alloc(), &["signtool", "answer", "30"]) else {
+    let Ok(Call::Answer { hex, sign }) = asked(rt.alloc(), &["signtool", "answer", "30"]) else {
         return Err(Fail::from("no call"));
     };
-    assert!(rt; hex == "30");
+    assert!(rt; hex == "30" && sign == SignWanted::Bench);
+    let Ok(Call::Check { text, sign }) = asked(rt.alloc(), &["signtool", "check", "--sign", "A"])
+    else {
+        return Err(Fail::from("no call"));
+    };
+    assert!(rt; text == "A" && sign == SignWanted::Described);
+    assert!(rt; asked(rt.alloc(), &["signtool", "replay", "A"]).is_err());
     assert!(rt; asked(rt.alloc(), &["signtool"]).is_err());
     assert!(rt; asked(rt.alloc(), &["signtool", "answer"]).is_err());
     assert!(rt; asked(rt.alloc(), &["signtool", "answer", "30", "31"]).is_err());
@@ -280,6 +292,79 @@ fn bad_address_first(rt: HostRuntime) -> Result<(), Fail> {
         let mut output = Vec::new(rt.alloc());
         assert_eq!(rt; act(rt.alloc(), &call, &mut input, &mut output), status);
         assert!(rt; output.as_slice() == printed.as_bytes());
+    }
+    Ok(())
+}
+
+/// A sign of one font, with the picture of `A` alone.
+const SMALL_SIGN: &str =
+    "size 5 7\ncommunities public admin\nrows 1 1\norder swapped\nhas 0 0\ndefaults 0 1 5 5 1 2 2 10 0\nfirst 1\nfont 1 height 7 space 1 line 1 version 0001\nglyph 65 5 7463f8c620\nend\n";
+
+/// Calls with a standard input, and what they print with which exit status.
+const WITH_INPUT: [(&[&str], &str, &str, u8); 10] = [
+    (
+        &["signtool", "check", "--sign", "A"],
+        SMALL_SIGN,
+        "ok pages 1\n",
+        0,
+    ),
+    (
+        &["signtool", "check", "--sign", "AA"],
+        SMALL_SIGN,
+        "fault 5 at 1\n",
+        1,
+    ),
+    (
+        &["signtool", "pages", "--sign", "A"],
+        SMALL_SIGN,
+        "page 1 on 10 off 0 back 0\n.111.\n1...1\n1...1\n11111\n1...1\n1...1\n1...1\n",
+        0,
+    ),
+    (
+        &[
+            "signtool",
+            "answer",
+            "--sign",
+            "302b02010004067075626c6963a01e0201010201000201003013301106 0d2b0601040189360402030202000500",
+        ],
+        SMALL_SIGN,
+        "not hex\n",
+        2,
+    ),
+    (
+        &["signtool", "check", "--sign", "A"],
+        "size 5 7\n",
+        "line 2\n",
+        1,
+    ),
+    (
+        &["signtool", "pages", "--sign", "A"],
+        "size 5 0\n",
+        "line 2\n",
+        1,
+    ),
+    (&["signtool", "answer", "--sign", "30"], "", "line 1\n", 1),
+    (
+        &["signtool", "replay"],
+        "bench\nsign-tick\n",
+        "events 1\nsent 0 0\nshown 7 1 0000 mode 10 priority 1 remaining 65535 text -\n",
+        0,
+    ),
+    (&["signtool", "replay"], "bench\nsign-tock\n", "line 2\n", 1),
+    (&["signtool", "replay"], "", "line 1\n", 1),
+];
+
+#[test]
+fn calls_with_input(rt: HostRuntime) -> Result<(), Fail> {
+    for (words, input, printed, status) in WITH_INPUT {
+        let Ok(call) = asked(rt.alloc(), words) else {
+            return Err(Fail::from("no call"));
+        };
+        let mut output = Vec::new(rt.alloc());
+        let mut input = input.as_bytes();
+        let found = act(rt.alloc(), &call, &mut input, &mut output);
+        assert!(rt; output.as_slice() == printed.as_bytes(), "for {words:?}");
+        assert_eq!(rt; found, status, "for {words:?}");
     }
     Ok(())
 }

@@ -1,6 +1,6 @@
 use Rattle.std.proofs.Common.{◌≡◌, length, arith}
 use Rattle.dms_replay.proofs.ScriptRead.{is_report}
-use Rattle.dms_replay.proofs.replay.script_report.Goals as goal
+use Rattle.dms_replay.proofs.replaying.script_report.Goals as goal
 
 pub returns-in-Ok-clause-report : goal.returns-in-Ok-clause-report
 returns-in-Ok-clause-report c =

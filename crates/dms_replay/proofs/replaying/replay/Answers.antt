@@ -1,5 +1,5 @@
 use Rattle.dms_replay.proofs.ScriptRead.{no_script, same_fault}
-use Rattle.dms_replay.proofs.replay.replay.Goals as goal
+use Rattle.dms_replay.proofs.replaying.replay.Goals as goal
 
 pub returns-in-Err-clause-line : goal.returns-in-Err-clause-line
 returns-in-Err-clause-line c d number is =
