@@ -93,7 +93,7 @@ to-sign 13\nto-centre 14
 ";
 
 const OLD_TEXT_AGAIN_REPORT: &str = "events 35
-sent 14 15
+sent 15 15
 shown 3 1 7502 mode 8 priority 200 remaining 65535 text 42
 accepted 16 ffffff0300017502c0000201
 ledger 7 ffffff0300017502c0000201 accepted
