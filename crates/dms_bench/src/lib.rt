@@ -133,7 +133,7 @@ const DEFAULTS: Defaults = Defaults {
     off: 0,
 };
 
-/// The face of the largest matrix, with the fonts that these lines spell: each font's header, and behind it its characters.
+/// The face of the largest matrix, with the fonts that these lines spell: each font's header, and after it its characters.
 fn face_of(alloc: Global, fonts: &[u8]) -> Option<Face> {
     let mut read: Vec<Font> = Vec::new(alloc);
     let mut lines = Lines::of(fonts);

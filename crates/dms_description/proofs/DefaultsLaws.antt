@@ -101,9 +101,9 @@ all_found first words found e =
       flash_off = refl;
     })
 
-both_found : (first : FirstDefaults) (defaults : Defaults) (words behind rest : List (List ℕ)) → words ≡ codes "defaults" ∷ behind → FoundFirst behind (first, rest)
+both_found : (first : FirstDefaults) (defaults : Defaults) (words after rest : List (List ℕ)) → words ≡ codes "defaults" ∷ after → FoundFirst after (first, rest)
     → FoundAll first rest defaults → SpellsDefaults defaults words
-both_found first defaults words behind rest are begins goes = record {
+both_found first defaults words after rest are begins goes = record {
   number_words = begins.background_word ∷ begins.foreground_word ∷ begins.flash_on_word ∷ begins.flash_off_word ∷ goes.font_word ∷ goes.line_word ∷ goes.page_word
       ∷ goes.on_word ∷ goes.off_word ∷ [];
   words_are = are ∙ ap (λ rest. codes "defaults" ∷ rest) begins.words_are

@@ -44,18 +44,18 @@ counts_alike head permanent fonts =
     ap (λ n. record { changeable = n; volatile = head.beginning.rows.volatile }) (sym (length-replicate head.beginning.rows.changeable unused))
     ∙ ap (λ n. record { changeable = length (replicate head.beginning.rows.changeable unused); volatile = n }) (sym (length-replicate head.beginning.rows.volatile unused))
 
-assembled : (lines behind middle last rest : List (List ℕ)) (head : HeadModel) (permanent : List RowModel) (permanent_lines : List (List ℕ)) (fonts : List FontModel) (font_lines : List (List ℕ))
-    → FoundHead lines (head, behind) → behind ≡ permanent_lines ++ middle → SpellsEach SpellsPermanentLine permanent permanent_lines → middle ≡ font_lines ++ last
+assembled : (lines after middle last rest : List (List ℕ)) (head : HeadModel) (permanent : List RowModel) (permanent_lines : List (List ℕ)) (fonts : List FontModel) (font_lines : List (List ℕ))
+    → FoundHead lines (head, after) → after ≡ permanent_lines ++ middle → SpellsEach SpellsPermanentLine permanent permanent_lines → middle ≡ font_lines ++ last
     → SpellsFonts fonts font_lines → last ≡ codes "end" ∷ rest → CanBeMade (described head permanent fonts).config (described head permanent fonts).table
     → BeginsWith lines rest (described head permanent fonts)
-assembled lines behind middle last rest head permanent permanent_lines fonts font_lines found behind_is rows middle_is spelled last_is can =
+assembled lines after middle last rest head permanent permanent_lines fonts font_lines found after_is rows middle_is spelled last_is can =
     let it : Description = described head permanent fonts in
     record {
-      front = found.size_line ∷ found.communities_line ∷ found.rows_line ∷ found.order_line ∷ found.has_line ∷ found.defaults_line ∷ found.first_line
+      prefix = found.size_line ∷ found.communities_line ∷ found.rows_line ∷ found.order_line ∷ found.has_line ∷ found.defaults_line ∷ found.first_line
           ∷ permanent_lines ++ font_lines ++ codes "end" ∷ [];
       lines_are = found.lines_are
           ∙ ap (λ others. found.size_line ∷ found.communities_line ∷ found.rows_line ∷ found.order_line ∷ found.has_line ∷ found.defaults_line ∷ found.first_line ∷ others)
-          (behind_is ∙ ap (λ others. permanent_lines ++ others) (middle_is ∙ ap (λ others. font_lines ++ others) last_is) ∙ sym (joined permanent_lines font_lines (codes "end") rest));
+          (after_is ∙ ap (λ others. permanent_lines ++ others) (middle_is ∙ ap (λ others. font_lines ++ others) last_is) ∙ sym (joined permanent_lines font_lines (codes "end") rest));
       spelled = record {
         size_line = found.size_line;
         communities_line = found.communities_line;
@@ -80,14 +80,14 @@ assembled lines behind middle last rest head permanent permanent_lines fonts fon
       };
     }
 
-body_found : (lines behind rest : List (List ℕ)) (head : HeadModel) → FoundHead lines (head, behind) → end_at (fonts_at (rows_from [] behind).1).1 ≡ Some rest
-    → CanBeMade (described head (rows_from [] behind).0 (fonts_at (rows_from [] behind).1).0).config (described head (rows_from [] behind).0 (fonts_at (rows_from [] behind).1).0).table
-    → BeginsWith lines rest (described head (rows_from [] behind).0 (fonts_at (rows_from [] behind).1).0)
-body_found lines behind rest head found ends can =
-    let rows = row.rows_found behind [] in
-    let fonts = font.all_found (rows_from [] behind).1 in
-    assembled lines behind (rows_from [] behind).1 (fonts_at (rows_from [] behind).1).1 rest head (rows_from [] behind).0 rows.front (fonts_at (rows_from [] behind).1).0 fonts.front found
-    rows.lines_are (subst (λ all. SpellsEach SpellsPermanentLine all rows.front) (sym rows.rows_are) rows.spelled) fonts.lines_are fonts.spelled (end_found _ rest ends) can
+body_found : (lines after rest : List (List ℕ)) (head : HeadModel) → FoundHead lines (head, after) → end_at (fonts_at (rows_from [] after).1).1 ≡ Some rest
+    → CanBeMade (described head (rows_from [] after).0 (fonts_at (rows_from [] after).1).0).config (described head (rows_from [] after).0 (fonts_at (rows_from [] after).1).0).table
+    → BeginsWith lines rest (described head (rows_from [] after).0 (fonts_at (rows_from [] after).1).0)
+body_found lines after rest head found ends can =
+    let rows = row.rows_found after [] in
+    let fonts = font.all_found (rows_from [] after).1 in
+    assembled lines after (rows_from [] after).1 (fonts_at (rows_from [] after).1).1 rest head (rows_from [] after).0 rows.prefix (fonts_at (rows_from [] after).1).0 fonts.prefix found
+    rows.lines_are (subst (λ all. SpellsEach SpellsPermanentLine all rows.prefix) (sym rows.rows_are) rows.spelled) fonts.lines_are fonts.spelled (end_found _ rest ends) can
 
 pub read_is_spelled : (lines rest : List (List ℕ)) (it : Description) → description_at lines ≡ Some (it, rest) → CanBeMade it.config it.table → BeginsWith lines rest it
 unfolding description_at
@@ -141,7 +141,7 @@ body_only : (it : Description) (permanent_lines font_lines rest : List (List ℕ
     → body_at (head_of it) (rows_from [] (permanent_lines ++ (font_lines ++ codes "end" ∷ rest))) ≡ Some (described (head_of it) it.table.permanent it.config.face.fonts, rest)
 body_only it permanent_lines font_lines rest permanent fonts =
     ap (body_at (head_of it)) (row.rows_only it.table.permanent permanent_lines (font_lines ++ codes "end" ∷ rest) [] permanent (rows_end it.config.face.fonts font_lines rest fonts))
-    ∙ ap (λ (found : List FontModel × List (List ℕ)). end_at found.1 >>= λ behind. Some (described (head_of it) it.table.permanent found.0, behind))
+    ∙ ap (λ (found : List FontModel × List (List ℕ)). end_at found.1 >>= λ after. Some (described (head_of it) it.table.permanent found.0, after))
     (font.all_read it.config.face.fonts font_lines rest fonts)
 
 community_some : (community : List ℕ) → has_community_size community ≡ true → 0 < length community
@@ -150,9 +150,9 @@ community_some community e =
     let some = leb-true 1 (length community) parts.0 in
     omega (arith, some)
 
-pub spelled_is_read : (front rest : List (List ℕ)) (it : Description) → SpellsSign front it → description_at (front ++ rest) ≡ Some (it, rest)
+pub spelled_is_read : (prefix rest : List (List ℕ)) (it : Description) → SpellsSign prefix it → description_at (prefix ++ rest) ≡ Some (it, rest)
 unfolding description_at
-spelled_is_read front rest it s =
+spelled_is_read prefix rest it s =
     let tail : List (List ℕ) = (s.permanent_lines ++ s.font_lines ++ codes "end" ∷ []) ++ rest in
     ap (λ lines. description_at (lines ++ rest)) s.lines_are
     ∙ goes_on _ _ _ (head_only (head_of it) s.size_line s.communities_line s.rows_line s.order_line s.has_line s.defaults_line s.first_line tail
@@ -170,27 +170,27 @@ spelled_is_read front rest it s =
 -- ---- one sign
 
 pub begins_is_read : (lines rest : List (List ℕ)) (it : Description) → BeginsWith lines rest it → description_at lines ≡ Some (it, rest)
-begins_is_read lines rest it begins = ap description_at begins.lines_are ∙ spelled_is_read begins.front rest it begins.spelled
+begins_is_read lines rest it begins = ap description_at begins.lines_are ∙ spelled_is_read begins.prefix rest it begins.spelled
 
 -- lines begin with those of at most one sign
-pub one_front : (lines rest others : List (List ℕ)) (it that : Description) → BeginsWith lines rest it → BeginsWith lines others that → (it ≡ that) × (rest ≡ others)
-one_front lines rest others it that begins also =
+pub one_prefix : (lines rest others : List (List ℕ)) (it that : Description) → BeginsWith lines rest it → BeginsWith lines others that → (it ≡ that) × (rest ≡ others)
+one_prefix lines rest others it that begins also =
     let same : (it, rest) ≡ (that, others) = same_Some _ _ (sym (begins_is_read lines rest it begins) ∙ begins_is_read lines others that also) in
     (ap (λ (found : Description × List (List ℕ)). found.0) same, ap (λ (found : Description × List (List ℕ)). found.1) same)
 
 pub one_sign : (lines : List (List ℕ)) (one other : Description) → SpellsSign lines one → SpellsSign lines other → one ≡ other
 one_sign lines one other spelled also =
-    (one_front lines [] [] one other (record { front = lines; lines_are = sym (append-nil lines); spelled = spelled })
-    (record { front = lines; lines_are = sym (append-nil lines); spelled = also })).0
+    (one_prefix lines [] [] one other (record { prefix = lines; lines_are = sym (append-nil lines); spelled = spelled })
+    (record { prefix = lines; lines_are = sym (append-nil lines); spelled = also })).0
 
 -- ---- where none is read
 
 pub none_begins : (lines : List (List ℕ)) → description_at lines ≡ None → (it : Description) (rest : List (List ℕ)) → BeginsWith lines rest it → ⊥
 none_begins lines none it rest begins = absurd (let wrong : None ≡ Some (it, rest) = sym none ∙ begins_is_read lines rest it begins in cc)
 
-pub refused_begins : (lines behind : List (List ℕ)) (found : Description) → description_at lines ≡ Some (found, behind) → (CanBeMade found.config found.table → ⊥)
+pub refused_begins : (lines after : List (List ℕ)) (found : Description) → description_at lines ≡ Some (found, after) → (CanBeMade found.config found.table → ⊥)
     → (it : Description) (rest : List (List ℕ)) → BeginsWith lines rest it → ⊥
-refused_begins lines behind found read refused it rest begins =
-    let same : (it, rest) ≡ (found, behind) = same_Some _ _ (sym (begins_is_read lines rest it begins) ∙ read) in
+refused_begins lines after found read refused it rest begins =
+    let same : (it, rest) ≡ (found, after) = same_Some _ _ (sym (begins_is_read lines rest it begins) ∙ read) in
     let is : it ≡ found = ap (λ (pair : Description × List (List ℕ)). pair.0) same in
     refused (subst (λ (d : Description). CanBeMade d.config d.table) is begins.spelled.can_be_made)

@@ -1,4 +1,4 @@
--- The first seven lines of a description, read one behind another.
+-- The first seven lines of a description, read one after another.
 use Rattle.std.proofs.Common.{◌≡◌, ℕ, List, [], ◌∷◌, Option, Some, None, refl, ap, subst, ◌∙◌}
 use Rattle.std.proofs.lemmas.Option.{same_Some}
 use Rattle.dms_text.specs.Words.{words_of}

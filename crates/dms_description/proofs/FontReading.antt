@@ -12,7 +12,7 @@ use Rattle.dms_font.specs.declared.fault.FontFaultKind.{FontFaultKind}
 use Rattle.dms_font.specs.declared.fault.FontFaultKind.TheVariants.{Glyph}
 use Rattle.dms_font.proofs.FontLaws.{header_found, header_only, glyphs_found, glyphs_only}
 use Rattle.dms_description.specs.Description.{SpellsFonts, no_font, one_more}
-use Rattle.dms_description.specs.DescriptionReading.{fonts_then, fonts_from, fonts_behind, fonts_at}
+use Rattle.dms_description.specs.DescriptionReading.{fonts_then, fonts_from, fonts_after, fonts_at}
 
 -- ---- the lines of one font
 
@@ -131,13 +131,13 @@ fonts_found (line ∷ lines) fonts font = by_line (λ closed open_font. fonts_fo
 
 -- all fonts of the first lines
 pub record FoundAll (lines : List (List ℕ)) : Type 0 where
-  pub front : List (List ℕ)
-  pub lines_are : lines ≡ front ++ (fonts_at lines).1
-  pub spelled : SpellsFonts (fonts_at lines).0 front
+  pub prefix : List (List ℕ)
+  pub lines_are : lines ≡ prefix ++ (fonts_at lines).1
+  pub spelled : SpellsFonts (fonts_at lines).0 prefix
 
 none_at : (lines : List (List ℕ)) → fonts_at lines ≡ ([], lines) → FoundAll lines
 none_at lines e = record {
-  front = [];
+  prefix = [];
   lines_are = sym (ap (λ (found : List FontModel × List (List ℕ)). found.1) e);
   spelled = subst (λ (fonts : List FontModel). SpellsFonts fonts []) (sym (ap (λ (found : List FontModel × List (List ℕ)). found.0) e)) no_font;
 }
@@ -145,7 +145,7 @@ none_at lines e = record {
 some_at : (line : List ℕ) (lines : List (List ℕ)) (font : FontModel) → header_of (words_of line) ≡ Some font → fonts_at (line ∷ lines) ≡ fonts_from [] font lines
     → FoundFonts [] font lines → FoundAll (line ∷ lines)
 some_at line lines font header e found = record {
-  front = (line ∷ found.own) ++ found.others;
+  prefix = (line ∷ found.own) ++ found.others;
   lines_are = ap (λ rest. line ∷ rest) (found.lines_are ∙ sym (append_assoc found.own found.others _))
       ∙ ap (λ (all : List FontModel × List (List ℕ)). line ∷ ((found.own ++ found.others) ++ all.1)) (sym e);
   spelled = subst (λ (fonts : List FontModel). SpellsFonts fonts ((line ∷ found.own) ++ found.others)) (sym (ap (λ (all : List FontModel × List (List ℕ)). all.0) e ∙ found.fonts_are))
@@ -158,8 +158,8 @@ all_found [] = none_at [] refl
 all_found (line ∷ lines) = by_header (header_of (words_of line)) refl
   where
     by_header : (header : Option FontModel) → header_of (words_of line) ≡ header → FoundAll (line ∷ lines)
-    by_header None is = none_at (line ∷ lines) (ap (fonts_behind (line ∷ lines) lines) is)
-    by_header (Some font) is = some_at line lines font is (ap (fonts_behind (line ∷ lines) lines) is) (fonts_found lines [] font)
+    by_header None is = none_at (line ∷ lines) (ap (fonts_after (line ∷ lines) lines) is)
+    by_header (Some font) is = some_at line lines font is (ap (fonts_after (line ∷ lines) lines) is) (fonts_found lines [] font)
 
 -- ---- spelled, and so read
 
@@ -181,16 +181,16 @@ unfolding header_of labelled_at keyword_at word_at
 end_header = refl
 
 -- the characters of the open font
-own_read : (own : List (List ℕ)) (fonts : List FontModel) (font full : FontModel) (behind : List (List ℕ)) → glyphs_added font (unnumbered own) ≡ Ok full
-    → fonts_from fonts font (own ++ behind) ≡ fonts_from fonts full behind
+own_read : (own : List (List ℕ)) (fonts : List FontModel) (font full : FontModel) (after : List (List ℕ)) → glyphs_added font (unnumbered own) ≡ Ok full
+    → fonts_from fonts font (own ++ after) ≡ fonts_from fonts full after
 unfolding glyphs_added fonts_from
-own_read [] fonts font full behind e = let same : font ≡ full = cc in ap (λ (f : FontModel). fonts_from fonts f behind) same
-own_read (line ∷ own) fonts font full behind e = by_line (λ longer more. own_read own fonts longer full behind more) (glyph_added font line) refl
+own_read [] fonts font full after e = let same : font ≡ full = cc in ap (λ (f : FontModel). fonts_from fonts f after) same
+own_read (line ∷ own) fonts font full after e = by_line (λ longer more. own_read own fonts longer full after more) (glyph_added font line) refl
   where
-    by_line : ((longer : FontModel) → glyphs_added longer (unnumbered own) ≡ Ok full → fonts_from fonts longer (own ++ behind) ≡ fonts_from fonts full behind)
-        → (added : Result FontModel FontFaultKind) → glyph_added font line ≡ added → fonts_from fonts font (line ∷ (own ++ behind)) ≡ fonts_from fonts full behind
+    by_line : ((longer : FontModel) → glyphs_added longer (unnumbered own) ≡ Ok full → fonts_from fonts longer (own ++ after) ≡ fonts_from fonts full after)
+        → (added : Result FontModel FontFaultKind) → glyph_added font line ≡ added → fonts_from fonts font (line ∷ (own ++ after)) ≡ fonts_from fonts full after
     by_line more (Ok longer) is =
-        ap (λ added. fonts_then (λ closed open_font. fonts_from closed open_font (own ++ behind)) fonts font (line ∷ (own ++ behind)) added (header_of (words_of line))) is
+        ap (λ added. fonts_then (λ closed open_font. fonts_from closed open_font (own ++ after)) fonts font (line ∷ (own ++ after)) added (header_of (words_of line))) is
         ∙ more longer (sym (ap (added_then (λ grown. glyphs_added grown (unnumbered own)) 0) is) ∙ e)
     by_line more (Err kind) is = absurd (let wrong : added_then (λ grown. glyphs_added grown (unnumbered own)) 0 (Err kind) ≡ Ok full = sym (ap (added_then (λ grown. glyphs_added grown (unnumbered own)) 0) is) ∙ e in cc)
 
@@ -214,14 +214,14 @@ font_only lines font spelled = record {
   other = header_words font (words_of spelled.header_line) spelled.header;
 }
 
--- the fonts behind the open one, up to the line `end`
+-- the fonts after the open one, up to the line `end`
 more_read : (more : List FontModel) (others rest : List (List ℕ)) (fonts : List FontModel) (font : FontModel) → SpellsFonts more others
     → fonts_from fonts font (others ++ codes "end" ∷ rest) ≡ (fonts ++ font ∷ more, codes "end" ∷ rest)
 unfolding fonts_from
 more_read _ _ rest fonts font no_font =
     ap (λ added. fonts_then (λ closed open_font. fonts_from closed open_font rest) fonts font (codes "end" ∷ rest) added (header_of (words_of (codes "end")))) (no_glyph font (codes "end") end_words)
     ∙ ap (fonts_then (λ closed open_font. fonts_from closed open_font rest) fonts font (codes "end" ∷ rest) (Err Glyph)) end_header
-more_read _ _ rest fonts font (one_more next more lines others spelled behind) =
+more_read _ _ rest fonts font (one_more next more lines others spelled after) =
     let read = font_only lines next spelled in
     let begun : FontModel = record next { glyphs = [] } in
     let tail : List (List ℕ) = others ++ codes "end" ∷ rest in
@@ -229,22 +229,22 @@ more_read _ _ rest fonts font (one_more next more lines others spelled behind) =
     ∙ ap (λ added. fonts_then (λ closed open_font. fonts_from closed open_font (read.own ++ tail)) fonts font (read.line ∷ (read.own ++ tail)) added (header_of (words_of read.line))) (no_glyph font read.line read.other)
     ∙ ap (fonts_then (λ closed open_font. fonts_from closed open_font (read.own ++ tail)) fonts font (read.line ∷ (read.own ++ tail)) (Err Glyph)) read.header
     ∙ own_read read.own (fonts ++ font ∷ []) begun next tail read.grown
-    ∙ more_read more others rest (fonts ++ font ∷ []) next behind
+    ∙ more_read more others rest (fonts ++ font ∷ []) next after
     ∙ ap (λ all. (all, codes "end" ∷ rest)) (append_assoc fonts (font ∷ []) (next ∷ more))
 
 pub all_read : (fonts : List FontModel) (lines rest : List (List ℕ)) → SpellsFonts fonts lines → fonts_at (lines ++ codes "end" ∷ rest) ≡ (fonts, codes "end" ∷ rest)
 unfolding fonts_at
-all_read _ _ rest no_font = ap (fonts_behind (codes "end" ∷ rest) rest) end_header
-all_read _ _ rest (one_more font more lines others spelled behind) =
+all_read _ _ rest no_font = ap (fonts_after (codes "end" ∷ rest) rest) end_header
+all_read _ _ rest (one_more font more lines others spelled after) =
     let read = font_only lines font spelled in
     let begun : FontModel = record font { glyphs = [] } in
     let tail : List (List ℕ) = others ++ codes "end" ∷ rest in
     ap fonts_at (append_assoc lines others (codes "end" ∷ rest) ∙ ap (λ ls. ls ++ tail) read.lines_are)
-    ∙ ap (fonts_behind (read.line ∷ (read.own ++ tail)) (read.own ++ tail)) read.header
+    ∙ ap (fonts_after (read.line ∷ (read.own ++ tail)) (read.own ++ tail)) read.header
     ∙ own_read read.own [] begun font tail read.grown
-    ∙ more_read more others rest [] font behind
+    ∙ more_read more others rest [] font after
 
--- the first line behind permanent rows begins with another word
+-- the first line after permanent rows begins with another word
 pub record OtherLine (lines : List (List ℕ)) : Type 0 where
   pub line : List ℕ
   pub rest : List (List ℕ)
@@ -253,7 +253,7 @@ pub record OtherLine (lines : List (List ℕ)) : Type 0 where
 
 pub other_line : (fonts : List FontModel) (lines rest : List (List ℕ)) → SpellsFonts fonts lines → OtherLine (lines ++ codes "end" ∷ rest)
 other_line _ _ rest no_font = record { line = codes "end"; rest = rest; lines_are = refl; words = inl refl }
-other_line _ _ rest (one_more font more lines others spelled behind) = record {
+other_line _ _ rest (one_more font more lines others spelled after) = record {
   line = spelled.header_line;
   rest = spelled.glyph_lines ++ (others ++ codes "end" ∷ rest);
   lines_are = append_assoc lines others (codes "end" ∷ rest) ∙ ap (λ ls. ls ++ (others ++ codes "end" ∷ rest)) spelled.lines_are;

@@ -44,9 +44,9 @@ none_fails test i (x ∷ xs) e =
 
 -- ---- a stock
 
-none_behind : {A : Type 0} (b : Bool) (o : Option A) (x : A) → cond b o (Some x) ≡ None → (b ≡ true) × (o ≡ None)
-none_behind true o x e = (refl, e)
-none_behind false o x e = absurd (let wrong : Some x ≡ None = e in cc)
+none_after : {A : Type 0} (b : Bool) (o : Option A) (x : A) → cond b o (Some x) ≡ None → (b ≡ true) × (o ≡ None)
+none_after true o x e = (refl, e)
+none_after false o x e = absurd (let wrong : Some x ≡ None = e in cc)
 
 none_mapped : {A B : Type 0} (f : A → B) (o : Option A) → option_map f o ≡ None → o ≡ None
 none_mapped f None e = refl
@@ -94,11 +94,11 @@ faultless_can_be_made config is_made e =
     let stock = config.stock in
     let reader = config.reader.now in
     let writer = config.writer.now in
-    let tests = none_behind (are_communities reader writer) _ _ e in
+    let tests = none_after (are_communities reader writer) _ _ e in
     let both = and_parts (has_community_size reader && has_community_size writer) (not (pointwise nat_eq reader writer)) tests.0 in
     let sizes = and_parts (has_community_size reader) (has_community_size writer) both.0 in
     let faultless = none_mapped config_faults.Table (stock_fault config.face stock) tests.1 in
-    let parts = none_behind (are_counts stock) _ _ faultless in
+    let parts = none_after (are_counts stock) _ _ faultless in
     let counts = counts_found stock parts.0 in
     let standing = none_mapped permanent_fault (position (may_not_stand (services_of stock) config.face) stock.permanent.now) parts.1 in
     record {

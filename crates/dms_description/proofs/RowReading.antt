@@ -94,15 +94,15 @@ row_only words row spelled =
 -- the rows of the first lines
 pub record FoundRows (rows : List RowModel) (lines : List (List ℕ)) : Type 0 where
   pub more : List RowModel
-  pub front : List (List ℕ)
+  pub prefix : List (List ℕ)
   pub rows_are : (rows_from rows lines).0 ≡ rows ++ more
-  pub lines_are : lines ≡ front ++ (rows_from rows lines).1
-  pub spelled : SpellsEach SpellsPermanentLine more front
+  pub lines_are : lines ≡ prefix ++ (rows_from rows lines).1
+  pub spelled : SpellsEach SpellsPermanentLine more prefix
 
 no_more : (rows : List RowModel) (lines : List (List ℕ)) → rows_from rows lines ≡ (rows, lines) → FoundRows rows lines
 no_more rows lines e = record {
   more = [];
-  front = [];
+  prefix = [];
   rows_are = ap (λ (found : List RowModel × List (List ℕ)). found.0) e ∙ sym (append-nil rows);
   lines_are = sym (ap (λ (found : List RowModel × List (List ℕ)). found.1) e);
   spelled = refl;
@@ -112,9 +112,9 @@ one_row_more : (rows : List RowModel) (line : List ℕ) (lines : List (List ℕ)
     → FoundRows (rows ++ row ∷ []) lines → FoundRows rows (line ∷ lines)
 one_row_more rows line lines row spelled e found = record {
   more = row ∷ found.more;
-  front = line ∷ found.front;
+  prefix = line ∷ found.prefix;
   rows_are = ap (λ (all : List RowModel × List (List ℕ)). all.0) e ∙ found.rows_are ∙ append_assoc rows (row ∷ []) found.more;
-  lines_are = ap (λ rest. line ∷ rest) found.lines_are ∙ ap (λ (all : List RowModel × List (List ℕ)). line ∷ (found.front ++ all.1)) (sym e);
+  lines_are = ap (λ rest. line ∷ rest) found.lines_are ∙ ap (λ (all : List RowModel × List (List ℕ)). line ∷ (found.prefix ++ all.1)) (sym e);
   spelled = (spelled, found.spelled);
 }
 
@@ -128,15 +128,15 @@ rows_found (line ∷ lines) rows = by_row (λ row. rows_found lines (rows ++ row
     by_row more (Some row) e =
         one_row_more rows line lines row (row_found (words_of line) row e) (ap (rows_then (λ longer. rows_from longer lines) rows (line ∷ lines)) e) (more row)
 
-pub rows_only : (more : List RowModel) (front rest : List (List ℕ)) (rows : List RowModel) → SpellsEach SpellsPermanentLine more front
-    → ((all : List RowModel) → rows_from all rest ≡ (all, rest)) → rows_from rows (front ++ rest) ≡ (rows ++ more, rest)
+pub rows_only : (more : List RowModel) (prefix rest : List (List ℕ)) (rows : List RowModel) → SpellsEach SpellsPermanentLine more prefix
+    → ((all : List RowModel) → rows_from all rest ≡ (all, rest)) → rows_from rows (prefix ++ rest) ≡ (rows ++ more, rest)
 unfolding rows_from
-rows_only [] front rest rows spelled ends =
+rows_only [] prefix rest rows spelled ends =
     ap (λ lines. rows_from rows (lines ++ rest)) spelled ∙ ends rows ∙ ap (λ all. (all, rest)) (sym (append-nil rows))
 rows_only (row ∷ more) [] rest rows spelled ends = absurd spelled
-rows_only (row ∷ more) (line ∷ front) rest rows spelled ends =
-    ap (rows_then (λ longer. rows_from longer (front ++ rest)) rows (line ∷ (front ++ rest))) (row_only (words_of line) row spelled.0)
-    ∙ rows_only more front rest (rows ++ row ∷ []) spelled.1 ends
+rows_only (row ∷ more) (line ∷ prefix) rest rows spelled ends =
+    ap (rows_then (λ longer. rows_from longer (prefix ++ rest)) rows (line ∷ (prefix ++ rest))) (row_only (words_of line) row spelled.0)
+    ∙ rows_only more prefix rest (rows ++ row ∷ []) spelled.1 ends
     ∙ ap (λ all. (all, rest)) (append_assoc rows (row ∷ []) more)
 
 -- a line that begins with another word is no row

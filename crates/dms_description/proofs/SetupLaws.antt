@@ -15,7 +15,7 @@ use Rattle.dms_description.specs.DescriptionReading.{described, description_at}
 use Rattle.dms_description.specs.Setups.{octets_left, BeginsWith, IsMade}
 use Rattle.dms_description.specs.Views.{head_seen, row_seen, MadeOrRefused}
 use Rattle.dms_description.specs.PartsView.{parts_seen}
-use Rattle.dms_description.proofs.DescriptionLaws.{read_is_spelled, none_begins, refused_begins, one_front}
+use Rattle.dms_description.proofs.DescriptionLaws.{read_is_spelled, none_begins, refused_begins, one_prefix}
 
 -- ---- the first lines
 
@@ -49,12 +49,12 @@ kept : (text : List ℕ) → octets_left (from_start text) ≡ kept_lines text
 kept text = octets-numbered 1 (lines text)
 
 pub whole_begins : (text : List ℕ) (it : Description) → SpellsSign (kept_lines text) it → BeginsWith (octets_left (from_start text)) [] it
-whole_begins text it spelled = record { front = kept_lines text; lines_are = kept text ∙ sym (append-nil (kept_lines text)); spelled = spelled }
+whole_begins text it spelled = record { prefix = kept_lines text; lines_are = kept text ∙ sym (append-nil (kept_lines text)); spelled = spelled }
 
 begins_whole : (text : List ℕ) (rest : List (List ℕ)) (it : Description) → rest ≡ [] → BeginsWith (octets_left (from_start text)) rest it → SpellsSign (kept_lines text) it
 begins_whole text rest it none begins =
     subst (λ (all : List (List ℕ)). SpellsSign all it)
-    (sym (append-nil begins.front) ∙ ap (λ others. begins.front ++ others) (sym none) ∙ sym begins.lines_are ∙ kept text) begins.spelled
+    (sym (append-nil begins.prefix) ∙ ap (λ others. begins.prefix ++ others) (sym none) ∙ sym begins.lines_are ∙ kept text) begins.spelled
 
 pub whole_read : (text : List ℕ) (left rest : TextLeft) (setup : Setup) → left ≡ from_start text → lines_left rest ≡ []
     → (it : Description) × BeginsWith (octets_left left) (octets_left rest) it × IsMade it setup → (it : Description) × SpellsSign (kept_lines text) it × IsMade it setup
@@ -65,12 +65,12 @@ whole_read text left rest setup is none read = (
   read.2,
 )
 
--- a line behind the sign's own
-pub line_behind : (text : List ℕ) (left rest : TextLeft) (setup : Setup) (line : NumberedLine) (others : List NumberedLine) → left ≡ from_start text → lines_left rest ≡ line ∷ others
+-- a line after the sign's own
+pub line_after : (text : List ℕ) (left rest : TextLeft) (setup : Setup) (line : NumberedLine) (others : List NumberedLine) → left ≡ from_start text → lines_left rest ≡ line ∷ others
     → (it : Description) × BeginsWith (octets_left left) (octets_left rest) it × IsMade it setup → (it : Description) → SpellsSign (kept_lines text) it → ⊥
-line_behind text left rest setup line others is some read it spelled =
+line_after text left rest setup line others is some read it spelled =
     let begins = subst (λ (l : TextLeft). BeginsWith (octets_left l) (octets_left rest) read.0) is read.1 in
-    let none : octets_left rest ≡ [] = (one_front (octets_left (from_start text)) (octets_left rest) [] read.0 it begins (whole_begins text it spelled)).1 in
+    let none : octets_left rest ≡ [] = (one_prefix (octets_left (from_start text)) (octets_left rest) [] read.0 it begins (whole_begins text it spelled)).1 in
     let more : octets_left rest ≡ line.octets ∷ map (λ (l : NumberedLine). l.octets) others = ap (map (λ (l : NumberedLine). l.octets)) some in
     absurd (let wrong : [] ≡ line.octets ∷ map (λ (l : NumberedLine). l.octets) others = sym none ∙ more in cc)
 

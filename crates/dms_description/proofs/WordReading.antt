@@ -33,7 +33,7 @@ ended (word ∷ words) e = absurd (let never : false ≡ true = e in cc)
 pub last_found : {A : Type 0} (value : A) (words : List (List ℕ)) (found : A) → if_last value words ≡ Some found → (words ≡ []) × (value ≡ found)
 last_found value words found e = let tests = cond_some _ _ _ e in (ended words tests.0, tests.1)
 
--- ---- two numbers behind a keyword
+-- ---- two numbers after a keyword
 
 pub record FoundTwo {A : Type 0} (keyword : List ℕ) (high : ℕ) (make : ℕ → ℕ → A) (words : List (List ℕ)) (found : A) : Type 0 where
   pub one : ℕ
@@ -47,8 +47,8 @@ pub record FoundTwo {A : Type 0} (keyword : List ℕ) (high : ℕ) (make : ℕ �
 
 abbrev pub two_at : {A : Type 0} → List ℕ → ℕ → (ℕ → ℕ → A) → List (List ℕ) → Option A
 two_at keyword high make words = do
-  behind ← keyword_at keyword words
-  one ← decimal_at 5 0 high behind
+  after ← keyword_at keyword words
+  one ← decimal_at 5 0 high after
   other ← decimal_at 5 0 high one.1
   if_last (make one.0 other.0) other.1
 

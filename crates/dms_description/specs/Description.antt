@@ -90,7 +90,7 @@ pub record SpellsPermanent (row : RowModel) (words : List (List ℕ)) : Type 0 w
 abbrev pub SpellsPermanentLine : RowModel → List ℕ → Type 0
 SpellsPermanentLine row line = SpellsPermanent row (words_of line)
 
--- the lines of each font, one font behind another
+-- the lines of each font, one font after another
 pub data SpellsFonts : List FontModel → List (List ℕ) → Type 0 where
   no_font : SpellsFonts [] []
   one_more : (font : FontModel) (fonts : List FontModel) (lines others : List (List ℕ))

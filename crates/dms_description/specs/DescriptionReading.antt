@@ -1,4 +1,4 @@
--- Reading a description from its front: its parts, and the lines behind them (this profile).
+-- Reading a description from its beginning: its parts, and the lines after them (this profile).
 use Rattle.std.specs.Prelude.{ℕ, ◌==◌, if◌then◌else◌, List, [], ◌∷◌, ◌++◌, codes, replicate, Option, Some, None, Result, Ok, Err}
 use Rattle.dms_text.specs.Words.{words_of}
 use Rattle.dms_text.specs.Reading.{word_at, keyword_at, decimal_at, is_end, same_octets, octets_of, ◌>>=◌}
@@ -16,7 +16,7 @@ use Rattle.dms_description.specs.declared.head.RowCounts.{RowCounts}
 use Rattle.dms_description.specs.declared.head.FirstDefaults.{FirstDefaults}
 use Rattle.dms_description.specs.Description.{Description}
 
--- a value, where no words are left behind it
+-- a value, where no words are left after it
 abbrev pub if_last : {A : Type 0} → A → List (List ℕ) → Option A
 if_last value words = if is_end words then Some value else None
 
@@ -24,8 +24,8 @@ if_last value words = if is_end words then Some value else None
 
 unfoldable pub size_of : List (List ℕ) → Option Size
 size_of words = do
-  behind ← keyword_at (codes "size") words
-  width ← decimal_at 5 0 65535 behind
+  after ← keyword_at (codes "size") words
+  width ← decimal_at 5 0 65535 after
   height ← decimal_at 5 0 65535 width.1
   if_last (record { width = width.0; height = height.0 }) height.1
 
@@ -36,15 +36,15 @@ pub record CommunityWords : Type 0 where
 
 unfoldable pub communities_of : List (List ℕ) → Option CommunityWords
 communities_of words = do
-  behind ← keyword_at (codes "communities") words
-  reader ← word_at behind
+  after ← keyword_at (codes "communities") words
+  reader ← word_at after
   writer ← word_at reader.1
   if_last (record { reader = reader.0; writer = writer.0 }) writer.1
 
 unfoldable pub row_counts_of : List (List ℕ) → Option RowCounts
 row_counts_of words = do
-  behind ← keyword_at (codes "rows") words
-  changeable ← decimal_at 5 0 255 behind
+  after ← keyword_at (codes "rows") words
+  changeable ← decimal_at 5 0 255 after
   volatile ← decimal_at 5 0 255 changeable.1
   if_last (record { changeable = changeable.0; volatile = volatile.0 }) volatile.1
 
@@ -56,22 +56,22 @@ order_named word =
 
 unfoldable pub order_of : List (List ℕ) → Option Order
 order_of words = do
-  behind ← keyword_at (codes "order") words
-  word ← word_at behind
+  after ← keyword_at (codes "order") words
+  word ← word_at after
   order ← order_named word.0
   if_last order word.1
 
 unfoldable pub services_of : List (List ℕ) → Option Services
 services_of words = do
-  behind ← keyword_at (codes "has") words
-  beacon ← decimal_at 5 0 1 behind
+  after ← keyword_at (codes "has") words
+  beacon ← decimal_at 5 0 1 after
   pixel ← decimal_at 5 0 1 beacon.1
   if_last (record { beacon = beacon.0 == 1; pixel = pixel.0 == 1 }) pixel.1
 
 abbrev pub octet_at : List (List ℕ) → Option (ℕ × List (List ℕ))
 octet_at words = decimal_at 5 0 255 words
 
--- the four defaults that stand first, and the words behind them
+-- the four defaults that stand first, and the words after them
 unfoldable pub first_defaults_at : List (List ℕ) → Option (FirstDefaults × List (List ℕ))
 first_defaults_at words = do
   background ← decimal_at 5 0 255 words
@@ -102,19 +102,19 @@ all_defaults first words = do
 
 unfoldable pub defaults_of : List (List ℕ) → Option Defaults
 defaults_of words = do
-  behind ← keyword_at (codes "defaults") words
-  first ← first_defaults_at behind
+  after ← keyword_at (codes "defaults") words
+  first ← first_defaults_at after
   all_defaults first.0 first.1
 
 unfoldable pub first_of : List (List ℕ) → Option ℕ
 first_of words = do
-  behind ← keyword_at (codes "first") words
-  first ← decimal_at 10 0 4294967295 behind
+  after ← keyword_at (codes "first") words
+  first ← decimal_at 10 0 4294967295 after
   if_last first.0 first.1
 
 -- ---- the first lines
 
--- what the first line says, and the lines behind it
+-- what the first line says, and the lines after it
 abbrev pub line_at : {A : Type 0} → (List (List ℕ) → Option A) → List (List ℕ) → Option (A × List (List ℕ))
 line_at read [] = None
 line_at read (line ∷ lines) = read (words_of line) >>= λ value. Some (value, lines)
@@ -161,8 +161,8 @@ pub record RowWords : Type 0 where
 
 unfoldable pub row_words : List (List ℕ) → Option RowWords
 row_words words = do
-  behind ← keyword_at (codes "permanent") words
-  text ← word_at behind
+  after ← keyword_at (codes "permanent") words
+  text ← word_at after
   owner ← word_at text.1
   beacon ← decimal_at 5 0 255 owner.1
   pixel ← decimal_at 5 0 255 beacon.1
@@ -176,7 +176,7 @@ row_of words = do
   owner ← octets_of said.owner
   Some (record { text = text; owner = owner; beacon = said.beacon; pixel = said.pixel; priority = said.priority; status = Valid })
 
--- the rows so far and those of the first lines, and the lines behind them
+-- the rows so far and those of the first lines, and the lines after them
 abbrev pub rows_then : (List RowModel → List RowModel × List (List ℕ)) → List RowModel → List (List ℕ) → Option RowModel
     → List RowModel × List (List ℕ)
 rows_then more rows lines None = (rows, lines)
@@ -188,7 +188,7 @@ rows_from rows (line ∷ lines) = rows_then (λ longer. rows_from longer lines) 
 
 -- ---- fonts
 
--- the fonts so far, one of which is open for more characters, and those of the first lines; and the lines behind them
+-- the fonts so far, one of which is open for more characters, and those of the first lines; and the lines after them
 abbrev pub fonts_then : (List FontModel → FontModel → List FontModel × List (List ℕ)) → List FontModel → FontModel → List (List ℕ)
     → Result FontModel FontFaultKind → Option FontModel → List FontModel × List (List ℕ)
 fonts_then more fonts font lines (Ok longer) header = more fonts longer
@@ -200,13 +200,13 @@ fonts_from fonts font [] = (fonts ++ font ∷ [], [])
 fonts_from fonts font (line ∷ lines) =
     fonts_then (λ closed open_font. fonts_from closed open_font lines) fonts font (line ∷ lines) (glyph_added font line) (header_of (words_of line))
 
-abbrev pub fonts_behind : List (List ℕ) → List (List ℕ) → Option FontModel → List FontModel × List (List ℕ)
-fonts_behind lines others None = ([], lines)
-fonts_behind lines others (Some font) = fonts_from [] font others
+abbrev pub fonts_after : List (List ℕ) → List (List ℕ) → Option FontModel → List FontModel × List (List ℕ)
+fonts_after lines others None = ([], lines)
+fonts_after lines others (Some font) = fonts_from [] font others
 
 unfoldable pub fonts_at : List (List ℕ) → List FontModel × List (List ℕ)
 fonts_at [] = ([], [])
-fonts_at (line ∷ lines) = fonts_behind (line ∷ lines) lines (header_of (words_of line))
+fonts_at (line ∷ lines) = fonts_after (line ∷ lines) lines (header_of (words_of line))
 
 -- ---- the whole
 
@@ -240,6 +240,6 @@ described head permanent fonts = record {
 abbrev pub body_at : HeadModel → List RowModel × List (List ℕ) → Option (Description × List (List ℕ))
 body_at head rows = end_at (fonts_at rows.1).1 >>= λ rest. Some (described head rows.0 (fonts_at rows.1).0, rest)
 
--- the sign of the first lines, be it one that can be made or not, and the lines behind it
+-- the sign of the first lines, be it one that can be made or not, and the lines after it
 unfoldable pub description_at : List (List ℕ) → Option (Description × List (List ℕ))
 description_at lines = head_at lines >>= λ head. body_at head.0 (rows_from [] head.1)

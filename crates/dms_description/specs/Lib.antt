@@ -4,7 +4,7 @@ pub mod Description
 pub mod BenchSign
 pub mod Setups
 pub mod FaultTexts
--- reading from the front, which only proofs go through: `read_is_spelled` and `spelled_is_read` in proofs/ join it to the above
+-- reading from the beginning, which only proofs go through: `read_is_spelled` and `spelled_is_read` in proofs/ join it to the above
 pub mod DescriptionReading
 pub mod Views
 pub mod PartsView

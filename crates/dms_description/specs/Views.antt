@@ -38,22 +38,22 @@ row_line said = record { text = said.text.now; owner = said.owner.now; beacon = 
 abbrev pub row_seen : OwnedRow → RowModel
 row_seen row = record { text = row.text.items; owner = row.owner.items; beacon = row.beacon; pixel = row.pixel; priority = row.priority; status = Valid }
 
--- the line that comes next and those behind it
+-- the line that comes next and those after it
 abbrev pub upcoming : Option Line → TextLeft → List (List ℕ)
 upcoming None left = []
 upcoming (Some line) left = line.octets.now ∷ octets_left left
 
--- the lines behind the next one
-abbrev pub behind : List (List ℕ) → List (List ℕ)
-behind [] = []
-behind (line ∷ lines) = lines
+-- the lines after the next one
+abbrev pub after : List (List ℕ) → List (List ℕ)
+after [] = []
+after (line ∷ lines) = lines
 
 -- the answer is the expected one; without one, there is none or memory is wanting
 abbrev pub ReadsOrMemory : {A B : Type 0} → (A → B) → Result A DescriptionFault → Option B → Type 0
 ReadsOrMemory view (Ok value) expected = expected ≡ Some (view value)
 ReadsOrMemory view (Err fault) expected = (fault ≡ Memory) ⊎ (expected ≡ None)
 
--- the lines behind the line `end`, or no such line comes first
+-- the lines after the line `end`, or no such line comes first
 abbrev pub EndsOrNot : Option TextLeft → List (List ℕ) → Type 0
 EndsOrNot found lines = option_map octets_left found ≡ end_at lines
 

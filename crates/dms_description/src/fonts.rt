@@ -7,7 +7,7 @@ use crate::upcoming::Upcoming;
 use dms_font::{Font, FontFaultKind};
 use std::alloc::{AllocError, Global};
 
-/// The fonts that come next, and the lines behind them.
+/// The fonts that come next, and the lines after them.
 #[tactic(auto, unfolding(crate::specs::DescriptionReading::fonts_at))]
 pub(crate) fn fonts<'a>(
     alloc: Global,
@@ -29,7 +29,7 @@ pub(crate) fn fonts<'a>(
     }
 }
 
-/// The fonts that come next behind the first line of one, and the lines behind them.
+/// The fonts that come next after the first line of one, and the lines after them.
 #[tactic(auto, unfolding(crate::specs::DescriptionReading::fonts_from))]
 fn fonts_from<'a>(
     alloc: Global,

@@ -112,7 +112,7 @@ fn row_counts_of(line: &[u8]) -> Option<RowCounts>
     }
 }
 
-/// A number of one octet, and the words behind it.
+/// A number of one octet, and the words after it.
 pub(crate) fn octet(words: Words<'_>) -> Option<(u8, Words<'_>)>
     ensures { result ≡ octet_at words.entry }
 {
@@ -235,7 +235,7 @@ fn first_of(line: &[u8]) -> Option<u32>
     }
 }
 
-/// The next line, and the lines behind it.
+/// The next line, and the lines after it.
 fn next_line(lines: Lines<'_>) -> Result<(Line<'_>, Lines<'_>), DescriptionFault>
     ensures found { IfOk result (λ x. octets_left lines.entry ≡ x.0.octets.now ∷ octets_left x.1) }
     ensures missing { IfErr result (λ fault. octets_left lines.entry ≡ []) }
@@ -248,7 +248,7 @@ fn next_line(lines: Lines<'_>) -> Result<(Line<'_>, Lines<'_>), DescriptionFault
 }
 
 impl<'a> Beginning<'a> {
-    /// The first four lines, and the lines behind them.
+    /// The first four lines, and the lines after them.
     #[tactic(auto, unfolding(crate::specs::DescriptionReading::beginning_at))]
     fn read(lines: Lines<'a>) -> Result<(Beginning<'a>, Lines<'a>), DescriptionFault>
         ensures found { IfOk result (λ x. beginning_at (octets_left lines.entry) ≡ Some (beginning_seen x.0, octets_left x.1)) }
@@ -273,7 +273,7 @@ impl<'a> Beginning<'a> {
 }
 
 impl<'a> Head<'a> {
-    /// The first seven lines, and the lines behind them.
+    /// The first seven lines, and the lines after them.
     #[tactic(auto, unfolding(crate::specs::DescriptionReading::head_at))]
     pub(crate) fn read(lines: Lines<'a>) -> Result<(Head<'a>, Lines<'a>), DescriptionFault>
         ensures found { IfOk result (λ x. head_at (octets_left lines.entry) ≡ Some (head_seen x.0, octets_left x.1)) }

@@ -9,7 +9,7 @@ pub fn lines_spell_at_most_one_sign()
     ensures { (lines : List (List ℕ)) (one other : Description) → SpellsSign lines one → SpellsSign lines other → one ≡ other }
 {}
 
-/// Lines begin with those of at most one sign, and the same lines are left behind it: what a script names is one sign.
+/// Lines begin with those of at most one sign, and the same lines are left after it: what a script names is one sign.
 pub fn first_lines_spell_at_most_one_sign()
     ensures { (lines rest others : List (List ℕ)) (one other : Description) → BeginsWith lines rest one → BeginsWith lines others other → (one ≡ other) × (rest ≡ others) }
 {}

@@ -28,7 +28,7 @@ pub(crate) struct Parts<'a> {
 }
 
 impl<'a> Parts<'a> {
-    /// What the first lines say, up to the line `end`, and the lines behind it.
+    /// What the first lines say, up to the line `end`, and the lines after it.
     #[tactic(auto, unfolding(crate::specs::DescriptionReading::description_at))]
     fn read(alloc: Global, lines: Lines<'a>) -> Result<(Parts<'a>, Lines<'a>), DescriptionFault>
         ensures found { IfOk result (λ x. description_at (octets_left lines.entry) ≡ Some (parts_seen x.0, octets_left x.1)) }
@@ -43,7 +43,7 @@ impl<'a> Parts<'a> {
             return Err(DescriptionFault::Memory);
         };
         let end = upcoming.number();
-        let lines = upcoming.behind_end().ok_or(DescriptionFault::Line(end))?;
+        let lines = upcoming.after_end().ok_or(DescriptionFault::Line(end))?;
         let parts = Parts {
             head,
             rows,
@@ -54,7 +54,7 @@ impl<'a> Parts<'a> {
     }
 }
 
-/// The sign of the first lines, up to their line `end`, and the lines behind it. A fault's line is counted over the whole
+/// The sign of the first lines, up to their line `end`, and the lines after it. A fault's line is counted over the whole
 /// text of which these lines are left.
 pub fn sign_of_lines(
     alloc: Global,

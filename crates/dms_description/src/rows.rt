@@ -79,7 +79,7 @@ fn row(alloc: Global, line: &[u8]) -> Result<Option<OwnedRow>, AllocError>
     }))
 }
 
-/// The permanent rows that come next, and the lines behind them.
+/// The permanent rows that come next, and the lines after them.
 #[tactic(auto, unfolding(crate::specs::DescriptionReading::rows_from))]
 pub(crate) fn rows<'a>(
     alloc: Global,

@@ -119,7 +119,7 @@ fn bench_sign(rt: HostRuntime) -> Result<(), Fail> {
     Ok(())
 }
 
-/// The lines behind `end` are left, with their numbers; lines that are skipped may stand anywhere.
+/// The lines after `end` are left, with their numbers; lines that are skipped may stand anywhere.
 #[test]
 fn first_lines_of_more(rt: HostRuntime) -> Result<(), Fail> {
     let mut text = String::new(rt.alloc());

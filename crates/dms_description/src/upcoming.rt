@@ -2,13 +2,13 @@
 
 ghost use Rattle.std.specs.Prelude.{◌≡◌, ◌∷◌, [], IfSome, IfNone, IfOk, IfErr};
 ghost use Rattle.dms_description.specs.Setups.{octets_left};
-ghost use Rattle.dms_description.specs.Views.{behind, EndsOrNot};
+ghost use Rattle.dms_description.specs.Views.{after, EndsOrNot};
 
 use crate::head::are_same;
 use dms_text::{Line, Lines};
 use std::marker::Model;
 
-/// The line that comes next, and the lines behind it.
+/// The line that comes next, and the lines after it.
 #[derive(Drop)]
 pub(crate) struct Upcoming<'a> {
     next: Option<Line<'a>>,
@@ -36,7 +36,7 @@ impl<'a> Upcoming<'a> {
 
     /// The next line.
     pub(crate) fn peek(&self) -> Option<&'a [u8]>
-        ensures line { IfSome result (λ line. self.now ≡ line.now ∷ behind self.now) }
+        ensures line { IfSome result (λ line. self.now ≡ line.now ∷ after self.now) }
         ensures none { IfNone result (self.now ≡ []) }
     {
         match &self.next {
@@ -45,9 +45,9 @@ impl<'a> Upcoming<'a> {
         }
     }
 
-    /// Goes behind the next line.
+    /// Goes past the next line.
     pub(crate) fn advance(&mut self)
-        ensures { self.new ≡ behind self.old }
+        ensures { self.new ≡ after self.old }
     {
         if self.next.is_some() {
             self.next = self.others.next_line();
@@ -62,8 +62,8 @@ impl<'a> Upcoming<'a> {
         }
     }
 
-    /// The lines behind the line `end`, where that comes next.
-    pub(crate) fn behind_end(self) -> Option<Lines<'a>>
+    /// The lines after the line `end`, where that comes next.
+    pub(crate) fn after_end(self) -> Option<Lines<'a>>
         ensures { EndsOrNot result self.entry }
     {
         let line = self.next?;

@@ -25,7 +25,7 @@ use Rattle.dms_world.specs.Event.{EventModel, command, sign_tick, centre_tick, t
 use Rattle.dms_description.specs.Fields.{SpellsEach, SpellsOctet, SpellsTwoOctets, SpellsFourOctets}
 use Rattle.dms_replay.specs.EventFields.{SpellsAddressPart, SpellsAddress, SpellsCode}
 use Rattle.dms_replay.specs.EventLine.{SpellsPublication, SpellsBlank, SpellsOne, SpellsEventWords, SpellsEvent}
-use Rattle.dms_replay.specs.EventReading.{alone, octet_at, two_octets_at, last_number_at, octets_at, last_octets_at, address_at, address_of, code_from, last_code_at, TermsModel, last_terms_at, publication_at, blank_at, keyword_of, later_keyword, event_behind, event_of}
+use Rattle.dms_replay.specs.EventReading.{alone, octet_at, two_octets_at, last_number_at, octets_at, last_octets_at, address_at, address_of, code_from, last_code_at, TermsModel, last_terms_at, publication_at, blank_at, keyword_of, later_keyword, event_after, event_of}
 use Rattle.dms_replay.specs.EventView.{script_event_model}
 use Rattle.dms_replay.specs.declared.script_event.ScriptEvent.{ScriptEvent}
 use Rattle.dms_replay.specs.declared.keyword.Keyword.{Keyword}
@@ -33,8 +33,8 @@ use Rattle.dms_replay.specs.declared.keyword.Keyword.TheVariants as key
 
 -- ---- words
 
-behind : (word other : List ℕ) (words others : List (List ℕ)) → word ∷ words ≡ other ∷ others → words ≡ others
-behind word other words others e = ap drop_first e
+same_rest : (word other : List ℕ) (words others : List (List ℕ)) → word ∷ words ≡ other ∷ others → words ≡ others
+same_rest word other words others e = ap drop_first e
   where
     drop_first : List (List ℕ) → List (List ℕ)
     drop_first [] = []
@@ -387,7 +387,7 @@ publication_found words publication e =
 publication_only : (publication : PublicationModel) (words : List (List ℕ)) → SpellsPublication publication (codes "publish" ∷ words) → publication_at words ≡ Some publication
 unfolding publication_at two_octets_at octet_at
 publication_only publication words spelled =
-    ap publication_at (behind _ _ _ _ spelled.words_are)
+    ap publication_at (same_rest _ _ _ _ spelled.words_are)
     ∙ goes_on _ _ _ (decimal_only 0 255 publication.memory spelled.memory_word _ spelled.memory)
     ∙ goes_on _ _ _ (decimal_only 0 65535 publication.number spelled.number_word _ spelled.number)
     ∙ goes_on _ _ _ (next_octets_only publication.text spelled.text_word _ spelled.text)
@@ -421,7 +421,7 @@ blank_only : (number minutes priority : ℕ) (address : List ℕ) (words : List 
     → blank_at words ≡ Some (command (Blank number minutes priority address))
 unfolding blank_at two_octets_at
 blank_only number minutes priority address words spelled =
-    ap blank_at (behind _ _ _ _ spelled.words_are)
+    ap blank_at (same_rest _ _ _ _ spelled.words_are)
     ∙ goes_on _ _ _ (decimal_only 0 65535 number spelled.number_word _ spelled.has_number)
     ∙ goes_on _ _ _ (terms_only minutes priority address spelled.minutes_word spelled.priority_word spelled.address_word spelled.has_minutes spelled.has_priority
     spelled.has_address)
@@ -552,26 +552,26 @@ bare_found order keyword bare event words e spelled =
     let end = alone_found bare event words e in
     subst (λ event. SpellsEventWords order event (keyword ∷ words)) end.1 (subst (λ rest. SpellsEventWords order bare (keyword ∷ rest)) (sym end.0) spelled)
 
-behind_found : (order : Order) (keyword : Keyword) (words : List (List ℕ)) (event : EventModel) → event_behind order keyword words ≡ Some event
+after_found : (order : Order) (keyword : Keyword) (words : List (List ℕ)) (event : EventModel) → event_after order keyword words ≡ Some event
     → SpellsEventWords order event (keyword_text keyword ∷ words)
-behind_found order key.Publish words event e =
+after_found order key.Publish words event e =
     let made = made_of _ _ _ e in subst (λ event. SpellsEventWords order event (codes "publish" ∷ words)) made.2 (publication_found words made.0 made.1)
-behind_found order key.Blank words event e = blank_found order words event e
-behind_found order key.Activate words event e =
+after_found order key.Blank words event e = blank_found order words event e
+after_found order key.Activate words event e =
     let made = made_of _ _ _ e in subst (λ event. SpellsEventWords order event (codes "activate" ∷ words)) made.2 (last_code_found order (codes "activate") words made.0 made.1)
-behind_found order key.SignTick words event e = bare_found order (codes "sign-tick") sign_tick event words e refl
-behind_found order key.CentreTick words event e = bare_found order (codes "centre-tick") centre_tick event words e refl
-behind_found order key.ToSign words event e =
+after_found order key.SignTick words event e = bare_found order (codes "sign-tick") sign_tick event words e refl
+after_found order key.CentreTick words event e = bare_found order (codes "centre-tick") centre_tick event words e refl
+after_found order key.ToSign words event e =
     let made = made_of _ _ _ e in subst (λ event. SpellsEventWords order event (codes "to-sign" ∷ words)) made.2 (last_number_found (codes "to-sign") words made.0 made.1)
-behind_found order key.ToCentre words event e =
+after_found order key.ToCentre words event e =
     let made = made_of _ _ _ e in subst (λ event. SpellsEventWords order event (codes "to-centre" ∷ words)) made.2 (last_number_found (codes "to-centre") words made.0 made.1)
-behind_found order key.PowerLost words event e = bare_found order (codes "power-lost") power_lost event words e refl
-behind_found order key.PowerBack words event e =
+after_found order key.PowerLost words event e = bare_found order (codes "power-lost") power_lost event words e refl
+after_found order key.PowerBack words event e =
     let made = made_of _ _ _ e in subst (λ event. SpellsEventWords order event (codes "power-back" ∷ words)) made.2 (last_number_found (codes "power-back") words made.0 made.1)
-behind_found order key.CentreRestart words event e = bare_found order (codes "centre-restart") centre_restart event words e refl
-behind_found order key.ForgeSign words event e =
+after_found order key.CentreRestart words event e = bare_found order (codes "centre-restart") centre_restart event words e refl
+after_found order key.ForgeSign words event e =
     let made = made_of _ _ _ e in subst (λ event. SpellsEventWords order event (codes "forge-sign" ∷ words)) made.2 (last_octets_found (codes "forge-sign") words made.0 made.1)
-behind_found order key.ForgeCentre words event e =
+after_found order key.ForgeCentre words event e =
     let made = made_of _ _ _ e in subst (λ event. SpellsEventWords order event (codes "forge-centre" ∷ words)) made.2 (last_octets_found (codes "forge-centre") words made.0 made.1)
 
 pub event_found : (order : Order) (line : List ℕ) (event : EventModel) → event_of order line ≡ Some event → SpellsEvent order event line
@@ -581,10 +581,10 @@ event_found order line event e =
     let keyword = begun _ _ _ read.2 in
     let words : words_of line ≡ keyword_text keyword.0 ∷ read.0.1 =
     (word_found (words_of line) read.0 read.1).0 ∙ ap (λ word. word ∷ read.0.1) (keyword_found read.0.0 keyword.0 keyword.1) in
-    subst (SpellsEventWords order event) (sym words) (behind_found order keyword.0 read.0.1 event keyword.2)
+    subst (SpellsEventWords order event) (sym words) (after_found order keyword.0 read.0.1 event keyword.2)
 
 line_read : (order : Order) (keyword : Keyword) (line : List ℕ) (words : List (List ℕ)) → words_of line ≡ keyword_text keyword ∷ words
-    → event_of order line ≡ event_behind order keyword words
+    → event_of order line ≡ event_after order keyword words
 unfolding event_of
 line_read order keyword line words e =
     goes_on _ _ _ (ap word_at e ∙ word_only (keyword_text keyword) words (keyword_some keyword)) ∙ goes_on _ _ _ (keyword_only keyword)

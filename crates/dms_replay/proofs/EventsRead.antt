@@ -22,19 +22,19 @@ use Rattle.dms_replay.proofs.EventLaws.{event_found, event_only}
 
 -- some of the lines are read, and these are left
 pub record AreRead (order : Order) (all left : List (List ℕ)) (events : List EventModel) : Type 0 where
-  pub front : List (List ℕ)
-  pub lines_are : all ≡ front ++ left
-  pub spelled : SpellsEach (SpellsEvent order) events front
+  pub prefix : List (List ℕ)
+  pub lines_are : all ≡ prefix ++ left
+  pub spelled : SpellsEach (SpellsEvent order) events prefix
 
 pub none_read : (order : Order) (all : List (List ℕ)) → AreRead order all all []
-none_read order all = record { front = []; lines_are = refl; spelled = refl }
+none_read order all = record { prefix = []; lines_are = refl; spelled = refl }
 
-each_more : (order : Order) (events : List EventModel) (front : List (List ℕ)) (event : EventModel) (line : List ℕ) → SpellsEach (SpellsEvent order) events front
-    → SpellsEvent order event line → SpellsEach (SpellsEvent order) (events ++ event ∷ []) (front ++ line ∷ [])
+each_more : (order : Order) (events : List EventModel) (prefix : List (List ℕ)) (event : EventModel) (line : List ℕ) → SpellsEach (SpellsEvent order) events prefix
+    → SpellsEvent order event line → SpellsEach (SpellsEvent order) (events ++ event ∷ []) (prefix ++ line ∷ [])
 each_more order [] [] event line each spelled = (spelled, refl)
-each_more order [] (first ∷ front) event line each spelled = absurd (let never : first ∷ front ≡ [] = each in cc)
+each_more order [] (first ∷ prefix) event line each spelled = absurd (let never : first ∷ prefix ≡ [] = each in cc)
 each_more order (first ∷ events) [] event line each spelled = absurd each
-each_more order (first ∷ events) (word ∷ front) event line each spelled = (each.0, each_more order events front event line each.1 spelled)
+each_more order (first ∷ events) (word ∷ prefix) event line each spelled = (each.0, each_more order events prefix event line each.1 spelled)
 
 pub one_more_read : (order : Order) (all : List (List ℕ)) (left next : List NumberedLine) (line : Line) (events now : List ScriptEvent) (event : ScriptEvent)
     → AreRead order all (octets_of_lines left) (script_events_model events) → left ≡ numbered_line line ∷ next
@@ -42,25 +42,25 @@ pub one_more_read : (order : Order) (all : List (List ℕ)) (left next : List Nu
     → AreRead order all (octets_of_lines next) (script_events_model now)
 one_more_read order all left next line events now event read split found added =
     subst (λ events. AreRead order all (octets_of_lines next) (script_events_model events)) (sym added) (record {
-      front = read.front ++ line.octets.now ∷ [];
-      lines_are = read.lines_are ∙ ap (λ rest. read.front ++ octets_of_lines rest) split ∙ sym (append_assoc read.front (line.octets.now ∷ []) (octets_of_lines next));
-      spelled = subst (λ models. SpellsEach (SpellsEvent order) models (read.front ++ line.octets.now ∷ [])) (sym (map-append script_event_model events (event ∷ [])))
-          (each_more order (script_events_model events) read.front (script_event_model event) line.octets.now read.spelled (event_found order line.octets.now _ (sym found)));
+      prefix = read.prefix ++ line.octets.now ∷ [];
+      lines_are = read.lines_are ∙ ap (λ rest. read.prefix ++ octets_of_lines rest) split ∙ sym (append_assoc read.prefix (line.octets.now ∷ []) (octets_of_lines next));
+      spelled = subst (λ models. SpellsEach (SpellsEvent order) models (read.prefix ++ line.octets.now ∷ [])) (sym (map-append script_event_model events (event ∷ [])))
+          (each_more order (script_events_model events) read.prefix (script_event_model event) line.octets.now read.spelled (event_found order line.octets.now _ (sym found)));
     })
 
-each_at : (order : Order) (events : List EventModel) (front : List (List ℕ)) (line : List ℕ) (rest : List (List ℕ))
-    → SpellsEach (SpellsEvent order) events (front ++ line ∷ rest) → (event : EventModel) × SpellsEvent order event line
+each_at : (order : Order) (events : List EventModel) (prefix : List (List ℕ)) (line : List ℕ) (rest : List (List ℕ))
+    → SpellsEach (SpellsEvent order) events (prefix ++ line ∷ rest) → (event : EventModel) × SpellsEvent order event line
 each_at order [] [] line rest each = absurd (let never : line ∷ rest ≡ [] = each in cc)
-each_at order [] (first ∷ front) line rest each = absurd (let never : first ∷ (front ++ line ∷ rest) ≡ [] = each in cc)
+each_at order [] (first ∷ prefix) line rest each = absurd (let never : first ∷ (prefix ++ line ∷ rest) ≡ [] = each in cc)
 each_at order (event ∷ events) [] line rest each = (event, each.0)
-each_at order (event ∷ events) (first ∷ front) line rest each = each_at order events front line rest each.1
+each_at order (event ∷ events) (first ∷ prefix) line rest each = each_at order events prefix line rest each.1
 
 pub none_spelled : (order : Order) (all : List (List ℕ)) (left next : List NumberedLine) (line : Line) (events : List EventModel)
     → AreRead order all (octets_of_lines left) events → left ≡ numbered_line line ∷ next → None ≡ event_of order line.octets.now
     → (others : List EventModel) → SpellsEach (SpellsEvent order) others all → ⊥
 none_spelled order all left next line events read split none others each =
-    let whole = read.lines_are ∙ ap (λ rest. read.front ++ octets_of_lines rest) split in
-    let found = each_at order others read.front line.octets.now (octets_of_lines next) (subst (SpellsEach (SpellsEvent order) others) whole each) in
+    let whole = read.lines_are ∙ ap (λ rest. read.prefix ++ octets_of_lines rest) split in
+    let found = each_at order others read.prefix line.octets.now (octets_of_lines next) (subst (SpellsEach (SpellsEvent order) others) whole each) in
     let never : None ≡ Some found.0 = none ∙ event_only order line.octets.now found.0 found.1 in
     cc
 
@@ -74,4 +74,4 @@ refused order all left next line events fault read split (inr bad) = inr (bad.0,
 pub all_read : (order : Order) (all : List (List ℕ)) (left : List NumberedLine) (events : List EventModel) → AreRead order all (octets_of_lines left) events → left ≡ []
     → SpellsEach (SpellsEvent order) events all
 all_read order all left events read end =
-    subst (SpellsEach (SpellsEvent order) events) (sym (read.lines_are ∙ ap (λ rest. read.front ++ octets_of_lines rest) end ∙ append-nil read.front)) read.spelled
+    subst (SpellsEach (SpellsEvent order) events) (sym (read.lines_are ∙ ap (λ rest. read.prefix ++ octets_of_lines rest) end ∙ append-nil read.prefix)) read.spelled

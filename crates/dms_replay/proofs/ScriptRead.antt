@@ -18,10 +18,10 @@ use Rattle.dms_description.specs.Description.{Description, SpellsSign, SpellsDes
 use Rattle.dms_description.specs.Fields.{SpellsEach}
 use Rattle.dms_description.specs.Setups.{octets_left, BeginsWith, IsMade}
 use Rattle.dms_description.specs.declared.setup.Setup.{Setup}
-use Rattle.dms_description.proofs.DescriptionLaws.{one_front, one_sign}
+use Rattle.dms_description.proofs.DescriptionLaws.{one_prefix, one_sign}
 use Rattle.dms_replay.specs.EventLine.{SpellsEvent}
 use Rattle.dms_replay.specs.Faults.{IsLine}
-use Rattle.dms_replay.specs.Script.{NamesSign, the_bench, described, NamesFront, SpellsScript}
+use Rattle.dms_replay.specs.Script.{NamesSign, the_bench, described, NamesPrefix, SpellsScript}
 use Rattle.dms_replay.specs.declared.fault.ReplayFault.{ReplayFault}
 use Rattle.dms_replay.specs.declared.script_event.ScriptEvent.{ScriptEvent}
 use Rattle.dms_replay.specs.EventView.{script_event_model, script_events_model}
@@ -45,27 +45,27 @@ same_tail : (line other : List ℕ) (lines others : List (List ℕ)) → line �
 same_tail line other lines others e = ap tail_of e
 
 -- a description does not begin with the word `bench`
-no_bench : (front rest others : List (List ℕ)) (it : Description) → SpellsSign front it → front ++ rest ≡ codes "bench" ∷ others → ⊥
-no_bench front rest others it spelled e =
+no_bench : (prefix rest others : List (List ℕ)) (it : Description) → SpellsSign prefix it → prefix ++ rest ≡ codes "bench" ∷ others → ⊥
+no_bench prefix rest others it spelled e =
     let first : spelled.size_line ≡ codes "bench" = same_head _ _ _ _ (ap (λ lines. lines ++ rest) (sym spelled.lines_are) ∙ e) in
     let words = ap words_of (sym first) ∙ spelled.size.words_are in
     let three : 1 ≡ 3 = ap length words in
     absurd (omega (arith, three))
 
-pub one_name : (lines rest others : List (List ℕ)) (it that : Description) → NamesFront lines rest it → NamesFront lines others that → (it ≡ that) × (rest ≡ others)
-one_name lines rest others it that this other = names_are lines rest others this.front other.front it that this.lines_are other.lines_are this.names other.names
+pub one_name : (lines rest others : List (List ℕ)) (it that : Description) → NamesPrefix lines rest it → NamesPrefix lines others that → (it ≡ that) × (rest ≡ others)
+one_name lines rest others it that this other = names_are lines rest others this.prefix other.prefix it that this.lines_are other.lines_are this.names other.names
   where
-    names_are : (lines rest others front another : List (List ℕ)) (it that : Description) → lines ≡ front ++ rest → lines ≡ another ++ others → NamesSign front it → NamesSign another that
+    names_are : (lines rest others prefix another : List (List ℕ)) (it that : Description) → lines ≡ prefix ++ rest → lines ≡ another ++ others → NamesSign prefix it → NamesSign another that
         → (it ≡ that) × (rest ≡ others)
-    names_are lines rest others front another it that e h (the_bench sign spelled) (the_bench other says) =
+    names_are lines rest others prefix another it that e h (the_bench sign spelled) (the_bench other says) =
         (one_sign _ _ _ spelled says, same_tail _ _ _ _ (sym e ∙ h))
-    names_are lines rest others front another it that e h (the_bench sign spelled) (described front_lines other says) = absurd (no_bench _ _ _ _ says (sym h ∙ e))
-    names_are lines rest others front another it that e h (described front_lines sign spelled) (the_bench other says) = absurd (no_bench _ _ _ _ spelled (sym e ∙ h))
-    names_are lines rest others front another it that e h (described front_lines sign spelled) (described other_lines other says) =
-        one_front lines rest others it that (record { front = front_lines; lines_are = e; spelled = spelled }) (record { front = other_lines; lines_are = h; spelled = says })
+    names_are lines rest others prefix another it that e h (the_bench sign spelled) (described prefix_lines other says) = absurd (no_bench _ _ _ _ says (sym h ∙ e))
+    names_are lines rest others prefix another it that e h (described prefix_lines sign spelled) (the_bench other says) = absurd (no_bench _ _ _ _ spelled (sym e ∙ h))
+    names_are lines rest others prefix another it that e h (described prefix_lines sign spelled) (described other_lines other says) =
+        one_prefix lines rest others it that (record { prefix = prefix_lines; lines_are = e; spelled = spelled }) (record { prefix = other_lines; lines_are = h; spelled = says })
 
-named_by : (octets : List ℕ) (it : Description) (events : List EventModel) (script : SpellsScript octets it events) → NamesFront (kept_lines octets) script.event_lines it
-named_by octets it events script = record { front = script.sign_lines; lines_are = script.lines_are; names = script.names }
+named_by : (octets : List ℕ) (it : Description) (events : List EventModel) (script : SpellsScript octets it events) → NamesPrefix (kept_lines octets) script.event_lines it
+named_by octets it events script = record { prefix = script.sign_lines; lines_are = script.lines_are; names = script.names }
 
 moved : (it that : Description) (lines others : List (List ℕ)) (events : List EventModel) → it ≡ that → lines ≡ others → SpellsEach (SpellsEvent that.table.order) events others
     → SpellsEach (SpellsEvent it.table.order) events lines
@@ -104,35 +104,35 @@ nothing_first octets start from none rest e =
     cc
 
 pub bench_is_named : (octets : List ℕ) (rest : List (List ℕ)) (setup : Setup) → kept_lines octets ≡ codes "bench" ∷ rest
-    → (it : Description) × SpellsSign (kept_lines bench_text) it × IsMade it setup → (it : Description) × NamesFront (kept_lines octets) rest it × IsMade it setup
-bench_is_named octets rest setup e found = (found.0, record { front = codes "bench" ∷ []; lines_are = e; names = the_bench found.0 found.1 }, found.2)
+    → (it : Description) × SpellsSign (kept_lines bench_text) it × IsMade it setup → (it : Description) × NamesPrefix (kept_lines octets) rest it × IsMade it setup
+bench_is_named octets rest setup e found = (found.0, record { prefix = codes "bench" ∷ []; lines_are = e; names = the_bench found.0 found.1 }, found.2)
 
 pub sign_is_named : (octets : List ℕ) (start : TextLeft) (rest : List (List ℕ)) (setup : Setup) → start ≡ from_start octets
-    → (it : Description) × BeginsWith (octets_left start) rest it × IsMade it setup → (it : Description) × NamesFront (kept_lines octets) rest it × IsMade it setup
+    → (it : Description) × BeginsWith (octets_left start) rest it × IsMade it setup → (it : Description) × NamesPrefix (kept_lines octets) rest it × IsMade it setup
 sign_is_named octets start rest setup from found = (
   found.0,
-  record { front = found.1.front; lines_are = sym (kept octets) ∙ ap octets_left (sym from) ∙ found.1.lines_are; names = described found.1.front found.0 found.1.spelled },
+  record { prefix = found.1.prefix; lines_are = sym (kept octets) ∙ ap octets_left (sym from) ∙ found.1.lines_are; names = described found.1.prefix found.0 found.1.spelled },
   found.2,
 )
 
 pub none_is_named : (octets : List ℕ) (start : TextLeft) → start ≡ from_start octets → ((rest : List (List ℕ)) → kept_lines octets ≡ codes "bench" ∷ rest → ⊥)
-    → ((it : Description) (rest : List (List ℕ)) → BeginsWith (octets_left start) rest it → ⊥) → (it : Description) (rest : List (List ℕ)) → NamesFront (kept_lines octets) rest it → ⊥
-none_is_named octets start from no_word no_sign it rest named = none named.front it rest named.lines_are named.names
+    → ((it : Description) (rest : List (List ℕ)) → BeginsWith (octets_left start) rest it → ⊥) → (it : Description) (rest : List (List ℕ)) → NamesPrefix (kept_lines octets) rest it → ⊥
+none_is_named octets start from no_word no_sign it rest named = none named.prefix it rest named.lines_are named.names
   where
-    none : (front : List (List ℕ)) (it : Description) (rest : List (List ℕ)) → kept_lines octets ≡ front ++ rest → NamesSign front it → ⊥
-    none front it rest e (the_bench sign spelled) = no_word rest e
-    none front it rest e (described lines sign spelled) =
-        no_sign sign rest (record { front = lines; lines_are = ap octets_left from ∙ kept octets ∙ e; spelled = spelled })
+    none : (prefix : List (List ℕ)) (it : Description) (rest : List (List ℕ)) → kept_lines octets ≡ prefix ++ rest → NamesSign prefix it → ⊥
+    none prefix it rest e (the_bench sign spelled) = no_word rest e
+    none prefix it rest e (described lines sign spelled) =
+        no_sign sign rest (record { prefix = lines; lines_are = ap octets_left from ∙ kept octets ∙ e; spelled = spelled })
 
 pub is_script : (octets : List ℕ) (rest : List (List ℕ)) (setup : Setup) (order : Order) (events : List EventModel) → length octets ≤ longest_input
-    → (it : Description) × NamesFront (kept_lines octets) rest it × IsMade it setup → order ≡ setup.sign.table.order → SpellsEach (SpellsEvent order) events rest
+    → (it : Description) × NamesPrefix (kept_lines octets) rest it × IsMade it setup → order ≡ setup.sign.table.order → SpellsEach (SpellsEvent order) events rest
     → (it : Description) × SpellsScript octets it events × IsMade it setup
 is_script octets rest setup order events short named is_order each =
     let its_order : order ≡ named.0.table.order = is_order ∙ ap (λ sign. sign.table.order) named.2.sign in (
       named.0,
       record {
         short = short;
-        sign_lines = named.1.front;
+        sign_lines = named.1.prefix;
         event_lines = rest;
         lines_are = named.1.lines_are;
         names = named.1.names;
@@ -141,13 +141,13 @@ is_script octets rest setup order events short named is_order each =
       named.2,
     )
 
-pub no_sign : (octets : List ℕ) (fault : ReplayFault) → (fault ≡ Memory) ⊎ (IsLine fault × ((it : Description) (rest : List (List ℕ)) → NamesFront (kept_lines octets) rest it → ⊥))
+pub no_sign : (octets : List ℕ) (fault : ReplayFault) → (fault ≡ Memory) ⊎ (IsLine fault × ((it : Description) (rest : List (List ℕ)) → NamesPrefix (kept_lines octets) rest it → ⊥))
     → (fault ≡ Memory) ⊎ (IsLine fault × ((it : Description) (events : List EventModel) → SpellsScript octets it events → ⊥))
 no_sign octets fault (inl memory) = inl memory
 no_sign octets fault (inr bad) = inr (bad.0, λ it events script. bad.1 it script.event_lines (named_by octets it events script))
 
 pub no_events : (octets : List ℕ) (rest : List (List ℕ)) (setup : Setup) (order : Order) (fault : ReplayFault)
-    → (it : Description) × NamesFront (kept_lines octets) rest it × IsMade it setup → order ≡ setup.sign.table.order
+    → (it : Description) × NamesPrefix (kept_lines octets) rest it × IsMade it setup → order ≡ setup.sign.table.order
     → (fault ≡ Memory) ⊎ (IsLine fault × ((events : List EventModel) → SpellsEach (SpellsEvent order) events rest → ⊥))
     → (fault ≡ Memory) ⊎ (IsLine fault × ((it : Description) (events : List EventModel) → SpellsScript octets it events → ⊥))
 no_events octets rest setup order fault named is_order (inl memory) = inl memory

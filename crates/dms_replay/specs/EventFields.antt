@@ -13,7 +13,7 @@ pub record SpellsAddressPart (number : ℕ) (word : List ℕ) : Type 0 where
   pub spelled : SpellsNumber 10 3 number word
   pub small : number ≤ 255
 
--- what stands before, between and behind the dots of a word
+-- what stands before, between and after the dots of a word
 abbrev pub parts_of : List ℕ → List (List ℕ)
 parts_of word = slice_split (λ octet. octet == 46) word
 

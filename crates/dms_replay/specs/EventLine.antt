@@ -46,7 +46,7 @@ pub record SpellsBlank (number minutes priority : ℕ) (address : List ℕ) (wor
   pub has_priority : SpellsOctet priority priority_word
   pub has_address : SpellsAddress address address_word
 
--- a keyword, and one word behind it that spells something
+-- a keyword, and one word after it that spells something
 pub record SpellsOne (keyword : List ℕ) (Spelled : List ℕ → Type 0) (words : List (List ℕ)) : Type 0 where
   pub word : List ℕ
   pub words_are : words ≡ keyword ∷ word ∷ []

@@ -1,4 +1,4 @@
--- The lines of a script's events read from their front, which the calls say of themselves; `event_found` and `event_only` in proofs/
+-- The lines of a script's events read from their beginning, which the calls say of themselves; `event_found` and `event_only` in proofs/
 -- join it to the lines that spell events (this profile).
 use Rattle.std.specs.Prelude.{ℕ, ◌==◌, if◌then◌else◌, List, [], ◌∷◌, length, codes, Option, Some, None, option_map, Result, Ok, Err}
 use Rattle.hex.specs.Hex.{decode_of}
@@ -26,7 +26,7 @@ octet_at words = decimal_at 5 0 255 words
 unfoldable pub two_octets_at : List (List ℕ) → Option (ℕ × List (List ℕ))
 two_octets_at words = decimal_at 5 0 65535 words
 
--- a number of four octets, and nothing behind it
+-- a number of four octets, and nothing after it
 unfoldable pub last_number_at : List (List ℕ) → Option ℕ
 last_number_at words = do
   number ← decimal_at 10 0 4294967295 words
@@ -38,7 +38,7 @@ octets_at words = do
   octets ← octets_of found.0
   Some (octets, found.1)
 
--- octets, and nothing behind them
+-- octets, and nothing after them
 unfoldable pub last_octets_at : List (List ℕ) → Option (List ℕ)
 last_octets_at words = do
   octets ← octets_at words
@@ -61,7 +61,7 @@ abbrev pub code_from : Order → Result (List ℕ) FromHexError → Option Activ
 code_from order (Ok octets) = if length octets == 12 then Some (activation_of order octets) else None
 code_from order (Err fault) = None
 
--- a code, and nothing behind it
+-- a code, and nothing after it
 unfoldable pub last_code_at : Order → List (List ℕ) → Option Activation
 last_code_at order words = do
   found ← word_at words
@@ -76,7 +76,7 @@ pub record TermsModel : Type 0 where
   pub priority : ℕ
   pub address : List ℕ
 
--- the terms, and nothing behind them
+-- the terms, and nothing after them
 unfoldable pub last_terms_at : List (List ℕ) → Option TermsModel
 last_terms_at words = do
   minutes ← two_octets_at words
@@ -136,24 +136,24 @@ keyword_of word =
     else if same_octets word (codes "to-centre") then Some key.ToCentre
     else later_keyword word
 
--- what stands behind a keyword
-abbrev pub event_behind : Order → Keyword → List (List ℕ) → Option EventModel
-event_behind order key.Publish words = option_map (λ publication. command (Publish publication)) (publication_at words)
-event_behind order key.Blank words = blank_at words
-event_behind order key.Activate words = option_map (λ code. command (Activate code)) (last_code_at order words)
-event_behind order key.SignTick words = alone sign_tick words
-event_behind order key.CentreTick words = alone centre_tick words
-event_behind order key.ToSign words = option_map to_sign (last_number_at words)
-event_behind order key.ToCentre words = option_map to_centre (last_number_at words)
-event_behind order key.PowerLost words = alone power_lost words
-event_behind order key.PowerBack words = option_map power_back (last_number_at words)
-event_behind order key.CentreRestart words = alone centre_restart words
-event_behind order key.ForgeSign words = option_map forge_sign (last_octets_at words)
-event_behind order key.ForgeCentre words = option_map forge_centre (last_octets_at words)
+-- what stands after a keyword
+abbrev pub event_after : Order → Keyword → List (List ℕ) → Option EventModel
+event_after order key.Publish words = option_map (λ publication. command (Publish publication)) (publication_at words)
+event_after order key.Blank words = blank_at words
+event_after order key.Activate words = option_map (λ code. command (Activate code)) (last_code_at order words)
+event_after order key.SignTick words = alone sign_tick words
+event_after order key.CentreTick words = alone centre_tick words
+event_after order key.ToSign words = option_map to_sign (last_number_at words)
+event_after order key.ToCentre words = option_map to_centre (last_number_at words)
+event_after order key.PowerLost words = alone power_lost words
+event_after order key.PowerBack words = option_map power_back (last_number_at words)
+event_after order key.CentreRestart words = alone centre_restart words
+event_after order key.ForgeSign words = option_map forge_sign (last_octets_at words)
+event_after order key.ForgeCentre words = option_map forge_centre (last_octets_at words)
 
 -- the event of a line
 unfoldable pub event_of : Order → List ℕ → Option EventModel
 event_of order line = do
   found ← word_at (words_of line)
   keyword ← keyword_of found.0
-  event_behind order keyword found.1
+  event_after order keyword found.1

@@ -1,7 +1,7 @@
 -- What a replay writes (this profile).
 use Rattle.std.specs.Prelude.{◌≡◌, ℕ, List, Option, length}
 use Rattle.std.specs.Io.KnownBytes.{Appends}
-use Rattle.dms_streams.specs.Fronts.{AppendsFront}
+use Rattle.dms_streams.specs.Prefixes.{AppendsPrefix}
 use Rattle.dms_world.specs.Event.{EventModel}
 use Rattle.dms_world.specs.World.{world_after}
 use Rattle.dms_description.specs.Description.{Description}
@@ -21,11 +21,11 @@ pub record Replayed (octets : List ℕ) (old new : Option (List ℕ)) : Type 0 w
   pub is_report : IsReport octets report
   pub written : Appends old new report
 
--- a front of the report was written, perhaps none of it
-pub record ReplayedFront (octets : List ℕ) (old new : Option (List ℕ)) : Type 0 where
+-- a prefix of the report was written, perhaps none of it
+pub record ReplayedPrefix (octets : List ℕ) (old new : Option (List ℕ)) : Type 0 where
   pub report : List ℕ
   pub is_report : IsReport octets report
-  pub written : AppendsFront old new report
+  pub written : AppendsPrefix old new report
 
 -- the text spells no script
 abbrev pub NoScript : List ℕ → Type 0

@@ -19,11 +19,11 @@ pub data NamesSign : List (List ℕ) → Description → Type 0 where
   the_bench : (sign : Description) → SpellsSign (kept_lines bench_text) sign → NamesSign (codes "bench" ∷ []) sign
   described : (lines : List (List ℕ)) (sign : Description) → SpellsSign lines sign → NamesSign lines sign
 
--- these lines begin with those that name a sign, and the rest stands behind them
-pub record NamesFront (lines rest : List (List ℕ)) (sign : Description) : Type 0 where
-  pub front : List (List ℕ)
-  pub lines_are : lines ≡ front ++ rest
-  pub names : NamesSign front sign
+-- these lines begin with those that name a sign, and the rest stands after them
+pub record NamesPrefix (lines rest : List (List ℕ)) (sign : Description) : Type 0 where
+  pub prefix : List (List ℕ)
+  pub lines_are : lines ≡ prefix ++ rest
+  pub names : NamesSign prefix sign
 
 pub record SpellsScript (octets : List ℕ) (sign : Description) (events : List EventModel) : Type 0 where
   pub short : length octets ≤ longest_input

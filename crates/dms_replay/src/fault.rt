@@ -12,7 +12,7 @@ pub enum ReplayFault {
     /// A call of the reader failed.
     #[error("read")]
     Read,
-    /// A call of the writer failed, or took nothing. A front of the report was written, perhaps none of it.
+    /// A call of the writer failed, or took nothing. A prefix of the report was written, perhaps none of it.
     #[error("write")]
     Write,
     /// The line of this number, from 1, is not as it should be, or is missing. Lines that are skipped count too.

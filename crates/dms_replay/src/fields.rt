@@ -34,7 +34,7 @@ pub(crate) fn two_octets(words: Words<'_>) -> Option<(u16, Words<'_>)>
     Some((number as u16, rest))
 }
 
-/// A number of four octets, and nothing behind it.
+/// A number of four octets, and nothing after it.
 #[tactic(auto, unfolding(crate::specs::EventReading::last_number_at))]
 pub(crate) fn last_number(words: Words<'_>) -> Option<u32>
     ensures { result ≡ last_number_at words.entry }
@@ -47,7 +47,7 @@ pub(crate) fn last_number(words: Words<'_>) -> Option<u32>
     }
 }
 
-/// Octets as pairs of hexadecimal digits, and the words behind them.
+/// Octets as pairs of hexadecimal digits, and the words after them.
 #[tactic(auto, unfolding(crate::specs::EventReading::octets_at))]
 pub(crate) fn next_octets(
     alloc: Global,
@@ -64,7 +64,7 @@ pub(crate) fn next_octets(
     }
 }
 
-/// Octets as pairs of hexadecimal digits, and nothing behind them.
+/// Octets as pairs of hexadecimal digits, and nothing after them.
 #[tactic(auto, unfolding(crate::specs::EventReading::last_octets_at))]
 pub(crate) fn last_octets(alloc: Global, words: Words<'_>) -> Result<Option<Vec<u8>>, AllocError>
     ensures { IfOk result (λ found. octets_found found ≡ last_octets_at words.entry) }
@@ -91,7 +91,7 @@ pub fn address(word: &[u8]) -> Option<[u8; 4]>
     }
 }
 
-/// The terms on which a message is put up, and nothing behind them.
+/// The terms on which a message is put up, and nothing after them.
 #[tactic(auto, unfolding(crate::specs::EventReading::last_terms_at))]
 pub(crate) fn last_terms(words: Words<'_>) -> Option<Terms>
     ensures { option_map terms_model result ≡ last_terms_at words.entry }
@@ -111,7 +111,7 @@ pub(crate) fn last_terms(words: Words<'_>) -> Option<Terms>
     }
 }
 
-/// A code of twenty-four hexadecimal digits, and nothing behind it.
+/// A code of twenty-four hexadecimal digits, and nothing after it.
 #[tactic(auto, unfolding(crate::specs::EventReading::last_code_at))]
 pub(crate) fn last_code(
     alloc: Global,

@@ -13,7 +13,7 @@ ghost use Rattle.dms_description.specs.Description.{Description, SpellsSign, Spe
 ghost use Rattle.dms_description.specs.Setups.{IsMade};
 ghost use Rattle.dms_replay.specs.EventView.{script_events_model};
 ghost use Rattle.dms_replay.specs.Faults.{IsLine};
-ghost use Rattle.dms_replay.specs.Replayed.{IsReport, Replayed, ReplayedFront, NoScript};
+ghost use Rattle.dms_replay.specs.Replayed.{IsReport, Replayed, ReplayedPrefix, NoScript};
 ghost use Rattle.dms_replay.specs.Script.{SpellsScript};
 ghost use Rattle.dms_replay.specs.declared.fault.ReplayFault.TheVariants as faults;
 
@@ -37,7 +37,7 @@ pub fn replay<R: Source, W: Sink>(
     writer: &mut W,
 ) -> Result<(), ReplayFault>
     ensures report { OnOk result (IfSome (R.remaining reader.old) (λ octets. Replayed octets (W.contents writer.old) (W.contents writer.new))) }
-    ensures front { result ≡ Err faults.Write → IfSome (R.remaining reader.old) (λ octets. ReplayedFront octets (W.contents writer.old) (W.contents writer.new)) }
+    ensures prefix { result ≡ Err faults.Write → IfSome (R.remaining reader.old) (λ octets. ReplayedPrefix octets (W.contents writer.old) (W.contents writer.new)) }
     ensures nothing { OnErr result (result ≢ Err faults.Write → Keeps (W.contents writer.old) (W.contents writer.new)) }
     ensures line { (number : ℕ) → result ≡ Err (faults.Line number) → IfSome (R.remaining reader.old) (λ octets. (length octets ≤ longest_input) × NoScript octets) }
     ensures too_long { result ≡ Err faults.TooLong → IfSome (R.remaining reader.old) (λ octets. longest_input < length octets) }

@@ -7,7 +7,7 @@ ghost use Rattle.dms_description.specs.Description.{Description, longest_input};
 ghost use Rattle.dms_description.specs.Setups.{octets_left, IsMade};
 ghost use Rattle.dms_replay.specs.EventView.{script_events_model};
 ghost use Rattle.dms_replay.specs.Faults.{IsLine};
-ghost use Rattle.dms_replay.specs.Script.{NamesFront, SpellsScript};
+ghost use Rattle.dms_replay.specs.Script.{NamesPrefix, SpellsScript};
 ghost use Rattle.dms_replay.specs.declared.fault.ReplayFault.TheVariants as faults;
 
 use crate::events::events;
@@ -44,14 +44,14 @@ pub(crate) fn read_script(alloc: Global, octets: &[u8]) -> Result<Script, Replay
     }
 }
 
-/// The sign that the first lines name, and the lines behind these.
+/// The sign that the first lines name, and the lines after these.
 #[tactic(auto, using(crate::proofs::ScriptRead::bench_is_named, crate::proofs::ScriptRead::sign_is_named, crate::proofs::ScriptRead::none_is_named))]
 fn named_sign(alloc: Global, octets: &[u8]) -> Result<(Setup, Lines<'_>), ReplayFault>
-    ensures read { IfOk result (λ x. (it : Description) × NamesFront (kept_lines octets.now) (octets_left x.1) it × IsMade it x.0) }
+    ensures read { IfOk result (λ x. (it : Description) × NamesPrefix (kept_lines octets.now) (octets_left x.1) it × IsMade it x.0) }
     ensures line { IfErr result (λ fault. (fault ≡ faults.Memory)
-        ⊎ (IsLine fault × ((it : Description) (rest : List (List ℕ)) → NamesFront (kept_lines octets.now) rest it → ⊥))) }
+        ⊎ (IsLine fault × ((it : Description) (rest : List (List ℕ)) → NamesPrefix (kept_lines octets.now) rest it → ⊥))) }
 {
-    if let Some(rest) = behind_bench(octets) {
+    if let Some(rest) = after_bench(octets) {
         return match dms_description::bench(alloc) {
             Ok(setup) => Ok((setup, rest)),
             Err(_) => Err(ReplayFault::Memory),
@@ -64,9 +64,9 @@ fn named_sign(alloc: Global, octets: &[u8]) -> Result<(Setup, Lines<'_>), Replay
     }
 }
 
-/// The lines behind the word `bench`, where that is the first line.
+/// The lines after the word `bench`, where that is the first line.
 #[tactic(auto, using(crate::proofs::ScriptRead::bench_first, crate::proofs::ScriptRead::other_first, crate::proofs::ScriptRead::nothing_first))]
-fn behind_bench(octets: &[u8]) -> Option<Lines<'_>>
+fn after_bench(octets: &[u8]) -> Option<Lines<'_>>
     ensures bench { IfSome result (λ rest. kept_lines octets.now ≡ codes "bench" ∷ octets_left rest) }
     ensures other { IfNone result ((rest : List (List ℕ)) → kept_lines octets.now ≡ codes "bench" ∷ rest → ⊥) }
 {

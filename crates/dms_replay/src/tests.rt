@@ -74,7 +74,7 @@ accepted 16 ffffff0300019a66c0000201
 ledger 7 ffffff0300019a66c0000201 accepted
 ";
 
-/// The text of the message that was there before reaches the sign again, behind the new one.
+/// The text of the message that was there before reaches the sign again, after the new one.
 const OLD_TEXT_AGAIN: &str = "bench
 publish 3 1 42 - 0 0 200 65535 255 192.0.2.1
 to-sign 0\nto-centre 0\nto-sign 1\nto-centre 1\nto-sign 2\nto-centre 2\nto-sign 3\nto-centre 3

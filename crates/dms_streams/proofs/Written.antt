@@ -1,4 +1,4 @@
--- A loop of calls of a writer writes a front of the octets, and tells which call failed.
+-- A loop of calls of a writer writes a prefix of the octets, and tells which call failed.
 use Rattle.std.proofs.Common.{◌≡◌, ℕ, List, [], ◌∷◌, ◌++◌, take, drop, length, refl, sym, ◌∙◌, ap, subst, Option, Result, Ok, append_assoc, ◌==◌, false, if◌then◌else◌, arith}
 use Rattle.std.proofs.lemmas.Bool.Decides.{nat_tests}
 use Rattle.std.proofs.lemmas.List.{take-append-drop}
@@ -6,22 +6,22 @@ use Rattle.std.specs.Io.KnownBytes.{Appends, WriteAppends}
 use Rattle.std.proofs.KnownBytes.{Appends-trans}
 use Rattle.dms_streams.specs.Calls.{one_more, after_write}
 
-whole_still : (octets front rest behind : List ℕ) (count : ℕ) → octets ≡ front ++ rest → behind ≡ drop count rest
-    → octets ≡ (front ++ take count rest) ++ behind
-whole_still octets front rest behind count whole cut =
-    whole ∙ ap (λ xs. front ++ xs) (sym (take-append-drop count rest)) ∙ sym (append_assoc front (take count rest) (drop count rest))
-    ∙ ap (λ xs. (front ++ take count rest) ++ xs) (sym cut)
+whole_still : (octets prefix rest after : List ℕ) (count : ℕ) → octets ≡ prefix ++ rest → after ≡ drop count rest
+    → octets ≡ (prefix ++ take count rest) ++ after
+whole_still octets prefix rest after count whole cut =
+    whole ∙ ap (λ xs. prefix ++ xs) (sym (take-append-drop count rest)) ∙ sym (append_assoc prefix (take count rest) (drop count rest))
+    ∙ ap (λ xs. (prefix ++ take count rest) ++ xs) (sym cut)
 
 no_zero : (count : ℕ) → (count ≡ 0 → ⊥) → (count == 0) ≡ false
 no_zero count some = grind (arith, nat_tests)
 
--- what a call took stands behind what earlier calls took
-pub wrote_more : {E : Type 0} (first now next : Option (List ℕ)) (octets front rest behind : List ℕ) (count : ℕ) (result : Result ℕ E)
-    → octets ≡ front ++ rest → Appends first now front → result ≡ Ok count → WriteAppends now next result rest → behind ≡ drop count rest
-    → (written : List ℕ) × (octets ≡ written ++ behind) × Appends first next written
-wrote_more first now next octets front rest behind count result whole before is_ok wrote cut =
+-- what a call took stands after what earlier calls took
+pub wrote_more : {E : Type 0} (first now next : Option (List ℕ)) (octets prefix rest after : List ℕ) (count : ℕ) (result : Result ℕ E)
+    → octets ≡ prefix ++ rest → Appends first now prefix → result ≡ Ok count → WriteAppends now next result rest → after ≡ drop count rest
+    → (written : List ℕ) × (octets ≡ written ++ after) × Appends first next written
+wrote_more first now next octets prefix rest after count result whole before is_ok wrote cut =
     let took : Appends now next (take count rest) = subst (λ r. WriteAppends now next r rest) is_ok wrote in
-    (front ++ take count rest, whole_still octets front rest behind count whole cut, Appends-trans first now next front (take count rest) before took)
+    (prefix ++ take count rest, whole_still octets prefix rest after count whole cut, Appends-trans first now next prefix (take count rest) before took)
 
 -- a call that took some is no failure
 pub unfailed : {E : Type 0} (before after count : ℕ) (octets : List ℕ) (result : Result ℕ E) → after ≡ after_write before result octets → result ≡ Ok count

@@ -15,7 +15,7 @@ pub trait Sink {
     // The number of calls that failed.
     ghost failed: { Self → ℕ };
 
-    /// Takes some octets from the front of these, and gives their number.
+    /// Takes a prefix of these octets, and gives its length.
     fn write_some(&mut self, octets: &[u8]) -> Result<usize, Failed>
         ensures bound { WritesAtMost result octets.now }
         ensures octets { WriteAppends (contents self.old) (contents self.new) result octets.now }

@@ -15,7 +15,7 @@ pub trait Source {
     // The number of calls that failed.
     ghost failed: { Self → ℕ };
 
-    /// Reads some octets to the front of the buffer, and gives their number: none at the end alone, or where the buffer is empty.
+    /// Reads some octets into the first places of the buffer, and gives their number: none at the end alone, or where the buffer is empty.
     fn read_some(&mut self, buffer: &mut [u8]) -> Result<usize, Failed>
         ensures bound { ReadsAtMost result buffer.new }
         ensures octets { ReadConsumes (remaining self.old) (remaining self.new) result buffer.new }
@@ -26,7 +26,7 @@ pub trait Source {
         ensures { result ≡ failed self.now };
 }
 
-/// A slice gives its octets from the front. No call fails.
+/// A slice gives its octets in their order. No call fails.
 impl Source for &[u8] {
     ghost remaining = { λ slice. Some slice.now };
 
@@ -39,8 +39,8 @@ impl Source for &[u8] {
     {
         let all: &[u8] = *self;
         let count = all.len().min(buffer.len());
-        let (front, rest) = all.split_at(count);
-        buffer[..count].copy_from_slice(front);
+        let (first, rest) = all.split_at(count);
+        buffer[..count].copy_from_slice(first);
         *self = rest;
         Ok(count)
     }

@@ -3,16 +3,16 @@
 ghost use Rattle.std.specs.Prelude.{◌≡◌, OnOk, OnErr};
 ghost use Rattle.std.specs.Io.KnownBytes.{Appends};
 ghost use Rattle.dms_streams.specs.Calls.{one_more};
-ghost use Rattle.dms_streams.specs.Fronts.{AppendsFront};
+ghost use Rattle.dms_streams.specs.Prefixes.{AppendsPrefix};
 
 use crate::failed::Failed;
 use crate::sink::Sink;
 
-/// Writes all of the octets, in as many calls as it takes. It stops at the first call that fails; a front of the octets was written then.
+/// Writes all of the octets, in as many calls as it takes. It stops at the first call that fails; a prefix of the octets was written then.
 #[tactic(auto, using(crate::proofs::Written::wrote_more, crate::proofs::Written::unfailed, crate::proofs::Written::took_none))]
 pub fn write_whole<W: Sink>(sink: &mut W, octets: &[u8]) -> Result<(), Failed>
     ensures whole { OnOk result (Appends (W.contents sink.old) (W.contents sink.new) octets.now) }
-    ensures front { OnErr result (AppendsFront (W.contents sink.old) (W.contents sink.new) octets.now) }
+    ensures prefix { OnErr result (AppendsPrefix (W.contents sink.old) (W.contents sink.new) octets.now) }
     ensures unfailed { OnOk result (W.failed sink.new ≡ W.failed sink.old) }
     ensures failed { OnErr result (W.failed sink.new ≡ one_more (W.failed sink.old)) }
 {

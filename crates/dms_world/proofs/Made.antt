@@ -34,7 +34,7 @@ use Rattle.dms_world.specs.Construction.{IsNewSign, IsNewCentre}
 
 -- ---- what a configuration without a fault says
 
--- no first fault, and none behind it
+-- no first fault, and none after it
 record IsFaultless (test : Bool) (others : Option ConfigFault) : Type 0 where
   passes : test ≡ true
   none : others ≡ None
@@ -47,9 +47,9 @@ none_mapped : {A B : Type 0} (f : A → B) (o : Option A) → option_map f o ≡
 none_mapped f None e = refl
 none_mapped f (Some x) e = absurd (cc)
 
-none_behind : {A : Type 0} (test : Bool) (o : Option A) (x : A) → cond test o (Some x) ≡ None → o ≡ None
-none_behind true o x e = e
-none_behind false o x e = absurd (cc)
+none_after : {A : Type 0} (test : Bool) (o : Option A) (x : A) → cond test o (Some x) ≡ None → o ≡ None
+none_after true o x e = e
+none_after false o x e = absurd (cc)
 
 same_octets : (xs : List ℕ) → pointwise nat_eq xs xs ≡ true
 same_octets [] = refl
@@ -72,7 +72,7 @@ rows_stand : (face : FaceModel) (stock : Stock) → stock_fault face stock ≡ N
 rows_stand face stock e =
     let messages : List Permanent = stock.permanent.now in
     let first : Option ℕ = position (may_not_stand (services_of stock) face) messages in
-    let none : first ≡ None = none_mapped permanent_fault first (none_behind (are_counts stock) (option_map permanent_fault first) _ e) in
+    let none : first ≡ None = none_mapped permanent_fault first (none_after (are_counts stock) (option_map permanent_fault first) _ e) in
     let each = none_passes (may_not_stand (services_of stock) face) messages none in
     list_all-map (may_stand (services_of stock) face) permanent_row messages
     ∙ list_all-from_AllPass (message_may_stand (services_of stock) face) messages

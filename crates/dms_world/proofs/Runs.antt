@@ -49,30 +49,30 @@ one_more_event before now next events count event is at then =
     ap (λ w. happens (suc count) w event) is ∙ ap (happens_if (suc count) (world_at before events count)) (sym at) in
     subst (λ n. next ≡ world_at before events n) (sym (add-one count)) (last ∙ last_at)
 
--- what stands at a place of a front stands there
-in_front : {X : Type 0} (n : ℕ) (xs : List X) (place : ℕ) (x : X) → slice_get (take n xs) place ≡ Some x → (place < n) × (slice_get xs place ≡ Some x)
-in_front zero xs place x e = absurd (none-some x e)
-in_front (suc n) [] place x e = absurd (none-some x e)
-in_front (suc n) (y ∷ xs) zero x e = (omega arith, e)
-in_front (suc n) (y ∷ xs) (suc place) x e = let there = in_front n xs place x e in (omega (arith, there.0), there.1)
+-- what stands at a place of a prefix stands there
+in_prefix : {X : Type 0} (n : ℕ) (xs : List X) (place : ℕ) (x : X) → slice_get (take n xs) place ≡ Some x → (place < n) × (slice_get xs place ≡ Some x)
+in_prefix zero xs place x e = absurd (none-some x e)
+in_prefix (suc n) [] place x e = absurd (none-some x e)
+in_prefix (suc n) (y ∷ xs) zero x e = (omega arith, e)
+in_prefix (suc n) (y ∷ xs) (suc place) x e = let there = in_prefix n xs place x e in (omega (arith, there.0), there.1)
 
-of_front : {X : Type 0} (n : ℕ) (xs : List X) (place : ℕ) → place < n → slice_get (take n xs) place ≡ slice_get xs place
-of_front zero xs place less = absurd (omega (arith, less))
-of_front (suc n) [] place less = refl
-of_front (suc n) (y ∷ xs) zero less = refl
-of_front (suc n) (y ∷ xs) (suc place) less = of_front n xs place (omega (arith, less))
+of_prefix : {X : Type 0} (n : ℕ) (xs : List X) (place : ℕ) → place < n → slice_get (take n xs) place ≡ slice_get xs place
+of_prefix zero xs place less = absurd (omega (arith, less))
+of_prefix (suc n) [] place less = refl
+of_prefix (suc n) (y ∷ xs) zero less = refl
+of_prefix (suc n) (y ∷ xs) (suc place) less = of_prefix n xs place (omega (arith, less))
 
-world_of_front : (world : WorldModel) (events : List EventModel) (n count : ℕ) → count ≤ n → world_at world (take n events) count ≡ world_at world events count
-world_of_front world events n zero le = refl
-world_of_front world events n (suc count) le =
-    ap (λ w. happens_if (suc count) w (slice_get (take n events) count)) (world_of_front world events n count (omega (arith, le)))
-    ∙ ap (happens_if (suc count) (world_at world events count)) (of_front n events count (omega (arith, le)))
+world_of_prefix : (world : WorldModel) (events : List EventModel) (n count : ℕ) → count ≤ n → world_at world (take n events) count ≡ world_at world events count
+world_of_prefix world events n zero le = refl
+world_of_prefix world events n (suc count) le =
+    ap (λ w. happens_if (suc count) w (slice_get (take n events) count)) (world_of_prefix world events n count (omega (arith, le)))
+    ∙ ap (happens_if (suc count) (world_at world events count)) (of_prefix n events count (omega (arith, le)))
 
 -- the world after the first events is that of their list
-pub after_front : (world : WorldModel) (events : List EventModel) (count : ℕ) → count ≤ length events
+pub after_prefix : (world : WorldModel) (events : List EventModel) (count : ℕ) → count ≤ length events
     → world_at world events count ≡ world_after world (take count events)
-after_front world events count le =
-    sym (ap (world_at world (take count events)) (length-take-le count events le) ∙ world_of_front world events count count (omega arith))
+after_prefix world events count le =
+    sym (ap (world_at world (take count events)) (length-take-le count events le) ∙ world_of_prefix world events count count (omega arith))
 
 -- ---- the values of commands
 
@@ -91,9 +91,9 @@ one_more_is_event events count event are at is = λ place other less there.
           subst IsEvent (same_Some event other (sym at ∙ here)) is)
     ]
 
-pub front_are_events : (events : List EventModel) (count : ℕ) → AreEventsUpTo events count → AreEvents (take count events)
-front_are_events events count are = λ asked has.
-    let there = in_front count events has.0 (command asked) has.1 in
+pub prefix_are_events : (events : List EventModel) (count : ℕ) → AreEventsUpTo events count → AreEvents (take count events)
+prefix_are_events events count are = λ asked has.
+    let there = in_prefix count events has.0 (command asked) has.1 in
     are has.0 (command asked) there.0 there.1
 
 pub are_all_events : (events : List Event) (count : ℕ) → length events ≤ count → AreEventsUpTo (events_model events) count

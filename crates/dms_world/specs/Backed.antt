@@ -35,7 +35,7 @@ WasPutUp world events count id =
 -- by then the code had stood among the sign's own
 abbrev pub WasTheSigns : WorldModel → List EventModel → ℕ → MessageId → Type 0
 WasTheSigns world events count id =
-    (front : ℕ) × (front ≤ count) × IsOwnCode world.sign.table.order (world_at world events front).sign.fallbacks id
+    (earlier : ℕ) × (earlier ≤ count) × IsOwnCode world.sign.table.order (world_at world events earlier).sign.fallbacks id
 
 -- ---- the row that the code names
 
@@ -55,15 +55,15 @@ pub record Held (row : RowModel) (shown : ShownModel) : Type 0 where
 -- by then the row that the code names had held it
 abbrev pub WasHeld : WorldModel → List EventModel → ℕ → ShownModel → Type 0
 WasHeld world events count shown =
-    (front : ℕ) × (row : RowModel) × (front ≤ count)
-    × (stored_row (world_at world events front).sign.table shown.source.memory shown.source.number ≡ Some row) × Held row shown
+    (earlier : ℕ) × (row : RowModel) × (earlier ≤ count)
+    × (stored_row (world_at world events earlier).sign.table shown.source.memory shown.source.number ≡ Some row) × Held row shown
 
 -- ---- the defaults of then
 
 -- by then the sign had had these defaults
 abbrev pub WereDefaults : WorldModel → List EventModel → ℕ → Defaults → Type 0
 WereDefaults world events count defaults =
-    (front : ℕ) × (front ≤ count) × ((world_at world events front).sign.defaults ≡ defaults)
+    (earlier : ℕ) × (earlier ≤ count) × ((world_at world events earlier).sign.defaults ≡ defaults)
 
 -- ---- what is shown
 

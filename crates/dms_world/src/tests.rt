@@ -111,7 +111,7 @@ fn check_outcome(world: &World, number: u32, outcome: Outcome) -> Result<(), Fai
     }
 }
 
-/// A publication is accepted at the sixteenth event. Where memory is wanting once, the run goes on behind the stop, and counts anew.
+/// A publication is accepted at the sixteenth event. Where the run stops for want of memory, it goes on after the stop, and counts anew.
 #[test]
 fn publication(rt: HostRuntime) -> Result<(), Fail> {
     let mut world = world_of(rt.alloc())?;

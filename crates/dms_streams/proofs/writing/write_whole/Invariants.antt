@@ -4,7 +4,7 @@ use Rattle.dms_streams.proofs.writing.write_whole.Given as goal
 
 abbrev pub invariant-loop-rest : goal.invariant-loop-rest
 invariant-loop-rest g l = record {
-  written : (front : List ℕ) × (l.octets ≡ front ++ l.rest) × Appends (g.W.Sink.contents l.initial.sink) (g.W.Sink.contents l.sink) front;
+  written : (prefix : List ℕ) × (l.octets ≡ prefix ++ l.rest) × Appends (g.W.Sink.contents l.initial.sink) (g.W.Sink.contents l.sink) prefix;
   unfailed : g.W.Sink.failed l.sink ≡ g.W.Sink.failed l.initial.sink;
 }
 

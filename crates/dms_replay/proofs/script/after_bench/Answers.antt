@@ -1,7 +1,7 @@
 use Rattle.std.proofs.Common.{◌≡◌, rules}
 use Rattle.std.specs.Prelude.{codes}
 use Rattle.dms_replay.proofs.ScriptRead.{bench_first}
-use Rattle.dms_replay.proofs.script.behind_bench.Goals as goal
+use Rattle.dms_replay.proofs.script.after_bench.Goals as goal
 
 pub returns-then-eq-clause-bench : goal.returns-then-eq-clause-bench
 returns-then-eq-clause-bench c =
