@@ -1,0 +1,124 @@
+#!/usr/bin/env python3
+"""Turns drawn letters into the lines of a font as a sign's description has them, and back.
+
+    tools/font.py lines DRAWING             prints the font's lines
+    tools/font.py drawing FONT              prints the drawing of a font's lines
+    tools/font.py write SIGN..              puts the fonts into descriptions: below each line `# font FILE` come the lines
+                                            of the drawing FILE (beside the description) up to the next `# font` or `end`
+    tools/font.py check SIGN..              fails where `write` would change a description, or where a drawing does not
+                                            come back from its own lines
+
+A drawing is the source. It has lines that begin with `# `, which are skipped, the font's line `font N height H ..`, and
+for each character a line `character NUMBER`, perhaps with the character after it, and then H lines of dots and hashes.
+"""
+
+import pathlib
+import sys
+
+
+class Wrong(Exception):
+    """A drawing or a font that is not in order, with its line."""
+
+
+def drawn(text):
+    """The font's line and the characters of a drawing: number and rows of each."""
+    kept = [(number, line) for number, line in enumerate(text.splitlines(), 1) if line and not line.startswith("# ")]
+    if not kept or not kept[0][1].startswith("font "):
+        raise Wrong("line 1: no line `font N height H ..`")
+    head = kept[0][1]
+    height = int(head.split()[3])
+    characters, at = [], 1
+    while at < len(kept):
+        number, line = kept[at]
+        words = line.split(" ", 2)
+        rows = [row for _, row in kept[at + 1:at + 1 + height]]
+        if words[0] != "character" or not words[1].isdigit():
+            raise Wrong(f"line {number}: no line `character NUMBER`")
+        if len(rows) != height or len({len(row) for row in rows}) != 1 or set("".join(rows)) - {".", "#"}:
+            raise Wrong(f"line {number}: not {height} rows of dots and hashes of one width")
+        if not 1 <= len(rows[0]) <= 32:
+            raise Wrong(f"line {number}: wider than 32, or nothing")
+        characters.append((int(words[1]), rows))
+        at += 1 + height
+    if len({number for number, _ in characters}) != len(characters):
+        raise Wrong("a character stands twice")
+    return head, characters
+
+
+def lines_of(text):
+    """The lines of a font, from its drawing."""
+    head, characters = drawn(text)
+    lines = [head]
+    for number, rows in characters:
+        bits = "".join(rows).replace(".", "0").replace("#", "1")
+        bits += "0" * (-len(bits) % 8)
+        lines.append(f"glyph {number} {len(rows[0])} {int(bits, 2):0{len(bits) // 4}x}")
+    return lines
+
+
+def drawing_of(lines):
+    """The drawing of a font's lines."""
+    kept = [line for line in lines if line and not line.startswith("#")]
+    height = int(kept[0].split()[3])
+    drawing = [kept[0]]
+    for line in kept[1:]:
+        _, number, width, digits = line.split(" ")
+        width = int(width)
+        bits = f"{int(digits, 16):0{4 * len(digits)}b}".replace("0", ".").replace("1", "#")
+        shown = chr(int(number)) if 32 < int(number) < 127 else ""
+        drawing.append(f"character {number} {shown}".rstrip())
+        drawing += [bits[row * width:(row + 1) * width] for row in range(height)]
+    return drawing
+
+
+def with_fonts(path):
+    """A description with the lines of its drawings."""
+    lines, skipping = [], False
+    for line in path.read_text(encoding="ascii").splitlines():
+        if line.startswith("# font "):
+            lines.append(line)
+            lines += lines_of((path.parent / line.removeprefix("# font ")).read_text(encoding="ascii"))
+            skipping = True
+        elif line == "end":
+            skipping = False
+        if not skipping:
+            lines.append(line)
+    return "\n".join(lines) + "\n"
+
+
+def check(path):
+    """Whether the description is what its drawings say, and each drawing comes back from its lines."""
+    well = path.read_text(encoding="ascii") == with_fonts(path)
+    for line in path.read_text(encoding="ascii").splitlines():
+        if line.startswith("# font "):
+            source = (path.parent / line.removeprefix("# font ")).read_text(encoding="ascii")
+            kept = [row for row in source.splitlines() if row and not row.startswith("# ")]
+            well = well and drawing_of(lines_of(source)) == kept
+    return well
+
+
+def main(words):
+    if len(words) < 2 or words[0] not in ("lines", "drawing", "write", "check"):
+        print(__doc__, file=sys.stderr)
+        return 2
+    failed = 0
+    for word in words[1:]:
+        path = pathlib.Path(word)
+        try:
+            if words[0] == "lines":
+                print("\n".join(lines_of(path.read_text(encoding="ascii"))))
+            elif words[0] == "drawing":
+                print("\n".join(drawing_of(path.read_text(encoding="ascii").splitlines())))
+            elif words[0] == "write":
+                path.write_text(with_fonts(path), encoding="ascii")
+            elif not check(path):
+                print(f"{path}: not what its drawings say; tools/font.py write {path}")
+                failed = 1
+        except Wrong as fault:
+            print(f"{path}: {fault}", file=sys.stderr)
+            failed = 1
+    return failed
+
+
+if __name__ == "__main__":
+    sys.exit(main(sys.argv[1:]))

@@ -1,0 +1,69 @@
+#!/usr/bin/env bash
+# Runs the built program with input and output that fail: `tools/program_faults.sh [PROGRAM]` prints `N passed, N failed`.
+# Each call ends with its word and exit status: never a crash, and never silence with exit 0.
+set -u
+top=$(cd "$(dirname "$0")/.." && pwd)
+program=${1:-$top/crates/signtool/out/signtool}
+[ -x "$program" ] || { echo "no program at $program: (cd crates/signtool && rt run -- --help) builds it" >&2; exit 2; }
+folder=$(mktemp -d)
+trap 'rm -rf "$folder"' EXIT
+passed=0
+failed=0
+
+# ended NAME STATUS WORDS: what the last call left in $folder/out, $folder/err and $status
+ended() {
+    if [ "$status" = "$2" ] && [ "$(head -c 200 "$folder/out")" = "$3" ] && { [ "$2" != 0 ] || [ ! -s "$folder/err" ]; }; then
+        passed=$((passed + 1))
+    else
+        failed=$((failed + 1))
+        echo "$1: exit $status (wanted $2), printed '$(head -c 200 "$folder/out")' (wanted '$3'), errors '$(head -c 200 "$folder/err")'"
+    fi
+}
+
+call() { timeout 60 "$program" "$@" > "$folder/out" 2> "$folder/err"; status=$?; }
+
+get=302e02010004067075626c6963a0210201010201000201003016301406102b0601040189360402030508010903010500
+
+# --- input -----------------------------------------------------------------------------------------------------------
+echo bench > "$folder/bench"
+head -c 1048576 /dev/zero | tr '\0' '#' > "$folder/longest"
+head -c 1048577 /dev/zero | tr '\0' '#' > "$folder/longer"
+{ echo bench; head -c 1048569 /dev/zero | tr '\0' '#'; echo; } > "$folder/longest_script"
+for words in "replay" "answer $get --sign" "check A --sign" "pages A --sign"; do
+    call $words < /dev/null; ended "$words: no input" 1 "line 1"
+    call $words < "$folder/longest"; ended "$words: 1,048,576 octets" 1 "line 2"
+    call $words < "$folder/longer"; ended "$words: 1,048,577 octets" 1 "too long"
+    yes '#' | { call $words; echo "$status" > "$folder/status"; } 2> /dev/null
+    status=$(cat "$folder/status"); ended "$words: input that never ends" 1 "too long"
+    call $words < /; ended "$words: a directory" 1 "read"
+    call $words <&-; ended "$words: closed input" 1 "read"
+done
+call replay < "$folder/longest_script"
+ended "replay: a script of 1,048,576 octets" 0 "events 0
+sent 0 0
+shown 7 1 0000 mode 10 priority 1 remaining 65535 text -"
+
+# --- output: a failed write has status 1, whatever was to be printed -------------------------------------------------
+printed() { status=$1; : > "$folder/out"; }
+for words in "answer $get" "check A" "check [x]" "pages A" "code 3 1 A" "code 3 1 A --address x" "replay" "answer 30" "answer x"; do
+    timeout 60 "$program" $words < "$folder/bench" > /dev/full 2> "$folder/err"; printed $?
+    ended "$words: full output" 1 ""
+    timeout 60 "$program" $words < "$folder/bench" >&- 2> "$folder/err"; printed $?
+    ended "$words: closed output" 1 ""
+    timeout 60 "$program" $words < "$folder/bench" > /dev/full 2>&-; printed $?
+    ended "$words: full output, no errors" 1 ""
+done
+
+# --- words -----------------------------------------------------------------------------------------------------------
+for words in "" "wrong" "answer" "answer --sign" "check" "code 3 1" "code 1 1 A" "code 5 1 A" "code 3 0 A" "code 3 65536 A" "code 3 1 A --duration 65536" \
+    "code 3 1 A --priority 256" "replay now" "pages A B" "answer 30 --sing"; do
+    call $words < "$folder/bench"; ended "'$words'" 2 ""
+done
+call answer 3003020100 < /dev/null; ended "answer: octets that spell no message" 1 "dropped"
+call answer "" < /dev/null; ended "answer: no octets" 1 "dropped"
+call answer 3 < /dev/null; ended "answer: half an octet" 2 "not hex"
+call code 3 1 A --address 1.2.3 < /dev/null; ended "code: an address of three numbers" 2 "bad address"
+call code 3 1 "$(head -c 513 /dev/zero | tr '\0' A)" < /dev/null; ended "code: a text of 513 octets" 1 "text too long"
+
+echo "$passed passed, $failed failed"
+[ "$failed" = 0 ]
