@@ -1,4 +1,4 @@
-//! The bench sign by its values, and where bad descriptions are told.
+//! The bench sign by its values, and at which line bad descriptions are at fault.
 
 use crate::{BENCH, DescriptionFault, bench, description, sign_of_lines};
 use dms_codes::Order;
@@ -16,7 +16,7 @@ fn with_line(alloc: Global, place: usize, text: &str) -> Result<String, AllocErr
     Ok(changed)
 }
 
-/// A line of the bench sign's description, another text, and the line at which that is told.
+/// A line of the bench sign's description, another text, and the line of the fault.
 static FIRST_LINES: [(usize, &str, usize); 20] = [
     (1, "size 23", 1),
     (1, "size 23 14 1", 1),
@@ -62,19 +62,132 @@ static LAST_LINES: [(usize, &str, usize); 19] = [
     (17, "font 3 height 5 space 1 line 1 version 0\nend", 17),
 ];
 
+/// The same, a case a line: which line, the line of the fault, the other text.
+const OTHER_LINES: &str = "1 1 size
+1 1 Size 23 14
+1 1 size 23 -14
+1 17 size 0 14
+1 17 size 23 0
+1 17 size 23 65
+2 3 # none
+2 2 communities public admin operator
+2 17 communities aaaaaaaaaaaaaaaaaaaaaaaaaaaaaaaaa admin
+2 17 communities public aaaaaaaaaaaaaaaaaaaaaaaaaaaaaaaaa
+3 4 # none
+3 3 rows 2
+3 3 rows 2 1 0
+3 3 rows two 1
+3 3 rows 2 256
+3 17 rows 2 17
+4 5 # none
+4 4 order
+4 4 order High
+4 4 order high swapped
+5 6 # none
+5 5 has 1
+5 5 has 1 2
+5 5 has 1 0 0
+6 7 # none
+6 6 defaults 0 9 5 5 1 3 2 30 0 0
+6 6 defaults 256 9 5 5 1 3 2 30 0
+6 6 defaults 0 256 5 5 1 3 2 30 0
+6 6 defaults 0 9 256 5 1 3 2 30 0
+6 6 defaults 0 9 5 5 1 3 2 256 0
+6 6 defaults 0 9 5 5 1 3 2 30 256
+6 17 defaults 10 9 5 5 1 3 2 30 0
+6 17 defaults 0 10 5 5 1 3 2 30 0
+6 17 defaults 0 9 5 5 0 3 2 30 0
+6 17 defaults 0 9 5 5 2 3 2 30 0
+6 17 defaults 0 9 5 5 1 1 2 30 0
+6 17 defaults 0 9 5 5 1 5 2 30 0
+6 17 defaults 0 9 5 5 1 3 1 30 0
+6 17 defaults 0 9 5 5 1 3 5 30 0
+7 8 # none
+7 7 first
+7 7 first 1 1
+7 7 first -1
+8 8 permanent
+8 8 permanent 4g - 0 0 100
+8 8 permanent 42 4 0 0 100
+8 8 permanent 42 - 256 0 100
+8 8 permanent 42 - 0 256 100
+8 8 permanent 42 - 0 0
+8 8 permanent 42 - 0 0 100 1
+8 17 permanent 43 - 0 0 100
+8 17 permanent 42 - 2 0 100
+8 17 permanent 42 - 0 2 100
+8 17 permanent 42 - 0 0 0
+9 9 font 256 height 7 space 1 line 1 version 0001
+9 9 font 1 height 0 space 1 line 1 version 0001
+9 9 font 1 height 33 space 1 line 1 version 0001
+9 9 font 1 height 7 space 33 line 1 version 0001
+9 9 font 1 height 7 space 1 line 33 version 0001
+9 9 font 1 height 7 space 1 line 1 version 00010
+9 9 font 1 height 7 space 1 line 1 version 000g
+9 9 font 1 height 7 space 1 line 1
+9 9 font 1 height 7 line 1 space 1 version 0001
+10 10 glyph 0 2 7554
+10 10 glyph 65536 2 7554
+10 10 glyph 49 0 7554
+10 10 glyph 49 2 755400
+10 10 glyph 49 2 -
+10 10 glyph 49 2
+10 10 glyph 49 2 7554 0
+15 16 # no second font
+17 17 end end
+17 17 sign-tick";
+
 #[test]
 fn wrong_lines(rt: HostRuntime) -> Result<(), Fail> {
     for cases in [FIRST_LINES.as_slice(), LAST_LINES.as_slice()] {
-        for (place, line, told) in cases {
+        for (place, line, number) in cases {
             let text = with_line(rt.alloc(), *place, line)?;
             let fault = description(rt.alloc(), text.as_bytes()).err();
-            assert_eq!(rt; fault, Some(DescriptionFault::Line(*told)), "of {line:?}");
+            assert_eq!(rt; fault, Some(DescriptionFault::Line(*number)), "of {line:?}");
         }
+    }
+    for case in OTHER_LINES.lines() {
+        let (place, rest) = case.split_once(' ').ok_or("no place")?;
+        let (number, line) = rest.split_once(' ').ok_or("no number")?;
+        let text = with_line(rt.alloc(), place.parse::<usize>()?, line)?;
+        let fault = description(rt.alloc(), text.as_bytes()).err();
+        let number = number.parse::<usize>()?;
+        assert_eq!(rt; fault, Some(DescriptionFault::Line(number)), "of {line:?}");
     }
     Ok(())
 }
 
-/// A 17th permanent row and a fifth font are told at `end`, as the sign with them cannot be made.
+/// The bench sign with another line at the ends of the ranges.
+#[test]
+fn limits(rt: HostRuntime) -> Result<(), Fail> {
+    for (place, line) in [
+        (1, "size 00256 00064"),
+        (2, "communities a aaaaaaaaaaaaaaaaaaaaaaaaaaaaaaaa"),
+        (3, "rows 64 16"),
+        (3, "rows 0 0"),
+        (5, "has 1 1"),
+        (6, "defaults 9 9 255 255 1 4 4 255 255"),
+        (6, "defaults 0 0 0 0 1 2 2 0 0"),
+        (7, "first 4294967295"),
+        (7, "first 0000000000"),
+        (8, "# no permanent row"),
+        (8, "permanent - 00FF 1 0 255"),
+        (9, "font 001 height 7 space 32 line 32 version FFff"),
+        (
+            16,
+            "glyph 65535 32 ffffffffffffffffffffffffffffffffffffffff",
+        ),
+        (16, "# no glyph"),
+        (17, "end\r\n\n# nothing more"),
+    ] {
+        let text = with_line(rt.alloc(), place, line)?;
+        let found = description(rt.alloc(), text.as_bytes());
+        assert!(rt; found.is_ok(), "of {line:?}");
+    }
+    Ok(())
+}
+
+/// With a 17th permanent row or a fifth font the fault is at `end`, as the sign with them cannot be made.
 #[test]
 fn too_many(rt: HostRuntime) -> Result<(), Fail> {
     let mut rows = String::new(rt.alloc());
@@ -139,13 +252,25 @@ fn first_lines_of_more(rt: HostRuntime) -> Result<(), Fail> {
     Ok(())
 }
 
-/// Where memory was refused, the fault says so, and the same call with memory answers the sign.
+/// Each call answers the sign, or out of memory where `rt try --test --fail-alloc N` refuses it; the same call then answers the sign.
 #[test]
-fn refused_memory(rt: HostRuntime) -> Result<(), Fail> {
+fn sign_or_out_of_memory(rt: HostRuntime) -> Result<(), Fail> {
     if let Err(fault) = description(rt.alloc(), BENCH.as_bytes()) {
         assert_eq!(rt; fault, DescriptionFault::Memory);
-        let setup = description(rt.alloc(), BENCH.as_bytes())?;
-        assert_eq!(rt; setup.first, 1);
     }
+    if let Err(fault) = sign_of_lines(rt.alloc(), Lines::of(BENCH.as_bytes())) {
+        assert_eq!(rt; fault, DescriptionFault::Memory);
+    }
+    let made = bench(rt.alloc());
+    let described = description(rt.alloc(), BENCH.as_bytes())?;
+    let (read, _) = sign_of_lines(rt.alloc(), Lines::of(BENCH.as_bytes()))?;
+    for setup in [&described, &read] {
+        assert_eq!(rt; (setup.first, setup.sign.face().fonts().len()), (1, 2));
+    }
+    let setup = match made {
+        Ok(setup) => setup,
+        Err(_) => bench(rt.alloc())?,
+    };
+    assert_eq!(rt; (setup.first, setup.sign.face().fonts().len()), (1, 2));
     Ok(())
 }
