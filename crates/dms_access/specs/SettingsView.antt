@@ -1,10 +1,27 @@
--- The settings that the writes of a SET leave (this profile).
+-- The settings as a sign is made, and those that the writes of a SET leave (this profile).
 use Rattle.std.specs.Prelude.{List}
+use Rattle.dms_face.specs.declared.defaults.Defaults.{Defaults}
 use Rattle.dms_objects.specs.declared.scalar.Scalar.TheVariants.{ShortPowerRecoveryMessage, LongPowerRecoveryMessage, PowerLossMessage, EndDurationMessage, CommunicationsLossMessage, DefaultBackgroundColor, DefaultForegroundColor, DefaultFlashOn, DefaultFlashOff, DefaultFont, DefaultJustificationLine, DefaultJustificationPage, DefaultPageOnTime, DefaultPageOffTime, ShortPowerLossTime, TimeCommLoss}
 use Rattle.dms_access.specs.declared.settings.Fallbacks.{Fallbacks}
 use Rattle.dms_access.specs.declared.settings.Settings.{Settings}
+use Rattle.dms_table.specs.Activation.{blank_code}
 use Rattle.dms_access.specs.Access.{Write}
 use Rattle.dms_access.specs.Assignment.{given, number_for, code_for}
+
+-- each code is that of blank message 1, and the times are 0
+abbrev pub first_settings : Defaults → Settings
+first_settings defaults = record {
+  fallbacks = record {
+    short_power_recovery = blank_code;
+    long_power_recovery = blank_code;
+    power_loss = blank_code;
+    end_duration = blank_code;
+    communications_loss = blank_code;
+  };
+  short_power_loss_time = 0;
+  time_comm_loss = 0;
+  defaults = defaults;
+}
 
 unfoldable pub codes_by : Fallbacks → List Write → Fallbacks
 codes_by f writes = record {

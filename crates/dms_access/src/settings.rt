@@ -4,9 +4,11 @@ ghost use Rattle.std.specs.Prelude.{◌≡◌, [], ◌∷◌};
 ghost use Rattle.dms_access.specs.declared.access.Change.TheVariants as changes;
 ghost use Rattle.dms_access.specs.Access.{SetNumber, SetCode};
 ghost use Rattle.dms_access.specs.ChangeView.{write_by, IsChange};
-ghost use Rattle.dms_access.specs.SettingsView.{codes_by, set_by};
+ghost use Rattle.dms_access.specs.SettingsView.{first_settings, codes_by, set_by};
+ghost use Rattle.dms_access.specs.Ranges.{AreDefaultsInRange};
 
 use crate::access::Change;
+use dms_codes::memory;
 use dms_face::Defaults;
 use dms_objects::Scalar;
 
@@ -34,6 +36,29 @@ pub struct Settings {
     /// dmsTimeCommLoss: minutes
     pub time_comm_loss: u16,
     pub defaults: Defaults,
+}
+
+impl Settings {
+    /// The settings as a sign is made: each code is that of blank message 1, and the times are 0.
+    pub fn new(defaults: Defaults) -> Settings
+        ensures first { result ≡ first_settings defaults }
+        ensures octets { AreDefaultsInRange defaults }
+    {
+        are_octets(&defaults);
+        let code = [memory::BLANK, 0, 1, 0, 0];
+        Settings {
+            fallbacks: Fallbacks {
+                short_power_recovery: code,
+                long_power_recovery: code,
+                power_loss: code,
+                end_duration: code,
+                communications_loss: code,
+            },
+            short_power_loss_time: 0,
+            time_comm_loss: 0,
+            defaults,
+        }
+    }
 }
 
 /// With what a binding writes beside the fields of rows.
@@ -92,3 +117,34 @@ fn with_code(fallbacks: Fallbacks, object: Scalar, code: &[u8; 5]) -> Fallbacks
     }
     fallbacks
 }
+
+/// Each default is an octet.
+fn are_octets(defaults: &Defaults)
+    ensures { AreDefaultsInRange defaults.now }
+{
+    nine_octets(
+        defaults.background,
+        defaults.foreground,
+        defaults.flash_on,
+        defaults.flash_off,
+        defaults.font,
+        defaults.line,
+        defaults.page,
+        defaults.on,
+        defaults.off,
+    );
+}
+
+fn nine_octets(
+    background: u8,
+    foreground: u8,
+    flash_on: u8,
+    flash_off: u8,
+    font: u8,
+    line: u8,
+    page: u8,
+    on: u8,
+    off: u8,
+)
+    ensures { AreDefaultsInRange (record { background = background; foreground = foreground; flash_on = flash_on; flash_off = flash_off; font = font; line = line; page = page; on = on; off = off }) }
+{}

@@ -126,8 +126,8 @@ impl Centre {
         &self.ledger
     }
 
-    /// What holds of every central system: its community has 1 to 32 octets.
-    pub fn is_kept(&self)
+    /// What the type's invariant says (`laws::centres_are_kept`).
+    pub(crate) fn invariant(&self)
         ensures { AreSettings self.now.state.settings }
     {
         let _ = &self.next;

@@ -1,5 +1,5 @@
 //! Laws over the definitions of specs/ alone, stated as functions with nothing to run: what holds of the central system under any
-//! list of commands, datagrams of anyone, ticks and restarts.
+//! list of commands, datagrams of anyone, ticks and restarts; and what holds of every central system.
 
 ghost use Rattle.std.specs.Prelude.{ℕ, List};
 ghost use Rattle.std.specs.List.{AllByRecursion};
@@ -8,6 +8,8 @@ ghost use Rattle.dms_centre.specs.History.{AreSettings, Input, IsInput, History,
 ghost use Rattle.dms_centre.specs.RequestNumbers.{AreRequests, NumbersRise, EqualNumbersMeanEqualOctets, ThreeSendsAtMost, Sends};
 ghost use Rattle.dms_centre.specs.Numbered.{HistoryIsNumbered};
 ghost use Rattle.dms_centre.specs.Ledger.{LedgerMoves, LedgerIsSent, NumbersPutUpTheirCodes, CodesAreOrdered};
+
+use crate::centre::Centre;
 
 /// Each datagram that is sent spells a request of the machine, whose number is below the next one; no later datagram has a lower
 /// number; and what goes out at an input went out before, or is a new request, which takes the next number.
@@ -64,3 +66,10 @@ pub fn codes_are_ordered()
     ensures { (settings : SettingsModel) (first : ℕ) (inputs : List Input) → AreSettings settings → AllByRecursion IsInput inputs
         → CodesAreOrdered settings first inputs (after_inputs (made settings first) inputs).state.ledger }
 {}
+
+/// What holds of every central system: its community has 1 to 32 octets.
+pub fn centres_are_kept(centre: &Centre)
+    ensures { AreSettings centre.now.state.settings }
+{
+    centre.invariant();
+}

@@ -24,7 +24,8 @@ use Rattle.dms_objects.specs.Names.{scalar_number, name_of}
 use Rattle.dms_instances.specs.Objects.{instance_named}
 use Rattle.dms_sign.specs.State.{SignState}
 use Rattle.dms_access.specs.Access.{Write, SetNumber, SetCode, SetField, AskRow, Activate, SetRemaining, is_command, is_settable, octets_in, object_write, cell_write, write_of}
-use Rattle.dms_sign.specs.SetRequest.{SetCause, if_settable, settable_instance, write_at, is_among, is_command_at, is_refused_field, cause_if, causes, assigned}
+use Rattle.dms_access.specs.MetNames.{is_among}
+use Rattle.dms_sign.specs.SetRequest.{SetCause, if_settable, settable_instance, write_at, is_command_at, is_refused_field, cause_if, causes, assigned}
 use Rattle.dms_sign.specs.Requests.{found_unless, as_decided, as_asked, commanded, commanded_if, writes_of, set_unless, set, may_write, answer_by, primary}
 use Rattle.dms_sign.specs.Promises.{activates, AsksFor}
 use Rattle.dms_instances.proofs.InOrder.{named_is}

@@ -14,6 +14,7 @@ use Rattle.dms_access.specs.Access.{Write, is_command}
 use Rattle.dms_access.specs.Assignment.{given}
 use Rattle.dms_sign.specs.SetRequest.{SetCause, write_at, is_command_at, causes_at, causes_behind, causes, with_write, with_writes}
 use Rattle.dms_sign.specs.Requests.{writes_of, command_index}
+use Rattle.dms_access.proofs.TakenSlots.{any_push}
 use Rattle.dms_access.specs.SettingsView.{codes_by, set_by}
 
 -- ---- lists with one element more
@@ -49,18 +50,6 @@ codes_empty f = refl
 set_empty : (s : Settings) → s ≡ set_by s []
 unfolding set_by
 set_empty s = ap (λ (f : Fallbacks). record s { fallbacks = f }) (codes_empty s.fallbacks)
-
-pub any_push : {X : Type 0} (p : X → Bool) (xs : List X) (x : X) → list_any p (xs ++ x ∷ []) ≡ (list_any p xs || p x)
-any_push p [] x = or_false (p x)
-  where
-    or_false : (b : Bool) → (b || false) ≡ b
-    or_false true = refl
-    or_false false = refl
-any_push p (y ∷ xs) x = ap (λ b. p y || b) (any_push p xs x) ∙ or_assoc (p y) (list_any p xs) (p x)
-  where
-    or_assoc : (a b c : Bool) → (a || (b || c)) ≡ ((a || b) || c)
-    or_assoc true b c = refl
-    or_assoc false b c = refl
 
 pick_by : {X : Type 0} (b c : Bool) (x y : X) (o new : Option X) → (c ≡ true → cond b (Some y) o ≡ None)
     → ((c ≡ true → o ≡ None) → new ≡ cond c (Some x) o) → cond b (Some y) new ≡ cond c (Some x) (cond b (Some y) o)
@@ -216,3 +205,13 @@ judged_refused s may all old index settings at command rest more b status is e f
     in
     ap (λ cs. slice_get cs 0) (sym is.left ∙ ap (causes_behind s may is.done) e)
     ∙ first_of (causes_at s may is.done b) (causes_behind s may (is.done ++ b ∷ []) more) (record { index = index + 1; status = status }) here
+
+-- the bindings up to the next one
+pub one_more : (s : SignState) (may : Bool) (all : List VarBind) (old : Settings) (index : ℕ) (settings : Settings) (at : ℕ) (command : Option Write) (rest more : List VarBind)
+    (b : VarBind) → HasJudged s may all old index settings at command rest → rest ≡ b ∷ more → take index all ++ b ∷ [] ≡ take (index + 1) all
+one_more s may all old index settings at command rest more b is e =
+    let done = is.done in
+    let size : length (done ++ b ∷ []) ≡ index + 1 = let whole : length (done ++ b ∷ []) ≡ length done + 1 = length-append done (b ∷ []) in let c = is.count in omega arith in
+    let whole : (done ++ b ∷ []) ++ more ≡ all = append_assoc done (b ∷ []) more ∙ ap (λ r. done ++ r) (sym e) ∙ is.whole in
+    ap (λ d. d ++ b ∷ []) (before_is s may all old index settings at command rest is)
+    ∙ sym (take-append_seam (done ++ b ∷ []) more) ∙ ap (take (length (done ++ b ∷ []))) whole ∙ ap (λ n. take n all) size

@@ -13,8 +13,10 @@ use Rattle.dms_table.specs.Rows.{RowModel, TableModel, unused}
 use Rattle.dms_codes.specs.Limits.{longest_text, longest_owner}
 use Rattle.dms_table.specs.Stock.{permanent_row, has_ranges, are_counts, stock_fault, table_of}
 use Rattle.dms_table.proofs.Stands.{all_ranges}
-use Rattle.dms_sign.specs.State.{ConfigModel, power_recovery_mode, blank_code, start}
-use Rattle.dms_sign.specs.InRange.{AreOctets, IsConfigInRange, AreDefaultsInRange, IsRowInRange, IsTableInRange, IsSignInRange, IsStocked, IsMadeOfOctets}
+use Rattle.dms_table.specs.Activation.{blank_code}
+use Rattle.dms_sign.specs.State.{ConfigModel, power_recovery_mode, start}
+use Rattle.dms_access.specs.Ranges.{AreDefaultsInRange}
+use Rattle.dms_sign.specs.InRange.{AreOctets, IsConfigInRange, IsRowInRange, IsTableInRange, IsSignInRange, IsStocked, IsMadeOfOctets}
 use Rattle.dms_sign.proofs.InRangeLists.{all_mapped}
 use Rattle.dms_sign.proofs.InRangeShown.{blank_in_range}
 use Rattle.dms_sign.proofs.InRangeEvents.{unused_in_range}

@@ -27,5 +27,4 @@ pub mod Walks
 pub mod Sending
 pub mod Writes
 pub mod Causes
-pub mod TakenSlots
 pub mod Assigned

@@ -17,15 +17,24 @@ use Rattle.dms_table.specs.declared.validation.Verdict.{Verdict}
 use Rattle.dms_table.specs.Rows.{TableModel, after_power}
 use Rattle.dms_table.specs.Validation.{settled, verdict}
 use Rattle.dms_table.specs.Activation.{ShownModel, decided}
-use Rattle.dms_sign.specs.declared.reports.Reports.{Reports}
+use Rattle.dms_reports.specs.declared.reports.Reports.{Reports}
 use Rattle.dms_sign.specs.declared.sign.Sign.TheInside.{Inside}
 use Rattle.dms_sign.specs.Communities.{are_communities}
-use Rattle.dms_sign.specs.State.{ConfigModel, SignState, start, blank_code, blank_id, blank_shown, power_recovery_mode}
+use Rattle.dms_table.specs.Activation.{blank_id, blank_shown}
+use Rattle.dms_table.specs.Activation.{blank_code}
+use Rattle.dms_sign.specs.State.{ConfigModel, SignState, start, power_recovery_mode}
 use Rattle.dms_sign.specs.Kept.{IsKept}
-use Rattle.dms_sign.specs.OwnCodes.{own_activation, refused_reports}
-use Rattle.dms_sign.specs.Events.{settled_reports}
-use Rattle.dms_sign.specs.InRange.{IsStocked, AreDefaultsInRange, AreOctets, IsTableInRange, IsShownInRange, IsCauseInRange, IsTimeInRange, AreReportsInRange, IsSignInRange, most_minutes}
-use Rattle.dms_sign.specs.SignView.{reports_of, state_of, IsWhole}
+use Rattle.dms_access.specs.declared.settings.Settings.{Settings}
+use Rattle.dms_access.specs.SettingsView.{first_settings}
+use Rattle.dms_sign.specs.FallbacksView.{fallbacks_of}
+use Rattle.dms_reports.specs.Reports.{ReportsModel, first_reports, refused_reports}
+use Rattle.dms_sign.specs.OwnCodes.{own_activation}
+use Rattle.dms_reports.specs.Reports.{settled_reports}
+use Rattle.dms_reports.specs.Reports.{IsCauseInRange}
+use Rattle.dms_access.specs.Ranges.{AreDefaultsInRange}
+use Rattle.dms_sign.specs.InRange.{IsStocked, AreOctets, IsTableInRange, IsShownInRange, IsTimeInRange, AreReportsInRange, IsSignInRange, most_minutes}
+use Rattle.dms_reports.specs.ReportsView.{reports_of}
+use Rattle.dms_sign.specs.SignView.{state_of, IsWhole}
 use Rattle.dms_sign.proofs.InRangeShown.{showing_in_range, telling_in_range, with_table_in_range, with_mode, with_time, own_is, id_is, IsDecisionInRange, decided_in_range, refused_in_range}
 use Rattle.dms_sign.proofs.InRangeStart.{start_in_range, stocked_in_range}
 use Rattle.dms_sign.proofs.InRangeEvents.{IsVerdictInRange, settled_in_range, settled_verdict, verdict_told, with_silence, restored_in_range}
@@ -192,16 +201,44 @@ made_kept config table width height fits communities are reader writer stocked o
   communities = communities;
 }
 
-pub made_state : (config : ConfigModel) (table : TableModel) (defaults : Defaults) (shown kept : ShownModel) → defaults ≡ config.face.defaults
+pub made_state : (config : ConfigModel) (table : TableModel) (defaults : Defaults) (settings : Settings) (reports : Reports) (shown kept : ShownModel)
+    → defaults ≡ config.face.defaults → settings ≡ first_settings defaults → reports_of reports ≡ first_reports
     → shown ≡ blank_shown defaults power_recovery_mode → kept ≡ blank_shown defaults power_recovery_mode → IsKept (start config table)
-    → IsKept (record (start config table) { defaults = defaults; shown = shown; kept = kept })
-made_state config table defaults shown kept d s k is =
+    → IsKept (record (start config table) {
+      fallbacks = fallbacks_of settings.fallbacks;
+      short_power_loss_time = settings.short_power_loss_time;
+      time_comm_loss = settings.time_comm_loss;
+      defaults = settings.defaults;
+      shown = shown;
+      kept = kept;
+      reports = reports_of reports;
+    })
+made_state config table defaults settings reports shown kept d e r s k is =
     let same : blank_shown config.face.defaults power_recovery_mode ≡ blank_shown defaults power_recovery_mode =
     ap (λ (d : Defaults). blank_shown d power_recovery_mode) (sym d)
     in
+    let all : IsKept (record (start config table) { defaults = defaults; shown = shown; kept = kept }) =
     subst (λ (x : Defaults). IsKept (record (start config table) { defaults = x; shown = shown; kept = kept })) (sym d)
     (subst (λ (x : ShownModel). IsKept (record (start config table) { shown = x; kept = kept })) (same ∙ sym s)
     (subst (λ (x : ShownModel). IsKept (record (start config table) { kept = x })) (same ∙ sym k) is))
+    in
+    subst (λ (x : ReportsModel). IsKept (record (start config table) {
+      fallbacks = fallbacks_of settings.fallbacks;
+      short_power_loss_time = settings.short_power_loss_time;
+      time_comm_loss = settings.time_comm_loss;
+      defaults = settings.defaults;
+      shown = shown;
+      kept = kept;
+      reports = x;
+    })) (sym r)
+    (subst (λ (x : Settings). IsKept (record (start config table) {
+      fallbacks = fallbacks_of x.fallbacks;
+      short_power_loss_time = x.short_power_loss_time;
+      time_comm_loss = x.time_comm_loss;
+      defaults = x.defaults;
+      shown = shown;
+      kept = kept;
+    })) (sym e) all)
 
 pub made_source : (order : Order) (defaults : Defaults) (shown : ShownModel) → shown ≡ blank_shown defaults power_recovery_mode
     → blank_code ≡ octets_of_id order shown.source

@@ -5,7 +5,8 @@ use Rattle.dms_wire.specs.declared.message.Kind.TheVariants.{GetNext}
 use Rattle.dms_wire.specs.Message.{null}
 use Rattle.dms_objects.specs.declared.scalar.Scalar.TheVariants.{ShortPowerLossTime, CommunicationsLossMessage, TimeCommLoss, EndDurationMessage}
 use Rattle.dms_objects.specs.declared.instance.Instance.TheVariants.{The}
-use Rattle.dms_sign.specs.State.{SignState, blank_code}
+use Rattle.dms_table.specs.Activation.{blank_code}
+use Rattle.dms_sign.specs.State.{SignState}
 use Rattle.dms_sign.specs.Values.{bound}
 use Rattle.dms_sign.specs.Reply.{dropped}
 use Rattle.dms_sign.proofs.BenchSign.{octets_of, bench_sign, lettered_sign, number, octets, code, datagram, answer, after_set, later, without_power, with_power, seen, letter_a, blank_one}

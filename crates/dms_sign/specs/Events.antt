@@ -1,24 +1,13 @@
 -- What a second, a loss of power and its return make of a sign (this profile).
 use Rattle.std.specs.Prelude.{ℕ, ◌+◌, ◌-◌, ◌*◌, ◌==◌, ◌&&◌, true, false, List, Option, Some, None, nat_lt, nat_le, if◌then◌else◌}
-use Rattle.dms_face.specs.declared.multi_fault.MultiFault.{MultiFault}
 use Rattle.dms_face.specs.Layout.{under}
-use Rattle.dms_table.specs.declared.validation.Verdict.{Verdict}
 use Rattle.dms_table.specs.Rows.{after_power}
 use Rattle.dms_table.specs.Validation.{settled, verdict}
-use Rattle.dms_sign.specs.State.{SignState, ReportsModel, power_recovery_mode, communications_loss_mode, power_loss_mode, end_duration_mode}
-use Rattle.dms_sign.specs.OwnCodes.{showing, with_fault, put_up_code}
+use Rattle.dms_sign.specs.State.{SignState, power_recovery_mode, communications_loss_mode, power_loss_mode, end_duration_mode}
+use Rattle.dms_reports.specs.Reports.{settled_reports}
+use Rattle.dms_sign.specs.OwnCodes.{showing, put_up_code}
 
 -- ---- a second
-
--- what is told of a text: its fault, or that it has none (NTCIP 1203, dmsMultiSyntaxError)
-abbrev pub text_reports : ReportsModel → Option MultiFault → ReportsModel
-text_reports reports None = record reports { syntax_error = 2; syntax_error_position = 0 }
-text_reports reports (Some fault) = with_fault reports fault
-
--- what is told where a row was settled (NTCIP 1203, dmsValidateMessageError)
-abbrev pub settled_reports : ReportsModel → Option Verdict → ReportsModel
-settled_reports reports None = reports
-settled_reports reports (Some verdict) = record (text_reports reports verdict.fault) { validate_error = verdict.error }
 
 -- The row that is being validated is settled, under the defaults of now.
 unfoldable pub after_settling : SignState → SignState

@@ -10,15 +10,14 @@ use Rattle.dms_wire.specs.Limits.{IsValueInLimits}
 use Rattle.dms_wire.specs.MessageOf.{message_of}
 use Rattle.dms_wire.specs.Canonical.{canonical}
 use Rattle.dms_wire.specs.Response.{response_to}
-use Rattle.dms_face.specs.declared.defaults.Defaults.{Defaults}
 use Rattle.dms_codes.specs.Codes.{IsMessageId}
-use Rattle.dms_table.specs.declared.activation.Cause.{Cause}
-use Rattle.dms_table.specs.declared.activation.Cause.TheVariants as causes
 use Rattle.dms_table.specs.Rows.{RowModel, TableModel, unused}
 use Rattle.dms_codes.specs.Limits.{longest_text, longest_owner}
 use Rattle.dms_table.specs.Stock.{has_ranges}
 use Rattle.dms_table.specs.Activation.{ShownModel, shown_row}
-use Rattle.dms_sign.specs.State.{ConfigModel, FallbacksModel, ReportsModel, SignState}
+use Rattle.dms_access.specs.Ranges.{AreDefaultsInRange}
+use Rattle.dms_reports.specs.Reports.{ReportsModel}
+use Rattle.dms_sign.specs.State.{ConfigModel, FallbacksModel, SignState}
 use Rattle.dms_sign.specs.Reply.{too_big}
 use Rattle.dms_sign.specs.Requests.{Answer, primary}
 use Rattle.dms_sign.specs.Reply.{response_of, most_octets}
@@ -41,18 +40,6 @@ pub record IsConfigInRange (config : ConfigModel) : Type 0 where
   pub height : config.face.height ≤ 64
   pub reader : AllBelowBase 256 config.reader
   pub writer : AllBelowBase 256 config.writer
-
--- each default is an octet (NTCIP 1203, multiCfg)
-pub record AreDefaultsInRange (defaults : Defaults) : Type 0 where
-  pub background : defaults.background ≤ 255
-  pub foreground : defaults.foreground ≤ 255
-  pub flash_on : defaults.flash_on ≤ 255
-  pub flash_off : defaults.flash_off ≤ 255
-  pub font : defaults.font ≤ 255
-  pub line : defaults.line ≤ 255
-  pub page : defaults.page ≤ 255
-  pub on : defaults.on ≤ 255
-  pub off : defaults.off ≤ 255
 
 -- a row of dmsMessageTable
 pub record IsRowInRange (row : RowModel) : Type 0 where
@@ -97,15 +84,6 @@ pub record IsShownInRange (shown : ShownModel) : Type 0 where
   pub address : AreOctets 4 shown.address
   pub remaining : IsTimeInRange shown.remaining
   pub defaults : AreDefaultsInRange shown.defaults
-
--- the place of a fault lies in a text or at its end
-abbrev pub IsCauseInRange : Cause → Type 0
-IsCauseInRange (causes.Syntax fault) = fault.place ≤ longest_text
-IsCauseInRange causes.MemoryType = ⊤
-IsCauseInRange causes.Number = ⊤
-IsCauseInRange causes.Status = ⊤
-IsCauseInRange causes.Checksum = ⊤
-IsCauseInRange causes.Priority = ⊤
 
 -- the errors are octets, a place lies in a text or at its end, and each code is twelve octets (NTCIP 1203, MessageActivationCode)
 pub record AreReportsInRange (reports : ReportsModel) : Type 0 where

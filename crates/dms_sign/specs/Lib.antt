@@ -19,4 +19,3 @@ pub mod SignView
 pub mod ReplyView
 -- what only proofs go through
 pub mod SetView
-pub mod Slots

@@ -1,32 +1,18 @@
--- What a sign shows when it puts up one of its own codes, and what it tells of a code that is refused (this profile).
+-- What a sign shows when it puts up one of its own codes, and what it reports of a code that is refused (this profile).
 use Rattle.std.specs.Prelude.{ℕ, ◌==◌, List, None, Result, Ok, Err, if◌then◌else◌}
-use Rattle.dms_face.specs.declared.multi_fault.MultiFault.{MultiFault}
-use Rattle.dms_face.specs.FaultCode.{number_of_code}
 use Rattle.dms_codes.specs.declared.codes.MessageId.{MessageId}
 use Rattle.dms_codes.specs.declared.codes.Activation.{Activation}
 use Rattle.dms_table.specs.declared.activation.Cause.{Cause}
-use Rattle.dms_table.specs.declared.activation.Cause.TheVariants.{Syntax}
 use Rattle.dms_codes.specs.Memory.{current_buffer}
 use Rattle.dms_codes.specs.Codes.{id_of, octets_of_activation}
-use Rattle.dms_table.specs.Activation.{ShownModel, cause_number, decided}
-use Rattle.dms_sign.specs.State.{SignState, ReportsModel, blank_shown, no_address}
+use Rattle.dms_table.specs.Activation.{ShownModel, blank_shown, decided, no_address}
+use Rattle.dms_reports.specs.Reports.{refused_reports}
+use Rattle.dms_sign.specs.State.{SignState}
 
 abbrev pub showing : SignState → ShownModel → SignState
 showing s shown = record s { shown = shown }
 
 -- ---- a code that is refused
-
-abbrev pub with_fault : ReportsModel → MultiFault → ReportsModel
-with_fault reports fault = record reports { syntax_error = number_of_code fault.code; syntax_error_position = fault.place }
-
--- A text that is wrong has its fault told; other causes leave what is told of texts.
-abbrev pub with_cause : ReportsModel → Cause → ReportsModel
-with_cause reports (Syntax fault) = with_fault reports fault
-with_cause reports _ = reports
-
--- what is told of a code that is refused (NTCIP 1203, dmsActivateMsgError and dmsActivateErrorMsgCode)
-abbrev pub refused_reports : ReportsModel → Cause → List ℕ → ReportsModel
-refused_reports reports cause code = record (with_cause reports cause) { activate_error = cause_number cause; failed_code = code }
 
 abbrev pub with_refused_code : SignState → Cause → List ℕ → SignState
 with_refused_code s cause code = record s { reports = refused_reports s.reports cause code }

@@ -12,6 +12,7 @@ use Rattle.dms_table.specs.declared.activation.Cause.{Cause}
 use Rattle.dms_table.specs.Rows.{TableModel, asked}
 use Rattle.dms_codes.specs.Codes.{activation_of}
 use Rattle.dms_table.specs.Activation.{ShownModel, decided, seconds_of}
+use Rattle.dms_reports.specs.Reports.{accepted_reports}
 use Rattle.dms_sign.specs.State.{SignState, end_duration_mode}
 use Rattle.dms_sign.specs.Values.{value_of, value_after}
 use Rattle.dms_sign.specs.OwnCodes.{showing, with_refused_code, put_up_code}
@@ -62,7 +63,7 @@ get_next s bindings = found_unless s bindings (map (next_after s) bindings) (pos
 
 -- a code that was accepted has its message up
 abbrev pub activated : SignState → List ℕ → ShownModel → SignState
-activated s octets shown = record (showing s shown) { reports = record s.reports { activate_error = 2; accepted_code = octets } }
+activated s octets shown = record (showing s shown) { reports = accepted_reports s.reports octets }
 
 abbrev pub as_decided : SignState → SignState → List VarBind → ℕ → List ℕ → Result ShownModel Cause → Answer
 as_decided old new bindings index octets (Ok shown) = record {

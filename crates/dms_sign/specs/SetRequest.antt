@@ -1,8 +1,7 @@
 -- What a SET writes, what keeps it from doing so, and the state in which all that it assigns is assigned at once (RFC 1157, 4.1.5, and this
 -- profile).
-use Rattle.std.specs.Prelude.{ℕ, ◌+◌, ◌&&◌, ◌||◌, Bool, false, not, if◌then◌else◌, List, [], ◌∷◌, ◌++◌, length, nat_eq, filter_map, Option, Some, None, is_none, option_map, option_and_then, unwrap_or}
+use Rattle.std.specs.Prelude.{ℕ, ◌+◌, ◌&&◌, ◌||◌, Bool, false, not, if◌then◌else◌, List, [], ◌∷◌, ◌++◌, length, filter_map, Option, Some, None, is_none, option_map, option_and_then, unwrap_or}
 use Rattle.std.specs.List.{list_any}
-use Rattle.std.specs.Cmp.Lexicographic.{pointwise}
 use Rattle.dms_wire.specs.declared.error_status.ErrorStatus.{ErrorStatus}
 use Rattle.dms_wire.specs.declared.error_status.ErrorStatus.TheVariants.{NoSuchName, BadValue, GenErr}
 use Rattle.dms_wire.specs.Message.{VarBind}
@@ -13,6 +12,7 @@ use Rattle.dms_objects.specs.declared.instance.Instance.{Instance}
 use Rattle.dms_instances.specs.Objects.{instance_named}
 use Rattle.dms_sign.specs.State.{SignState}
 use Rattle.dms_access.specs.Access.{Write, SetField, is_command, is_settable, write_of}
+use Rattle.dms_access.specs.MetNames.{is_among}
 use Rattle.dms_access.specs.Assignment.{given, number_for, code_for}
 
 -- ---- what keeps a SET from writing
@@ -27,10 +27,6 @@ settable_instance s name = option_and_then if_settable (instance_named s.table n
 -- what a binding writes
 unfoldable pub write_at : SignState → VarBind → Option Write
 write_at s binding = option_and_then (λ i. write_of s.config.face i binding.value) (settable_instance s binding.name)
-
--- a name is that of one of these bindings
-abbrev pub is_among : List ℕ → List VarBind → Bool
-is_among name bindings = list_any (λ (binding : VarBind). pointwise nat_eq binding.name name) bindings
 
 -- a binding is a command
 abbrev pub is_command_at : SignState → VarBind → Bool

@@ -1,21 +1,11 @@
 -- The state that the code's fields are.
 use Rattle.std.specs.Prelude.{◌≡◌}
 use Rattle.dms_codes.specs.Codes.{octets_of_id}
-use Rattle.dms_sign.specs.declared.reports.Reports.{Reports}
 use Rattle.dms_sign.specs.declared.sign.Sign.TheInside.{Inside}
 use Rattle.dms_sign.specs.Kept.{IsKept}
 use Rattle.dms_sign.specs.FallbacksView.{fallbacks_of}
-use Rattle.dms_sign.specs.State.{ReportsModel, SignState}
-
-abbrev pub reports_of : Reports → ReportsModel
-reports_of r = record {
-  validate_error = r.validate_error;
-  activate_error = r.activate_error;
-  syntax_error = r.syntax_error;
-  syntax_error_position = r.syntax_error_position;
-  accepted_code = r.accepted_code;
-  failed_code = r.failed_code;
-}
+use Rattle.dms_reports.specs.ReportsView.{reports_of}
+use Rattle.dms_sign.specs.State.{SignState}
 
 abbrev pub state_of : Inside → SignState
 state_of s = record {

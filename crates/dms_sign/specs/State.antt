@@ -1,11 +1,10 @@
 -- The state of a sign, and how it starts (the values at the start are this profile's).
-use Rattle.std.specs.Prelude.{ℕ, Bool, true, List, [], ◌∷◌, replicate, None}
+use Rattle.std.specs.Prelude.{ℕ, Bool, true, List}
 use Rattle.dms_face.specs.declared.defaults.Defaults.{Defaults}
 use Rattle.dms_face.specs.Face.{FaceModel}
-use Rattle.dms_codes.specs.declared.codes.MessageId.{MessageId}
 use Rattle.dms_table.specs.Rows.{TableModel}
-use Rattle.dms_codes.specs.Memory.{blank_memory}
-use Rattle.dms_table.specs.Activation.{ShownModel}
+use Rattle.dms_table.specs.Activation.{ShownModel, blank_code, blank_shown}
+use Rattle.dms_reports.specs.Reports.{ReportsModel, first_reports}
 
 -- ---- states
 
@@ -27,21 +26,6 @@ pub record FallbacksModel : Type 0 where
   pub end_duration : List ℕ
   -- dmsCommunicationsLossMessage
   pub communications_loss : List ℕ
-
--- what a sign tells of its verdicts and decisions; codes are the twelve octets that came (NTCIP 1203, MessageActivationCode)
-pub record ReportsModel : Type 0 where
-  -- dmsValidateMessageError
-  pub validate_error : ℕ
-  -- dmsActivateMsgError
-  pub activate_error : ℕ
-  -- dmsMultiSyntaxError
-  pub syntax_error : ℕ
-  -- dmsMultiSyntaxErrorPosition
-  pub syntax_error_position : ℕ
-  -- dmsActivateMessage: the code last accepted by SET
-  pub accepted_code : List ℕ
-  -- dmsActivateErrorMsgCode: the code last refused
-  pub failed_code : List ℕ
 
 pub record SignState : Type 0 where
   pub config : ConfigModel
@@ -78,33 +62,6 @@ end_duration_mode = 14
 
 -- ---- the start
 
--- the address of nobody, 0.0.0.0
-abbrev pub no_address : List ℕ
-no_address = 0 ∷ 0 ∷ 0 ∷ 0 ∷ []
-
--- blank message 1
-abbrev pub blank_id : MessageId
-blank_id = record { memory = blank_memory; number = 1; crc = 0 }
-
--- its octets, in either order
-abbrev pub blank_code : List ℕ
-blank_code = 7 ∷ 0 ∷ 1 ∷ 0 ∷ 0 ∷ []
-
--- blank message 1, put up by the sign itself under these defaults, without an end
-abbrev pub blank_shown : Defaults → ℕ → ShownModel
-blank_shown defaults mode = record {
-  text = [];
-  owner = [];
-  beacon = 0;
-  pixel = 0;
-  priority = 1;
-  source = blank_id;
-  mode = mode;
-  address = no_address;
-  remaining = None;
-  defaults = defaults;
-}
-
 -- A sign as it is made shows the blank message and has power.
 abbrev pub start : ConfigModel → TableModel → SignState
 start config table = record {
@@ -123,13 +80,6 @@ start config table = record {
   defaults = config.face.defaults;
   shown = blank_shown config.face.defaults power_recovery_mode;
   kept = blank_shown config.face.defaults power_recovery_mode;
-  reports = record {
-    validate_error = 2;
-    activate_error = 2;
-    syntax_error = 2;
-    syntax_error_position = 0;
-    accepted_code = replicate 12 0;
-    failed_code = replicate 12 0;
-  };
+  reports = first_reports;
   powered = true;
 }

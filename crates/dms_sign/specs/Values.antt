@@ -1,13 +1,8 @@
 -- What the objects of a sign read (NTCIP 1203, each by its name).
-use Rattle.std.specs.Prelude.{ℕ, pos, ◌+◌, ◌*◌, ◌/◌, List, Option, Some, None, option_map, option_and_then}
-use Rattle.dms_wire.specs.Message.{ObjectValue, integer, octet_string, ip_address, VarBind}
-use Rattle.dms_codes.specs.declared.codes.Order.{Order}
-use Rattle.dms_objects.specs.declared.column.Column.{Column}
-use Rattle.dms_objects.specs.declared.column.Column.TheVariants as columns
-use Rattle.dms_codes.specs.declared.row_id.RowId.{RowId}
-use Rattle.dms_codes.specs.Status.{status_number}
-use Rattle.dms_codes.specs.Codes.{in_order, octets_of_id}
-use Rattle.dms_table.specs.Rows.{TableModel, RowReading, valid_count, unused_count, row_count}
+use Rattle.std.specs.Prelude.{ℕ, ◌+◌, ◌*◌, ◌/◌, List, Option, Some, None, option_map, option_and_then}
+use Rattle.dms_wire.specs.Message.{ObjectValue, octet_string, ip_address, VarBind}
+use Rattle.dms_codes.specs.Codes.{octets_of_id}
+use Rattle.dms_table.specs.Rows.{TableModel, valid_count, unused_count, row_count}
 use Rattle.dms_codes.specs.Memory.{permanent_memory, changeable_memory, volatile_memory}
 use Rattle.dms_codes.specs.Limits.{longest_text}
 use Rattle.dms_table.specs.Activation.{message_at}
@@ -17,10 +12,8 @@ use Rattle.dms_objects.specs.declared.instance.Instance.{Instance}
 use Rattle.dms_objects.specs.declared.instance.Instance.TheVariants.{The, Cell}
 use Rattle.dms_objects.specs.Names.{name_of}
 use Rattle.dms_instances.specs.Objects.{instance_named, next_instance}
+use Rattle.dms_reports.specs.Cells.{number_value, cell_value}
 use Rattle.dms_sign.specs.State.{SignState}
-
-abbrev pub number_value : ℕ → ObjectValue
-number_value n = integer (pos n)
 
 -- ---- objects with one instance
 
@@ -72,20 +65,6 @@ scalar_value s ActivateMsgError = number_value s.reports.activate_error
 scalar_value s MultiSyntaxError = number_value s.reports.syntax_error
 scalar_value s MultiSyntaxErrorPosition = number_value s.reports.syntax_error_position
 scalar_value s ActivateErrorMsgCode = octet_string s.reports.failed_code
-
--- ---- cells of dmsMessageTable
-
--- what a column tells of a row; the checksum is in the sign's order
-abbrev pub cell_value : Order → Column → RowId → RowReading → ObjectValue
-cell_value order columns.MemoryType id reading = number_value id.memory
-cell_value order columns.Number id reading = number_value id.number
-cell_value order columns.MultiString id reading = octet_string reading.row.text
-cell_value order columns.Owner id reading = octet_string reading.row.owner
-cell_value order columns.Crc id reading = number_value (in_order order reading.checksum)
-cell_value order columns.Beacon id reading = number_value reading.row.beacon
-cell_value order columns.PixelService id reading = number_value reading.row.pixel
-cell_value order columns.RunTimePriority id reading = number_value reading.row.priority
-cell_value order columns.Status id reading = number_value (status_number reading.row.status)
 
 -- ---- names
 

@@ -1,6 +1,6 @@
-//! Laws over the definitions of specs/ alone, stated as functions with nothing to run.
+//! Laws over the definitions of specs/ alone, and what holds of every sign, stated as functions with nothing to run.
 
-ghost use Rattle.std.specs.Prelude.{◌≡◌, ◌↔◌, ℕ, List, [], ◌∷◌, length, Some};
+ghost use Rattle.std.specs.Prelude.{◌≡◌, ◌↔◌, ℕ, List, [], ◌∷◌, length, Some, IsTrue};
 ghost use Rattle.dms_wire.specs.declared.message.Kind.TheVariants.{Set};
 ghost use Rattle.dms_wire.specs.declared.error_status.ErrorStatus.TheVariants.{NoError};
 ghost use Rattle.dms_wire.specs.ErrorStatus.{error_status_number};
@@ -18,6 +18,11 @@ ghost use Rattle.dms_sign.specs.Requests.{primary};
 ghost use Rattle.dms_sign.specs.Reply.{reply_to, received};
 ghost use Rattle.dms_sign.specs.Events.{after_tick, after_power_loss, after_power_return};
 ghost use Rattle.dms_sign.specs.Promises.{IsReplyTo, AsksFor, activates};
+ghost use Rattle.dms_sign.specs.Communities.{are_communities};
+ghost use Rattle.dms_sign.specs.InRange.{IsSignInRange};
+ghost use Rattle.dms_sign.specs.Transitions.{HasFitDefaults};
+
+use crate::sign::Sign;
 
 /// What is sent is a Response to a request that came, with its community and its request-id.
 pub fn replies_name_their_request()
@@ -54,3 +59,12 @@ pub fn at_most_one_row_validates()
     ensures power_loss { (s : SignState) → IsTable s.table → IsTable (after_power_loss s).table }
     ensures power_return { (s : SignState) (seconds : ℕ) → IsTable s.table → IsTable (after_power_return s seconds).table }
 {}
+
+/// What holds of every sign: its values are in range, its defaults fit its face, and its communities have 1 to 32 octets and differ.
+pub fn signs_are_kept(sign: &Sign)
+    ensures in_range { IsSignInRange sign.now }
+    ensures fit { HasFitDefaults sign.now }
+    ensures communities { IsTrue (are_communities sign.now.config.reader sign.now.config.writer) }
+{
+    sign.invariant();
+}

@@ -4,7 +4,6 @@
 pub mod config;
 pub mod laws;
 pub mod range_laws;
-mod reports;
 pub mod sign;
 pub mod step_laws;
 #[cfg(test)]

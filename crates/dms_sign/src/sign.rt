@@ -7,27 +7,26 @@ ghost use Rattle.dms_table.specs.Stock.{table_of, PermanentRowsAreGood, HasOctet
 ghost use Rattle.dms_sign.specs.Communities.{are_communities};
 ghost use Rattle.dms_sign.specs.State.{start};
 ghost use Rattle.dms_sign.specs.Configuration.{config_of, config_fault, IsFirstConfigFault};
-ghost use Rattle.dms_sign.specs.InRange.{IsStocked, AreDefaultsInRange, AreOctets, IsShownInRange, IsTimeInRange, IsCauseInRange, IsSignInRange, AreFallbacksInRange, most_minutes};
+ghost use Rattle.dms_reports.specs.Reports.{IsCauseInRange};
+ghost use Rattle.dms_sign.specs.InRange.{IsStocked, AreOctets, IsShownInRange, IsTimeInRange, IsSignInRange, AreFallbacksInRange, most_minutes};
 ghost use Rattle.dms_sign.specs.Transitions.{HasFitDefaults};
 ghost use Rattle.dms_sign.specs.OwnCodes.{showing, staying, with_refused_code};
 ghost use Rattle.dms_sign.specs.Events.{after_settling, restored};
 ghost use Rattle.dms_sign.specs.FallbacksView.{fallbacks_of};
 
 use crate::config::{Config, ConfigFault, are_communities};
-use crate::reports::{Reports, with_refusal, with_verdict};
 use crate::sign::events::mode;
-use crate::sign::own_codes::blank_shown;
 use arrayvec::ArrayVec;
 use dms_access::{Fallbacks, Settings};
 use dms_codes::Order;
 use dms_face::{Defaults, Face};
+use dms_reports::Reports;
 use dms_table::{Cause, Shown, Table};
 use std::alloc::Global;
 use std::marker::Model;
 
 mod commands;
 mod events;
-mod met_names;
 mod own_codes;
 pub mod reply;
 mod requests;
@@ -105,37 +104,17 @@ impl Sign {
     {
         let defaults = face.defaults();
         let _ = (face.width(), face.height());
-        are_octets(&defaults);
-        let code = [7, 0, 1, 0, 0];
         Sign {
             face,
             reader,
             writer,
             table,
-            settings: Settings {
-                fallbacks: Fallbacks {
-                    short_power_recovery: code,
-                    long_power_recovery: code,
-                    power_loss: code,
-                    end_duration: code,
-                    communications_loss: code,
-                },
-                short_power_loss_time: 0,
-                time_comm_loss: 0,
-                defaults,
-            },
+            settings: Settings::new(defaults),
             silent: 0,
-            shown: blank_shown(&defaults, mode::POWER_RECOVERY),
-            source: code,
-            kept: blank_shown(&defaults, mode::POWER_RECOVERY),
-            reports: Reports {
-                validate_error: 2,
-                activate_error: 2,
-                syntax_error: 2,
-                syntax_error_position: 0,
-                accepted_code: [0; 12],
-                failed_code: [0; 12],
-            },
+            shown: Shown::blank(&defaults, mode::POWER_RECOVERY),
+            source: [7, 0, 1, 0, 0],
+            kept: Shown::blank(&defaults, mode::POWER_RECOVERY),
+            reports: Reports::new(),
             powered: true,
         }
     }
@@ -168,8 +147,8 @@ impl Sign {
         self.table.order()
     }
 
-    /// What holds of every sign: its values are in range, its defaults fit its face, and its communities have 1 to 32 octets and differ.
-    pub fn is_kept(&self)
+    /// What the type's invariant says (`laws::signs_are_kept`).
+    pub(crate) fn invariant(&self)
         ensures in_range { IsSignInRange self.now }
         ensures fit { HasFitDefaults self.now }
         ensures communities { IsTrue (are_communities self.now.config.reader self.now.config.writer) }
@@ -215,7 +194,7 @@ impl Sign {
         requires code { AreOctets 12 code }
         ensures { self.new ≡ with_refused_code self.old cause.now code }
     {
-        self.reports = with_refusal(self.reports, cause, code);
+        self.reports = self.reports.with_refusal(cause, code);
     }
 
     /// What is shown is kept.
@@ -245,7 +224,7 @@ impl Sign {
         ensures { self.new ≡ after_settling self.old }
     {
         let verdict = self.table.settle(&self.face, &self.settings.defaults);
-        self.reports = with_verdict(self.reports, &verdict);
+        self.reports = self.reports.with_verdict(&verdict);
     }
 
     /// What is there as the power comes back: what was kept is shown, volatile rows are gone, and the silence begins anew.
@@ -271,37 +250,6 @@ fn community(octets: &[u8]) -> ArrayVec<u8, MAX_COMMUNITY>
     let _ = copy.try_extend_from_slice(octets);
     copy
 }
-
-/// Each default is an octet.
-fn are_octets(defaults: &Defaults)
-    ensures { AreDefaultsInRange defaults.now }
-{
-    nine_octets(
-        defaults.background,
-        defaults.foreground,
-        defaults.flash_on,
-        defaults.flash_off,
-        defaults.font,
-        defaults.line,
-        defaults.page,
-        defaults.on,
-        defaults.off,
-    );
-}
-
-fn nine_octets(
-    background: u8,
-    foreground: u8,
-    flash_on: u8,
-    flash_off: u8,
-    font: u8,
-    line: u8,
-    page: u8,
-    on: u8,
-    off: u8,
-)
-    ensures { AreDefaultsInRange (record { background = background; foreground = foreground; flash_on = flash_on; flash_off = flash_off; font = font; line = line; page = page; on = on; off = off }) }
-{}
 
 /// The octets of the code of what is shown.
 fn source_of(shown: &Shown, order: Order) -> [u8; 5]

@@ -1,5 +1,5 @@
 -- What puts a message up, and what keeps it from being shown (NTCIP 1203, dmsActivateMessage and dmsActivateMsgError).
-use Rattle.std.specs.Prelude.{ℕ, ◌*◌, ◌==◌, ◌||◌, Bool, not, if◌then◌else◌, List, Option, Some, None, Result, Ok, Err, option_map, nat_lt}
+use Rattle.std.specs.Prelude.{ℕ, ◌*◌, ◌==◌, ◌||◌, Bool, not, if◌then◌else◌, List, [], ◌∷◌, Option, Some, None, Result, Ok, Err, option_map, nat_lt}
 use Rattle.dms_face.specs.declared.defaults.Defaults.{Defaults}
 use Rattle.dms_face.specs.Face.{FaceModel}
 use Rattle.dms_face.specs.Layout.{under}
@@ -27,6 +27,35 @@ pub record ShownModel : Type 0 where
   pub address : List ℕ
   pub remaining : Option ℕ
   pub defaults : Defaults
+
+-- ---- the blank message
+
+-- the address of nobody, 0.0.0.0
+abbrev pub no_address : List ℕ
+no_address = 0 ∷ 0 ∷ 0 ∷ 0 ∷ []
+
+-- blank message 1
+abbrev pub blank_id : MessageId
+blank_id = record { memory = blank_memory; number = 1; crc = 0 }
+
+-- the octets of its code, in either order
+abbrev pub blank_code : List ℕ
+blank_code = 7 ∷ 0 ∷ 1 ∷ 0 ∷ 0 ∷ []
+
+-- blank message 1, put up by nobody under these defaults, without an end
+abbrev pub blank_shown : Defaults → ℕ → ShownModel
+blank_shown defaults mode = record {
+  text = [];
+  owner = [];
+  beacon = 0;
+  pixel = 0;
+  priority = 1;
+  source = blank_id;
+  mode = mode;
+  address = no_address;
+  remaining = None;
+  defaults = defaults;
+}
 
 -- ---- what a code names
 

@@ -2,7 +2,7 @@
 
 ghost use Rattle.std.specs.Prelude.{◌≡◌};
 ghost use Rattle.dms_table.specs.RowsView.{reading_of, IsShort};
-ghost use Rattle.dms_table.specs.Activation.{shown_reading, seconds_of, put_up};
+ghost use Rattle.dms_table.specs.Activation.{blank_shown, shown_reading, seconds_of, put_up};
 
 use crate::row::{RowView, copy_of};
 use arrayvec::ArrayVec;
@@ -47,6 +47,28 @@ impl Model for Shown {
 }
 
 impl Shown {
+    /// Blank message 1, put up by nobody under these defaults, without an end; the mode says how it came up (dmsMsgSourceMode).
+    pub fn blank(defaults: &Defaults, mode: u8) -> Shown
+        ensures { result ≡ blank_shown defaults.now mode }
+    {
+        Shown {
+            text: ArrayVec::new(),
+            owner: ArrayVec::new(),
+            beacon: 0,
+            pixel: 0,
+            priority: 1,
+            source: MessageId {
+                memory: memory::BLANK,
+                number: 1,
+                crc: 0,
+            },
+            mode,
+            address: [0; 4],
+            remaining: None,
+            defaults: *defaults,
+        }
+    }
+
     /// What is shown, as a row of the current buffer.
     pub fn view(&self) -> RowView<'_>
         ensures read { reading_of result ≡ shown_reading self.now }

@@ -11,9 +11,11 @@ ghost use Rattle.dms_world.specs.Growing.{may_grow};
 ghost use Rattle.dms_world.specs.World.{IsFresh, beginning, happens, noted};
 
 use crate::event::Event;
+use dms_centre::laws::centres_are_kept;
 use dms_centre::{Centre, Command};
 use dms_codes::Activation;
 use dms_face::laws::faces_are_within_their_limits;
+use dms_sign::laws::signs_are_kept;
 use dms_sign::{Receipt, Sign};
 use dms_wire::Out;
 use std::alloc::{AllocError, Global};
@@ -37,9 +39,9 @@ impl World {
         ensures world { seen result ≡ beginning sign centre.state }
         ensures fresh { IsNewSign sign → IsNewCentre centre.state → IsFresh (seen result) }
     {
-        sign.is_kept();
+        signs_are_kept(&sign);
         faces_are_within_their_limits(sign.face());
-        centre.is_kept();
+        centres_are_kept(&centre);
         World {
             sign,
             centre,

@@ -14,7 +14,6 @@ ghost use Rattle.dms_sign.specs.SetView.{Says};
 ghost use Rattle.dms_sign.specs.SetRequest.{assigned};
 ghost use Rattle.dms_sign.specs.Requests.{activated, with_remaining, writes_of, commanded, commanded_if, set};
 
-use crate::reports::accepted;
 use crate::sign::Sign;
 use crate::sign::events::mode;
 use crate::sign::set_request::{Judged, Refusal, write_fields};
@@ -160,7 +159,7 @@ impl Sign {
     {
         self.source = super::source_of(&shown, self.table.order());
         self.shown = shown;
-        self.reports = accepted(self.reports, octets);
+        self.reports = self.reports.with_accepted(octets);
     }
 
     /// The minutes until the end of what is shown (dmsMessageTimeRemaining); where none remains the end has come.

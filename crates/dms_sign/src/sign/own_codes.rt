@@ -3,13 +3,10 @@
 ghost use Rattle.std.specs.Prelude.{◌≡◌};
 ghost use Rattle.std.specs.Int.Digits.{AllBelowBase};
 ghost use Rattle.dms_codes.specs.Codes.{id_of};
-ghost use Rattle.dms_sign.specs.State.{blank_shown};
 ghost use Rattle.dms_sign.specs.OwnCodes.{own_activation, put_up_code};
 
 use crate::sign::Sign;
-use arrayvec::ArrayVec;
 use dms_codes::{Activation, MessageId, Order, memory};
-use dms_face::Defaults;
 use dms_table::Shown;
 
 /// Blank message 1.
@@ -37,7 +34,7 @@ impl Sign {
             Ok(shown) => self.show(with_mode(shown, mode)),
             Err(cause) => {
                 let octets = code.to_bytes(self.table.order());
-                self.show(blank_shown(&defaults, mode));
+                self.show(Shown::blank(&defaults, mode));
                 self.refuse_code(&cause, octets);
             }
         }
@@ -67,22 +64,4 @@ fn with_mode(shown: Shown, mode: u8) -> Shown
     ensures { result ≡ record shown { mode = mode } }
 {
     Shown { mode, ..shown }
-}
-
-/// Blank message 1, put up by the sign itself under these defaults, without an end.
-pub(super) fn blank_shown(defaults: &Defaults, mode: u8) -> Shown
-    ensures { result ≡ blank_shown defaults.now mode }
-{
-    Shown {
-        text: ArrayVec::new(),
-        owner: ArrayVec::new(),
-        beacon: 0,
-        pixel: 0,
-        priority: 1,
-        source: BLANK,
-        mode,
-        address: [0; 4],
-        remaining: None,
-        defaults: *defaults,
-    }
 }

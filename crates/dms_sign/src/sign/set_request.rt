@@ -10,13 +10,15 @@ ghost use Rattle.dms_access.specs.ChangeView.{write_by, IsChange};
 ghost use Rattle.dms_sign.specs.SetView.{refusal_of};
 ghost use Rattle.dms_access.specs.SettingsView.{set_by};
 ghost use Rattle.dms_sign.specs.SetView.{AreSettings};
-ghost use Rattle.dms_sign.specs.SetRequest.{settable_instance, write_at, is_among, is_command_at, is_refused_field, causes_at, causes, with_writes};
-ghost use Rattle.dms_sign.specs.Slots.{AreTaken};
+ghost use Rattle.dms_access.specs.MetNames.{is_among};
+ghost use Rattle.dms_sign.specs.SetRequest.{settable_instance, write_at, is_command_at, is_refused_field, causes_at, causes, with_writes};
+ghost use Rattle.dms_access.specs.Slots.{AreTaken};
 ghost use Rattle.dms_sign.specs.Requests.{writes_of, command_index};
 
 use crate::sign::Sign;
-use crate::sign::met_names::{Slots, is_taken, with_name};
-use dms_access::{Change, Settings, is_settable, with_change, write_of};
+use dms_access::{
+    Change, Settings, Slots, is_settable, was_given, with_change, with_name, write_of,
+};
 use dms_codes::Status;
 use dms_face::Face;
 use dms_instances::Counts;
@@ -170,34 +172,6 @@ fn with<'a>(judged: Judged<'a>, index: u32, change: Change<'a>) -> Judged<'a>
             command: judged.command,
         }
     }
-}
-
-/// The name is that of one of the first `count` bindings, whose names have their slots taken: they are looked at only where its slot is.
-fn was_given(slots: &Slots, name: &Oid<'_>, before: &Binds<'_>, count: u32) -> bool
-    requires { AreTaken slots.now (take count before.now) }
-    ensures { result ≡ is_among name.now (take count before.now) }
-{
-    is_taken(slots, name) && is_among(name, before.again(), count)
-}
-
-/// The name is that of one of the first `count` bindings.
-fn is_among(name: &Oid<'_>, binds: Binds<'_>, count: u32) -> bool
-    ensures { result ≡ is_among name.now (take count binds.entry) }
-{
-    let mut rest = binds;
-    let mut left = count;
-    while left > 0 {
-        match rest.next() {
-            None => return false,
-            Some(binding) => {
-                if binding.name == *name {
-                    return true;
-                }
-            }
-        }
-        left -= 1;
-    }
-    false
 }
 
 /// What a binding writes on a sign with this face and as many rows.

@@ -1,7 +1,6 @@
 //! What the objects of a sign read.
 
 ghost use Rattle.std.specs.Prelude.{◌≡◌, ◌<◌, ◌*◌, option_map};
-ghost use Rattle.dms_codes.specs.Codes.{in_order};
 ghost use Rattle.dms_table.specs.RowsView.{reading_of};
 ghost use Rattle.dms_table.specs.Activation.{message_at};
 ghost use Rattle.dms_table.specs.Rows.{valid_count, row_count};
@@ -9,12 +8,14 @@ ghost use Rattle.dms_wire.specs.View.{object_value};
 ghost use Rattle.dms_instances.specs.Objects.{instance_named};
 ghost use Rattle.dms_instances.specs.Places.{HasCounts};
 ghost use Rattle.dms_sign.specs.InRange.{IsTimeInRange};
-ghost use Rattle.dms_sign.specs.Values.{number_value, minutes_left, free_octets, scalar_value, cell_value, value_at, value_of};
+ghost use Rattle.dms_reports.specs.Cells.{number_value, cell_value};
+ghost use Rattle.dms_sign.specs.Values.{minutes_left, free_octets, scalar_value, value_at, value_of};
 
 use crate::sign::Sign;
-use dms_codes::{MAX_TEXT, Order, RowId, memory};
+use dms_codes::{MAX_TEXT, RowId, memory};
 use dms_instances::Counts;
-use dms_objects::{Column, Instance, Scalar};
+use dms_objects::{Instance, Scalar};
+use dms_reports::{cell_value, number_value};
 use dms_table::RowView;
 use dms_wire::{Oid, Value};
 
@@ -86,8 +87,8 @@ impl Sign {
         let fallbacks = &self.settings.fallbacks;
         let reports = &self.reports;
         match object {
-            Scalar::SignHeightPixels => number(self.face.height()),
-            Scalar::SignWidthPixels => number(self.face.width()),
+            Scalar::SignHeightPixels => number_value(self.face.height()),
+            Scalar::SignWidthPixels => number_value(self.face.width()),
             Scalar::DefaultBackgroundColor => small(defaults.background),
             Scalar::DefaultForegroundColor => small(defaults.foreground),
             Scalar::DefaultFlashOn => small(defaults.flash_on),
@@ -107,7 +108,7 @@ impl Sign {
             Scalar::FreeVolatileMemory => count(self.free_octets(memory::VOLATILE)),
             Scalar::ValidateMessageError => small(reports.validate_error),
             Scalar::ActivateMessage => Value::Octets(&reports.accepted_code),
-            Scalar::MessageTimeRemaining => number(minutes_left(self.shown.remaining)),
+            Scalar::MessageTimeRemaining => number_value(minutes_left(self.shown.remaining)),
             Scalar::MsgTableSource => Value::Octets(&self.source),
             Scalar::MsgRequesterId => {
                 let address = self.shown.address;
@@ -116,14 +117,14 @@ impl Sign {
             Scalar::MsgSourceMode => small(self.shown.mode),
             Scalar::ShortPowerRecoveryMessage => Value::Octets(&fallbacks.short_power_recovery),
             Scalar::LongPowerRecoveryMessage => Value::Octets(&fallbacks.long_power_recovery),
-            Scalar::ShortPowerLossTime => number(self.settings.short_power_loss_time),
+            Scalar::ShortPowerLossTime => number_value(self.settings.short_power_loss_time),
             Scalar::CommunicationsLossMessage => Value::Octets(&fallbacks.communications_loss),
-            Scalar::TimeCommLoss => number(self.settings.time_comm_loss),
+            Scalar::TimeCommLoss => number_value(self.settings.time_comm_loss),
             Scalar::PowerLossMessage => Value::Octets(&fallbacks.power_loss),
             Scalar::EndDurationMessage => Value::Octets(&fallbacks.end_duration),
             Scalar::ActivateMsgError => small(reports.activate_error),
             Scalar::MultiSyntaxError => small(reports.syntax_error),
-            Scalar::MultiSyntaxErrorPosition => number(reports.syntax_error_position),
+            Scalar::MultiSyntaxErrorPosition => number_value(reports.syntax_error_position),
             Scalar::ActivateErrorMsgCode => Value::Octets(&reports.failed_code),
         }
     }
@@ -132,13 +133,7 @@ impl Sign {
 fn small<'a>(value: u8) -> Value<'a>
     ensures { object_value result ≡ number_value value }
 {
-    Value::Integer(i64::from(value))
-}
-
-fn number<'a>(value: u16) -> Value<'a>
-    ensures { object_value result ≡ number_value value }
-{
-    Value::Integer(i64::from(value))
+    number_value(u16::from(value))
 }
 
 fn count<'a>(value: usize) -> Value<'a>
@@ -156,35 +151,5 @@ fn minutes_left(remaining: Option<u32>) -> u16
     match remaining {
         Some(seconds) => ((seconds + 59) / 60) as u16,
         None => u16::MAX,
-    }
-}
-
-/// What a column tells of a row; the checksum is in the sign's order.
-fn cell_value<'a>(order: Order, column: Column, id: RowId, message: &RowView<'a>) -> Value<'a>
-    ensures { object_value result ≡ cell_value order column id (reading_of message.now) }
-{
-    match column {
-        Column::MemoryType => small(id.memory),
-        Column::Number => number(id.number),
-        Column::MultiString => Value::Octets(message.text),
-        Column::Owner => Value::Octets(message.owner),
-        Column::Crc => number(in_order(order, message.checksum)),
-        Column::Beacon => small(message.beacon),
-        Column::PixelService => small(message.pixel),
-        Column::RunTimePriority => small(message.priority),
-        Column::Status => small(message.status.number()),
-    }
-}
-
-/// A checksum as the number that its two octets are in an order.
-fn in_order(order: Order, checksum: u16) -> u16
-    ensures { result ≡ in_order order checksum }
-{
-    match order {
-        Order::High => checksum,
-        Order::Swapped => {
-            let [high, low] = checksum.to_be_bytes();
-            u16::from_be_bytes([low, high])
-        }
     }
 }

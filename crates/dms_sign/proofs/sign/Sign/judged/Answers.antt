@@ -4,8 +4,8 @@ use Rattle.dms_wire.specs.View.{var_bind}
 use Rattle.dms_access.specs.Access.{is_command}
 use Rattle.dms_access.specs.ChangeView.{write_by}
 use Rattle.dms_sign.proofs.Causes.{judged_starts, judged_more, judged_refused, judged_all, mapped_some}
-use Rattle.dms_sign.specs.Slots.{AreTaken}
-use Rattle.dms_sign.proofs.TakenSlots.{one_more}
+use Rattle.dms_access.specs.Slots.{AreTaken}
+use Rattle.dms_sign.proofs.Causes.{one_more}
 use Rattle.dms_sign.proofs.sign.Sign.judged.Goals as goal
 
 pub loop-binding-init : goal.loop-binding-init

@@ -2,7 +2,7 @@ use Rattle.std.proofs.Common.{◌≤◌, subst}
 use Rattle.std.specs.Prelude.{IsTrue}
 use Rattle.dms_face.specs.declared.defaults.Defaults.{Defaults}
 use Rattle.dms_face.specs.Face.{fit}
-use Rattle.dms_sign.specs.InRange.{AreDefaultsInRange}
+use Rattle.dms_access.specs.Ranges.{AreDefaultsInRange}
 use Rattle.dms_sign.specs.State.{ConfigModel}
 use Rattle.dms_sign.proofs.Wholes.{made_kept, made_state, made_source}
 use Rattle.dms_sign.proofs.sign.Sign.of.Goals as goal
@@ -14,11 +14,12 @@ invariant_of-result c =
     made_kept config c.args.table (subst (λ n. n ≤ 256) c.width.ensures.value c.width.ensures.most)
     (subst (λ n. n ≤ 64) c.height.ensures.value c.height.ensures.most)
     (subst (λ (d : Defaults). IsTrue (fit c.args.face.fonts d)) c.defaults-defaults.ensures.value c.defaults-defaults.ensures.fit)
-    c.requires.communities (subst AreDefaultsInRange c.defaults-defaults.ensures.value c.are_octets.ensures) c.requires.reader c.requires.writer c.requires.stocked
+    c.requires.communities (subst AreDefaultsInRange c.defaults-defaults.ensures.value c.new.ensures.octets) c.requires.reader c.requires.writer c.requires.stocked
     c.requires.octets
     in
     record {
-      kept = made_state config c.args.table c.defaults-defaults.result c.blank_shown.result c.blank_shown-2.result c.defaults-defaults.ensures.value
-          c.blank_shown.ensures c.blank_shown-2.ensures kept;
-      source = made_source c.args.table.order c.defaults-defaults.result c.blank_shown.result c.blank_shown.ensures;
+      kept = made_state config c.args.table c.defaults-defaults.result c.new.result c.new-2.result c.blank.result c.blank-2.result
+          c.defaults-defaults.ensures.value c.new.ensures.first c.new-2.ensures
+          c.blank.ensures c.blank-2.ensures kept;
+      source = made_source c.args.table.order c.defaults-defaults.result c.blank.result c.blank.ensures;
     }

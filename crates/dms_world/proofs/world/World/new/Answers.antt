@@ -10,4 +10,4 @@ returns-clause-fresh c = λ sign centre.
     subst IsFresh
     (no_datagram_yet c.args.sign c.args.centre.state c.new.result.items c.new-2.result.items c.new-3.result.items c.new.ensures.items c.new-2.ensures.items
     c.new-3.ensures.items)
-    (made_fresh c.args.sign c.args.centre.state c.is_kept.ensures.in_range face c.is_kept-2.ensures sign centre)
+    (made_fresh c.args.sign c.args.centre.state c.signs_are_kept.ensures.in_range face c.centres_are_kept.ensures sign centre)

@@ -1,8 +1,8 @@
 use Rattle.std.proofs.Common.{◌≡◌, ◌<◌, ◌/◌, ◌%◌, true, length, ap, sym, subst, ◌∙◌, arith}
 use Rattle.dms_ber.specs.ObjectIdentifier.{name_octets}
-use Rattle.dms_sign.specs.Slots.{content_slot, slot_of, is_taken}
-use Rattle.dms_sign.proofs.TakenSlots.{marked, taken_stays, marked_taken, more_taken}
-use Rattle.dms_sign.proofs.sign.met_names.with_name.Goals as goal
+use Rattle.dms_access.specs.Slots.{content_slot, slot_of, is_taken}
+use Rattle.dms_access.proofs.TakenSlots.{marked, taken_stays, marked_taken, more_taken}
+use Rattle.dms_access.proofs.met_names.with_name.Goals as goal
 
 pub returns : goal.returns
 returns c = λ bindings b e taken.

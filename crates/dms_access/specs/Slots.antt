@@ -4,7 +4,7 @@ use Rattle.std.specs.List.{slice_index_or}
 use Rattle.std.specs.Int.{bit_at}
 use Rattle.dms_ber.specs.ObjectIdentifier.{name_octets}
 use Rattle.dms_wire.specs.Message.{VarBind}
-use Rattle.dms_sign.specs.SetRequest.{is_among}
+use Rattle.dms_access.specs.MetNames.{is_among}
 
 -- the slot of a name with these content octets: the last three of them tell objects that can be set apart
 unfoldable pub content_slot : List ℕ → ℕ

@@ -1,6 +1,6 @@
 use Rattle.std.proofs.Common.{◌≡◌, take}
-use Rattle.dms_sign.specs.SetRequest.{is_among}
-use Rattle.dms_sign.proofs.sign.set_request.is_among.Given as goal
+use Rattle.dms_access.specs.MetNames.{is_among}
+use Rattle.dms_access.proofs.met_names.is_among.Given as goal
 
 abbrev pub invariant-loop-left : goal.invariant-loop-left
 invariant-loop-left l = is_among l.name (take l.left l.rest) ≡ is_among l.name (take l.count l.initial.rest)

@@ -1,13 +1,43 @@
 //! The names that the bindings of a SET gave so far, each marked in its slot: so a name is not compared with every earlier one.
 
-ghost use Rattle.std.specs.Prelude.{◌≡◌, ◌<◌, ◌++◌, List, [], ◌∷◌};
+ghost use Rattle.std.specs.Prelude.{◌≡◌, ◌<◌, ◌++◌, List, [], ◌∷◌, take};
 ghost use Rattle.dms_wire.specs.Message.{VarBind};
-ghost use Rattle.dms_sign.specs.Slots.{content_slot, slot_of, is_taken, AreTaken};
+ghost use Rattle.dms_access.specs.MetNames.{is_among};
+ghost use Rattle.dms_access.specs.Slots.{content_slot, slot_of, is_taken, AreTaken};
 
-use dms_wire::Oid;
+use dms_wire::{Binds, Oid};
 
 /// A bit for each slot.
-pub(super) type Slots = [u64; 16];
+pub type Slots = [u64; 16];
+
+/// Whether the name is that of one of the first `count` bindings, whose names have their slots taken: they are looked at only where its
+/// slot is.
+pub fn was_given(slots: &Slots, name: &Oid<'_>, before: &Binds<'_>, count: u32) -> bool
+    requires { AreTaken slots.now (take count before.now) }
+    ensures { result ≡ is_among name.now (take count before.now) }
+{
+    is_taken(slots, name) && is_among(name, before.again(), count)
+}
+
+/// The name is that of one of the first `count` bindings.
+fn is_among(name: &Oid<'_>, binds: Binds<'_>, count: u32) -> bool
+    ensures { result ≡ is_among name.now (take count binds.entry) }
+{
+    let mut rest = binds;
+    let mut left = count;
+    while left > 0 {
+        match rest.next() {
+            None => return false,
+            Some(binding) => {
+                if binding.name == *name {
+                    return true;
+                }
+            }
+        }
+        left -= 1;
+    }
+    false
+}
 
 /// The slot of a name with these content octets. No two objects that can be set, of a table of at most 64 changeable and 16 volatile rows,
 /// share a slot; other names may.
@@ -27,7 +57,7 @@ fn content_slot(content: &[u8]) -> usize
 }
 
 /// Whether the slot of a name is marked.
-pub(super) fn is_taken(slots: &Slots, name: &Oid<'_>) -> bool
+fn is_taken(slots: &Slots, name: &Oid<'_>) -> bool
     ensures { result ≡ is_taken slots.now (slot_of name.now) }
 {
     let slot = content_slot(name.content());
@@ -35,7 +65,7 @@ pub(super) fn is_taken(slots: &Slots, name: &Oid<'_>) -> bool
 }
 
 /// Marks the slot of a binding's name.
-pub(super) fn with_name(slots: Slots, name: &Oid<'_>) -> Slots
+pub fn with_name(slots: Slots, name: &Oid<'_>) -> Slots
     ensures { (bindings : List VarBind) (binding : VarBind) → binding.name ≡ name.now → AreTaken slots bindings
         → AreTaken result (bindings ++ binding ∷ []) }
 {

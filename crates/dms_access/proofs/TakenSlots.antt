@@ -1,26 +1,37 @@
--- The slots of names that a SET has met.
+-- The slots of the names that a SET has given.
 use Rattle.std.proofs.Common.{◌≡◌, ℕ, ◌+◌, ◌*◌, ◌/◌, ◌%◌, ◌<◌, ◌^◌, ◌||◌, Bool, true, false, List, [], ◌∷◌, ◌++◌, length, take, Option, inl, inr, refl, sym, ap, subst, ◌∙◌, arith, true≢false}
 use Rattle.std.specs.Prelude.{nat_eq, slice_index_or, slice_set, bit_or}
 use Rattle.std.specs.Int.{bit_at, w64}
 use Rattle.std.proofs.lemmas.Bool.{cases_eq, eqb-true, eq-eqb}
 use Rattle.std.proofs.lemmas.Nat.Bits.{bit_at_set_same, bit_at_set_other}
 use Rattle.std.proofs.lemmas.Grind.{get_or-set_at}
+use Rattle.std.specs.List.{list_any}
 use Rattle.std.specs.Cmp.Lexicographic.{pointwise, bytes_decides}
 use Rattle.std.proofs.Math.Seq.{take-append_seam}
 use Rattle.std.proofs.lemmas.List.{append_assoc, length-append, get_or-set_same, get_or-set_other}
 use Rattle.dms_wire.specs.Message.{VarBind}
-use Rattle.dms_access.specs.declared.settings.Settings.{Settings}
-use Rattle.dms_access.specs.Access.{Write}
-use Rattle.dms_sign.specs.State.{SignState}
-use Rattle.dms_sign.specs.SetRequest.{is_among}
-use Rattle.dms_sign.specs.Slots.{slot_of, is_taken, AreTaken}
-use Rattle.dms_sign.proofs.Causes.{any_push, HasJudged, before_is}
+use Rattle.dms_access.specs.MetNames.{is_among}
+use Rattle.dms_access.specs.Slots.{slot_of, is_taken, AreTaken}
 
 taken_by : (words : List ℕ) (name other : List ℕ) (among same : Bool) → (among ≡ true → is_taken words (slot_of other) ≡ true)
     → (same ≡ true → name ≡ other) → is_taken words (slot_of name) ≡ true → (among || same) ≡ true → is_taken words (slot_of other) ≡ true
 taken_by words name other true same taken equal here e = taken refl
 taken_by words name other false true taken equal here e = subst (λ n. is_taken words (slot_of n) ≡ true) (equal refl) here
 taken_by words name other false false taken equal here e = absurd (true≢false (sym e))
+
+-- ---- lists with one element more
+
+pub any_push : {X : Type 0} (p : X → Bool) (xs : List X) (x : X) → list_any p (xs ++ x ∷ []) ≡ (list_any p xs || p x)
+any_push p [] x = or_false (p x)
+  where
+    or_false : (b : Bool) → (b || false) ≡ b
+    or_false true = refl
+    or_false false = refl
+any_push p (y ∷ xs) x = ap (λ b. p y || b) (any_push p xs x) ∙ or_assoc (p y) (list_any p xs) (p x)
+  where
+    or_assoc : (a b c : Bool) → (a || (b || c)) ≡ ((a || b) || c)
+    or_assoc true b c = refl
+    or_assoc false b c = refl
 
 -- ---- a bit that is set
 
@@ -69,13 +80,3 @@ more_taken old new bindings b stays here taken other among =
     taken_by new b.name other (is_among other bindings) (pointwise nat_eq b.name other) (λ h. stays (slot_of other) (taken other h))
     ((bytes_decides b.name other).0) here
     (sym (any_push (λ (b : VarBind). pointwise nat_eq b.name other) bindings b) ∙ among)
-
--- the bindings up to the next one
-pub one_more : (s : SignState) (may : Bool) (all : List VarBind) (old : Settings) (index : ℕ) (settings : Settings) (at : ℕ) (command : Option Write) (rest more : List VarBind)
-    (b : VarBind) → HasJudged s may all old index settings at command rest → rest ≡ b ∷ more → take index all ++ b ∷ [] ≡ take (index + 1) all
-one_more s may all old index settings at command rest more b is e =
-    let done = is.done in
-    let size : length (done ++ b ∷ []) ≡ index + 1 = let whole : length (done ++ b ∷ []) ≡ length done + 1 = length-append done (b ∷ []) in let c = is.count in omega arith in
-    let whole : (done ++ b ∷ []) ++ more ≡ all = append_assoc done (b ∷ []) more ∙ ap (λ r. done ++ r) (sym e) ∙ is.whole in
-    ap (λ d. d ++ b ∷ []) (before_is s may all old index settings at command rest is)
-    ∙ sym (take-append_seam (done ++ b ∷ []) more) ∙ ap (take (length (done ++ b ∷ []))) whole ∙ ap (λ n. take n all) size

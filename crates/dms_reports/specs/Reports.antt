@@ -1,0 +1,74 @@
+-- What a sign reports of its verdicts and decisions (NTCIP 1203, each object by its name; the values at the start are this profile's).
+use Rattle.std.specs.Prelude.{ℕ, List, Option, Some, None, ⊤, ◌≤◌, replicate}
+use Rattle.dms_face.specs.declared.multi_fault.MultiFault.{MultiFault}
+use Rattle.dms_face.specs.FaultCode.{number_of_code}
+use Rattle.dms_codes.specs.Limits.{longest_text}
+use Rattle.dms_table.specs.declared.activation.Cause.{Cause}
+use Rattle.dms_table.specs.declared.activation.Cause.TheVariants as causes
+use Rattle.dms_table.specs.declared.validation.Verdict.{Verdict}
+use Rattle.dms_table.specs.Activation.{cause_number}
+
+-- errors by the numbers of their objects; codes are the twelve octets that came (NTCIP 1203, MessageActivationCode)
+pub record ReportsModel : Type 0 where
+  -- dmsValidateMessageError
+  pub validate_error : ℕ
+  -- dmsActivateMsgError
+  pub activate_error : ℕ
+  -- dmsMultiSyntaxError
+  pub syntax_error : ℕ
+  -- dmsMultiSyntaxErrorPosition
+  pub syntax_error_position : ℕ
+  -- dmsActivateMessage: the code last accepted by SET
+  pub accepted_code : List ℕ
+  -- dmsActivateErrorMsgCode: the code last refused
+  pub failed_code : List ℕ
+
+-- nothing was judged, no code came: the errors are none (2), the codes zeros
+abbrev pub first_reports : ReportsModel
+first_reports = record {
+  validate_error = 2;
+  activate_error = 2;
+  syntax_error = 2;
+  syntax_error_position = 0;
+  accepted_code = replicate 12 0;
+  failed_code = replicate 12 0;
+}
+
+-- ---- texts
+
+abbrev pub with_fault : ReportsModel → MultiFault → ReportsModel
+with_fault reports fault = record reports { syntax_error = number_of_code fault.code; syntax_error_position = fault.place }
+
+-- what is reported of a text: its fault, or that it has none (NTCIP 1203, dmsMultiSyntaxError)
+abbrev pub text_reports : ReportsModel → Option MultiFault → ReportsModel
+text_reports reports None = record reports { syntax_error = 2; syntax_error_position = 0 }
+text_reports reports (Some fault) = with_fault reports fault
+
+-- what is reported where a row was settled (NTCIP 1203, dmsValidateMessageError)
+abbrev pub settled_reports : ReportsModel → Option Verdict → ReportsModel
+settled_reports reports None = reports
+settled_reports reports (Some verdict) = record (text_reports reports verdict.fault) { validate_error = verdict.error }
+
+-- ---- codes
+
+-- A text that is wrong has its fault reported; other causes leave what is reported of texts.
+abbrev pub with_cause : ReportsModel → Cause → ReportsModel
+with_cause reports (causes.Syntax fault) = with_fault reports fault
+with_cause reports _ = reports
+
+-- what is reported of a code that is refused (NTCIP 1203, dmsActivateMsgError and dmsActivateErrorMsgCode)
+abbrev pub refused_reports : ReportsModel → Cause → List ℕ → ReportsModel
+refused_reports reports cause code = record (with_cause reports cause) { activate_error = cause_number cause; failed_code = code }
+
+-- what is reported of a code that is accepted
+abbrev pub accepted_reports : ReportsModel → List ℕ → ReportsModel
+accepted_reports reports code = record reports { activate_error = 2; accepted_code = code }
+
+-- the place of a fault lies in a text or at its end
+abbrev pub IsCauseInRange : Cause → Type 0
+IsCauseInRange (causes.Syntax fault) = fault.place ≤ longest_text
+IsCauseInRange causes.MemoryType = ⊤
+IsCauseInRange causes.Number = ⊤
+IsCauseInRange causes.Status = ⊤
+IsCauseInRange causes.Checksum = ⊤
+IsCauseInRange causes.Priority = ⊤
