@@ -1,0 +1,263 @@
+"""Layout: where the characters of a text stand, whether they fit, and the cells of its pages.
+
+Each prefix of a text is laid out anew, so nothing here keeps running sums.
+"""
+
+from dataclasses import dataclass, field
+
+from . import multi
+
+LEFT, CENTRE, RIGHT = TOP, MIDDLE, BOTTOM = 2, 3, 4
+VALUE, TOO_BIG, NO_FONT, NO_CHARACTER, CONFLICT, PAGES, VERSION = 4, 5, 6, 7, 11, 12, 13
+MOST_TEXT, MOST_PAGES = 512, 6
+
+
+@dataclass
+class Font:
+    number: int
+    height: int
+    space: int
+    line: int
+    version: int
+    glyphs: dict = field(default_factory=dict)  # number: (width, rows of booleans)
+
+
+@dataclass
+class Face:
+    width: int
+    height: int
+    fonts: list
+    defaults: tuple  # in the order of the objects 4.1 to 4.9
+
+    def font(self, number):
+        return next((font for font in self.fonts if font.number == number), None)
+
+
+@dataclass
+class Character:
+    font: Font
+    glyph: tuple
+    colour: int
+    flash: tuple
+    part: int
+
+
+@dataclass
+class Line:
+    gap: int | None  # the value of the tag that opened it; None: the average of the spacings
+    characters: list = field(default_factory=list)
+    closed_font: Font | None = None  # the font current at the closing of a line
+
+    def counts(self):
+        return self.characters or self.closed_font
+
+    def height(self):
+        return max((c.font.height for c in self.characters), default=self.closed_font.height if self.closed_font else 0)
+
+    def spacing(self):
+        return max((c.font.line for c in self.characters), default=self.closed_font.line if self.closed_font else 0)
+
+    def parts(self):
+        return {part: [c for c in self.characters if c.part == part] for part in (LEFT, CENTRE, RIGHT)}
+
+
+def average(first, second):
+    return (first + second + 1) // 2
+
+
+def line_width(characters):
+    width = sum(c.glyph[0] for c in characters)
+    return width + sum(average(a.font.space, b.font.space) for a, b in zip(characters, characters[1:]))
+
+
+def gap_above(lines, at):
+    """The rows between a line and the one before it."""
+    line = lines[at]
+    return line.gap if line.gap is not None else average(lines[at - 1].spacing(), line.spacing())
+
+
+def part_height(lines):
+    height = 0
+    for at, line in enumerate(lines):
+        if line.counts():
+            height += line.height() + (gap_above(lines, at) if at else 0)
+    return height
+
+
+def begin(part, room, size):
+    """Where something of this size begins in a room, by its part: first, middle or last."""
+    return {2: 0, 3: (room - size) // 2, 4: room - size}[part]
+
+
+def spans_fit(sizes, room):
+    """Whether parts of these sizes, 0 where a part is empty, lie in the room and do not overlap."""
+    if any(size > room for size in sizes.values()):
+        return False
+    spans = [(begin(part, room, size), begin(part, room, size) + size) for part, size in sizes.items() if size]
+    return all(a[1] <= b[0] or b[1] <= a[0] for at, a in enumerate(spans) for b in spans[at + 1:])
+
+
+class Page:
+    def __init__(self, part, back, on, off):
+        self.parts = {TOP: [], MIDDLE: [], BOTTOM: []}
+        self.part = part
+        self.parts[part].append(Line(0))
+        self.back, self.on, self.off = back, on, off
+
+    def open_line(self):
+        return self.parts[self.part][-1]
+
+    def close_part(self, font):
+        """Closes the line and the part; a part with a single line without a character has no lines then."""
+        self.open_line().closed_font = font
+        if len(self.parts[self.part]) == 1 and not self.open_line().characters:
+            self.parts[self.part] = []
+
+    def fits(self, face):
+        heights = {part: part_height(lines) for part, lines in self.parts.items()}
+        if not spans_fit(heights, face.height):
+            return False
+        lines = [line for lines in self.parts.values() for line in lines]
+        return all(spans_fit({part: line_width(found) for part, found in line.parts().items()}, face.width) for line in lines)
+
+
+class Layout:
+    """A text that is laid out item by item, under the defaults handed in. `take` answers the code of a fault, or None."""
+
+    def __init__(self, face, defaults):
+        self.face, self.defaults = face, defaults
+        self.back, self.colour, self.on, self.off = defaults[0], defaults[1], defaults[7], defaults[8]
+        self.font = face.font(defaults[4])
+        self.flash = None
+        self.side, self.part = defaults[5], defaults[6]
+        self.pages = [Page(self.part, self.back, self.on, self.off)]
+
+    def take(self, item):
+        page = self.pages[-1]
+        kind = item[0]
+        if kind == "character":
+            glyph = self.font.glyphs.get(item[1])
+            if glyph is None:
+                return NO_CHARACTER
+            page.open_line().characters.append(Character(self.font, glyph, self.colour, self.flash, self.side))
+            return None if page.fits(self.face) else TOO_BIG
+        if kind == "font":
+            number = self.defaults[4] if item[1] is None else item[1]
+            font = self.face.font(number)
+            if font is None:
+                return NO_FONT
+            if item[2] is not None and item[2] != font.version:
+                return VERSION
+            self.font = font
+        elif kind == "line":
+            side = self.defaults[5] if item[1] is None else item[1]
+            if any(side < c.part for c in page.open_line().characters):
+                return CONFLICT
+            self.side = side
+        elif kind == "page":
+            return self.new_part(self.defaults[6] if item[1] is None else item[1])
+        elif kind == "new line":
+            page.open_line().closed_font = self.font
+            page.parts[page.part].append(Line(item[1]))
+            return None if page.fits(self.face) else TOO_BIG
+        elif kind == "new page":
+            return self.new_page()
+        else:
+            self.change(item)
+        return None
+
+    def change(self, item):
+        """An item that changes what holds from here on: colours, flash, page times."""
+        page = self.pages[-1]
+        kind = item[0]
+        if kind == "background":
+            self.back = page.back = self.defaults[0] if item[1] is None else item[1]
+        elif kind == "foreground":
+            self.colour = self.defaults[1] if item[1] is None else item[1]
+        elif kind == "page time":
+            self.on = page.on = self.defaults[7] if item[1] is None else item[1]
+            self.off = page.off = self.defaults[8] if item[2] is None else item[2]
+        elif kind == "flash":
+            lit = self.defaults[2] if item[2] is None else item[2]
+            dark = self.defaults[3] if item[3] is None else item[3]
+            self.flash = (item[1], lit, dark)
+        else:
+            self.flash = None
+
+    def new_part(self, part):
+        page = self.pages[-1]
+        if part == self.part:
+            return None
+        page.close_part(self.font)
+        if any(lines and part <= other for other, lines in page.parts.items()):
+            return CONFLICT
+        fits = page.fits(self.face)
+        self.part = page.part = part
+        page.parts[part].append(Line(0))
+        return None if fits else TOO_BIG
+
+    def new_page(self):
+        page = self.pages[-1]
+        page.close_part(self.font)
+        if not page.fits(self.face):
+            return TOO_BIG
+        if len(self.pages) == MOST_PAGES:
+            return PAGES
+        self.pages.append(Page(self.part, self.back, self.on, self.off))
+        return None
+
+    def end(self):
+        page = self.pages[-1]
+        page.close_part(self.font)
+        return None if page.fits(self.face) else TOO_BIG
+
+
+def laid_out(face, defaults, text):
+    """The pages of a text, or its fault (code, offset)."""
+    if len(text) > MOST_TEXT:
+        return None, (TOO_BIG, MOST_TEXT)
+    layout = Layout(face, defaults)
+    found, fault = multi.items(text)
+    for item, at in found:
+        code = layout.take(item)
+        if code is not None:
+            return None, (code, at)
+    if fault is not None:
+        return None, fault
+    code = layout.end()
+    if code is not None:
+        return None, (code, len(text))
+    return layout.pages, None
+
+
+def cells(face, page):
+    """The page's cells, a list of rows: (colour, flash) where a cell is lit, else None."""
+    lit = [[None] * face.width for _ in range(face.height)]
+    for part, lines in page.parts.items():
+        top = begin(part, face.height, part_height(lines)) if lines else 0
+        for at, line in enumerate(lines):
+            if not line.counts():
+                continue
+            top += gap_above(lines, at) if at else 0
+            for side, characters in line.parts().items():
+                left = begin(side, face.width, line_width(characters)) if characters else 0
+                for index, character in enumerate(characters):
+                    if index:
+                        left += average(characters[index - 1].font.space, character.font.space)
+                    width, rows = character.glyph
+                    for y, row in enumerate(rows):
+                        for x in range(width):
+                            if row[x]:
+                                lit[top + line.height() - character.font.height + y][left + x] = (character.colour, character.flash)
+                    left += width
+            top += line.height()
+    return lit
+
+
+def drawn(face, pages):
+    """The pages as the program prints them."""
+    lines = []
+    for number, page in enumerate(pages, 1):
+        lines.append(f"page {number} on {page.on} off {page.off} back {page.back}")
+        lines += ["".join("." if cell is None else str(cell[0]) for cell in row) for row in cells(face, page)]
+    return lines

@@ -1,0 +1,267 @@
+"""Descriptions of signs, scripts and reports as text."""
+
+import re
+
+from . import layout
+from .centre import Centre
+from .codes import Activation
+from .sign import Description, Row, Sign, is_refused
+
+MOST_INPUT = 1_048_576
+BENCH = b"""size 23 14
+communities public admin
+rows 2 1
+order high
+has 1 0
+defaults 0 9 5 5 1 3 2 30 0
+first 1
+permanent 42 - 0 0 100
+font 1 height 7 space 1 line 1 version 0001
+glyph 49 2 7554
+glyph 65 5 7463f8c620
+glyph 66 5 f463e8c7c0
+glyph 91 3 f24938
+glyph 93 3 e49278
+font 2 height 5 space 1 line 1 version 0002
+glyph 65 3 57da
+end
+"""
+
+
+class Bad(Exception):
+    """A line that is not in order, by its number."""
+
+    def __init__(self, line):
+        super().__init__(line)
+        self.line = line
+
+
+class TooLong(Exception):
+    """An input of more than 1,048,576 octets."""
+
+
+def lines_of(text):
+    if len(text) > MOST_INPUT:
+        raise TooLong
+    return Lines(text)
+
+
+def kept_lines(text):
+    """The lines that are not skipped, with their numbers, and the number after the last line."""
+    lines = text.split(b"\n")
+    ended = lines.pop() if lines[-1] == b"" else None
+    found = []
+    for number, line in enumerate(lines, 1):
+        if (number < len(lines) or ended is not None) and line.endswith(b"\r"):
+            line = line[:-1]
+        if line and not line.startswith(b"#"):
+            found.append((number, line))
+    return found, len(lines) + 1
+
+
+def number(word, least=0, most=65535, digits=5):
+    if not re.fullmatch(rb"[0-9]{1,%d}" % digits, word) or not least <= int(word) <= most:
+        raise ValueError
+    return int(word)
+
+
+def octets(word):
+    if word == b"-":
+        return b""
+    if not word or len(word) % 2 or not re.fullmatch(rb"[0-9a-fA-F]+", word):
+        raise ValueError
+    return bytes.fromhex(word.decode())
+
+
+def address(word):
+    parts = word.split(b".")
+    if len(parts) != 4:
+        raise ValueError
+    return bytes(number(part, 0, 255, 3) for part in parts)
+
+
+def glyph(words, height):
+    character, width = number(words[1], 1), number(words[2], 1, 32)
+    held = octets(words[3])
+    bits = [octet >> place & 1 == 1 for octet in held for place in range(7, -1, -1)]
+    if len(held) != (width * height + 7) // 8:
+        raise ValueError
+    return character, (width, [bits[row * width:(row + 1) * width] for row in range(height)])
+
+
+def new_glyph(words, font):
+    character, picture = glyph([words[0], *wants(words, b"glyph", 3)], font.height)
+    if character in font.glyphs or len(font.glyphs) == 255:
+        raise ValueError
+    return character, picture
+
+
+class Lines:
+    def __init__(self, text):
+        self.kept, self.after = kept_lines(text)
+        self.at = 0
+
+    def next(self, read):
+        """What a function of the words reads in the next line."""
+        if self.at == len(self.kept):
+            raise Bad(self.after)
+        at, line = self.kept[self.at]
+        self.at += 1
+        words = line.split(b" ")
+        try:
+            if b"" in words:
+                raise ValueError
+            return read(words)
+        except (ValueError, IndexError):
+            raise Bad(at) from None
+
+    def word(self):
+        """The first word of the next line, none at the end."""
+        return self.kept[self.at][1].split(b" ")[0] if self.at < len(self.kept) else None
+
+
+def wants(words, keyword, count):
+    if words[0] != keyword or len(words) != count + 1:
+        raise ValueError
+    return words[1:]
+
+
+def description(lines):
+    """The sign that the next lines describe, up to `end`. Lines that no sign follows raise Bad."""
+    width, height = lines.next(lambda w: (number(wants(w, b"size", 2)[0]), number(w[2])))
+    reader, writer = lines.next(lambda w: wants(w, b"communities", 2))
+    changeable, volatile = lines.next(lambda w: (number(wants(w, b"rows", 2)[0]), number(w[2])))
+
+    def order(words):
+        if words not in ([b"order", b"high"], [b"order", b"swapped"]):
+            raise ValueError
+        return words[1] == b"swapped"
+    swapped = lines.next(order)
+    beacons, pixels = lines.next(lambda w: [number(x, 0, 1) == 1 for x in wants(w, b"has", 2)])
+    defaults = tuple(lines.next(lambda w: [number(x, 0, 255) for x in wants(w, b"defaults", 9)]))
+    first = lines.next(lambda w: number(wants(w, b"first", 1)[0], 0, 2 ** 32 - 1, 10))
+    permanent = []
+    while lines.word() == b"permanent":
+        permanent.append(lines.next(lambda w: Row(octets(wants(w, b"permanent", 5)[0]), octets(w[2]), number(w[3], 0, 255),
+                                                  number(w[4], 0, 255), number(w[5], 0, 255))))
+    fonts = []
+    while lines.word() == b"font":
+        def head(words):
+            if len(words) != 10 or words[2::2] != [b"height", b"space", b"line", b"version"] or not re.fullmatch(rb"[0-9a-fA-F]{4}", words[9]):
+                raise ValueError
+            return layout.Font(number(words[1], 1, 255), number(words[3], 1, 32), number(words[5], 0, 32), number(words[7], 0, 32), int(words[9], 16))
+        font = lines.next(head)
+        while lines.word() == b"glyph":
+            character, picture = lines.next(lambda w: new_glyph(w, font))
+            font.glyphs[character] = picture
+        fonts.append(font)
+    lines.next(lambda w: wants(w, b"end", 0))
+    face = layout.Face(width, height, fonts, defaults)
+    found = Description(face, reader, writer, swapped, beacons, pixels, permanent, changeable, volatile, first)
+    if is_refused(found):
+        raise Bad(lines.kept[lines.at - 1][0])
+    return found
+
+
+def event(words, swapped):
+    kind = words[0].decode("latin-1")
+    if kind == "publish":
+        memory, row, text, owner, beacon, pixel, run, minutes, priority, by = wants(words, b"publish", 10)
+        return kind, (number(memory, 0, 255), number(row), octets(text), octets(owner), number(beacon, 0, 255), number(pixel, 0, 255),
+                      number(run, 0, 255), number(minutes), number(priority, 0, 255), address(by))
+    if kind == "blank":
+        row, minutes, priority, by = wants(words, b"blank", 4)
+        return kind, (number(row), number(minutes), number(priority, 0, 255), address(by))
+    if kind == "activate":
+        code = octets(wants(words, b"activate", 1)[0])
+        if len(code) != 12:
+            raise ValueError
+        return kind, Activation.of(code, swapped)
+    if kind in ("to-sign", "to-centre", "power-back"):
+        return kind, number(wants(words, words[0], 1)[0], 0, 2 ** 32 - 1, 10)
+    if kind in ("forge-sign", "forge-centre"):
+        return kind, octets(wants(words, words[0], 1)[0])
+    if kind in ("sign-tick", "centre-tick", "power-lost", "centre-restart"):
+        wants(words, words[0], 0)
+        return kind, None
+    raise ValueError
+
+
+class World:
+    def __init__(self, described):
+        self.sign = Sign(described)
+        self.centre = Centre(described.writer, described.swapped, described.first)
+        self.to_sign, self.to_centre, self.accepted, self.events = [], [], [], 0
+
+    def happen(self, kind, held):
+        self.events += 1
+        out = None
+        if kind in ("publish", "blank", "activate"):
+            out = self.centre.command((kind, held))
+        elif kind == "sign-tick":
+            self.sign.tick()
+        elif kind == "centre-tick":
+            out = self.centre.tick()
+        elif kind == "power-lost":
+            self.sign.power_lost()
+        elif kind == "power-back":
+            self.sign.power_back(held)
+        elif kind == "centre-restart":
+            self.centre.restart()
+        elif kind in ("to-centre", "forge-centre"):
+            if kind == "forge-centre" or held < len(self.to_centre):
+                out = self.centre.receive(held if kind == "forge-centre" else self.to_centre[held])
+        elif kind == "forge-sign" or held < len(self.to_sign):
+            reply, code = self.sign.receive(held if kind == "forge-sign" else self.to_sign[held])
+            if reply is not None:
+                self.to_centre.append(reply)
+            if code is not None:
+                self.accepted.append((self.events, code))
+        if out is not None:
+            self.to_sign.append(out)
+
+    def report(self):
+        shown, swapped = self.sign.shown, self.sign.swapped
+        remaining = self.sign.scalars()[(6, 4)]
+        source = shown.source
+        lines = [f"events {self.events}", f"sent {len(self.to_sign)} {len(self.to_centre)}",
+                 f"shown {source.memory} {source.number} {source.crc:04x} mode {shown.mode} priority {shown.priority} "
+                 f"remaining {remaining} text {shown.text.hex() or '-'}"]
+        lines += [f"accepted {at} {code.octets(swapped).hex()}" for at, code in self.accepted]
+        lines += [f"ledger {at} {code.octets(swapped).hex()} {outcome}" for at, code, outcome in self.centre.ledger]
+        return lines
+
+
+def described(text):
+    """The sign that a text describes; raises Bad or TooLong."""
+    lines = lines_of(text)
+    found = description(lines)
+    if lines.word() is not None:
+        raise Bad(lines.kept[lines.at][0])
+    return found
+
+
+def bench():
+    return description(Lines(BENCH))
+
+
+def replayed(text):
+    """The report of a script; raises Bad or TooLong."""
+    lines = lines_of(text)
+    if lines.word() == b"bench":
+        lines.next(lambda w: wants(w, b"bench", 0))
+        sign = bench()
+    else:
+        sign = description(lines)
+    events = []
+    while lines.word() is not None:
+        events.append(lines.next(lambda w: event(w, sign.swapped)))
+    world = World(sign)
+    for kind, held in events:
+        world.happen(kind, held)
+    return world.report()
+
+
+def answered(sign, datagram):
+    reply, _ = Sign(sign).receive(datagram)
+    return reply
