@@ -17,4 +17,10 @@ pub use fields::address;
 pub use replaying::{LONGEST_INPUT, bench, described, replay};
 
 #[cfg(test)]
+mod memory_tests;
+#[cfg(test)]
+mod report_tests;
+#[cfg(test)]
+mod stream_tests;
+#[cfg(test)]
 mod tests;
