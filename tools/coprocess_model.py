@@ -1,0 +1,109 @@
+#!/usr/bin/env python3
+"""The model of tools/model as a co-process, one line in and its answer out: a stand-in for `signtool sign` and `signtool centre`.
+
+    tools/coprocess_model.py sign [--sign]       tools/coprocess_model.py centre [--sign]
+
+With --sign a description comes first, up to its line `end`; else the sign is the bench sign.
+"""
+
+import sys
+
+from model import layout, text
+from model.centre import Centre
+
+
+def lines_of_input():
+    """The lines of the standard input as they come, without their newlines."""
+    for line in sys.stdin.buffer:
+        yield line.removesuffix(b"\n")
+
+
+def say(*lines):
+    sys.stdout.write("".join(line + "\n" for line in lines))
+    sys.stdout.flush()
+
+
+def sign_answer(world, words):
+    """The lines that answer a line to a sign."""
+    keyword = words[0]
+    if keyword == b"datagram":
+        before = len(world.accepted)
+        reply, code = world.sign.receive(text.octets(text.wants(words, keyword, 1)[0]))
+        assert len(world.accepted) == before
+        if reply is None:
+            return ["dropped"]
+        return [f"accepted {code.octets(world.sign.swapped).hex()} {reply.hex()}" if code else f"reply {reply.hex()}"]
+    if keyword == b"power-back":
+        world.sign.power_back(text.number(text.wants(words, keyword, 1)[0], 0, 2 ** 32 - 1, 10))
+        return ["ok"]
+    text.wants(words, keyword, 0)
+    if keyword == b"tick":
+        world.sign.tick()
+    elif keyword == b"power-lost":
+        world.sign.power_lost()
+    elif keyword == b"state":
+        return [world.report()[2], "ok"]
+    elif keyword == b"show":
+        shown = world.sign.shown
+        pages, _ = layout.laid_out(world.sign.face, shown.defaults, shown.text)
+        return [*layout.drawn(world.sign.face, pages), "ok"]
+    else:
+        raise ValueError
+    return ["ok"]
+
+
+def centre_answer(world, words):
+    """The lines that answer a line to a centre."""
+    centre, keyword = world.centre, words[0].decode("latin-1")
+    if keyword in ("publish", "blank", "activate"):
+        event = text.event(words, world.sign.swapped)
+        was = centre.job
+        sent = centre.command(event)
+        if was is centre.job or centre.job is None:
+            return ["refused busy" if was else "refused numbers used up" if centre.next > 2 ** 31 - 1 else "refused bad command"]
+        return [f"send {sent.hex()}"] if sent else ["ok"]
+    if keyword == "datagram":
+        sent = centre.receive(text.octets(text.wants(words, b"datagram", 1)[0]))
+        return [f"send {sent.hex()}"] if sent else ["ok"]
+    text.wants(words, words[0], 0)
+    if keyword == "tick":
+        sent = centre.tick()
+        return [f"send {sent.hex()}"] if sent else ["ok"]
+    if keyword == "restart":
+        centre.restart()
+        return ["ok"]
+    if keyword == "status":
+        return ["busy" if centre.job else "idle", f"last {centre.last or 'none'}", *world.report()[3 + len(world.accepted):], "ok"]
+    raise ValueError
+
+
+def main(words):
+    source = lines_of_input()
+    described = text.bench()
+    if "--sign" in words:
+        lines = []
+        for line in source:
+            lines.append(line)
+            if line.rstrip(b"\r") == b"end":
+                break
+        try:
+            described = text.described(b"\n".join(lines) + b"\n")
+        except text.Bad as bad:
+            say(f"line {bad.line}")
+            return 1
+    world = text.World(described)
+    assert isinstance(world.centre, Centre)
+    answer = {"sign": sign_answer, "centre": centre_answer}[words[0]]
+    for line in source:
+        try:
+            parts = line.split(b" ")
+            if b"" in parts:
+                raise ValueError
+            say(*answer(world, parts))
+        except ValueError:
+            say("bad line")
+    return 0
+
+
+if __name__ == "__main__":
+    sys.exit(main(sys.argv[1:]))
