@@ -1,9 +1,11 @@
 //! Prints how long the calls of the proved libraries take, beside those of `peer`, in nanoseconds a call: the best of several
 //! runs. Each argument is a file with a datagram in hexadecimal.
 
+mod measure_replay;
 mod measure_sign;
 mod peer;
 mod peer_centre;
+mod peer_replay;
 mod peer_sign;
 mod peer_text;
 
@@ -254,6 +256,7 @@ fn centre() {
 }
 
 fn main() {
+    measure_replay::scripts(&fonts());
     measure_sign::signs(&fonts(), text_of(8).as_bytes());
     texts();
     checksums();

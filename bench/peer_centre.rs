@@ -4,6 +4,8 @@
 
 #![forbid(unsafe_code)]
 
+pub use centre::{Centre, Command, Outcome, Publication};
+pub use codes::{Activation, Order};
 pub use measures::{command_times, foreign_times, publication_times, resend_times, ticks_times};
 
 mod codes {
@@ -290,6 +292,10 @@ mod centre {
 
         pub fn last(&self) -> Ended {
             self.last
+        }
+
+        pub fn ledger(&self) -> &[Entry] {
+            &self.ledger
         }
 
         pub fn restart(&mut self) {

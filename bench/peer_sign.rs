@@ -284,6 +284,15 @@ enum Cause {
     Syntax(Code, usize),
 }
 
+/// What a sign shows, for a report.
+pub struct Shows<'a> {
+    pub source: [u8; 5],
+    pub mode: u8,
+    pub priority: u8,
+    pub minutes: u32,
+    pub text: &'a [u8],
+}
+
 pub struct Sign {
     face: Face,
     counts: Counts,
@@ -294,6 +303,7 @@ pub struct Sign {
     shown: Shown,
     source: [u8; 5],
     accepted_code: [u8; 12],
+    newly_accepted: Option<[u8; 12]>,
     failed_code: [u8; 12],
     validate_error: u8,
     activate_error: u8,
@@ -468,6 +478,7 @@ impl Sign {
             },
             source: code,
             accepted_code: [0; 12],
+            newly_accepted: None,
             failed_code: [0; 12],
             validate_error: 2,
             activate_error: 2,
@@ -548,6 +559,17 @@ impl Sign {
             (6, 24) => Value::Octets(&self.failed_code),
             _ => return None,
         })
+    }
+
+    /// What is shown.
+    pub fn shows(&self) -> Shows<'_> {
+        let Shown { mode, priority, ref text, remaining, .. } = self.shown;
+        Shows { source: self.source, mode, priority, minutes: remaining.map_or(65535, |seconds| seconds.div_ceil(60)), text }
+    }
+
+    /// The code that was accepted since this was last asked, if any.
+    pub fn newly_accepted(&mut self) -> Option<[u8; 12]> {
+        self.newly_accepted.take()
     }
 
     /// Handles a datagram; whether there is a reply, in `out`.
@@ -659,6 +681,7 @@ impl Sign {
                         self.shown.remaining = seconds(u16::from_be_bytes([code[0], code[1]]));
                         self.activate_error = 2;
                         self.accepted_code = code;
+                        self.newly_accepted = Some(code);
                     }
                     Err(cause) => {
                         self.refuse(cause, code);

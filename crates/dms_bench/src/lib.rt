@@ -3,6 +3,7 @@
 #![tactic(auto)]
 
 pub mod centre;
+pub mod scripts;
 pub mod sign;
 pub mod still;
 
