@@ -4,11 +4,12 @@ ghost use Rattle.std.specs.Prelude.{◌≡◌};
 ghost use Rattle.dms_wire.specs.View.{object_value};
 ghost use Rattle.dms_codes.specs.Codes.{in_order};
 ghost use Rattle.dms_table.specs.RowsView.{reading_of};
+ghost use Rattle.dms_table.specs.Activation.{shown_reading};
 ghost use Rattle.dms_reports.specs.Cells.{number_value, cell_value};
 
-use dms_codes::{Order, RowId};
+use dms_codes::{Order, RowId, Status};
 use dms_objects::Column;
-use dms_table::RowView;
+use dms_table::{RowView, Shown};
 use dms_wire::Value;
 
 /// A number as the value of an object.
@@ -32,6 +33,23 @@ pub fn cell_value<'a>(order: Order, column: Column, id: RowId, message: &RowView
         Column::PixelService => small(message.pixel),
         Column::RunTimePriority => small(message.priority),
         Column::Status => small(message.status.number()),
+    }
+}
+
+/// What a column reads of what is shown, as the row of the current buffer: its checksum is computed only where it is asked for.
+pub fn shown_value<'a>(order: Order, column: Column, id: RowId, shown: &'a Shown) -> Value<'a>
+    ensures { object_value result ≡ cell_value order column id (shown_reading shown.now) }
+{
+    match column {
+        Column::MemoryType => small(id.memory),
+        Column::Number => number_value(id.number),
+        Column::MultiString => Value::Octets(shown.text.as_slice()),
+        Column::Owner => Value::Octets(shown.owner.as_slice()),
+        Column::Crc => number_value(in_order(order, shown.checksum())),
+        Column::Beacon => small(shown.beacon),
+        Column::PixelService => small(shown.pixel),
+        Column::RunTimePriority => small(shown.priority),
+        Column::Status => small(Status::Valid.number()),
     }
 }
 

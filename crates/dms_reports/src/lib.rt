@@ -4,5 +4,5 @@
 pub mod cells;
 pub mod reports;
 
-pub use cells::{cell_value, number_value};
+pub use cells::{cell_value, number_value, shown_value};
 pub use reports::Reports;

@@ -10,9 +10,10 @@ use Rattle.dms_access.specs.declared.settings.Fallbacks.{Fallbacks}
 use Rattle.dms_access.specs.declared.settings.Settings.{Settings}
 use Rattle.dms_table.specs.Rows.{TableModel}
 use Rattle.dms_sign.specs.State.{SignState}
-use Rattle.dms_access.specs.Access.{Write, is_command}
+use Rattle.dms_access.specs.Access.{Write, SetNumber, SetCode, SetField, AskRow, Activate, SetRemaining, is_command}
 use Rattle.dms_access.specs.Assignment.{given}
 use Rattle.dms_sign.specs.SetRequest.{SetCause, write_at, is_command_at, causes_at, causes_behind, causes, with_write, with_writes}
+use Rattle.dms_sign.specs.SetView.{is_field, StaysWithout}
 use Rattle.dms_sign.specs.Requests.{writes_of, command_index}
 use Rattle.dms_access.proofs.TakenSlots.{any_push}
 use Rattle.dms_access.specs.SettingsView.{codes_by, set_by}
@@ -215,3 +216,29 @@ one_more s may all old index settings at command rest more b is e =
     let whole : (done ++ b ∷ []) ++ more ≡ all = append_assoc done (b ∷ []) more ∙ ap (λ r. done ++ r) (sym e) ∙ is.whole in
     ap (λ d. d ++ b ∷ []) (before_is s may all old index settings at command rest is)
     ∙ sym (take-append_seam (done ++ b ∷ []) more) ∙ ap (take (length (done ++ b ∷ []))) whole ∙ ap (λ n. take n all) size
+
+-- all bindings, where none is left
+pub all_taken : (s : SignState) (may : Bool) (all : List VarBind) (old : Settings) (index : ℕ) (settings : Settings) (at : ℕ) (command : Option Write) (rest : List VarBind)
+    → HasJudged s may all old index settings at command rest → rest ≡ [] → take index all ≡ all
+all_taken s may all old index settings at command rest is e =
+    before_is s may all old index settings at command rest is ∙ sym (append-nil is.done) ∙ ap (λ r. is.done ++ r) (sym e) ∙ is.whole
+
+-- ---- the table, where no field is written
+
+no_field : (table : TableModel) (w : Write) → is_field w ≡ false → with_write table w ≡ table
+no_field table (SetField id field) e = absurd (true≢false e)
+no_field table (SetNumber object number) e = refl
+no_field table (SetCode object octets) e = refl
+no_field table (AskRow id ask) e = refl
+no_field table (Activate octets) e = refl
+no_field table (SetRemaining minutes) e = refl
+
+pub stays_more : (s : SignState) (xs ys : List VarBind) (b : VarBind) (w : Write) (old new : Bool) → write_at s b ≡ Some w → xs ++ b ∷ [] ≡ ys
+    → new ≡ (old || is_field w) → StaysWithout old s xs → StaysWithout new s ys
+stays_more s xs ys b w old new writes e n stays = λ h.
+    let parts = either_false old (is_field w) (sym n ∙ h) in
+    let all : writes_of s ys ≡ writes_of s xs ++ w ∷ [] =
+    ap (writes_of s) (sym e) ∙ writes_append s xs (b ∷ []) ∙ ap (λ o. writes_of s xs ++ cons_option o []) writes
+    in
+    ap (with_writes s.table) all ∙ with_writes_append s.table (writes_of s xs) (w ∷ []) ∙ ap (λ (t : TableModel). with_write t w) (stays parts.0)
+    ∙ no_field s.table w parts.1

@@ -1,5 +1,6 @@
 -- What the code answers to a SET; only proofs go through these.
-use Rattle.std.specs.Prelude.{◌≡◌, Option, None, Result, Ok, Err, ⊤}
+use Rattle.std.specs.Prelude.{◌≡◌, Bool, true, false, List, Option, None, Result, Ok, Err, ⊤}
+use Rattle.dms_wire.specs.Message.{VarBind}
 use Rattle.dms_wire.specs.declared.error_status.ErrorStatus.TheVariants.{NoError}
 use Rattle.dms_codes.specs.declared.codes.Activation.{Activation}
 use Rattle.dms_access.specs.declared.settings.Settings.{Settings}
@@ -8,8 +9,8 @@ use Rattle.dms_sign.specs.declared.sign.set_request.Refusal.{Refusal}
 use Rattle.dms_sign.specs.State.{SignState}
 use Rattle.dms_sign.specs.InRange.{AreOctets}
 use Rattle.dms_sign.specs.FallbacksView.{fallbacks_of}
-use Rattle.dms_sign.specs.SetRequest.{SetCause}
-use Rattle.dms_sign.specs.Requests.{Answer}
+use Rattle.dms_sign.specs.SetRequest.{SetCause, with_writes}
+use Rattle.dms_sign.specs.Requests.{Answer, writes_of}
 
 abbrev pub refusal_of : Refusal → SetCause
 refusal_of refusal = record { index = refusal.index; status = refusal.status }
@@ -27,6 +28,19 @@ IsCommandInRange (SetCode object octets) = ⊤
 IsCommandInRange (SetField id field) = ⊤
 IsCommandInRange (AskRow id ask) = ⊤
 IsCommandInRange (SetRemaining minutes) = ⊤
+
+-- a field of a row
+abbrev pub is_field : Write → Bool
+is_field (SetField id field) = true
+is_field (SetNumber object number) = false
+is_field (SetCode object octets) = false
+is_field (AskRow id ask) = false
+is_field (Activate octets) = false
+is_field (SetRemaining minutes) = false
+
+-- where no field is written, the table stays
+abbrev pub StaysWithout : Bool → SignState → List VarBind → Type 0
+StaysWithout fields s bindings = fields ≡ false → with_writes s.table (writes_of s bindings) ≡ s.table
 
 -- the settings are those of the state
 pub record AreSettings (settings : Settings) (s : SignState) : Type 0 where

@@ -177,7 +177,7 @@ impl Sign {
     fn stay(&mut self, mode: u8)
         ensures { self.new ≡ staying self.old mode }
     {
-        stays(&mut self.shown, mode);
+        self.shown.stay(mode);
     }
 
     /// What is shown has so many seconds left, or no end.
@@ -185,7 +185,7 @@ impl Sign {
         requires { IsTimeInRange remaining }
         ensures { self.new ≡ showing self.old (record self.old.shown { remaining = remaining }) }
     {
-        remains(&mut self.shown, remaining);
+        self.shown.remain(remaining);
     }
 
     /// A code was refused for this cause.
@@ -256,17 +256,4 @@ fn source_of(shown: &Shown, order: Order) -> [u8; 5]
     ensures { result ≡ octets_of_id order shown.now.source }
 {
     shown.source.to_bytes(order)
-}
-
-fn stays(shown: &mut Shown, mode: u8)
-    ensures { shown.new ≡ record shown.old { mode = mode; remaining = None } }
-{
-    shown.mode = mode;
-    shown.remaining = None;
-}
-
-fn remains(shown: &mut Shown, remaining: Option<u32>)
-    ensures { shown.new ≡ record shown.old { remaining = remaining } }
-{
-    shown.remaining = remaining;
 }

@@ -1,6 +1,6 @@
 //! What a sign shows.
 
-ghost use Rattle.std.specs.Prelude.{◌≡◌};
+ghost use Rattle.std.specs.Prelude.{◌≡◌, None};
 ghost use Rattle.dms_table.specs.RowsView.{reading_of, IsShort};
 ghost use Rattle.dms_table.specs.Activation.{blank_shown, shown_reading, seconds_of, put_up};
 
@@ -69,6 +69,21 @@ impl Shown {
         }
     }
 
+    /// It stays, with this mode and without an end.
+    pub fn stay(&mut self, mode: u8)
+        ensures { self.new ≡ record self.old { mode = mode; remaining = None } }
+    {
+        self.mode = mode;
+        self.remaining = None;
+    }
+
+    /// It has so many seconds left, or no end.
+    pub fn remain(&mut self, remaining: Option<u32>)
+        ensures { self.new ≡ record self.old { remaining = remaining } }
+    {
+        self.remaining = remaining;
+    }
+
     /// What is shown, as a row of the current buffer.
     pub fn view(&self) -> RowView<'_>
         ensures read { reading_of result ≡ shown_reading self.now }
@@ -103,7 +118,8 @@ impl Shown {
         }
     }
 
-    fn checksum(&self) -> u16
+    /// Its checksum, as dmsMessageCRC of the current buffer reads it: 0 while a blank message is shown.
+    pub fn checksum(&self) -> u16
         ensures { result ≡ (shown_reading self.now).checksum }
     {
         if self.source.memory == memory::BLANK {

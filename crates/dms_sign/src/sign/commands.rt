@@ -1,6 +1,6 @@
 //! The commands of a SET: each is judged on the state with the other values assigned; where it fails, none is.
 
-ghost use Rattle.std.specs.Prelude.{◌≡◌, ◌≤◌, length, option_map, IsSome, IfSome, Some, is_some};
+ghost use Rattle.std.specs.Prelude.{◌≡◌, ◌≤◌, length, option_map, IsSome, IfSome, Some, is_some, false};
 ghost use Rattle.dms_wire.specs.Limits.{AreBindingsInLimits};
 ghost use Rattle.dms_codes.specs.Codes.{activation_of};
 ghost use Rattle.dms_table.specs.Rows.{asked};
@@ -8,14 +8,13 @@ ghost use Rattle.dms_table.specs.Activation.{seconds_of};
 ghost use Rattle.dms_sign.specs.InRange.{AreOctets, IsShownInRange, IsTimeInRange};
 ghost use Rattle.dms_access.specs.Access.{AskRow, Activate};
 ghost use Rattle.dms_access.specs.ChangeView.{write_by};
-ghost use Rattle.dms_sign.specs.SetView.{IsCommandInRange};
-ghost use Rattle.dms_sign.specs.SetView.{AreSettings};
-ghost use Rattle.dms_sign.specs.SetView.{Says};
+ghost use Rattle.dms_sign.specs.SetView.{AreSettings, IsCommandInRange, Says, StaysWithout};
 ghost use Rattle.dms_sign.specs.SetRequest.{assigned};
 ghost use Rattle.dms_sign.specs.Requests.{activated, with_remaining, writes_of, commanded, commanded_if, set};
 
 use crate::sign::Sign;
 use crate::sign::events::mode;
+use crate::sign::own_codes::{BLANK, own_activation};
 use crate::sign::set_request::{Judged, Refusal, write_fields};
 use dms_access::{Change, Settings};
 use dms_codes::{Activation, Ask, Order, RowId};
@@ -47,6 +46,7 @@ impl Sign {
         binds: &Binds<'_>,
     ) -> Result<Option<Activation>, Refusal>
         requires settings { AreSettings judged.now.settings (assigned self.old (writes_of self.old binds.now)) }
+        requires fields { StaysWithout judged.now.fields self.old binds.now }
         requires limits { AreBindingsInLimits binds.now }
         requires range { IfSome (option_map write_by judged.now.command) IsCommandInRange }
         ensures after { self.new ≡ (commanded_if self.old (assigned self.old (writes_of self.old binds.now)) binds.now judged.now.index (option_map write_by judged.now.command)).after }
@@ -56,12 +56,12 @@ impl Sign {
             Some(Change::Ask(id, ask)) => self.ask_row(id, ask, judged, binds),
             Some(Change::Activate(octets)) => self.activate(octets, judged, binds),
             Some(Change::Remaining(minutes)) => {
-                self.assign(judged.settings, binds);
+                self.assign(judged, binds);
                 self.set_remaining(minutes);
                 Ok(None)
             }
             _ => {
-                self.assign(judged.settings, binds);
+                self.assign(judged, binds);
                 Ok(None)
             }
         }
@@ -76,12 +76,13 @@ impl Sign {
         binds: &Binds<'_>,
     ) -> Result<Option<Activation>, Refusal>
         requires settings { AreSettings judged.now.settings (assigned self.old (writes_of self.old binds.now)) }
+        requires fields { StaysWithout judged.now.fields self.old binds.now }
         requires limits { AreBindingsInLimits binds.now }
         ensures after { self.new ≡ (commanded self.old (assigned self.old (writes_of self.old binds.now)) binds.now judged.now.index (AskRow id ask)).after }
         ensures says { Says result (commanded self.old (assigned self.old (writes_of self.old binds.now)) binds.now judged.now.index (AskRow id ask)) }
     {
         if self.takes(id, ask) {
-            self.assign(judged.settings, binds);
+            self.assign(judged, binds);
             self.ask(id, ask);
             Ok(None)
         } else {
@@ -100,6 +101,7 @@ impl Sign {
         binds: &Binds<'_>,
     ) -> Result<Option<Activation>, Refusal>
         requires settings { AreSettings judged.now.settings (assigned self.old (writes_of self.old binds.now)) }
+        requires fields { StaysWithout judged.now.fields self.old binds.now }
         requires limits { AreBindingsInLimits binds.now }
         requires octets { AreOctets 12 octets }
         ensures after { self.new ≡ (commanded self.old (assigned self.old (writes_of self.old binds.now)) binds.now judged.now.index (Activate octets)).after }
@@ -111,7 +113,7 @@ impl Sign {
             .decide(&self.face, &judged.settings.defaults, &code, &self.shown)
         {
             Ok(shown) => {
-                self.assign(judged.settings, binds);
+                self.assign(judged, binds);
                 self.accept(shown, octets);
                 Ok(Some(code))
             }
@@ -126,13 +128,36 @@ impl Sign {
     }
 
     /// All values are assigned at once.
-    fn assign(&mut self, settings: Settings, binds: &Binds<'_>)
+    fn assign(&mut self, judged: &Judged<'_>, binds: &Binds<'_>)
+        requires settings { AreSettings judged.now.settings (assigned self.old (writes_of self.old binds.now)) }
+        requires fields { StaysWithout judged.now.fields self.old binds.now }
+        requires limits { AreBindingsInLimits binds.now }
+        ensures { self.new ≡ assigned self.old (writes_of self.old binds.now) }
+    {
+        if judged.fields {
+            self.assign_fields(judged.settings, binds);
+        } else {
+            self.assign_settings(judged.settings, binds);
+        }
+    }
+
+    fn assign_fields(&mut self, settings: Settings, binds: &Binds<'_>)
         requires settings { AreSettings settings (assigned self.old (writes_of self.old binds.now)) }
         requires limits { AreBindingsInLimits binds.now }
         ensures { self.new ≡ assigned self.old (writes_of self.old binds.now) }
     {
         let counts = self.counts();
         write_fields(&counts, &self.face, &mut self.table, binds);
+        self.settings = settings;
+    }
+
+    fn assign_settings(&mut self, settings: Settings, binds: &Binds<'_>)
+        requires settings { AreSettings settings (assigned self.old (writes_of self.old binds.now)) }
+        requires fields { StaysWithout false self.old binds.now }
+        requires limits { AreBindingsInLimits binds.now }
+        ensures { self.new ≡ assigned self.old (writes_of self.old binds.now) }
+    {
+        let _ = binds;
         self.settings = settings;
     }
 
@@ -178,15 +203,7 @@ impl Sign {
 fn activation_of(order: Order, octets: &[u8; 12]) -> Activation
     ensures { result ≡ activation_of order octets.now }
 {
-    match Activation::from_bytes(order, octets) {
-        Some(activation) => activation,
-        None => Activation {
-            minutes: 0,
-            priority: 0,
-            id: super::own_codes::BLANK,
-            address: [0; 4],
-        },
-    }
+    Activation::from_bytes(order, octets).unwrap_or(own_activation(BLANK))
 }
 
 /// The seconds of a number of minutes; 65535 minutes have no end.

@@ -49,7 +49,7 @@ fn id_of(order: Order, octets: &[u8; 5]) -> MessageId
 }
 
 /// The activation by which the sign itself puts a message up: without an end, with the highest priority, for nobody.
-fn own_activation(id: MessageId) -> Activation
+pub(super) fn own_activation(id: MessageId) -> Activation
     ensures { result ≡ own_activation id }
 {
     Activation {

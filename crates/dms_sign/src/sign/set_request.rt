@@ -1,13 +1,13 @@
 //! What a SET writes, and what keeps it from doing so.
 
-ghost use Rattle.std.specs.Prelude.{◌≡◌, ◌≤◌, ◌+◌, if◌then◌else◌, [], ◌∷◌, Some, None, true, false, length, take, find, option_map, slice_get, IfOk, IfErr, OnOk};
+ghost use Rattle.std.specs.Prelude.{◌≡◌, ◌≤◌, ◌+◌, ◌||◌, if◌then◌else◌, [], ◌∷◌, Some, None, true, false, length, take, find, option_map, slice_get, IfOk, IfErr, OnOk};
 ghost use Rattle.std.specs.List.{list_any, cons_option};
 ghost use Rattle.dms_wire.specs.View.{var_bind};
 ghost use Rattle.dms_instances.specs.Places.{HasCounts};
 ghost use Rattle.dms_sign.specs.State.{SignState};
 ghost use Rattle.dms_access.specs.Access.{is_command};
 ghost use Rattle.dms_access.specs.ChangeView.{write_by, IsChange};
-ghost use Rattle.dms_sign.specs.SetView.{refusal_of};
+ghost use Rattle.dms_sign.specs.SetView.{refusal_of, is_field, StaysWithout};
 ghost use Rattle.dms_access.specs.SettingsView.{set_by};
 ghost use Rattle.dms_sign.specs.SetView.{AreSettings};
 ghost use Rattle.dms_access.specs.MetNames.{is_among};
@@ -33,10 +33,12 @@ pub(super) struct Refusal {
     pub status: ErrorStatus,
 }
 
-/// What the bindings of a SET that is not refused write: the settings that they leave, and the command with its index.
+/// What the bindings of a SET that is not refused write: the settings that they leave, whether they write fields of rows, and the
+/// command with its index.
 #[derive(Clone, Copy)]
 pub(super) struct Judged<'a> {
     pub settings: Settings,
+    pub fields: bool,
     pub index: u32,
     pub command: Option<Change<'a>>,
 }
@@ -119,12 +121,14 @@ impl Sign {
         requires { length binds.now ≤ 210 }
         ensures none { OnOk result (causes self.now may_write binds.now ≡ []) }
         ensures settings { IfOk result (λ judged. judged.settings ≡ set_by settings (writes_of self.now binds.now)) }
+        ensures fields { IfOk result (λ judged. StaysWithout judged.fields self.now binds.now) }
         ensures command { IfOk result (λ judged. option_map write_by judged.command ≡ find is_command (writes_of self.now binds.now)) }
         ensures index { IfOk result (λ judged. judged.index ≡ command_index self.now binds.now) }
         ensures first { IfErr result (λ refusal. slice_get (causes self.now may_write binds.now) 0 ≡ Some (refusal_of refusal)) }
     {
         let mut judged = Judged {
             settings,
+            fields: false,
             index: 0,
             command: None,
         };
@@ -155,19 +159,23 @@ impl Sign {
 fn with<'a>(judged: Judged<'a>, index: u32, change: Change<'a>) -> Judged<'a>
     requires { IsChange change }
     ensures settings { result.settings ≡ set_by judged.entry.settings (write_by change.entry ∷ []) }
+    ensures fields { result.fields ≡ judged.entry.fields || is_field (write_by change.entry) }
     ensures command { option_map write_by result.command ≡ (if is_command (write_by change.entry) then Some (write_by change.entry) else option_map write_by judged.entry.command) }
     ensures index { result.index ≡ (if is_command (write_by change.entry) then index else judged.entry.index) }
 {
     let settings = with_change(judged.settings, &change);
+    let fields = judged.fields || matches!(change, Change::Field(..));
     if change.is_command() {
         Judged {
             settings,
+            fields,
             index,
             command: Some(change),
         }
     } else {
         Judged {
             settings,
+            fields,
             index: judged.index,
             command: judged.command,
         }

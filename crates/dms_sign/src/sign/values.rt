@@ -14,9 +14,8 @@ ghost use Rattle.dms_sign.specs.Values.{minutes_left, free_octets, scalar_value,
 use crate::sign::Sign;
 use dms_codes::{MAX_TEXT, RowId, memory};
 use dms_instances::Counts;
-use dms_objects::{Instance, Scalar};
-use dms_reports::{cell_value, number_value};
-use dms_table::RowView;
+use dms_objects::{Column, Instance, Scalar};
+use dms_reports::{cell_value, number_value, shown_value};
 use dms_wire::{Oid, Value};
 
 impl Sign {
@@ -50,22 +49,20 @@ impl Sign {
     {
         match instance {
             Instance::The(object) => Some(self.scalar_value(object)),
-            Instance::Cell(column, id) => {
-                let message = self.message_at(id)?;
-                Some(cell_value(self.table.order(), column, id, &message))
-            }
+            Instance::Cell(column, id) => self.cell(column, id),
         }
     }
 
-    /// What is read of a row; that of the current buffer is what is shown.
-    fn message_at(&self, id: RowId) -> Option<RowView<'_>>
-        ensures { option_map reading_of result ≡ message_at self.now.table self.now.shown id }
+    /// What a cell of dmsMessageTable reads; the row of the current buffer is what is shown.
+    fn cell(&self, column: Column, id: RowId) -> Option<Value<'_>>
+        ensures { option_map object_value result ≡ option_map (cell_value self.now.table.order column id) (message_at self.now.table self.now.shown id) }
     {
+        let order = self.table.order();
         if id.memory != memory::CURRENT_BUFFER {
-            return self.table.row(id);
-        }
-        if id.number == 1 {
-            Some(self.shown.view())
+            let row = self.table.row(id)?;
+            Some(cell_value(order, column, id, &row))
+        } else if id.number == 1 {
+            Some(shown_value(order, column, id, &self.shown))
         } else {
             None
         }

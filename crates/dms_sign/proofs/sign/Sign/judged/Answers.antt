@@ -1,9 +1,10 @@
-use Rattle.std.proofs.Common.{◌≡◌, true, false, take, is_some, refl, true≢false, sym, subst, ◌∙◌}
+use Rattle.std.proofs.Common.{◌≡◌, ◌+◌, [], ◌∷◌, ◌++◌, true, false, take, is_some, refl, true≢false, sym, subst, ◌∙◌}
 use Rattle.std.specs.Prelude.{option_map}
 use Rattle.dms_wire.specs.View.{var_bind}
 use Rattle.dms_access.specs.Access.{is_command}
 use Rattle.dms_access.specs.ChangeView.{write_by}
-use Rattle.dms_sign.proofs.Causes.{judged_starts, judged_more, judged_refused, judged_all, mapped_some}
+use Rattle.dms_sign.proofs.Causes.{judged_starts, judged_more, judged_refused, judged_all, mapped_some, all_taken, stays_more}
+use Rattle.dms_sign.specs.SetView.{StaysWithout}
 use Rattle.dms_access.specs.Slots.{AreTaken}
 use Rattle.dms_sign.proofs.Causes.{one_more}
 use Rattle.dms_sign.proofs.sign.Sign.judged.Goals as goal
@@ -12,6 +13,7 @@ pub loop-binding-init : goal.loop-binding-init
 loop-binding-init c = (
   judged_starts c.args.self.now c.args.may_write c.args.binds.now c.again-rest.result c.args.settings c.again-rest.ensures,
   λ name e. absurd (true≢false (sym e)),
+  λ e. refl,
 )
 
 pub loop-binding-preserved : goal.loop-binding-preserved
@@ -22,15 +24,18 @@ loop-binding-preserved c =
     λ h. mapped_some write_by c.loop-binding.judged.command ∙ sym c.is_some-commanded.ensures ∙ c.in-Ok.ensures.alone h
     in
     let index = c.loop-binding.index in
-    let command = option_map write_by c.loop-binding.judged.command in (
+    let command = option_map write_by c.loop-binding.judged.command in
+    let next : take index c.args.binds.now ++ b ∷ [] ≡ take (index + 1) c.args.binds.now =
+    one_more c.args.self.now c.args.may_write c.args.binds.now c.args.settings index c.loop-binding.judged.settings c.loop-binding.judged.index command
+    c.loop-binding.rest c.next.new.self b c.loop-binding.invariant.0 c.in-Some.ensures.steps
+    in (
       judged_more c.args.self.now c.args.may_write c.args.binds.now c.args.settings index c.loop-binding.judged.settings c.loop-binding.judged.index
           command c.loop-binding.rest c.next.new.self b w c.with-judged.result.settings c.with-judged.result.index
           (option_map write_by c.with-judged.result.command) c.loop-binding.invariant.0 c.in-Some.ensures.steps c.in-Ok.ensures.none c.in-Ok.ensures.change
           alone c.with-judged.ensures.settings c.with-judged.ensures.command c.with-judged.ensures.index,
-      subst (AreTaken c.with_name-slots.result)
-          (one_more c.args.self.now c.args.may_write c.args.binds.now c.args.settings index c.loop-binding.judged.settings c.loop-binding.judged.index command
-          c.loop-binding.rest c.next.new.self b c.loop-binding.invariant.0 c.in-Some.ensures.steps)
-          (c.with_name-slots.ensures (take index c.args.binds.now) b refl c.loop-binding.invariant.1),
+      subst (AreTaken c.with_name-slots.result) next (c.with_name-slots.ensures (take index c.args.binds.now) b refl c.loop-binding.invariant.1),
+      stays_more c.args.self.now (take index c.args.binds.now) (take (index + 1) c.args.binds.now) b w c.loop-binding.judged.fields
+          c.with-judged.result.fields c.in-Ok.ensures.change next c.with-judged.ensures.fields c.loop-binding.invariant.2,
     )
 
 pub returns-in-Err-clause-first : goal.returns-in-Err-clause-first
@@ -58,3 +63,10 @@ pub returns-clause-index : goal.returns-clause-index
 returns-clause-index c =
     (judged_all c.args.self.now c.args.may_write c.args.binds.now c.args.settings c.loop-binding.index c.loop-binding.judged.settings
     c.loop-binding.judged.index (option_map write_by c.loop-binding.judged.command) c.loop-binding.rest c.loop-binding.invariant.0 c.in_default.ensures.steps.0).place
+
+pub returns-clause-fields : goal.returns-clause-fields
+returns-clause-fields c =
+    subst (StaysWithout c.loop-binding.judged.fields c.args.self.now)
+    (all_taken c.args.self.now c.args.may_write c.args.binds.now c.args.settings c.loop-binding.index c.loop-binding.judged.settings
+    c.loop-binding.judged.index (option_map write_by c.loop-binding.judged.command) c.loop-binding.rest c.loop-binding.invariant.0 c.in_default.ensures.steps.0)
+    c.loop-binding.invariant.2

@@ -6,7 +6,7 @@ use Rattle.dms_sign.specs.Requests.{writes_of}
 use Rattle.dms_sign.specs.SetView.{AreSettings}
 use Rattle.dms_sign.specs.SignView.{state_of}
 use Rattle.dms_sign.proofs.Assigned.{assigned_whole, state_assigned}
-use Rattle.dms_sign.proofs.sign.Sign.assign.Goals as goal
+use Rattle.dms_sign.proofs.sign.Sign.assign_fields.Goals as goal
 
 pub invariant_of-self : goal.invariant_of-self
 invariant_of-self c =
