@@ -1,15 +1,16 @@
 //! The bench sign against datagrams and replies in octets that were made outside of this code.
 
-use crate::{Config, Receipt, Sign};
+use crate::{Config, ConfigFault, Receipt, Sign};
 use dms_face::{Defaults, Face, Font};
 use dms_pages::pages_with;
-use dms_table::{Order, Permanent, Stock};
+use dms_table::{Order, Permanent, Stock, TableFault};
 use dms_wire::{Bind, Kind, MessageParts, Oid, Out, Value, oid_cmp, read, write};
 use std::alloc::Global;
 use std::cmp::Ordering;
 use std::test::Fail;
 
 mod cases;
+mod hostile;
 
 const TALL: &[u8] = b"font 1 height 7 space 1 line 1 version 0001
 glyph 49 2 7554
@@ -53,11 +54,25 @@ fn sign_of(
     volatile: u8,
     order: Order,
 ) -> Result<Sign, Fail> {
+    let config = config_of(alloc, permanent, changeable, volatile, order).ok_or(
+        "no configuration",
+    )?;
+    Ok(Sign::new(alloc, config)?)
+}
+
+/// None where its face finds no memory.
+fn config_of<'a>(
+    alloc: Global,
+    permanent: &'a [Permanent<'a>],
+    changeable: u8,
+    volatile: u8,
+    order: Order,
+) -> Option<Config<'a>> {
     let mut fonts = Vec::new(alloc);
-    fonts.push(Font::from_text(alloc, TALL)?)?;
-    fonts.push(Font::from_text(alloc, SMALL)?)?;
-    let config = Config {
-        face: Face::new(23, 14, fonts, DEFAULTS)?,
+    fonts.push(Font::from_text(alloc, TALL).ok()?).ok()?;
+    fonts.push(Font::from_text(alloc, SMALL).ok()?).ok()?;
+    Some(Config {
+        face: Face::new(23, 14, fonts, DEFAULTS).ok()?,
         stock: Stock {
             permanent,
             changeable,
@@ -68,8 +83,7 @@ fn sign_of(
         },
         reader: b"public",
         writer: b"admin",
-    };
-    Ok(Sign::new(alloc, config)?)
+    })
 }
 
 /// The octets of hexadecimal digits; `-` is none.
@@ -163,6 +177,21 @@ fn sizes(rt: HostRuntime) -> Result<(), Fail> {
     play(&mut bench_sign(rt.alloc())?, cases::SIZES)
 }
 
+#[test]
+fn silence(rt: HostRuntime) -> Result<(), Fail> {
+    play(&mut bench_sign(rt.alloc())?, cases::SILENCE)
+}
+
+#[test]
+fn written_defaults(rt: HostRuntime) -> Result<(), Fail> {
+    play(&mut bench_sign(rt.alloc())?, cases::WRITTEN_DEFAULTS)
+}
+
+#[test]
+fn returns_of_the_power(rt: HostRuntime) -> Result<(), Fail> {
+    play(&mut bench_sign(rt.alloc())?, cases::RETURNS)
+}
+
 /// The same number as 29954 in the other order of its octets.
 #[test]
 fn checksum_of_the_other_order(rt: HostRuntime) -> Result<(), Fail> {
@@ -226,6 +255,55 @@ fn walk(rt: HostRuntime) -> Result<(), Fail> {
     }
     assert_eq!(rt; count, 36 + 9 * (2 + 1 + 1 + 1 + 255));
     Ok(())
+}
+
+/// Each allocation of a sign may be refused: then it is out of memory, and the same call with memory makes the same sign.
+#[test]
+fn sign_or_out_of_memory(rt: HostRuntime) -> Result<(), Fail> {
+    let alloc = rt.alloc();
+    let mut sign = match Sign::new(alloc, bench_config(alloc)?) {
+        Ok(sign) => sign,
+        Err(fault) => {
+            assert_eq!(rt; fault, ConfigFault::Table(TableFault::Memory));
+            Sign::new(alloc, bench_config(alloc)?)?
+        }
+    };
+    let mut other = match Sign::new(alloc, bench_config(alloc)?) {
+        Ok(sign) => sign,
+        Err(_) => Sign::new(alloc, bench_config(alloc)?)?,
+    };
+    check_same(&mut sign, &mut other)
+}
+
+/// The configuration of the bench sign; where memory is refused to its face, it is asked for again.
+fn bench_config(alloc: Global) -> Result<Config<'static>, Fail> {
+    match config_of(alloc, &[B], 2, 1, Order::High) {
+        Some(config) => Ok(config),
+        None => Ok(config_of(alloc, &[B], 2, 1, Order::High).ok_or("no configuration")?),
+    }
+}
+
+/// Both read the same, instance by instance from 0.0 on.
+fn check_same(sign: &mut Sign, other: &mut Sign) -> Result<(), Fail> {
+    let mut last = Out::new();
+    last.try_push(0)?;
+    for _ in 0..3000 {
+        let mut one = Out::new();
+        let mut two = Out::new();
+        let name = Oid::of(last.as_slice()).ok_or("no name")?;
+        let found = asked(sign, Kind::GetNext, &name, &mut one)?;
+        let same = asked(other, Kind::GetNext, &name, &mut two)?;
+        if found != same {
+            return Err("another value".into());
+        }
+        let Some(binding) = found else {
+            return Ok(());
+        };
+        let content = binding.name.content();
+        last.clear();
+        last.try_extend_from_slice(content)?;
+    }
+    Err("no end".into())
 }
 
 /// What is shown, drawn under its own copy of the defaults: the digit of a lit cell's colour, and a point where nothing is lit.
