@@ -8,6 +8,7 @@ use Rattle.dms_ber.specs.Element.{IsElement, ◌⨾◌}
 use Rattle.dms_ber.specs.Length.{short_length}
 use Rattle.dms_ber.specs.Element.{element}
 use Rattle.dms_ber.proofs.BelowBase.{below-append}
+use Rattle.dms_ber.specs.Limits.{longest_datagram}
 
 -- the shortest form of a length stands for it, in octets
 abbrev IsLengthOf : ℕ → List ℕ → Type 0
@@ -28,12 +29,12 @@ length_spelled n small =
 
 -- octets that spell what P says if a datagram has room for them
 abbrev pub Fits : (List ℕ → Type 0) → List ℕ → Type 0
-Fits P octets = length octets ≤ 1472 → P octets × AllBelowBase 256 octets
+Fits P octets = length octets ≤ longest_datagram → P octets × AllBelowBase 256 octets
 
 pub fits_element : (tag : ℕ) (P : List ℕ → Type 0) (content : List ℕ) → tag < 256 → Fits P content → Fits (IsElement tag P) (element tag content)
 unfolding element
 fits_element tag P content octet fits room =
-    let least : length content ≤ 1472 = omega (arith, length-append (short_length (length content)) content) in
+    let least : length content ≤ longest_datagram = omega (arith, length-append (short_length (length content)) content) in
     let len = length_spelled (length content) (omega arith) in
     let inner = fits least in (
       record { len = short_length (length content); content = content; form = len.0; spelled = inner.0; parts = refl },

@@ -4,6 +4,7 @@ use Rattle.std.proofs.lemmas.Bool.{cases_Bool}
 use Rattle.std.specs.Int.Digits.{AllBelowBase}
 use Rattle.dms_ber.specs.ObjectIdentifier.{AreSubIdentifiers, IsName, numbers_from}
 use Rattle.dms_ber.specs.ObjectIdentifier.{IsNameInLimits}
+use Rattle.dms_ber.specs.Limits.{most_sub_identifiers}
 
 sub_identifiers_small : (ns bytes : List ℕ) → AreSubIdentifiers ns bytes → AllBelowBase (2 ^ 32) ns
 sub_identifiers_small [] bytes are = tt
@@ -19,7 +20,7 @@ numbers_within n ns first small few =
       ]
     ]
 
-sub_identifiers_within : (ns : List ℕ) → 0 < length ns → length ns ≤ 127 → AllBelowBase (2 ^ 32) ns → IsNameInLimits (numbers_from ns)
+sub_identifiers_within : (ns : List ℕ) → 0 < length ns → length ns ≤ most_sub_identifiers → AllBelowBase (2 ^ 32) ns → IsNameInLimits (numbers_from ns)
 sub_identifiers_within [] some few small = absurd (omega arith)
 sub_identifiers_within (n ∷ ns) some few small = numbers_within n ns small.0 small.1 (omega arith)
 

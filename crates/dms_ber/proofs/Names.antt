@@ -9,6 +9,7 @@ use Rattle.std.specs.Int.Digits.{number_from_digits, number_from_digits_after, A
 use Rattle.std.specs.Option.{option_map_or}
 use Rattle.dms_ber.specs.ObjectIdentifier.{IsSubIdentifier, AreSubIdentifiers, IsName, numbers_from}
 use Rattle.dms_ber.specs.NameReading.{sub_identifiers_after, numbers_of, part_after, goes_on, is_name}
+use Rattle.dms_ber.specs.Limits.{most_sub_identifiers}
 
 -- n is what came of a sub-identifier, of which the digits high were read
 pub record IsPart (n : ℕ) (high : List ℕ) : Type 0 where
@@ -36,9 +37,9 @@ not_first b n e first none = both_ways _ e (and_from _ _ (eq-eqb b 128 first) (e
 -- what a step that the walk goes on from says of its octet
 part_ok : (f : ℕ × ℕ → Bool) (count n b : ℕ) → option_map_or f (part_after count n b) false ≡ true
     → (b < 256) × (n * 128 + b % 128 < 2 ^ 32) × (b ≡ 128 → n ≡ 0 → ⊥)
-    × (((128 ≤ b) × (f (count, n * 128 + b % 128) ≡ true)) ⊎ ((b < 128) × (count < 127) × (f (count + 1, 0) ≡ true)))
+    × (((128 ≤ b) × (f (count, n * 128 + b % 128) ≡ true)) ⊎ ((b < 128) × (count < most_sub_identifiers) × (f (count + 1, 0) ≡ true)))
 part_ok f count n b e =
-    let tests = three_tests f _ (leb 128 b) (ltb count 127) (count, n * 128 + b % 128) (count + 1, 0) e in
+    let tests = three_tests f _ (leb 128 b) (ltb count most_sub_identifiers) (count, n * 128 + b % 128) (count + 1, 0) e in
     let none = or_parts (leb 256 b || leb (2 ^ 32) (n * 128 + b % 128)) _ tests.0 in
     let small = or_parts (leb 256 b) _ none.0 in (
       leb-false 256 b small.0,
@@ -46,7 +47,7 @@ part_ok f count n b e =
       not_first b n none.1,
       elim tests.1 [
         | inl h ↦ inl (leb-true 128 b h.0, h.1)
-        | inr h ↦ inr (leb-false 128 b h.0, ltb-true count 127 h.1, h.2)
+        | inr h ↦ inr (leb-false 128 b h.0, ltb-true count most_sub_identifiers h.1, h.2)
       ],
     )
 
@@ -76,7 +77,7 @@ part_push n b high part more octet some = record {
 abbrev IsWalk : ℕ → ℕ → List ℕ → List ℕ → Type 0
 IsWalk count n high bs =
     AreSubIdentifiers (sub_identifiers_after n bs) (map (λ d. 128 + d) high ++ bs)
-    × (0 < count + length (sub_identifiers_after n bs)) × (count + length (sub_identifiers_after n bs) ≤ 127)
+    × (0 < count + length (sub_identifiers_after n bs)) × (count + length (sub_identifiers_after n bs) ≤ most_sub_identifiers)
 
 -- an octet of 128 or more, and the walk behind it
 names_more : (b : ℕ) (bs : List ℕ) (count n : ℕ) (high : List ℕ) → 128 ≤ b → b < 256
@@ -113,9 +114,9 @@ names_last b bs count n high part last small walk =
     )
 
 -- octets that the walk takes are the sub-identifiers that it reads
-pub names_found : (bs : List ℕ) (count n : ℕ) (high : List ℕ) → IsPart n high → count ≤ 127 → goes_on count n bs ≡ true
+pub names_found : (bs : List ℕ) (count n : ℕ) (high : List ℕ) → IsPart n high → count ≤ most_sub_identifiers → goes_on count n bs ≡ true
     → AreSubIdentifiers (sub_identifiers_after n bs) (map (λ d. 128 + d) high ++ bs)
-    × (0 < count + length (sub_identifiers_after n bs)) × (count + length (sub_identifiers_after n bs) ≤ 127)
+    × (0 < count + length (sub_identifiers_after n bs)) × (count + length (sub_identifiers_after n bs) ≤ most_sub_identifiers)
 unfolding goes_on
 names_found [] count n high part few e =
     let ends = and_parts (eqb n 0) (ltb 0 count) e in
@@ -129,7 +130,7 @@ names_found (b ∷ bs) count n high part few e =
           names_more b bs count n high h.0 step.0
           (names_found bs count (n * 128 + b % 128) (high ++ b % 128 ∷ []) (part_push n b high part h.0 step.0 step.2) few h.1)
       | inr h ↦
-          let room : count + 1 ≤ 127 = omega (arith, h.1) in
+          let room : count + 1 ≤ most_sub_identifiers = omega (arith, h.1) in
           let low : b < 128 = h.0 in
           names_last b bs count n high part low (omega (arith, step.1)) (names_found bs (count + 1) 0 [] no_part room h.2)
     ]
@@ -143,13 +144,13 @@ octet_more : (count n d : ℕ) → d < 128 → n * 128 + d < 2 ^ 32 → (d ≡ 0
 octet_more count n d digit small some = let same : (128 + d) % 128 ≡ d = omega arith in rw same (grind (arith, nat_tests))
 
 -- the last octet
-last_octet : (count n low : ℕ) → low < 128 → n * 128 + low < 2 ^ 32 → count < 127
+last_octet : (count n low : ℕ) → low < 128 → n * 128 + low < 2 ^ 32 → count < most_sub_identifiers
     → part_after count n low ≡ Some (count + 1, 0)
 last_octet count n low digit small room = let same : low % 128 ≡ low = omega arith in rw same (grind (arith, nat_tests))
 
 -- one sub-identifier, of which n came
 sub_only : (high : List ℕ) (count n low : ℕ) (rest : List ℕ) → AllBelowBase 128 high → low < 128
-    → (get_or high 0 1 ≡ 0 → n ≡ 0 → ⊥) → number_from_digits_after 128 n (high ++ low ∷ []) < 2 ^ 32 → count < 127
+    → (get_or high 0 1 ≡ 0 → n ≡ 0 → ⊥) → number_from_digits_after 128 n (high ++ low ∷ []) < 2 ^ 32 → count < most_sub_identifiers
     → (goes_on count n ((map (λ d. 128 + d) high ++ low ∷ []) ++ rest) ≡ goes_on (count + 1) 0 rest)
     × (sub_identifiers_after n ((map (λ d. 128 + d) high ++ low ∷ []) ++ rest) ≡ number_from_digits_after 128 n (high ++ low ∷ []) ∷ sub_identifiers_after 0 rest)
 unfolding goes_on
@@ -169,7 +170,7 @@ sub_only (d ∷ ds) count n low rest digits digit some small room =
 
 -- and the walk takes no other sub-identifiers
 pub names_only : (ns bytes : List ℕ) (count : ℕ) → AreSubIdentifiers ns bytes → 0 < count + length ns
-    → count + length ns ≤ 127 → (goes_on count 0 bytes ≡ true) × (sub_identifiers_after 0 bytes ≡ ns)
+    → count + length ns ≤ most_sub_identifiers → (goes_on count 0 bytes ≡ true) × (sub_identifiers_after 0 bytes ≡ ns)
 unfolding goes_on
 names_only [] bytes count h some few = rw (h, lt-ltb 0 count (omega arith)) (refl, refl)
 names_only (n ∷ ns) bytes count h some few =

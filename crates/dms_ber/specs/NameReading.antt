@@ -2,6 +2,7 @@
 use Rattle.std.specs.Prelude.{ℕ, ◌+◌, ◌*◌, ◌%◌, ◌^◌, Bool, false, ◌&&◌, ◌||◌, nat_lt, nat_le, ◌==◌, List, [], ◌∷◌, Option, Some, None, if◌then◌else◌}
 use Rattle.std.specs.Option.{option_map_or}
 use Rattle.dms_ber.specs.ObjectIdentifier.{numbers_from}
+use Rattle.dms_ber.specs.Limits.{most_sub_identifiers}
 
 -- The numbers that the octets are in base 128, each up to an octet below 128. n is what came of the first.
 abbrev pub sub_identifiers_after : ℕ → List ℕ → List ℕ
@@ -17,7 +18,7 @@ abbrev pub part_after : ℕ → ℕ → ℕ → Option (ℕ × ℕ)
 part_after count n b =
     if nat_le 256 b || nat_le (2 ^ 32) (n * 128 + b % 128) || (b == 128 && n == 0) then None
     else if nat_le 128 b then Some (count, n * 128 + b % 128)
-    else if nat_lt count 127 then Some (count + 1, 0)
+    else if nat_lt count most_sub_identifiers then Some (count + 1, 0)
     else None
 
 -- whether the octets go on as a name's content

@@ -4,6 +4,7 @@ use Rattle.std.specs.Int.Digits.{number_from_digits, AllBelowBase}
 use Rattle.std.specs.Prelude.{◌*◌, ◌/◌, ◌%◌}
 use Rattle.std.specs.List.{flat_map}
 use Rattle.std.specs.Int.Digits.{digits_of}
+use Rattle.dms_ber.specs.Limits.{most_sub_identifiers}
 
 -- A sub-identifier's digits in base 128, high first, with 128 added to all but the last (8.19.2). The first is not 0,
 -- unless it is the last.
@@ -27,11 +28,11 @@ abbrev pub numbers_from : List ℕ → List ℕ
 numbers_from [] = []
 numbers_from (n ∷ ns) = (if nat_lt n 40 then 0 ∷ n ∷ ns else if nat_lt n 80 then 1 ∷ (n - 40) ∷ ns else 2 ∷ (n - 80) ∷ ns)
 
--- the octets are the content of the name with these numbers; at most 127 sub-identifiers is the profile's own limit
+-- the octets are the content of the name with these numbers; that there are not more sub-identifiers is the profile's own limit
 pub record IsName (numbers : List ℕ) (bytes : List ℕ) : Type 0 where
   pub sub_identifiers : List ℕ
   pub some : 0 < length sub_identifiers
-  pub few : length sub_identifiers ≤ 127
+  pub few : length sub_identifiers ≤ most_sub_identifiers
   pub spelled : AreSubIdentifiers sub_identifiers bytes
   pub numbers_is : numbers ≡ numbers_from sub_identifiers
 

@@ -8,6 +8,7 @@ ghost use Rattle.arrayvec.specs.ArrayVec.{array_vec_len};
 ghost use Rattle.dms_ber.specs.Length.{short_length};
 ghost use Rattle.dms_ber.specs.Element.{element};
 ghost use Rattle.dms_ber.specs.Reading.{Gives, content_at, element_at, ended};
+ghost use Rattle.dms_ber.specs.Limits.{longest_datagram};
 
 use crate::Out;
 use crate::fault::{FaultKind, WireFault, fault_at, offset_of};
@@ -81,7 +82,7 @@ pub fn size_of_element(size: usize) -> usize
 /// Appends a tag and the shortest form of the length of a content of `size` octets.
 #[inline]
 pub fn put_head(out: &mut Out, tag: u8, size: usize)
-    requires { array_vec_len out.old + (1 + length (short_length size) + size) ≤ 1472 }
+    requires { array_vec_len out.old + (1 + length (short_length size) + size) ≤ longest_datagram }
     ensures { out.new.items ≡ out.old.items ++ tag ∷ short_length size }
 {
     out.push(tag);
@@ -91,7 +92,7 @@ pub fn put_head(out: &mut Out, tag: u8, size: usize)
 /// Appends the octets of a content.
 #[inline]
 pub fn put_content(out: &mut Out, content: &[u8])
-    requires { array_vec_len out.old + length content.now ≤ 1472 }
+    requires { array_vec_len out.old + length content.now ≤ longest_datagram }
     ensures { out.new.items ≡ out.old.items ++ content.now }
 {
     let _ = out.try_extend_from_slice(content);
@@ -111,7 +112,7 @@ pub fn size_of_octets(content: &[u8]) -> usize
 #[inline]
 #[tactic(auto, using(crate::proofs::Shortest::element_steps), unfolding(crate::specs::Element::element))]
 pub fn put_octets(out: &mut Out, tag: u8, content: &[u8])
-    requires { array_vec_len out.old + length (element tag content.now) ≤ 1472 }
+    requires { array_vec_len out.old + length (element tag content.now) ≤ longest_datagram }
     ensures { out.new.items ≡ out.old.items ++ element tag content.now }
 {
     put_head(out, tag, content.len());

@@ -26,7 +26,7 @@ pub enum FaultKind {
     BadVersion,
     /// Octets after the last member of an element, or after the message.
     TrailingBytes,
-    /// A datagram over 1,472 octets.
+    /// A datagram over `MAX_DATAGRAM` octets.
     TooLong,
 }
 

@@ -6,6 +6,7 @@ ghost use Rattle.std.specs.Int.Digits.{number_from_digits};
 ghost use Rattle.dms_ber.specs.Integer.{is_shortest, inverted, signed_value, positive_octets, integer_octets};
 ghost use Rattle.dms_ber.specs.Element.{element};
 ghost use Rattle.dms_ber.specs.Reading.{Gives, integer_value, natural_value, integer_at};
+ghost use Rattle.dms_ber.specs.Limits.{longest_datagram};
 
 use crate::element::{put_head, read_element, size_of_element};
 use crate::fault::{FaultKind, WireFault, fault_at, offset_of};
@@ -135,7 +136,7 @@ fn size_of_integer_content(number: &i64) -> usize
 /// Writes the octets of a number not below 0.
 #[tactic(auto, using(crate::proofs::Shortest::number_steps))]
 fn put_number(out: &mut Out, number: u64)
-    requires { array_vec_len out.old + length (positive_octets number) ≤ 1472 }
+    requires { array_vec_len out.old + length (positive_octets number) ≤ longest_datagram }
     ensures { out.new.items ≡ out.old.items ++ positive_octets number }
 {
     if number < 128 {
@@ -149,7 +150,7 @@ fn put_number(out: &mut Out, number: u64)
 /// Writes the octets of a number not below 0, each inverted.
 #[tactic(auto, using(crate::proofs::Shortest::number_steps))]
 fn put_inverted(out: &mut Out, number: u64)
-    requires { array_vec_len out.old + length (positive_octets number) ≤ 1472 }
+    requires { array_vec_len out.old + length (positive_octets number) ≤ longest_datagram }
     ensures { out.new.items ≡ out.old.items ++ inverted (positive_octets number) }
 {
     if number < 128 {
@@ -164,7 +165,7 @@ fn put_inverted(out: &mut Out, number: u64)
 #[inline]
 #[tactic(auto, using(crate::proofs::Shortest::number_steps), unfolding(crate::specs::Integer::integer_octets))]
 fn put_integer_content(out: &mut Out, number: &i64)
-    requires { array_vec_len out.old + length (integer_octets number.now) ≤ 1472 }
+    requires { array_vec_len out.old + length (integer_octets number.now) ≤ longest_datagram }
     ensures { out.new.items ≡ out.old.items ++ integer_octets number.now }
 {
     if *number < 0 {
@@ -188,7 +189,7 @@ pub fn size_of_integer(number: &i64) -> usize
 #[inline]
 #[tactic(auto, using(crate::proofs::Shortest::element_steps), unfolding(crate::specs::Element::element))]
 pub fn put_integer(out: &mut Out, number: &i64)
-    requires { array_vec_len out.old + length (element 2 (integer_octets number.now)) ≤ 1472 }
+    requires { array_vec_len out.old + length (element 2 (integer_octets number.now)) ≤ longest_datagram }
     ensures { out.new.items ≡ out.old.items ++ element 2 (integer_octets number.now) }
 {
     put_head(out, tag::INTEGER, size_of_integer_content(number));
@@ -208,7 +209,7 @@ pub fn size_of_unsigned(number: u32) -> usize
 #[inline]
 #[tactic(auto, using(crate::proofs::Shortest::element_steps), unfolding(crate::specs::Element::element, crate::specs::Integer::integer_octets))]
 pub fn put_unsigned(out: &mut Out, tag: u8, number: u32)
-    requires { array_vec_len out.old + length (element tag (integer_octets (pos number))) ≤ 1472 }
+    requires { array_vec_len out.old + length (element tag (integer_octets (pos number))) ≤ longest_datagram }
     ensures { out.new.items ≡ out.old.items ++ element tag (integer_octets (pos number)) }
 {
     let number = u64::from(number);

@@ -5,6 +5,7 @@ ghost use Rattle.arrayvec.specs.ArrayVec.{array_vec_len};
 ghost use Rattle.std.specs.Int.Digits.{number_from_digits, digits_of};
 ghost use Rattle.dms_ber.specs.Length.{short_length};
 ghost use Rattle.dms_ber.specs.Reading.{Gives, length_at};
+ghost use Rattle.dms_ber.specs.Limits.{longest_datagram};
 
 use crate::Out;
 use crate::fault::{FaultKind, WireFault, fault_at, offset_of};
@@ -81,7 +82,7 @@ pub(crate) fn count_digits(number: usize) -> usize
 #[inline]
 #[tactic(auto, using(crate::proofs::Shortest::length_steps))]
 pub(crate) fn put_length(out: &mut Out, size: usize)
-    requires { array_vec_len out.old + (length (short_length size) + size) ≤ 1472 }
+    requires { array_vec_len out.old + (length (short_length size) + size) ≤ longest_datagram }
     ensures { out.new.items ≡ out.old.items ++ short_length size }
 {
     if size < 128 {

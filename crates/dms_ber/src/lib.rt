@@ -31,5 +31,5 @@ pub use object_identifier::{MAX_SUB_IDENTIFIERS, Numbers, Oid, name_of, oid_cmp,
 /// The most octets of a datagram, and so the most that are written (this profile).
 pub const MAX_DATAGRAM: usize = 1472;
 
-/// Octets to send: at most 1,472.
+/// Octets to send: at most `MAX_DATAGRAM`.
 pub type Out = ArrayVec<u8, MAX_DATAGRAM>;

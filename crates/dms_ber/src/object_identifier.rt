@@ -12,6 +12,7 @@ ghost use Rattle.std.specs.Prelude.{◌≤◌, IfOk};
 ghost use Rattle.dms_ber.specs.Reading.{Gives, name_at};
 ghost use Rattle.dms_ber.specs.NameOrder.{numbers_cmp};
 ghost use Rattle.dms_ber.specs.ObjectIdentifier.{name_octets};
+ghost use Rattle.dms_ber.specs.Limits.{most_sub_identifiers};
 
 use crate::element::read_element;
 use crate::fault::{FaultKind, WireFault, fault_at, offset_of};
@@ -42,7 +43,8 @@ impl<'a> Model for Oid<'a> {
 
 impl<'a> Oid<'a> {
     /// The object identifier with this content (X.690, 8.19), or none where the octets are none's: there is no octet, a
-    /// sub-identifier begins with octet 128, is 2^32 or more or lacks its last octet, or there are more than 127.
+    /// sub-identifier begins with octet 128, is 2^32 or more or lacks its last octet, or there are more than
+    /// `MAX_SUB_IDENTIFIERS`.
     pub fn of(content: &'a [u8]) -> Option<Oid<'a>>
         ensures some { IfSome result (λ o. IsName o content.now) }
         ensures only { (numbers : List ℕ) → IsName numbers content.now → result ≡ Some numbers }
@@ -302,7 +304,7 @@ fn is_name(octets: &[u8]) -> bool
 #[tactic(auto, unfolding(crate::specs::NameReading::goes_on))]
 fn after_sub_identifier(count: usize, octets: &[u8]) -> Option<&[u8]>
     ensures some { IfSome result (λ rest. goes_on count 0 octets.now ≡ goes_on (count + 1) 0 rest.now) }
-    ensures few { IfSome result (λ _. count < 127) }
+    ensures few { IfSome result (λ _. count < most_sub_identifiers) }
     ensures none { IfNone result (goes_on count 0 octets.now ≡ ((length octets.now == 0) && nat_lt 0 count)) }
     ensures shorter { IfSome result (λ rest. length rest.now < length octets.now) }
 {
@@ -322,7 +324,7 @@ fn after_sub_identifier(count: usize, octets: &[u8]) -> Option<&[u8]>
 #[tactic(auto, unfolding(crate::specs::NameReading::goes_on))]
 fn after_long_sub_identifier(count: usize, octets: &[u8]) -> Option<&[u8]>
     ensures some { IfSome result (λ rest. goes_on count 0 octets.now ≡ goes_on (count + 1) 0 rest.now) }
-    ensures few { IfSome result (λ _. count < 127) }
+    ensures few { IfSome result (λ _. count < most_sub_identifiers) }
     ensures none { IfNone result (goes_on count 0 octets.now ≡ ((length octets.now == 0) && nat_lt 0 count)) }
     ensures shorter { IfSome result (λ rest. length rest.now < length octets.now) }
 {

@@ -12,6 +12,7 @@ use Rattle.dms_ber.specs.Integer.{integer_octets}
 use Rattle.dms_ber.specs.ObjectIdentifier.{sub_identifier_octets, name_octets}
 use Rattle.dms_wire.specs.Canonical.{value_octets, binding_octets, numbers_octets, pdu_octets, canonical}
 use Rattle.dms_ber.proofs.Shortest.{element_length, length-positive_le}
+use Rattle.dms_ber.specs.Limits.{longest_datagram}
 
 length-cond : (t : Bool) (xs ys : List ℕ) (n : ℕ) → length xs ≤ n → length ys ≤ n → length (cond t xs ys) ≤ n
 length-cond true xs ys n p q = p
@@ -80,7 +81,7 @@ length-pdu m numbers room =
 
 -- a request of a short community, whose bindings take at most 1,200 octets
 pub length-request : (m : SnmpMessage) (number : ℕ) → m.request ≡ pos number → number < 2 ^ 64 → m.status ≡ pos 0 → m.index ≡ pos 0
-    → length m.community ≤ 32 → length (flat_map binding_octets m.bindings) ≤ 1200 → length (canonical m) ≤ 1472
+    → length m.community ≤ 32 → length (flat_map binding_octets m.bindings) ≤ 1200 → length (canonical m) ≤ longest_datagram
 unfolding canonical
 length-request m number request small status index short room =
     let content = length-pdu m (length-numbers m number request small status index) room in

@@ -28,6 +28,8 @@ use Rattle.dms_centre.specs.History.{AreSettings}
 use Rattle.dms_centre.specs.Requests.{IsWork, OfPublishing, OfShowing}
 use Rattle.dms_centre.proofs.Checksums.{message_checksum_below}
 use Rattle.dms_centre.proofs.Lengths.{length-element, length-number_element, length-binding, length-request}
+use Rattle.dms_codes.specs.Limits.{longest_text, longest_owner}
+use Rattle.dms_ber.specs.Limits.{longest_datagram}
 
 -- ---- names
 
@@ -81,7 +83,7 @@ fine_null = record { within = tt; room = length-element 5 [] (omega arith) }
 fine_number : (n : ℕ) → n < 2 ^ 32 → IsFine (integer (pos n)) 13
 fine_number n small = record { within = lt-ltb n (2 ^ 32) small; room = length-number_element n (omega (arith, small)) }
 
-fine_octets : (octets : List ℕ) (size : ℕ) → AllBelowBase 256 octets → length octets ≤ size → size ≤ 512 → IsFine (octet_string octets) (4 + size)
+fine_octets : (octets : List ℕ) (size : ℕ) → AllBelowBase 256 octets → length octets ≤ size → size ≤ longest_text → IsFine (octet_string octets) (4 + size)
 fine_octets octets size below few small = record {
   within = below;
   room = let e = length-element 4 octets (omega (arith, few, small)) in omega (arith, e, few);
@@ -178,8 +180,8 @@ is_row work is = record { memory = (is_code work is).id.memory; number = (is_cod
 
 -- the lengths that a publication is taken with
 record IsShort (p : PublicationModel) : Type 0 where
-  text : length p.text ≤ 512
-  owner : length p.owner ≤ 127
+  text : length p.text ≤ longest_text
+  owner : length p.owner ≤ longest_owner
 
 is_short : (p : PublicationModel) → is_publishable p ≡ true → IsShort p
 is_short p good = record { text = grind (arith, nat_tests, good); owner = grind (arith, nat_tests, good) }
@@ -199,8 +201,8 @@ fine_fields w (OfPublishing p is good) =
     let run_priority = field_more work RunTimePriority (integer (pos p.run_priority)) [] 13 0 publishing (fine_number p.run_priority (omega (arith, is.run_priority))) (omega arith) fine_none in
     let pixel = field_more work PixelService (integer (pos p.pixel)) _ 13 101 publishing (fine_number p.pixel (omega (arith, is.pixel))) (omega arith) run_priority in
     let beacon = field_more work Beacon (integer (pos p.beacon)) _ 13 202 publishing (fine_number p.beacon (omega (arith, is.beacon))) (omega arith) pixel in
-    let owner = field_more work Owner (octet_string p.owner) _ 131 303 publishing (fine_octets p.owner 127 is.owner short.owner (omega arith)) (omega arith) beacon in
-    let text = field_more work MultiString (octet_string p.text) _ 516 522 publishing (fine_octets p.text 512 is.text short.text (omega arith)) (omega arith) owner in
+    let owner = field_more work Owner (octet_string p.owner) _ 131 303 publishing (fine_octets p.owner longest_owner is.owner short.owner (omega arith)) (omega arith) beacon in
+    let text = field_more work MultiString (octet_string p.text) _ 516 522 publishing (fine_octets p.text longest_text is.text short.text (omega arith)) (omega arith) owner in
     larger _ 1126 1200 text (omega arith)
 fine_fields w (OfShowing code is) = record { within = tt; room = omega arith }
 
@@ -228,7 +230,7 @@ request_within settings number work step fine few is = record {
 }
 
 pub request_fits : (settings : SettingsModel) (number : ℕ) (work : Work) (step : Step) → AreSettings settings → number ≤ last_number → IsWork work
-    → length (canonical (request_of settings number work step)) ≤ 1472
+    → length (canonical (request_of settings number work step)) ≤ longest_datagram
 unfolding request_of
 request_fits settings number work step fine few is =
     length-request (request_of settings number work step) number refl (omega (arith, few)) refl refl fine.few (fine_bindings settings.order work step is).room

@@ -19,17 +19,18 @@ use Rattle.dms_centre.specs.History.{AreSettings}
 use Rattle.dms_centre.specs.Requests.{IsWork}
 use Rattle.dms_centre.specs.CodeView.{IsPushed, asking, publication_model}
 use Rattle.dms_centre.proofs.Requests.{request_fits}
+use Rattle.dms_ber.specs.Limits.{longest_datagram}
 
 pub fits : (settings : SettingsModel) (number : ℕ) (work : Work) (step : Step) (m : SnmpMessage) → AreSettings settings → number ≤ last_number → IsWork work
-    → request_of settings number work step ≡ m → length (canonical m) ≤ 1472
-fits settings number work step m are few is same = subst (λ m. length (canonical m) ≤ 1472) same (request_fits settings number work step are few is)
+    → request_of settings number work step ≡ m → length (canonical m) ≤ longest_datagram
+fits settings number work step m are few is same = subst (λ m. length (canonical m) ≤ longest_datagram) same (request_fits settings number work step are few is)
 
 -- what fits was written
 pub record IsDone (result : Result (Unit {0}) TooBig) (written octets : List ℕ) : Type 0 where
   pub ok : IsOk result
   pub is : written ≡ octets
 
-pub done : (result : Result (Unit {0}) TooBig) (written octets : List ℕ) → IsWritten result written octets → length octets ≤ 1472 → IsDone result written octets
+pub done : (result : Result (Unit {0}) TooBig) (written octets : List ℕ) → IsWritten result written octets → length octets ≤ longest_datagram → IsDone result written octets
 done (Ok u) written octets is few = record { ok = refl; is = is.0 }
 done (Err e) written octets is few = absurd (omega (arith, is.1, few))
 
@@ -63,7 +64,7 @@ same_setting community number row message text owner is text_is owner_is = rw (i
 pub done_fields : (result : Result (Unit {0}) TooBig) (written community : List ℕ) (number : ℕ) (row : RowId) (message : Publication) (text owner : List ℕ)
     → row ≡ record { memory = message.memory; number = message.number } → text ≡ message.text.items → owner ≡ message.owner.items
     → (m : SnmpMessage) → m ≡ setting community number row text owner message.beacon message.pixel message.run_priority → IsWritten result written (canonical m)
-    → length (fields_octets community number message) ≤ 1472 → IsDone result written (fields_octets community number message)
+    → length (fields_octets community number message) ≤ longest_datagram → IsDone result written (fields_octets community number message)
 done_fields result written community number row message text owner is text_is owner_is m m_is written_is few =
     done result written (fields_octets community number message)
     (subst (λ m. IsWritten result written (canonical m)) (m_is ∙ same_setting community number row message text owner is text_is owner_is) written_is) few

@@ -18,9 +18,9 @@ pub enum Command<'a> {
         memory: u8,
         /// The row's number there, from 1.
         number: u16,
-        /// A MULTI text, of at most 512 octets.
+        /// A MULTI text, of at most `MAX_TEXT` octets.
         text: &'a [u8],
-        /// Who the message is from, in at most 127 octets.
+        /// Who the message is from, in at most `MAX_OWNER` octets.
         owner: &'a [u8],
         /// 1 with the sign's beacons, else 0.
         beacon: u8,

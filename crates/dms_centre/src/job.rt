@@ -7,6 +7,7 @@ ghost use Rattle.dms_centre.specs.Steps.{code_of, row_of};
 ghost use Rattle.dms_centre.specs.Commands.{IsAddress, IsPublication, is_good, job_of, showing};
 ghost use Rattle.dms_centre.specs.Requests.{IsWork};
 ghost use Rattle.dms_centre.specs.CodeView.{command_model, job_model, publication_model, work_model};
+ghost use Rattle.dms_codes.specs.Limits.{longest_text, longest_owner};
 
 use crate::command::Command;
 use crate::step::Step;
@@ -214,8 +215,8 @@ fn publication_of(
     priority: u8,
     address: [u8; 4],
 ) -> Publication
-    requires text { length text.now ≤ 512 }
-    requires owner { length owner.now ≤ 127 }
+    requires text { length text.now ≤ longest_text }
+    requires owner { length owner.now ≤ longest_owner }
     ensures publication { publication_model result ≡ record {
       memory = memory;
       number = number;

@@ -12,6 +12,7 @@ ghost use Rattle.dms_centre.specs.Sending.{last_number};
 ghost use Rattle.dms_centre.specs.History.{AreSettings};
 ghost use Rattle.dms_centre.specs.Requests.{IsWork};
 ghost use Rattle.dms_centre.specs.CodeView.{IsPushed, asking, publication_model, work_model};
+ghost use Rattle.dms_ber.specs.Limits.{longest_datagram};
 
 use crate::job::{Publication, Work};
 use crate::step::Step;
@@ -85,7 +86,7 @@ pub(crate) fn put_request(
 #[tactic(auto, unfolding(dms_objects::specs::Names::name_of))]
 fn put_fields(community: &[u8], number: u32, message: &Publication, row: RowId, out: &mut Out)
     requires row { row ≡ record { memory = message.now.memory; number = message.now.number } }
-    requires fits { length (canonical (asking community.now kinds.Set number (fields (Publishing (publication_model message.now))))) ≤ 1472 }
+    requires fits { length (canonical (asking community.now kinds.Set number (fields (Publishing (publication_model message.now))))) ≤ longest_datagram }
     ensures { out.new.items ≡ canonical (asking community.now kinds.Set number (fields (Publishing (publication_model message.now)))) }
 {
     let mut fields = BindingOctets::new();
@@ -154,7 +155,7 @@ fn put_one(
     value: Value<'_>,
     out: &mut Out,
 )
-    requires { length (canonical (asking community.now kind number (record { name = name_of object; value = object_value value } ∷ []))) ≤ 1472 }
+    requires { length (canonical (asking community.now kind number (record { name = name_of object; value = object_value value } ∷ []))) ≤ longest_datagram }
     ensures { out.new.items ≡ canonical (asking community.now kind number (record { name = name_of object; value = object_value value.entry } ∷ [])) }
 {
     let name = Name::of(object);
@@ -167,7 +168,7 @@ fn put_one(
 
 /// Writes a request with these bindings.
 fn put(community: &[u8], kind: Kind, number: u32, binds: &[Bind<'_>], out: &mut Out)
-    requires { length (canonical (asking community.now kind number (map var_bind binds.now))) ≤ 1472 }
+    requires { length (canonical (asking community.now kind number (map var_bind binds.now))) ≤ longest_datagram }
     ensures { out.new.items ≡ canonical (asking community.now kind number (map var_bind binds.now)) }
 {
     let parts = MessageParts {

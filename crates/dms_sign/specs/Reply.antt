@@ -11,6 +11,7 @@ use Rattle.dms_wire.specs.Response.{response_to}
 use Rattle.dms_codes.specs.declared.codes.Activation.{Activation}
 use Rattle.dms_sign.specs.State.{SignState}
 use Rattle.dms_sign.specs.Requests.{Answer, is_community, primary}
+use Rattle.dms_ber.specs.Limits.{longest_datagram}
 
 -- ---- replies
 
@@ -22,7 +23,7 @@ abbrev pub too_big : ℕ
 too_big = error_status_number TooBig
 
 abbrev pub most_octets : ℕ
-most_octets = 1472
+most_octets = longest_datagram
 
 -- the octets of the reply; one that is too big for a datagram is replaced (RFC 1157, 4.1.2, tooBig)
 unfoldable pub reply_to : SnmpMessage → Answer → List ℕ

@@ -29,9 +29,9 @@ pub struct Services {
 /// A value for a field of a row (NTCIP 1203, dmsMessageTable).
 #[derive(Clone, Copy, Debug, PartialEq, Eq)]
 pub enum Field<'a> {
-    /// dmsMessageMultiString: at most 512 octets.
+    /// dmsMessageMultiString: at most `MAX_TEXT` octets.
     Text(&'a [u8]),
-    /// dmsMessageOwner: at most 127 octets.
+    /// dmsMessageOwner: at most `MAX_OWNER` octets.
     Owner(&'a [u8]),
     /// dmsMessageBeacon: 0 or 1.
     Beacon(u8),
@@ -44,9 +44,9 @@ pub enum Field<'a> {
 /// A row as it is read (NTCIP 1203, dmsMessageTable).
 #[derive(Clone, Copy, Debug, PartialEq, Eq)]
 pub struct RowView<'a> {
-    /// The text, at most 512 octets.
+    /// The text, at most `MAX_TEXT` octets.
     pub text: &'a [u8],
-    /// The owner, at most 127 octets.
+    /// The owner, at most `MAX_OWNER` octets.
     pub owner: &'a [u8],
     /// 1 where the beacons are on, else 0.
     pub beacon: u8,

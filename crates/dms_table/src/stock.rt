@@ -17,9 +17,9 @@ use std::fmt;
 /// A row that the sign is made with.
 #[derive(Clone, Copy, Debug, PartialEq, Eq)]
 pub struct Permanent<'a> {
-    /// The text, at most 512 octets, good on the sign's face.
+    /// The text, at most `MAX_TEXT` octets, good on the sign's face.
     pub text: &'a [u8],
-    /// The owner, at most 127 octets.
+    /// The owner, at most `MAX_OWNER` octets.
     pub owner: &'a [u8],
     /// 1 where the beacons are to be on, else 0.
     pub beacon: u8,

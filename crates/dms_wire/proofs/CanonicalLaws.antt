@@ -17,6 +17,7 @@ use Rattle.dms_wire.specs.Canonical.{value_octets, binding_octets, numbers_octet
 use Rattle.dms_ber.proofs.CanonicalIntegers.{integer_spelled, integer_below}
 use Rattle.dms_ber.proofs.CanonicalNames.{name_spelled, name_below}
 use Rattle.dms_ber.proofs.CanonicalElements.{Fits, fits_element, fits_both}
+use Rattle.dms_ber.specs.Limits.{longest_datagram}
 
 fits_integer : (tag : ℕ) (z : ℤ) → tag < 256 → IsTrue (in_range z) → Fits (IsElement tag (IsInteger z)) (element tag (integer_octets z))
 fits_integer tag z octet range = fits_element tag (IsInteger z) (integer_octets z) octet (λ room. (integer_spelled z range, integer_below z))
@@ -85,5 +86,5 @@ fits_message m within =
     let pdu = fits_element (tag_of m.kind) (IsPdu m) (pdu_octets m) (tag_octet m.kind) (fits_pdu m within) in
     rw append_assoc (fits_element 48 _ _ (omega arith) (fits_both _ _ _ _ fits_version (fits_both _ _ _ _ community pdu)))
 
-pub canonical_spells : (m : SnmpMessage) → IsMessageInLimits m → length (canonical m) ≤ 1472 → Spells m (canonical m)
+pub canonical_spells : (m : SnmpMessage) → IsMessageInLimits m → length (canonical m) ≤ longest_datagram → Spells m (canonical m)
 canonical_spells m within room = let fits = fits_message m within room in record { octets = fits.1; size = room; message = fits.0 }

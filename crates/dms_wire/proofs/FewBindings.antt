@@ -6,6 +6,7 @@ use Rattle.dms_ber.specs.Element.{IsElement, ◌⨾◌}
 use Rattle.dms_ber.specs.Integer.{IsInteger}
 use Rattle.dms_ber.specs.ObjectIdentifier.{AreSubIdentifiers, IsName}
 use Rattle.dms_wire.specs.Spelling.{IsAddress, IsValue, IsBinding, AreBindings, tag_of, IsPdu, IsMessage, Spells}
+use Rattle.dms_wire.specs.Limits.{most_bindings}
 
 -- what is spelled so has n octets or more
 record AtLeast (n : ℕ) (Spelled : List ℕ → Type 0) : Type 0 where
@@ -84,3 +85,7 @@ few_bindings m octets s =
     let pdu : AtLeast n (IsPdu m) = behind n (behind n (behind n (around 48 n (bindings_octets m.bindings)))) in
     let message : AtLeast n (IsMessage m) = around 48 n (behind n (behind n (around (tag_of m.kind) n pdu))) in
     message.octets octets s.message
+
+-- so there are at most as many as the longest datagram has room for
+pub most_bindings_read : (m : SnmpMessage) (octets : List ℕ) → Spells m octets → length m.bindings ≤ most_bindings
+most_bindings_read m octets s = omega (arith, few_bindings m octets s, s.size)

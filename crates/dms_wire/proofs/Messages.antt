@@ -18,6 +18,7 @@ use Rattle.dms_ber.proofs.Elements.{bind_ok, chosen, done, ok_is, not_ok, guarde
 use Rattle.dms_ber.proofs.Integers.{integer_found, integer_only}
 use Rattle.dms_ber.proofs.Members.{Front, after, joined, last, some_is, ok_or_found, made, with_found, with_only, integer_at_found, integer_at_only}
 use Rattle.dms_wire.proofs.Bindings.{ended_found, bindings_found, bindings_only}
+use Rattle.dms_ber.specs.Limits.{longest_datagram}
 
 list_found : (end : ℕ) (bytes : List ℕ) (x : List VarBind × List ℕ) → list_at end bytes ≡ Ok x
     → Front (IsElement 48 (AreBindings x.0)) bytes x.1
@@ -247,8 +248,8 @@ datagram_found bytes m h =
 pub message_found : (bytes : List ℕ) (m : SnmpMessage) → AllBelowBase 256 bytes → message_at bytes ≡ Ok m → Spells m bytes
 unfolding message_at
 message_found bytes m octets h =
-    let t = guarded (nat_lt 1472 (length bytes)) (fault TooLong 1472) (datagram_at bytes) m h in
-    record { octets = octets; size = ltb-false 1472 (length bytes) t.0; message = datagram_found bytes m t.1 }
+    let t = guarded (nat_lt longest_datagram (length bytes)) (fault TooLong longest_datagram) (datagram_at bytes) m h in
+    record { octets = octets; size = ltb-false longest_datagram (length bytes) t.0; message = datagram_found bytes m t.1 }
 
 -- a message's octets and what follows them
 datagram_then : (m : SnmpMessage) (bytes rest : List ℕ) → IsMessage m bytes
@@ -258,9 +259,9 @@ datagram_then m bytes rest e =
     let outer : outer_at (bytes ++ rest) ≡ Ok (e.content, rest) = ap (λ bytes. outer_at (bytes ++ rest)) e.parts ∙ outer_only e.len e.content rest e.form in
     rw (outer, inside_only (length (bytes ++ rest) - length rest) m e.content e.spelled) refl
 
-within_size : (bytes : List ℕ) → length bytes ≤ 1472 → message_at bytes ≡ datagram_at bytes
+within_size : (bytes : List ℕ) → length bytes ≤ longest_datagram → message_at bytes ≡ datagram_at bytes
 unfolding message_at
-within_size bytes fits = rw (le-ltb 1472 (length bytes) fits) refl
+within_size bytes fits = rw (le-ltb longest_datagram (length bytes) fits) refl
 
 pub message_only : (bytes : List ℕ) (m : SnmpMessage) → Spells m bytes → message_at bytes ≡ Ok m
 unfolding ended
@@ -268,7 +269,7 @@ message_only bytes m s =
     within_size bytes s.size ∙ ap datagram_at (sym (append-nil bytes)) ∙ datagram_then m bytes [] s.message
 
 -- octets behind a message
-pub message_trailing : (bytes more : List ℕ) (m : SnmpMessage) → Spells m bytes → 0 < length more → length (bytes ++ more) ≤ 1472
+pub message_trailing : (bytes more : List ℕ) (m : SnmpMessage) → Spells m bytes → 0 < length more → length (bytes ++ more) ≤ longest_datagram
     → message_at (bytes ++ more) ≡ Err (fault TrailingBytes (length bytes))
 unfolding ended
 message_trailing bytes [] m s some fits = absurd (omega arith)
@@ -330,9 +331,9 @@ pub message_truncated : (bytes more : List ℕ) (m : SnmpMessage) → Spells m (
 unfolding datagram_at
 message_truncated bytes more m s some =
     let e = s.message in
-    let fits : length bytes ≤ 1472 = omega (arith, s.size, length-append bytes more) in
+    let fits : length bytes ≤ longest_datagram = omega (arith, s.size, length-append bytes more) in
     within_size bytes fits ∙ rw (outer_short bytes more e.len e.content e.form e.parts some) refl
 
-pub message_too_long : (bytes : List ℕ) → 1472 < length bytes → message_at bytes ≡ Err (fault TooLong 1472)
+pub message_too_long : (bytes : List ℕ) → longest_datagram < length bytes → message_at bytes ≡ Err (fault TooLong longest_datagram)
 unfolding message_at
-message_too_long bytes long = rw (lt-ltb 1472 (length bytes) long) refl
+message_too_long bytes long = rw (lt-ltb longest_datagram (length bytes) long) refl

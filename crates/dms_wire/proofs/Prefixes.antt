@@ -11,6 +11,7 @@ use Rattle.dms_wire.specs.View.{message_around}
 use Rattle.dms_wire.specs.Written.{octets_of_bindings}
 use Rattle.dms_wire.specs.Prefix.{element_size, pdu_size, content_size, message_size, pdu_prefix, message_prefix, prefix}
 use Rattle.dms_ber.proofs.Shortest.{element_put, element_length}
+use Rattle.dms_ber.specs.Limits.{longest_datagram}
 
 -- the octets are those of the message's bindings
 abbrev pub AreBindingsOf : SnmpMessage → List ℕ → Type 0
@@ -85,22 +86,22 @@ pub bindings_alone : (m : SnmpMessage) → length (flat_map binding_octets m.bin
 bindings_alone m = omega (arith, size_of_message m (flat_map binding_octets m.bindings) refl)
 
 -- octets that were kept, or too many to keep
-kept : (test : Bool) (xs octets : List ℕ) → nat_le (length octets) 1472 ≡ test → Some xs ≡ cond test (Some octets) None → octets ≡ xs
+kept : (test : Bool) (xs octets : List ℕ) → nat_le (length octets) longest_datagram ≡ test → Some xs ≡ cond test (Some octets) None → octets ≡ xs
 kept true xs octets is e = cc
 kept false xs octets is e = absurd (cc)
 
-not_kept : (test : Bool) (octets : List ℕ) → nat_le (length octets) 1472 ≡ test → None ≡ cond test (Some octets) None → 1472 < length octets
+not_kept : (test : Bool) (octets : List ℕ) → nat_le (length octets) longest_datagram ≡ test → None ≡ cond test (Some octets) None → longest_datagram < length octets
 not_kept true octets is e = absurd (cc)
-not_kept false octets is e = leb-false (length octets) 1472 is
+not_kept false octets is e = leb-false (length octets) longest_datagram is
 
 pub are_kept : (too_big : Bool) (xs : List ℕ) (now : Option (List ℕ)) (bindings : List VarBind) → too_big ≡ false → cond too_big None (Some xs) ≡ now
     → now ≡ octets_of_bindings bindings → xs ≡ flat_map binding_octets bindings
 are_kept true xs now bindings is view e = absurd (cc)
-are_kept false xs now bindings is view e = sym (kept (nat_le (length (flat_map binding_octets bindings)) 1472) xs (flat_map binding_octets bindings) refl (view ∙ e))
+are_kept false xs now bindings is view e = sym (kept (nat_le (length (flat_map binding_octets bindings)) longest_datagram) xs (flat_map binding_octets bindings) refl (view ∙ e))
 
 pub are_too_big : (too_big : Bool) (xs : List ℕ) (now : Option (List ℕ)) (bindings : List VarBind) → too_big ≡ true → cond too_big None (Some xs) ≡ now
-    → now ≡ octets_of_bindings bindings → 1472 < length (flat_map binding_octets bindings)
-are_too_big true xs now bindings is view e = not_kept (nat_le (length (flat_map binding_octets bindings)) 1472) (flat_map binding_octets bindings) refl (view ∙ e)
+    → now ≡ octets_of_bindings bindings → longest_datagram < length (flat_map binding_octets bindings)
+are_too_big true xs now bindings is view e = not_kept (nat_le (length (flat_map binding_octets bindings)) longest_datagram) (flat_map binding_octets bindings) refl (view ∙ e)
 are_too_big false xs now bindings is view e = absurd (cc)
 
 -- what a message to write says beside its bindings

@@ -4,6 +4,11 @@ use Rattle.std.specs.Int.Digits.{AllBelowBase}
 use Rattle.dms_wire.specs.Message.{ObjectValue, integer, octet_string, null, object_identifier, ip_address, counter, gauge, time_ticks, opaque, VarBind, SnmpMessage}
 use Rattle.dms_ber.specs.Integer.{in_range}
 use Rattle.dms_ber.specs.ObjectIdentifier.{IsNameInLimits}
+use Rattle.std.specs.Prelude.{ℕ}
+
+-- the most bindings of a datagram: each has seven octets at least
+abbrev pub most_bindings : ℕ
+most_bindings = 210
 
 abbrev pub IsValueInLimits : ObjectValue → Type 0
 IsValueInLimits (integer z) = IsTrue (in_range z)

@@ -8,6 +8,7 @@ use Rattle.dms_wire.specs.declared.message.Kind.TheVariants.{Get, GetNext, Respo
 use Rattle.dms_wire.specs.Message.{ObjectValue, integer, octet_string, null, object_identifier, ip_address, counter, gauge, time_ticks, opaque, VarBind, SnmpMessage}
 use Rattle.dms_ber.specs.NameReading.{is_name, numbers_of}
 use Rattle.dms_ber.specs.Reading.{◌>>=◌, fault, length_at, integer_value, content_at, element_at, place_of, integer_at, name_at, natural_value, ended}
+use Rattle.dms_ber.specs.Limits.{longest_datagram}
 
 -- The value that a tag and a content are. before is the offset of the length, and place that of the content.
 unfoldable pub value_from : ℕ → ℕ → ℕ → List ℕ → Result ObjectValue WireFault
@@ -137,4 +138,4 @@ datagram_at bytes = do
   Ok m
 
 unfoldable pub message_at : List ℕ → Result SnmpMessage WireFault
-message_at bytes = if nat_lt 1472 (length bytes) then Err (fault TooLong 1472) else datagram_at bytes
+message_at bytes = if nat_lt longest_datagram (length bytes) then Err (fault TooLong longest_datagram) else datagram_at bytes

@@ -8,6 +8,7 @@ use Rattle.dms_wire.specs.Message.{ObjectValue, integer, octet_string, null, obj
 use Rattle.dms_ber.specs.Element.{IsElement, ◌⨾◌}
 use Rattle.dms_ber.specs.Integer.{IsInteger}
 use Rattle.dms_ber.specs.ObjectIdentifier.{IsName}
+use Rattle.dms_ber.specs.Limits.{longest_datagram}
 
 -- an address is four octets
 abbrev pub IsAddress : List ℕ → List ℕ → Type 0
@@ -50,8 +51,8 @@ abbrev pub IsMessage : SnmpMessage → List ℕ → Type 0
 IsMessage m =
     IsElement 48 (IsElement 2 (IsInteger (pos 0)) ⨾ IsElement 4 (λ content. content ≡ m.community) ⨾ IsElement (tag_of m.kind) (IsPdu m))
 
--- at most 1,472 octets that are the message's element, with nothing after it
+-- at most longest_datagram octets that are the message's element, with nothing after it
 pub record Spells (m : SnmpMessage) (bytes : List ℕ) : Type 0 where
   pub octets : AllBelowBase 256 bytes
-  pub size : length bytes ≤ 1472
+  pub size : length bytes ≤ longest_datagram
   pub message : IsMessage m bytes

@@ -12,6 +12,7 @@ ghost use Rattle.dms_ber.specs.Element.{element};
 ghost use Rattle.dms_ber.specs.ObjectIdentifier.{name_octets};
 ghost use Rattle.dms_wire.specs.Canonical.{value_octets, binding_octets};
 ghost use Rattle.dms_wire.specs.Written.{octets_of_bindings};
+ghost use Rattle.dms_ber.specs.Limits.{longest_datagram};
 
 use crate::fault::TooBig;
 use crate::value::{Value, put_value, read_value, size_of_value};
@@ -155,7 +156,7 @@ pub(crate) fn list(octets: &[u8], end: usize) -> Result<(Binds<'_>, &[u8]), Wire
 fn size_of_binding(binding: &Bind<'_>) -> Result<usize, TooBig>
     ensures ok { IfOk result (λ n. n ≡ length (binding_octets (var_bind binding.now))) }
     ensures small { IfOk result (λ n. n < 2 ^ 12) }
-    ensures too_big { OnErr result (1472 < length (binding_octets (var_bind binding.now))) }
+    ensures too_big { OnErr result (longest_datagram < length (binding_octets (var_bind binding.now))) }
 {
     let name = size_of_octets(binding.name.content());
     let value = size_of_value(&binding.value);
@@ -169,7 +170,7 @@ fn size_of_binding(binding: &Bind<'_>) -> Result<usize, TooBig>
 #[inline]
 #[tactic(auto, using(crate::proofs::Sizes::element_steps))]
 fn put_binding_content(out: &mut Out, binding: &Bind<'_>)
-    requires { array_vec_len out.old + length (element 6 (name_octets binding.now.name) ++ value_octets (object_value binding.now.value)) ≤ 1472 }
+    requires { array_vec_len out.old + length (element 6 (name_octets binding.now.name) ++ value_octets (object_value binding.now.value)) ≤ longest_datagram }
     ensures { out.new.items ≡ out.old.items ++ (element 6 (name_octets binding.now.name) ++ value_octets (object_value binding.now.value)) }
 {
     put_octets(out, tag::OBJECT_IDENTIFIER, binding.name.content());
@@ -179,7 +180,7 @@ fn put_binding_content(out: &mut Out, binding: &Bind<'_>)
 /// Writes a binding.
 #[tactic(auto, using(crate::proofs::Sizes::nested_steps), unfolding(crate::specs::Canonical::binding_octets))]
 fn put_binding(out: &mut Out, binding: &Bind<'_>)
-    requires { array_vec_len out.old + length (binding_octets (var_bind binding.now)) ≤ 1472 }
+    requires { array_vec_len out.old + length (binding_octets (var_bind binding.now)) ≤ longest_datagram }
     ensures { out.new.items ≡ out.old.items ++ binding_octets (var_bind binding.now) }
 {
     let size = size_of_octets(binding.name.content()) + size_of_value(&binding.value);
@@ -190,8 +191,8 @@ fn put_binding(out: &mut Out, binding: &Bind<'_>)
 /// How many octets bindings take, where that is no more than a datagram.
 #[tactic(auto, using(crate::proofs::Writes::written_steps))]
 pub(crate) fn size_of_bindings(bindings: &[Bind<'_>]) -> Result<usize, TooBig>
-    ensures ok { IfOk result (λ n. (n ≡ length (flat_map binding_octets (map var_bind bindings.now))) × (n ≤ 1472)) }
-    ensures too_big { OnErr result (1472 < length (flat_map binding_octets (map var_bind bindings.now))) }
+    ensures ok { IfOk result (λ n. (n ≡ length (flat_map binding_octets (map var_bind bindings.now))) × (n ≤ longest_datagram)) }
+    ensures too_big { OnErr result (longest_datagram < length (flat_map binding_octets (map var_bind bindings.now))) }
 {
     let mut size = 0;
     for binding in bindings {
@@ -206,7 +207,7 @@ pub(crate) fn size_of_bindings(bindings: &[Bind<'_>]) -> Result<usize, TooBig>
 /// Writes bindings, one after the other.
 #[tactic(auto, using(crate::proofs::Writes::written_steps))]
 pub(crate) fn put_bindings(out: &mut Out, bindings: &[Bind<'_>])
-    requires { array_vec_len out.old + length (flat_map binding_octets (map var_bind bindings.now)) ≤ 1472 }
+    requires { array_vec_len out.old + length (flat_map binding_octets (map var_bind bindings.now)) ≤ longest_datagram }
     ensures { out.new.items ≡ out.old.items ++ flat_map binding_octets (map var_bind bindings.now) }
 {
     for binding in bindings {
@@ -215,8 +216,8 @@ pub(crate) fn put_bindings(out: &mut Out, bindings: &[Bind<'_>])
 }
 
 /// The octets of bindings to write, one binding after the other, in their shortest spelling: who has each binding only for a
-/// moment writes them with no array of bindings. Bindings of more than 1,472 octets are none that fit a message: then no octet
-/// is kept, and `write_around` refuses them. A contract sees the octets, or none (`octets_of_bindings`).
+/// moment writes them with no array of bindings. Bindings of more than `MAX_DATAGRAM` octets are none that fit a message: then no
+/// octet is kept, and `write_around` refuses them. A contract sees the octets, or none (`octets_of_bindings`).
 #[derive(Debug, Drop)]
 pub struct BindingOctets {
     pub(crate) octets: Out,
@@ -243,7 +244,7 @@ impl BindingOctets {
         }
     }
 
-    /// Appends a binding. Where the bindings have more than 1,472 octets with it, they are too big from then on.
+    /// Appends a binding. Where the bindings have more than `MAX_DATAGRAM` octets with it, they are too big from then on.
     pub fn push(&mut self, binding: &Bind<'_>)
         ensures { (bindings : List VarBind) → self.old ≡ octets_of_bindings bindings
             → self.new ≡ octets_of_bindings (bindings ++ var_bind binding.now ∷ []) }

@@ -3,7 +3,7 @@
 use std::error::Error;
 use std::fmt;
 
-/// The shortest spelling of a message has more than 1,472 octets.
+/// The shortest spelling of a message has more than `MAX_DATAGRAM` octets.
 #[derive(Clone, Copy, Debug, PartialEq, Eq, Hash)]
 pub struct TooBig;
 

@@ -2,11 +2,12 @@
 
 ghost use Rattle.std.specs.Prelude.{◌≡◌, ◌↔◌, ℕ, ◌*◌, ◌<◌, ◌≤◌, List, length, Some};
 ghost use Rattle.dms_wire.specs.Message.{SnmpMessage};
-ghost use Rattle.dms_wire.specs.Limits.{IsMessageInLimits};
+ghost use Rattle.dms_wire.specs.Limits.{most_bindings, IsMessageInLimits};
 ghost use Rattle.dms_wire.specs.Spelling.{Spells};
 ghost use Rattle.dms_wire.specs.Canonical.{canonical};
 ghost use Rattle.dms_wire.specs.Response.{response_to};
 ghost use Rattle.dms_wire.specs.MessageOf.{message_of};
+ghost use Rattle.dms_ber.specs.Limits.{longest_datagram};
 
 /// Octets spell at most one message.
 pub fn one_message()
@@ -21,7 +22,7 @@ pub fn read_is_spelled()
 /// The canonical octets of a message in the limits spell it, where they fit a datagram.
 #[tactic(auto, using(crate::proofs::CanonicalLaws::canonical_spells))]
 pub fn canonical_spells()
-    ensures { (m : SnmpMessage) → IsMessageInLimits m → length (canonical m) ≤ 1472
+    ensures { (m : SnmpMessage) → IsMessageInLimits m → length (canonical m) ≤ longest_datagram
         → Spells m (canonical m) }
 {}
 
@@ -45,8 +46,8 @@ pub fn response_is_no_longer()
         → length (canonical (response_to m status index)) ≤ length octets }
 {}
 
-/// Each binding takes seven octets at least, so a datagram of 1,472 octets has at most 210.
-#[tactic(auto, using(crate::proofs::FewBindings::few_bindings))]
+/// Each binding takes seven octets at least, so the longest datagram has at most `MAX_BINDINGS`.
 pub fn few_bindings()
-    ensures { (m : SnmpMessage) (octets : List ℕ) → Spells m octets → 7 * length m.bindings ≤ length octets }
+    ensures octets { (m : SnmpMessage) (octets : List ℕ) → Spells m octets → 7 * length m.bindings ≤ length octets }
+    ensures most { (m : SnmpMessage) (octets : List ℕ) → Spells m octets → length m.bindings ≤ most_bindings }
 {}

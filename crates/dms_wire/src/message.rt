@@ -19,6 +19,7 @@ ghost use Rattle.dms_wire.specs.Reading.{version_at, pdu_at, tagged_pdu_at, kind
 ghost use Rattle.dms_wire.specs.View.{var_bind, message_around, snmp_message, snmp_message_of_parts};
 ghost use Rattle.dms_wire.specs.PduView.{numbered};
 ghost use Rattle.dms_wire.specs.Prefix.{pdu_size, content_size, message_size, pdu_prefix, message_prefix, prefix};
+ghost use Rattle.dms_ber.specs.Limits.{longest_datagram};
 
 use crate::binding::{Bind, BindingOctets, Binds, list, put_bindings, size_of_bindings};
 use crate::error_status::ErrorStatus;
@@ -56,7 +57,7 @@ pub struct Message<'a> {
     pub status: i64,
     /// The error-index of a Response: the number of the binding at fault, from 1, or 0; in a request it says nothing.
     pub index: i64,
-    /// The variable bindings, at most 210.
+    /// The variable bindings, at most `MAX_BINDINGS`.
     pub binds: Binds<'a>,
 }
 
@@ -117,11 +118,11 @@ pub fn read(octets: &[u8]) -> Result<Message<'_>, WireFault>
     ensures found { IfOk result (λ m. Spells (snmp_message m) octets.now) }
     ensures only { (m : SnmpMessage) → Spells m octets.now → Gives snmp_message result (Ok m) }
     ensures none { OnErr result ((m : SnmpMessage) → Spells m octets.now → ⊥) }
-    ensures too_long { 1472 < length octets.now → result ≡ Err (fault FaultKind.TooLong 1472) }
+    ensures too_long { longest_datagram < length octets.now → result ≡ Err (fault FaultKind.TooLong longest_datagram) }
     ensures truncated { (m : SnmpMessage) (more : List ℕ) → 0 < length more → Spells m (octets.now ++ more)
         → result ≡ Err (fault FaultKind.Truncated (length octets.now)) }
     ensures trailing { (m : SnmpMessage) (front more : List ℕ) → octets.now ≡ front ++ more → 0 < length more
-        → length octets.now ≤ 1472 → Spells m front
+        → length octets.now ≤ longest_datagram → Spells m front
         → result ≡ Err (fault FaultKind.TrailingBytes (length front)) }
 {
     read_message(octets)
@@ -135,7 +136,7 @@ pub fn heard(datagram: &[u8]) -> Option<Message<'_>>
     read(datagram).ok()
 }
 
-/// A message that is the whole datagram, where this has at most 1,472 octets.
+/// A message that is the whole datagram, where this has at most `MAX_DATAGRAM` octets.
 #[tactic(auto, unfolding(crate::specs::Reading::message_at))]
 fn read_message(octets: &[u8]) -> Result<Message<'_>, WireFault>
     ensures { Gives snmp_message result (message_at octets.now) }
@@ -284,7 +285,8 @@ fn pdu(octets: &[u8], end: usize) -> Result<PduFields<'_>, WireFault>
 }
 
 /// Writes the shortest spelling of a message over what `out` holds: each length in its shortest form, each number
-/// without needless octets (X.690, 8.1.3 and 8.3). Where that is more than 1,472 octets, `out` is left empty.
+/// without needless octets (X.690, 8.1.3 and 8.3). Where that is more than `MAX_DATAGRAM` octets, `out` is left
+/// empty.
 pub fn write(parts: &MessageParts<'_>, out: &mut Out) -> Result<(), TooBig>
     ensures { IsWritten result out.new.items (canonical (snmp_message_of_parts parts.now)) }
 {
@@ -335,15 +337,15 @@ pub fn write_response(
 }
 
 /// Writes what stands before bindings of `size` octets over what `out` holds, or nothing where the message would have more
-/// than 1,472 octets.
+/// than `MAX_DATAGRAM` octets.
 #[tactic(auto, using(crate::proofs::Prefixes::prefix_steps))]
 fn begin(header: &Header<'_>, size: usize, out: &mut Out) -> Result<(), TooBig>
-    requires { size ≤ 1472 }
+    requires { size ≤ longest_datagram }
     ensures ok { OnOk result (out.new.items ≡ prefix (message_around header.now []) size) }
-    ensures fits { OnOk result (message_size (message_around header.now []) size ≤ 1472) }
-    ensures room { OnOk result (array_vec_len out.new + size ≤ 1472) }
+    ensures fits { OnOk result (message_size (message_around header.now []) size ≤ longest_datagram) }
+    ensures room { OnOk result (array_vec_len out.new + size ≤ longest_datagram) }
     ensures empty { OnErr result (out.new.items ≡ []) }
-    ensures too_big { OnErr result (1472 < message_size (message_around header.now []) size) }
+    ensures too_big { OnErr result (longest_datagram < message_size (message_around header.now []) size) }
 {
     out.clear();
     if header.community.len() > MAX_DATAGRAM {
@@ -364,7 +366,7 @@ fn begin(header: &Header<'_>, size: usize, out: &mut Out) -> Result<(), TooBig>
 #[inline]
 #[tactic(auto, using(crate::proofs::Prefixes::prefix_steps))]
 fn put_message_prefix(out: &mut Out, header: &Header<'_>, pdu: usize)
-    requires { array_vec_len out.old + content_size (message_around header.now []) pdu ≤ 1472 }
+    requires { array_vec_len out.old + content_size (message_around header.now []) pdu ≤ longest_datagram }
     ensures { out.new.items ≡ out.old.items ++ message_prefix (message_around header.now []) pdu }
 {
     put_octets(out, universal::INTEGER, &[0]);
@@ -376,7 +378,7 @@ fn put_message_prefix(out: &mut Out, header: &Header<'_>, pdu: usize)
 #[inline]
 #[tactic(auto, using(crate::proofs::Sizes::element_steps))]
 fn put_pdu_prefix(out: &mut Out, header: &Header<'_>, size: usize)
-    requires { array_vec_len out.old + pdu_size (message_around header.now []) size ≤ 1472 }
+    requires { array_vec_len out.old + pdu_size (message_around header.now []) size ≤ longest_datagram }
     ensures { out.new.items ≡ out.old.items ++ pdu_prefix (message_around header.now []) size }
 {
     put_numbers(out, header);
@@ -388,7 +390,7 @@ fn put_pdu_prefix(out: &mut Out, header: &Header<'_>, size: usize)
 #[tactic(auto, using(crate::proofs::Sizes::sizes))]
 fn size_of_message_content(header: &Header<'_>, pdu: usize) -> usize
     requires pdu { pdu < 2 ^ 11 }
-    requires community { length header.now.community.now ≤ 1472 }
+    requires community { length header.now.community.now ≤ longest_datagram }
     ensures exact { result ≡ content_size (message_around header.now []) pdu }
     ensures small { result < 2 ^ 12 }
 {
@@ -398,7 +400,7 @@ fn size_of_message_content(header: &Header<'_>, pdu: usize) -> usize
 /// How many octets the content of the PDU takes, around bindings of `size` octets.
 #[inline]
 fn size_of_pdu_content(header: &Header<'_>, size: usize) -> usize
-    requires { size ≤ 1472 }
+    requires { size ≤ longest_datagram }
     ensures exact { result ≡ pdu_size (message_around header.now []) size }
     ensures small { result < 2 ^ 11 }
 {
@@ -420,7 +422,7 @@ fn size_of_numbers(header: &Header<'_>) -> usize
 /// Writes the request-id, the error-status and the error-index.
 #[tactic(auto, using(crate::proofs::Sizes::element_steps), unfolding(crate::specs::Canonical::numbers_octets))]
 fn put_numbers(out: &mut Out, header: &Header<'_>)
-    requires { array_vec_len out.old + length (numbers_octets (message_around header.now [])) ≤ 1472 }
+    requires { array_vec_len out.old + length (numbers_octets (message_around header.now [])) ≤ longest_datagram }
     ensures { out.new.items ≡ out.old.items ++ numbers_octets (message_around header.now []) }
 {
     put_integer(out, &header.request);

@@ -6,6 +6,7 @@ ghost use Rattle.dms_ber.specs.Reading.{Gives};
 ghost use Rattle.dms_wire.specs.Reading.{value_from, behind_tag, is_value_tag, value_at};
 ghost use Rattle.dms_wire.specs.View.{object_value};
 ghost use Rattle.dms_wire.specs.Canonical.{value_octets};
+ghost use Rattle.dms_ber.specs.Limits.{longest_datagram};
 
 use crate::tag;
 use dms_ber::{
@@ -134,7 +135,7 @@ pub(crate) fn size_of_value(value: &Value<'_>) -> usize
 /// Writes a value.
 #[inline]
 pub(crate) fn put_value(out: &mut Out, value: &Value<'_>)
-    requires { array_vec_len out.old + length (value_octets (object_value value.now)) ≤ 1472 }
+    requires { array_vec_len out.old + length (value_octets (object_value value.now)) ≤ longest_datagram }
     ensures { out.new.items ≡ out.old.items ++ value_octets (object_value value.now) }
 {
     match value {
