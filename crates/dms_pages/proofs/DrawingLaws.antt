@@ -1,5 +1,5 @@
 -- A character is drawn row by row, and a row cell by cell.
-use Rattle.std.proofs.Common.{◌≡◌, ℕ, zero, suc, ◌+◌, ◌-◌, ◌*◌, ◌/◌, ◌%◌, ◌==◌, ◌<◌, ◌≤◌, ◌&&◌, ◌||◌, Bool, true, false, cond, List, [], ◌∷◌, ◌++◌, length, Option, Some, None, refl, sym, ap, ◌∙◌, arith, min, ◌⊎◌, inl, inr}
+use Rattle.std.proofs.Common.{◌≡◌, ℕ, zero, suc, ◌+◌, ◌-◌, ◌*◌, ◌/◌, ◌%◌, ◌==◌, ◌<◌, ◌≤◌, ◌&&◌, ◌||◌, Bool, true, false, cond, List, [], ◌∷◌, ◌++◌, length, Option, Some, None, refl, sym, ap, subst, ◌∙◌, arith, min, ◌⊎◌, inl, inr}
 use Rattle.std.specs.Prelude.{nat_lt, slice_index_or}
 use Rattle.std.specs.List.{find}
 use Rattle.std.specs.Option.{option_or}
@@ -12,7 +12,8 @@ use Rattle.dms_font.specs.Glyph.{GlyphModel, lit_at}
 use Rattle.dms_face.specs.Face.{FaceModel}
 use Rattle.dms_face.specs.Layout.{PageModel}
 use Rattle.dms_face.specs.Cells.{PlacedCharacter, is_lit_by, cell_by}
-use Rattle.dms_pages.specs.Drawing.{covered, is_lit_in_row, is_lit_on_row, lit_cell, Shows}
+use Rattle.dms_pages.specs.Drawing.{covered, is_in_picture, is_lit_in_row, is_lit_on_row, lit_cell, Shows}
+use Rattle.dms_pages.specs.Styled.{StyledCells, style, IsLitStyle, Lights}
 
 -- two tests that imply each other
 same_test : (a b : Bool) → (a ≡ true → b ≡ true) → (b ≡ true → a ≡ true) → a ≡ b
@@ -124,49 +125,49 @@ none_above lit line y under = false_from_ne_true _ (λ on.
     let high : line < y + 0 = ltb-true _ _ parts.1 in
     absurd (omega arith))
 
-pub under_top : (column line : ℕ) (placed : PlacedCharacter) → is_lit_by column line placed ≡ true → placed.y ≤ line
-under_top column line placed on = leb-true _ _ (and_parts _ _ (and_parts _ _ on).0).1
+pub under_top : (column line x y : ℕ) (glyph : GlyphModel) → is_in_picture column line x y glyph ≡ true → y ≤ line
+under_top column line x y glyph on = leb-true _ _ (and_parts _ _ (and_parts _ _ on).0).1
 
 -- one row more
-pub more_above : (width : ℕ) (placed : PlacedCharacter) (rows place : ℕ)
-    → (is_lit_on_row width placed.x (placed.y + rows) placed.character.glyph rows place || (is_lit_by (place % width) (place / width) placed && nat_lt (place / width) (placed.y + rows)))
-    ≡ (is_lit_by (place % width) (place / width) placed && nat_lt (place / width) (placed.y + (rows + 1)))
-more_above width placed rows place = same_test _ _
+pub more_above : (width x y : ℕ) (glyph : GlyphModel) (rows place : ℕ)
+    → (is_lit_on_row width x (y + rows) glyph rows place || (is_in_picture (place % width) (place / width) x y glyph && nat_lt (place / width) (y + rows)))
+    ≡ (is_in_picture (place % width) (place / width) x y glyph && nat_lt (place / width) (y + (rows + 1)))
+more_above width x y glyph rows place = same_test _ _
     (λ h. elim (or_cases _ _ h) [
       | inl here ↦
           let parts = and_parts _ _ here in
           let tests = and_parts _ _ parts.0 in
-          let line : place / width ≡ placed.y + rows = eqb-true _ _ tests.0 in
-          and_from _ _ (and_from _ _ (and_from _ _ tests.1 (le-leb placed.y (place / width) (omega arith)))
-          (ap (λ k. lit_at placed.character.glyph (place % width - placed.x) k) (let e : place / width - placed.y ≡ rows = omega arith in e) ∙ parts.1))
-          (lt-ltb (place / width) (placed.y + (rows + 1)) (omega arith))
+          let line : place / width ≡ y + rows = eqb-true _ _ tests.0 in
+          and_from _ _ (and_from _ _ (and_from _ _ tests.1 (le-leb y (place / width) (omega arith)))
+          (ap (λ k. lit_at glyph (place % width - x) k) (let e : place / width - y ≡ rows = omega arith in e) ∙ parts.1))
+          (lt-ltb (place / width) (y + (rows + 1)) (omega arith))
       | inr above ↦
           let parts = and_parts _ _ above in
-          let line : place / width < placed.y + rows = ltb-true _ _ parts.1 in
-          and_from _ _ parts.0 (lt-ltb (place / width) (placed.y + (rows + 1)) (omega arith))
+          let line : place / width < y + rows = ltb-true _ _ parts.1 in
+          and_from _ _ parts.0 (lt-ltb (place / width) (y + (rows + 1)) (omega arith))
     ])
     (λ h.
     let parts = and_parts _ _ h in
-    let line : place / width < placed.y + (rows + 1) = ltb-true _ _ parts.1 in
-    elim (cases_lt (place / width) (placed.y + rows)) [
-      | inl above ↦ or_right _ _ (and_from _ _ parts.0 (lt-ltb (place / width) (placed.y + rows) above))
+    let line : place / width < y + (rows + 1) = ltb-true _ _ parts.1 in
+    elim (cases_lt (place / width) (y + rows)) [
+      | inl above ↦ or_right _ _ (and_from _ _ parts.0 (lt-ltb (place / width) (y + rows) above))
       | inr here ↦
           let tests = and_parts _ _ parts.0 in
           let sides = and_parts _ _ tests.0 in
-          or_left _ _ (and_from _ _ (and_from _ _ (eq-eqb (place / width) (placed.y + rows) (omega arith)) sides.0)
-          (ap (λ k. lit_at placed.character.glyph (place % width - placed.x) k) (let e : rows ≡ place / width - placed.y = omega arith in e) ∙ tests.1))
+          or_left _ _ (and_from _ _ (and_from _ _ (eq-eqb (place / width) (y + rows) (omega arith)) sides.0)
+          (ap (λ k. lit_at glyph (place % width - x) k) (let e : rows ≡ place / width - y = omega arith in e) ∙ tests.1))
     ])
 
 -- all its rows
-pub all_above : (column line rows : ℕ) (placed : PlacedCharacter) → ((k row : ℕ) → lit_at placed.character.glyph k row ≡ true → row < rows)
-    → (is_lit_by column line placed && nat_lt line (placed.y + rows)) ≡ is_lit_by column line placed
-all_above column line rows placed within = same_test _ _
+pub all_above : (column line rows x y : ℕ) (glyph : GlyphModel) → ((k row : ℕ) → lit_at glyph k row ≡ true → row < rows)
+    → (is_in_picture column line x y glyph && nat_lt line (y + rows)) ≡ is_in_picture column line x y glyph
+all_above column line rows x y glyph within = same_test _ _
     (λ h. (and_parts _ _ h).0)
     (λ h.
-    let lit : lit_at placed.character.glyph (column - placed.x) (line - placed.y) ≡ true = (and_parts _ _ h).1 in
-    let low : placed.y ≤ line = under_top column line placed h in
-    let row : line - placed.y < rows = within (column - placed.x) (line - placed.y) lit in
-    and_from _ _ h (lt-ltb line (placed.y + rows) (omega arith)))
+    let lit : lit_at glyph (column - x) (line - y) ≡ true = (and_parts _ _ h).1 in
+    let low : y ≤ line = under_top column line x y glyph h in
+    let row : line - y < rows = within (column - x) (line - y) lit in
+    and_from _ _ h (lt-ltb line (y + rows) (omega arith)))
 
 -- ---- one character more
 
@@ -192,34 +193,44 @@ shows_more face page before placed old new long shows more = record {
       ∙ ap (cell_by page) (sym (find-append test before (placed ∷ [])));
 }
 
--- one column more lights one cell more
-pub column_drawn : (first columns row place : ℕ) (glyph : GlyphModel) (on : Bool) (lit old middle new : Cell) → lit.lit ≡ true → on ≡ lit_at glyph columns row
-    → middle ≡ covered (is_lit_in_row first columns glyph row place) lit old
-    → new ≡ covered (on && (place == first + columns)) lit middle
-    → new ≡ covered (is_lit_in_row first (columns + 1) glyph row place) lit old
-column_drawn first columns row place glyph on lit old middle new bright is before now =
-    now ∙ ap (covered (on && (place == first + columns)) lit) before
-    ∙ covered_twice _ _ lit old bright
-    ∙ ap (λ b. covered b lit old) (more_in_row first columns glyph row place on is)
+-- ---- cells that are lit with one style
 
--- one row more
-pub row_drawn : (width place rows row line : ℕ) (placed : PlacedCharacter) (glyph : GlyphModel) (lit old middle new : Cell)
-    → row ≡ rows → line ≡ placed.y + rows → glyph ≡ placed.character.glyph → lit ≡ lit_cell placed.character.style
-    → middle ≡ covered (is_lit_by (place % width) (place / width) placed && nat_lt (place / width) (placed.y + rows)) (lit_cell placed.character.style) old
-    → new ≡ covered (is_lit_on_row width placed.x line glyph row place) lit middle
-    → new ≡ covered (is_lit_by (place % width) (place / width) placed && nat_lt (place / width) (placed.y + (rows + 1))) (lit_cell placed.character.style) old
-row_drawn width place rows row line placed glyph lit old middle new row_is line_is glyph_is lit_is before now =
-    now
-    ∙ ap (λ r. covered (is_lit_on_row width placed.x line glyph r place) lit middle) row_is
-    ∙ ap (λ y. covered (is_lit_on_row width placed.x y glyph rows place) lit middle) line_is
-    ∙ ap (λ g. covered (is_lit_on_row width placed.x (placed.y + rows) g rows place) lit middle) glyph_is
-    ∙ ap (λ cell. covered (is_lit_on_row width placed.x (placed.y + rows) placed.character.glyph rows place) cell middle) lit_is
-    ∙ ap (covered (is_lit_on_row width placed.x (placed.y + rows) placed.character.glyph rows place) (lit_cell placed.character.style)) before
-    ∙ covered_twice _ _ (lit_cell placed.character.style) old refl
-    ∙ ap (λ b. covered b (lit_cell placed.character.style) old) (more_above width placed rows place)
+-- nothing is lit yet
+pub lights_none : (on : ℕ → Bool) (lit : Cell) (cells : StyledCells) → ((place : ℕ) → place < length cells.cells → on place ≡ false) → Lights on lit cells cells
+lights_none on lit cells none = record {
+  styles = refl;
+  len = refl;
+  cell = λ other place below. sym (ap (λ b. covered b lit (slice_index_or cells.cells place other)) (none place below));
+}
 
--- nothing is drawn before the first row
-pub no_row_drawn : (width place : ℕ) (placed : PlacedCharacter) (old : Cell)
-    → old ≡ covered (is_lit_by (place % width) (place / width) placed && nat_lt (place / width) (placed.y + 0)) (lit_cell placed.character.style) old
-no_row_drawn width place placed old =
-    sym (ap (λ b. covered b (lit_cell placed.character.style) old) (none_above _ (place / width) placed.y (under_top (place % width) (place / width) placed)))
+-- the same cells by another test
+pub lights_same : (on more : ℕ → Bool) (lit : Cell) (old new : StyledCells) → ((place : ℕ) → place < length old.cells → on place ≡ more place) → Lights on lit old new
+    → Lights more lit old new
+lights_same on more lit old new same lights = record {
+  styles = lights.styles;
+  len = lights.len;
+  cell = λ other place below. lights.cell other place below ∙ ap (λ b. covered b lit (slice_index_or old.cells place other)) (same place below);
+}
+
+-- some cells, and then some more with the same style
+pub lights_more : (before now both : ℕ → Bool) (number : ℕ) (old middle new : StyledCells) → IsLitStyle old.styles number
+    → Lights before (style old.styles number) old middle → Lights now (style middle.styles number) middle new
+    → ((place : ℕ) → place < length old.cells → (now place || before place) ≡ both place)
+    → Lights both (style old.styles number) old new
+lights_more before now both number old middle new is first second same =
+    let lit = style old.styles number in
+    record {
+      styles = second.styles ∙ first.styles;
+      len = second.len ∙ first.len;
+      cell = λ other place below.
+          let cell = slice_index_or old.cells place other in
+          second.cell other place (omega (arith, below, first.len))
+          ∙ ap (λ styles. covered (now place) (style styles number) (slice_index_or middle.cells place other)) first.styles
+          ∙ ap (covered (now place) lit) (first.cell other place below)
+          ∙ covered_twice (now place) (before place) lit cell is.shines
+          ∙ ap (λ b. covered b lit cell) (same place below);
+    }
+
+-- a style keeps its number
+pub still : (number : ℕ) (old new : StyledCells) → new.styles ≡ old.styles → IsLitStyle old.styles number → IsLitStyle new.styles number
+still number old new same is = subst (λ styles. IsLitStyle styles number) (sym same) is

@@ -2,3 +2,4 @@ pub mod DrawingLaws
 pub mod PlacingLaws
 pub mod DrawnLaws
 pub mod LayingLaws
+pub mod StyleLaws

@@ -24,6 +24,10 @@ is_lit_in_row first columns glyph row place = nat_le first place && nat_lt place
 abbrev pub is_lit_on_row : ℕ → ℕ → ℕ → GlyphModel → ℕ → ℕ → Bool
 is_lit_on_row width x y glyph row place = (place / width == y) && nat_le x (place % width) && lit_at glyph (place % width - x) row
 
+-- a picture with its left top corner in column x of line y has its bit there
+abbrev pub is_in_picture : ℕ → ℕ → ℕ → ℕ → GlyphModel → Bool
+is_in_picture column line x y glyph = nat_le x column && nat_le y line && lit_at glyph (column - x) (line - y)
+
 -- a character on the bottom of its line
 abbrev pub placed_above : ℕ → ℕ × Character → PlacedCharacter
 placed_above bottom at_x = record { x = at_x.0; y = bottom - at_x.1.style.font.height; character = at_x.1 }

@@ -5,3 +5,4 @@ pub mod FaultTexts
 -- what only proofs go through
 pub mod StylingView
 pub mod Drawing
+pub mod Styled

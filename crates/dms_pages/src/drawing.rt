@@ -1,18 +1,21 @@
 //! Drawing the characters of a page on the cells of a matrix.
 
-ghost use Rattle.std.specs.Prelude.{◌≡◌, ℕ, ◌+◌, ◌*◌, ◌/◌, ◌%◌, ◌<◌, ◌≤◌, ◌==◌, ◌&&◌, List, ◌++◌, length, map, filter, true, slice_index_or};
+ghost use Rattle.std.specs.Prelude.{◌≡◌, ℕ, ◌+◌, ◌*◌, ◌/◌, ◌%◌, ◌^◌, ◌<◌, ◌≤◌, ◌==◌, ◌&&◌, List, ◌++◌, length, map, filter, true, slice_index_or, OnOk};
 ghost use Rattle.std.specs.List.{list_all, flat_map};
 ghost use Rattle.dms_font.specs.Glyph.{lit_at};
 ghost use Rattle.dms_font.specs.Font.{FontModel};
 ghost use Rattle.dms_face.specs.Layout.{Character, Line, PageModel};
 ghost use Rattle.dms_face.specs.Room.{begin, extent_at, placed_from, character_block, line_block, line_height, greatest, characters_fit, page_fits};
 ghost use Rattle.dms_face.specs.Cells.{PlacedCharacter, is_lit_by, line_characters};
-ghost use Rattle.dms_pages.specs.Drawing.{covered, is_lit_in_row, is_lit_on_row, lit_cell, placed_above, lines_characters, Shows};
+ghost use Rattle.dms_pages.specs.Drawing.{covered, is_in_picture, is_lit_in_row, is_lit_on_row, lit_cell, placed_above, lines_characters, Shows};
 ghost use Rattle.dms_pages.specs.StylingView.{style_of};
+ghost use Rattle.dms_pages.specs.Styled.{style, IsLitStyle, Lights};
 
+use crate::cells::Cells;
 use crate::text_layout::{StyledGlyph, Styling, TextLine};
 use dms_face::room::{Block, Run};
 use dms_face::{Cell, Face, Glyph};
+use std::alloc::AllocError;
 
 impl Styling<'_> {
     /// The cell that a character of this style lights.
@@ -27,66 +30,79 @@ impl Styling<'_> {
     }
 }
 
-/// Lights a cell, unless it is lit already.
-fn light(cells: &mut [Cell], place: usize, on: bool, lit: Cell)
-    requires { place < length cells.old }
-    ensures { (other : Cell) (k : ℕ) → k < length cells.old
-        → slice_index_or cells.new k other ≡ covered (on && k == place) lit (slice_index_or cells.old k other) }
-{
-    if on && !cells[place].lit {
-        cells[place] = lit;
-    }
-}
-
 /// Draws a row of a picture from the cell `first` on, in so many columns.
-fn light_row(cells: &mut [Cell], first: usize, columns: usize, glyph: &Glyph, row: usize, lit: Cell)
-    requires inside { first + columns ≤ length cells.old }
-    requires lit { lit.lit ≡ true }
-    ensures { (other : Cell) (place : ℕ) → place < length cells.old
-        → slice_index_or cells.new place other ≡ covered (is_lit_in_row first columns glyph.now row place) lit (slice_index_or cells.old place other) }
+fn light_row(cells: &mut Cells, first: usize, columns: usize, glyph: &Glyph, row: usize, number: u8)
+    requires inside { first + columns ≤ length cells.old.cells }
+    requires small { first + columns < 2 ^ 33 }
+    requires number { IsLitStyle cells.old.styles number }
+    ensures { Lights (is_lit_in_row first columns glyph.now row) (style cells.old.styles number) cells.old cells.new }
 {
     for column in 0..columns {
-        light(cells, first + column, glyph.is_lit(column, row), lit);
+        cells.light(first + column, glyph.is_lit(column, row), number);
     }
 }
 
 /// Draws a row of a picture from column x on in line y; what stands outside of the matrix is left out.
 fn draw_row(
-    cells: &mut [Cell],
+    cells: &mut Cells,
     face: &Face,
     x: usize,
     y: usize,
     glyph: &Glyph,
     row: usize,
-    lit: Cell,
+    number: u8,
 )
-    requires matrix { length cells.old ≡ face.now.width * face.now.height }
-    requires lit { lit.lit ≡ true }
+    requires matrix { length cells.old.cells ≡ face.now.width * face.now.height }
+    requires number { IsLitStyle cells.old.styles number }
     requires glyph { (column line : ℕ) → lit_at glyph.now column line ≡ true → column < glyph.now.width }
-    ensures { (other : Cell) (place : ℕ) → place < length cells.old
-        → slice_index_or cells.new place other ≡ covered (is_lit_on_row face.now.width x y glyph.now row place) lit (slice_index_or cells.old place other) }
+    ensures { Lights (is_lit_on_row face.now.width x y glyph.now row) (style cells.old.styles number) cells.old cells.new }
 {
     let width = usize::from(face.width());
     if x >= width || y >= usize::from(face.height()) {
         return;
     }
     let columns = usize::from(glyph.width()).min(width - x);
-    light_row(cells, y * width + x, columns, glyph, row, lit);
+    light_row(cells, y * width + x, columns, glyph, row, number);
 }
 
 /// Draws a character with its left top corner in column x of line y.
-fn draw_character(cells: &mut [Cell], face: &Face, x: u32, y: u32, character: &StyledGlyph<'_>)
-    requires { length cells.old ≡ face.now.width * face.now.height }
-    ensures { (other : Cell) (place : ℕ) → place < length cells.old
-        → slice_index_or cells.new place other
+fn draw_character(
+    cells: &mut Cells,
+    face: &Face,
+    x: u32,
+    y: u32,
+    character: &StyledGlyph<'_>,
+) -> Result<(), AllocError>
+    requires { length cells.old.cells ≡ face.now.width * face.now.height }
+    ensures len { OnOk result (length cells.new.cells ≡ length cells.old.cells) }
+    ensures cells { OnOk result ((other : Cell) (place : ℕ) → place < length cells.old.cells
+        → slice_index_or cells.new.cells place other
         ≡ covered (is_lit_by (place % face.now.width) (place / face.now.width) (record { x = x; y = y; character = character.now }))
-        (lit_cell character.now.style) (slice_index_or cells.old place other) }
+        (lit_cell character.now.style) (slice_index_or cells.old.cells place other)) }
 {
-    let glyph = character.glyph;
-    let lit = character.style.cell();
+    let number = cells.number_of(character.style.cell())?;
+    draw_picture(cells, face, x, y, character.glyph, number);
+    Ok(())
+}
+
+/// Draws a picture with its left top corner in column x of line y.
+fn draw_picture(cells: &mut Cells, face: &Face, x: u32, y: u32, glyph: &Glyph, number: u8)
+    requires matrix { length cells.old.cells ≡ face.now.width * face.now.height }
+    requires number { IsLitStyle cells.old.styles number }
+    ensures { Lights (λ place. is_in_picture (place % face.now.width) (place / face.now.width) x y glyph.now)
+        (style cells.old.styles number) cells.old cells.new }
+{
     for row in 0..glyph.height() {
         let row = usize::from(row);
-        draw_row(cells, face, x as usize, y as usize + row, glyph, row, lit);
+        draw_row(
+            cells,
+            face,
+            x as usize,
+            y as usize + row,
+            glyph,
+            row,
+            number,
+        );
     }
 }
 
@@ -186,18 +202,19 @@ fn part_extent(lines: &[TextLine<'_>], part: u8) -> u32
 
 /// Draws the characters of a side, from this column on, on the bottom of their line.
 fn draw_side(
-    cells: &mut [Cell],
+    cells: &mut Cells,
     face: &Face,
     characters: &[StyledGlyph<'_>],
     side: u8,
     first: u32,
     bottom: u32,
-)
-    requires matrix { length cells.old ≡ face.now.width * face.now.height }
+) -> Result<(), AllocError>
+    requires matrix { length cells.old.cells ≡ face.now.width * face.now.height }
     requires room { extent_at side (map character_block characters.now) ≤ 256 }
     requires first { first ≤ 256 }
-    ensures { (page : PageModel) (before : List PlacedCharacter) → Shows face.now page before cells.old
-        → Shows face.now page (before ++ map (placed_above bottom) (placed_from character_block first (filter (λ (character : Character). character.style.side == side) characters.now))) cells.new }
+    ensures len { OnOk result (length cells.new.cells ≡ length cells.old.cells) }
+    ensures cells { OnOk result ((page : PageModel) (before : List PlacedCharacter) → Shows face.now page before cells.old.cells
+        → Shows face.now page (before ++ map (placed_above bottom) (placed_from character_block first (filter (λ (character : Character). character.style.side == side) characters.now))) cells.new.cells) }
 {
     let mut run = Run::EMPTY;
     for character in characters {
@@ -208,37 +225,52 @@ fn draw_side(
         run = run.with(block);
         let x = first + run.size - u32::from(block.size);
         let y = bottom.saturating_sub(u32::from(character.style.font.height()));
-        draw_character(cells, face, x, y, character);
+        draw_character(cells, face, x, y, character)?;
     }
+    Ok(())
 }
 
 /// Draws a line with its top in this row.
-fn draw_line(cells: &mut [Cell], face: &Face, line: &TextLine<'_>, top: u32)
-    requires matrix { length cells.old ≡ face.now.width * face.now.height }
+fn draw_line(
+    cells: &mut Cells,
+    face: &Face,
+    line: &TextLine<'_>,
+    top: u32,
+) -> Result<(), AllocError>
+    requires matrix { length cells.old.cells ≡ face.now.width * face.now.height }
     requires room { characters_fit face.now line.now.characters ≡ true }
     requires top { top ≤ 1024 }
-    ensures { (page : PageModel) (before : List PlacedCharacter) → Shows face.now page before cells.old
-        → Shows face.now page (before ++ line_characters face.now (top, line.now)) cells.new }
+    ensures len { OnOk result (length cells.new.cells ≡ length cells.old.cells) }
+    ensures cells { OnOk result ((page : PageModel) (before : List PlacedCharacter) → Shows face.now page before cells.old.cells
+        → Shows face.now page (before ++ line_characters face.now (top, line.now)) cells.new.cells) }
 {
     let width = u32::from(face.width());
     let bottom = top + u32::from(line.height());
     let characters = line.characters.as_slice();
     let left = begin(2, width, side_extent(characters, 2));
-    draw_side(cells, face, characters, 2, left, bottom);
+    draw_side(cells, face, characters, 2, left, bottom)?;
     let centre = begin(3, width, side_extent(characters, 3));
-    draw_side(cells, face, characters, 3, centre, bottom);
+    draw_side(cells, face, characters, 3, centre, bottom)?;
     let right = begin(4, width, side_extent(characters, 4));
-    draw_side(cells, face, characters, 4, right, bottom);
+    draw_side(cells, face, characters, 4, right, bottom)?;
+    Ok(())
 }
 
 /// Draws the lines of a part, from this row on.
-fn draw_part(cells: &mut [Cell], face: &Face, lines: &[TextLine<'_>], part: u8, first: u32)
-    requires matrix { length cells.old ≡ face.now.width * face.now.height }
+fn draw_part(
+    cells: &mut Cells,
+    face: &Face,
+    lines: &[TextLine<'_>],
+    part: u8,
+    first: u32,
+) -> Result<(), AllocError>
+    requires matrix { length cells.old.cells ≡ face.now.width * face.now.height }
     requires lines { list_all (λ (line : Line). characters_fit face.now line.characters) lines.now ≡ true }
     requires room { extent_at part (map line_block lines.now) ≤ 256 }
     requires first { first ≤ 256 }
-    ensures { (page : PageModel) (before : List PlacedCharacter) → Shows face.now page before cells.old
-        → Shows face.now page (before ++ flat_map (line_characters face.now) (placed_from line_block first (filter (λ (line : Line). line.part == part) lines.now))) cells.new }
+    ensures len { OnOk result (length cells.new.cells ≡ length cells.old.cells) }
+    ensures cells { OnOk result ((page : PageModel) (before : List PlacedCharacter) → Shows face.now page before cells.old.cells
+        → Shows face.now page (before ++ flat_map (line_characters face.now) (placed_from line_block first (filter (λ (line : Line). line.part == part) lines.now))) cells.new.cells) }
 {
     let mut run = Run::EMPTY;
     for line in lines {
@@ -247,22 +279,29 @@ fn draw_part(cells: &mut [Cell], face: &Face, lines: &[TextLine<'_>], part: u8, 
         }
         let block = line.block();
         run = run.with(block);
-        draw_line(cells, face, line, first + run.size - u32::from(block.size));
+        draw_line(cells, face, line, first + run.size - u32::from(block.size))?;
     }
+    Ok(())
 }
 
 /// Draws the lines of a page that fits.
-pub(crate) fn draw_lines(cells: &mut [Cell], face: &Face, lines: &[TextLine<'_>])
-    requires matrix { length cells.old ≡ face.now.width * face.now.height }
+pub(crate) fn draw_lines(
+    cells: &mut Cells,
+    face: &Face,
+    lines: &[TextLine<'_>],
+) -> Result<(), AllocError>
+    requires matrix { length cells.old.cells ≡ face.now.width * face.now.height }
     requires room { page_fits face.now lines.now ≡ true }
-    ensures { (page : PageModel) (before : List PlacedCharacter) → Shows face.now page before cells.old
-        → Shows face.now page (before ++ lines_characters face.now lines.now) cells.new }
+    ensures len { OnOk result (length cells.new.cells ≡ length cells.old.cells) }
+    ensures cells { OnOk result ((page : PageModel) (before : List PlacedCharacter) → Shows face.now page before cells.old.cells
+        → Shows face.now page (before ++ lines_characters face.now lines.now) cells.new.cells) }
 {
     let height = u32::from(face.height());
     let top = begin(2, height, part_extent(lines, 2));
-    draw_part(cells, face, lines, 2, top);
+    draw_part(cells, face, lines, 2, top)?;
     let middle = begin(3, height, part_extent(lines, 3));
-    draw_part(cells, face, lines, 3, middle);
+    draw_part(cells, face, lines, 3, middle)?;
     let bottom = begin(4, height, part_extent(lines, 4));
-    draw_part(cells, face, lines, 4, bottom);
+    draw_part(cells, face, lines, 4, bottom)?;
+    Ok(())
 }

@@ -10,6 +10,7 @@
 //! ```
 #![tactic(auto)]
 
+mod cells;
 mod drawing;
 pub mod page;
 #[cfg(test)]

@@ -7,6 +7,7 @@ ghost use Rattle.dms_face.specs.Room.{page_fits};
 ghost use Rattle.dms_face.specs.Cells.{cell_of};
 ghost use Rattle.dms_pages.specs.Drawn.{DrawnPage, cell_at, drawn};
 
+use crate::cells::Cells;
 use crate::drawing::draw_lines;
 use crate::text_layout::TextPage;
 use dms_face::{Cell, Face};
@@ -22,7 +23,7 @@ pub struct Page {
     on: u8,
     off: u8,
     /// The cells, row by row from the top, each row from the left.
-    cells: Vec<Cell>,
+    cells: Cells,
 }
 
 impl Model for Page {
@@ -31,9 +32,9 @@ impl Model for Page {
 
     ghost Value = { DrawnPage };
 
-    ghost view = { λ p. record { width = p.width; height = p.height; background = p.background; on = p.on; off = p.off; cells = p.cells.items } };
+    ghost view = { λ p. record { width = p.width; height = p.height; background = p.background; on = p.on; off = p.off; cells = p.cells.cells } };
 
-    ghost invariant = { λ p. length p.cells.items ≡ p.width * p.height };
+    ghost invariant = { λ p. length p.cells.cells ≡ p.width * p.height };
 }
 
 impl Page {
@@ -42,14 +43,9 @@ impl Page {
         requires { page_fits face.now page.now.lines ≡ true }
         ensures { IfOk result (λ (made : DrawnPage). made ≡ drawn face.now page.now) }
     {
-        let dark = Cell {
-            lit: false,
-            colour: page.background,
-            flash: None,
-        };
         let count = usize::from(face.width()) * usize::from(face.height());
-        let mut cells = vec![in alloc; dark; count]?;
-        draw_lines(cells.as_mut_slice(), face, page.lines.as_slice());
+        let mut cells = Cells::dark(alloc, page.background, count)?;
+        draw_lines(&mut cells, face, page.lines.as_slice())?;
         Ok(Page {
             width: face.width(),
             height: face.height(),
@@ -102,6 +98,7 @@ impl Page {
         ensures cell { result ≡ cell_at self.now x y }
         ensures drawn { (face : FaceModel) (page : PageModel) → self.now ≡ drawn face page → result ≡ cell_of face page x y }
     {
-        self.cells[usize::from(y) * usize::from(self.width) + usize::from(x)]
+        self.cells
+            .at(usize::from(y) * usize::from(self.width) + usize::from(x))
     }
 }

@@ -23,7 +23,7 @@ use std::fmt;
 pub enum PagesFault {
     /// The text's fault.
     Multi(MultiFault),
-    /// No memory for the pages.
+    /// No memory for the pages, or no room for a page's styles: there is room for 255 that are lit, and no text has so many.
     Memory,
 }
 

@@ -5,8 +5,8 @@ use Rattle.dms_pages.specs.Drawing.{Shows}
 use Rattle.dms_pages.proofs.PlacingLaws.{line_is}
 use Rattle.dms_pages.proofs.drawing.draw_line.Goals as goal
 
-pub returns : goal.returns
-returns c = λ page before shows.
+pub returns-clause-cells : goal.returns-clause-cells
+returns-clause-cells c = λ page before shows.
     let face = c.args.face.now in
     let characters = c.as_slice-characters.result.now in
     let whole : c.from-width.result ≡ face.width = c.from-width.ensures ∙ c.width.ensures.value in
@@ -16,7 +16,7 @@ returns c = λ page before shows.
     c.begin-centre.ensures ∙ ap (λ n. begin 3 n c.side_extent-2.result) whole ∙ ap (begin 3 face.width) c.side_extent-2.ensures in
     let right : c.begin-right.result ≡ begin 4 face.width (extent_at 4 (map character_block characters)) =
     c.begin-right.ensures ∙ ap (λ n. begin 4 n c.side_extent-3.result) whole ∙ ap (begin 4 face.width) c.side_extent-3.ensures in
-    subst (λ l. Shows face page l c.draw_side-3.new.cells)
+    subst (λ l. Shows face page l c.draw_side-3.new.cells.cells)
     (line_is face c.args.top c.args.line.now characters c.begin-left.result c.begin-centre.result c.begin-right.result (c.args.top + c.from.result) before
     (c.as_slice-characters.ensures.value ∙ ap (λ (line : Line). line.characters) c.line.view_is) left centre right (ap (λ n. c.args.top + n) (c.from.ensures ∙ c.height.ensures)))
-    (c.draw_side-3.ensures page _ (c.draw_side-2.ensures page _ (c.draw_side.ensures page before shows)))
+    (c.in_ok-draw_side-3.ensures.cells page _ (c.in_ok-draw_side-2.ensures.cells page _ (c.in_ok-draw_side.ensures.cells page before shows)))

@@ -4,8 +4,8 @@ use Rattle.dms_pages.specs.Drawing.{Shows}
 use Rattle.dms_pages.proofs.PlacingLaws.{lines_are}
 use Rattle.dms_pages.proofs.drawing.draw_lines.Goals as goal
 
-pub returns : goal.returns
-returns c = λ page before shows.
+pub returns-clause-cells : goal.returns-clause-cells
+returns-clause-cells c = λ page before shows.
     let face = c.args.face.now in
     let lines = c.args.lines.now in
     let whole : c.from-height.result ≡ face.height = c.from-height.ensures ∙ c.height.ensures.value in
@@ -15,5 +15,5 @@ returns c = λ page before shows.
     c.begin-middle.ensures ∙ ap (λ n. begin 3 n c.part_extent-2.result) whole ∙ ap (begin 3 face.height) c.part_extent-2.ensures in
     let bottom : c.begin-bottom.result ≡ begin 4 face.height (extent_at 4 (map line_block lines)) =
     c.begin-bottom.ensures ∙ ap (λ n. begin 4 n c.part_extent-3.result) whole ∙ ap (begin 4 face.height) c.part_extent-3.ensures in
-    subst (λ l. Shows face page l c.draw_part-3.new.cells) (lines_are face lines c.begin-top.result c.begin-middle.result c.begin-bottom.result before top middle bottom)
-    (c.draw_part-3.ensures page _ (c.draw_part-2.ensures page _ (c.draw_part.ensures page before shows)))
+    subst (λ l. Shows face page l c.draw_part-3.new.cells.cells) (lines_are face lines c.begin-top.result c.begin-middle.result c.begin-bottom.result before top middle bottom)
+    (c.in_ok-draw_part-3.ensures.cells page _ (c.in_ok-draw_part-2.ensures.cells page _ (c.in_ok-draw_part.ensures.cells page before shows)))

@@ -27,7 +27,7 @@ pub draw_line-requires : goal.draw_line-requires
 draw_line-requires c =
     let below : c.loop-line.line-index < length c.args.lines.now = omega arith in
     record {
-      matrix = omega (arith, c.requires.matrix);
+      matrix = c.loop-line.invariant.2 ∙ c.requires.matrix;
       room = all_at (λ (line : Line). characters_fit c.args.face.now line.characters) c.args.lines.now c.loop-line.line-index c.line-item.result below (sym c.line-item.is) c.requires.lines;
       top = omega (arith, c.requires.first, c.with-run.ensures.within);
     }
@@ -50,7 +50,8 @@ loop-line-preserved c =
     let face = c.args.face.now in (
       sums_more_of line_block c.args.part i xs x c.with-run.result below is here own,
       λ page before shows.
-          subst (λ l. Shows face page l c.draw_line.new.cells)
+          subst (λ l. Shows face page l c.draw_line.new.cells.cells)
           (placed_more_of line_block c.args.part i xs x (line_characters face) c.args.first at before below is here at_is)
-          (c.draw_line.ensures page (before ++ flat_map (line_characters face) (placed_from line_block c.args.first (among line_block c.args.part i xs))) (c.loop-line.invariant.1 page before shows)),
+          (c.in_ok-draw_line.ensures.cells page (before ++ flat_map (line_characters face) (placed_from line_block c.args.first (among line_block c.args.part i xs))) (c.loop-line.invariant.1 page before shows)),
+      c.in_ok-draw_line.ensures.len ∙ c.loop-line.invariant.2,
     )

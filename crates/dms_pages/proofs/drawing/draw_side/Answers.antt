@@ -43,15 +43,19 @@ loop-character-preserved c =
     c.saturating_sub-y.ensures
     ∙ ap (λ n. c.args.bottom - n) (c.from-in-loop-character.ensures ∙ c.height.ensures.value ∙ ap (λ (it : Character). it.style.font.height) c.character.view_is) in
     let face = c.args.face.now in
-    let long : length c.draw_character.new.cells ≡ length c.loop-character.cells = omega arith in (
+    let long : length c.draw_character.new.cells.cells ≡ length c.loop-character.cells.cells = c.in_ok-draw_character.ensures.len in (
       sums_more_of character_block c.args.side i xs x c.with-run.result below is here own,
       λ page before shows.
-          subst (λ l. Shows face page l c.draw_character.new.cells)
+          subst (λ l. Shows face page l c.draw_character.new.cells.cells)
           (placed_more character_block c.args.side i xs x (placed_above c.args.bottom) c.args.first at before below is here at_is)
           (shows_more face page (before ++ map (placed_above c.args.bottom) (placed_from character_block c.args.first (among character_block c.args.side i xs)))
-          (placed_above c.args.bottom (at, x)) c.loop-character.cells c.draw_character.new.cells long (c.loop-character.invariant.1 page before shows)
+          (placed_above c.args.bottom (at, x)) c.loop-character.cells.cells c.draw_character.new.cells.cells long (c.loop-character.invariant.1 page before shows)
           (λ other place inside.
-          c.draw_character.ensures other place inside
+          c.in_ok-draw_character.ensures.cells other place inside
           ∙ ap (λ y. covered (is_lit_by (place % face.width) (place / face.width) (let placed : PlacedCharacter = record { x = at; y = y; character = x } in placed)) (lit_cell x.style)
-          (slice_index_or c.loop-character.cells place other)) low)),
+          (slice_index_or c.loop-character.cells.cells place other)) low)),
+      long ∙ c.loop-character.invariant.2,
     )
+
+pub draw_character-requires : goal.draw_character-requires
+draw_character-requires c = c.loop-character.invariant.2 ∙ c.requires.matrix

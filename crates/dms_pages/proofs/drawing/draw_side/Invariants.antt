@@ -1,4 +1,4 @@
-use Rattle.std.proofs.Common.{List, ◌++◌, map}
+use Rattle.std.proofs.Common.{◌≡◌, List, ◌++◌, length, map}
 use Rattle.dms_face.specs.Layout.{PageModel}
 use Rattle.dms_face.specs.Room.{placed_from, character_block}
 use Rattle.dms_face.specs.Cells.{PlacedCharacter}
@@ -10,5 +10,6 @@ use Rattle.dms_pages.proofs.drawing.draw_side.Given as goal
 abbrev pub invariant-loop-character : goal.invariant-loop-character
 invariant-loop-character l =
     Sums l.run (map character_block (among character_block l.side l.character-index l.characters))
-    × ((page : PageModel) (before : List PlacedCharacter) → Shows l.face page before l.fn.cells
-    → Shows l.face page (before ++ map (placed_above l.bottom) (placed_from character_block l.first (among character_block l.side l.character-index l.characters))) l.cells)
+    × ((page : PageModel) (before : List PlacedCharacter) → Shows l.face page before l.fn.cells.cells
+    → Shows l.face page (before ++ map (placed_above l.bottom) (placed_from character_block l.first (among character_block l.side l.character-index l.characters))) l.cells.cells)
+    × (length l.cells.cells ≡ length l.fn.cells.cells)

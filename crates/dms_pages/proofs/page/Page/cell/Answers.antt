@@ -1,22 +1,29 @@
-use Rattle.std.proofs.Common.{◌≡◌, ◌∙◌, ◌+◌, ◌*◌, ◌<◌, length, get_or, ap, arith}
+use Rattle.std.proofs.Common.{◌≡◌, ◌∙◌, ◌+◌, ◌*◌, ◌<◌, length, ap, arith}
+use Rattle.std.specs.Prelude.{slice_index_or}
 use Rattle.std.proofs.lemmas.Nat.{mul-add-lt}
-use Rattle.std.proofs.lemmas.List.{get_or_read}
 use Rattle.dms_pages.specs.Drawn.{DrawnPage, unlit, cell_at}
 use Rattle.dms_pages.proofs.DrawnLaws.{drawn_cell_of}
 use Rattle.dms_pages.proofs.page.Page.cell.Goals as goal
 
-pub returns-clause-drawn : goal.returns-clause-drawn
-returns-clause-drawn c = λ face page is.
+pub at-requires : goal.at-requires
+at-requires c =
     let fields = c.self.inside in
-    let place = c.args.y * fields.width + c.args.x in
     let width : fields.width ≡ c.args.self.now.width = ap (λ (p : DrawnPage). p.width) c.self.view_is in
     let height : fields.height ≡ c.args.self.now.height = ap (λ (p : DrawnPage). p.height) c.self.view_is in
     let column : c.args.x < fields.width = omega (arith, width, c.requires.column) in
     let row : c.args.y < fields.height = omega (arith, height, c.requires.row) in
-    let within : place < length fields.cells.items = omega (arith, c.self.invariant, mul-add-lt c.args.y fields.width c.args.x fields.height row column) in
-    let same : c.from.result * c.from-2.result + c.from-3.result ≡ place =
+    let same : c.from.result * c.from-2.result + c.from-3.result ≡ c.args.y * fields.width + c.args.x =
     ap (λ y. y * c.from-2.result + c.from-3.result) c.from.ensures ∙ ap (λ w. c.args.y * w + c.from-3.result) c.from-2.ensures
     ∙ ap (λ x. c.args.y * fields.width + x) c.from-3.ensures in
-    get_or_read fields.cells.items place c.index.result.now within (c.index.ensures ∙ ap (λ k. get_or fields.cells.items k c.index.result.now) same) (unlit fields.background)
-    ∙ ap (λ (p : DrawnPage). cell_at p c.args.x c.args.y) c.self.view_is
-    ∙ drawn_cell_of face page c.args.self.now c.args.x c.args.y is c.requires.column c.requires.row
+    omega (arith, same, c.self.invariant, mul-add-lt c.args.y fields.width c.args.x fields.height row column)
+
+pub returns : goal.returns
+returns c =
+    let fields = c.self.inside in
+    let same : c.from.result * c.from-2.result + c.from-3.result ≡ c.args.y * fields.width + c.args.x =
+    ap (λ y. y * c.from-2.result + c.from-3.result) c.from.ensures ∙ ap (λ w. c.args.y * w + c.from-3.result) c.from-2.ensures
+    ∙ ap (λ x. c.args.y * fields.width + x) c.from-3.ensures in
+    let is : c.at.result ≡ cell_at c.args.self.now c.args.x c.args.y =
+    c.at.ensures (unlit fields.background) ∙ ap (λ k. slice_index_or fields.cells.cells k (unlit fields.background)) same
+    ∙ ap (λ (p : DrawnPage). cell_at p c.args.x c.args.y) c.self.view_is in
+    record { cell = is; drawn = λ face page drawn. is ∙ drawn_cell_of face page c.args.self.now c.args.x c.args.y drawn c.requires.column c.requires.row }

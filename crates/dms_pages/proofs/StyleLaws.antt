@@ -1,0 +1,153 @@
+-- Cells are the styles that their numbers name.
+use Rattle.std.proofs.Common.{◌≡◌, ◌≢◌, ℕ, zero, suc, ◌+◌, ◌<◌, ◌≤◌, ◌==◌, ◌&&◌, Bool, true, false, cond, List, [], ◌∷◌, ◌++◌, length, map, get_or, set, replicate, length-append, refl, sym, ap, subst, ◌∙◌, arith, inl, inr}
+use Rattle.std.specs.Prelude.{slice_index_or}
+use Rattle.std.proofs.lemmas.Bool.{cases_Bool, and_parts, and_from, cases_lt, eqb-true, eq-eqb, false_from_ne_true}
+use Rattle.std.proofs.lemmas.List.{get_or-map, length-map, length-set, get_or-set_same, get_or-set_other, get_or_append_left, get_or-replicate, length-replicate}
+use Rattle.std.proofs.Math.Seq.{get_or-append_seam}
+use Rattle.dms_face.specs.declared.cell.Cell.{Cell}
+use Rattle.dms_pages.specs.Drawn.{unlit}
+use Rattle.dms_pages.specs.Drawing.{covered}
+use Rattle.dms_pages.specs.Styled.{StyledCells, style, AreStyled, IsLitStyle, Lights}
+
+-- cells of these styles with these numbers
+abbrev pub with_numbers : List Cell → List ℕ → StyledCells
+with_numbers styles numbers = record { styles = styles; cells = map (style styles) numbers }
+
+covered_dark : (lit cell : Cell) → cell.lit ≡ false → covered true lit cell ≡ lit
+covered_dark lit cell dark = rw dark refl
+
+covered_lit : (on : Bool) (lit cell : Cell) → cell.lit ≡ true → covered on lit cell ≡ cell
+covered_lit false lit cell bright = refl
+covered_lit true lit cell bright = rw bright refl
+
+-- what a cell shows
+pub shown_at : (styles : List Cell) (numbers : List ℕ) (place : ℕ) (other : Cell) → place < length numbers
+    → slice_index_or (map (style styles) numbers) place other ≡ style styles (get_or numbers place 0)
+shown_at styles numbers place other below = get_or-map (style styles) numbers place 0 other below
+
+away : (on b : Bool) → b ≡ false → (on && b) ≡ false
+away true b e = e
+away false b e = refl
+
+-- a cell that is not lit yet
+pub lit_now : (styles : List Cell) (numbers : List ℕ) (place number : ℕ) (on : Bool) → AreStyled styles numbers → place < length numbers → on ≡ true
+    → get_or numbers place 0 ≡ 0
+    → Lights (λ k. on && k == place) (style styles number) (with_numbers styles numbers) (with_numbers styles (set numbers place number))
+lit_now styles numbers place number on are below now dark = record {
+  styles = refl;
+  len = length-map (set numbers place number) (style styles) ∙ length-set numbers place number ∙ sym (length-map numbers (style styles));
+  cell = λ other k inside.
+      let within : k < length numbers = omega (arith, length-map numbers (style styles)) in
+      let before : slice_index_or (map (style styles) numbers) k other ≡ style styles (get_or numbers k 0) = shown_at styles numbers k other within in
+      let after : slice_index_or (map (style styles) (set numbers place number)) k other ≡ style styles (get_or (set numbers place number) k 0) =
+      shown_at styles (set numbers place number) k other (omega (arith, length-set numbers place number)) in
+      elim (cases_Bool (k == place)) [
+        | inl here ↦
+            let same : k ≡ place = eqb-true _ _ here in
+            let unlit_before : slice_index_or (map (style styles) numbers) k other ≡ style styles 0 = before ∙ ap (λ i. style styles (get_or numbers i 0)) same ∙ ap (style styles) dark in
+            after ∙ ap (λ i. style styles (get_or (set numbers place number) i 0)) same ∙ ap (style styles) (get_or-set_same numbers place number 0 below)
+            ∙ sym (covered_dark (style styles number) (slice_index_or (map (style styles) numbers) k other) (ap (λ (cell : Cell). cell.lit) unlit_before ∙ are.unlit_first))
+            ∙ sym (ap (λ b. covered b (style styles number) (slice_index_or (map (style styles) numbers) k other)) (and_from on (k == place) now here))
+        | inr there ↦
+            let other_place : k ≢ place = λ same. let wrong : true ≡ false = sym (eq-eqb k place same) ∙ there in cc in
+            after ∙ ap (style styles) (get_or-set_other numbers place k number 0 other_place) ∙ sym before
+            ∙ sym (ap (λ b. covered b (style styles number) (slice_index_or (map (style styles) numbers) k other)) (away on (k == place) there))
+      ];
+}
+
+-- a cell that stays: it is not to be lit, or it is lit
+pub lit_before : (styles : List Cell) (numbers : List ℕ) (place number : ℕ) (on : Bool) → AreStyled styles numbers
+    → (on ≡ true → 0 < get_or numbers place 0)
+    → Lights (λ k. on && k == place) (style styles number) (with_numbers styles numbers) (with_numbers styles numbers)
+lit_before styles numbers place number on are stays = record {
+  styles = refl;
+  len = refl;
+  cell = λ other k inside.
+      let within : k < length numbers = omega (arith, length-map numbers (style styles)) in
+      let cell = slice_index_or (map (style styles) numbers) k other in
+      elim (cases_Bool (on && k == place)) [
+        | inl here ↦
+            let parts = and_parts _ _ here in
+            let same : k ≡ place = eqb-true _ _ parts.1 in
+            let some : 0 < get_or numbers k 0 = subst (λ i. 0 < get_or numbers i 0) (sym same) (stays parts.0) in
+            sym (covered_lit (on && k == place) (style styles number) cell
+            (ap (λ (it : Cell). it.lit) (shown_at styles numbers k other within) ∙ are.lit_others (get_or numbers k 0) some (are.below k within)))
+        | inr there ↦ sym (ap (λ b. covered b (style styles number) cell) there)
+      ];
+}
+
+-- one cell more of a style of the list
+pub are_styled_set : (styles : List Cell) (numbers : List ℕ) (place number : ℕ) → AreStyled styles numbers → number < length styles → AreStyled styles (set numbers place number)
+are_styled_set styles numbers place number are below = record {
+  some = are.some;
+  unlit_first = are.unlit_first;
+  lit_others = are.lit_others;
+  below = λ k inside.
+      let within : k < length numbers = omega (arith, length-set numbers place number) in
+      elim (cases_Bool (k == place)) [
+        | inl here ↦
+            let same : k ≡ place = eqb-true _ _ here in
+            let is : get_or (set numbers place number) k 0 ≡ number = ap (λ i. get_or (set numbers i number) k 0) (sym same) ∙ get_or-set_same numbers k number 0 within in
+            subst (λ n. n < length styles) (sym is) below
+        | inr there ↦
+            let other_place : k ≢ place = λ same. let wrong : true ≡ false = sym (eq-eqb k place same) ∙ there in cc in
+            subst (λ n. n < length styles) (sym (get_or-set_other numbers place k number 0 other_place)) (are.below k within)
+      ];
+}
+
+-- a style more
+pub style_kept : (styles : List Cell) (lit : Cell) (k : ℕ) → k < length styles → style (styles ++ lit ∷ []) k ≡ style styles k
+style_kept styles lit k below = get_or_append_left styles (lit ∷ []) (unlit 0) k below
+
+pub style_new : (styles : List Cell) (lit : Cell) → style (styles ++ lit ∷ []) (length styles) ≡ lit
+style_new styles lit = get_or-append_seam styles lit [] (unlit 0)
+
+length_more : (styles : List Cell) (lit : Cell) → length (styles ++ lit ∷ []) ≡ length styles + 1
+length_more styles lit = length-append styles (lit ∷ [])
+
+pub are_styled_more : (styles : List Cell) (numbers : List ℕ) (lit : Cell) → AreStyled styles numbers → lit.lit ≡ true → AreStyled (styles ++ lit ∷ []) numbers
+are_styled_more styles numbers lit are bright = record {
+  some = omega (arith, length_more styles lit);
+  unlit_first = ap (λ (cell : Cell). cell.lit) (style_kept styles lit 0 are.some) ∙ are.unlit_first;
+  lit_others = λ k some below. elim (cases_lt k (length styles)) [
+    | inl old ↦ ap (λ (cell : Cell). cell.lit) (style_kept styles lit k old) ∙ are.lit_others k some old
+    | inr new ↦
+        let last : k ≡ length styles = omega (arith, length_more styles lit, below) in
+        ap (λ i. (style (styles ++ lit ∷ []) i).lit) last ∙ ap (λ (cell : Cell). cell.lit) (style_new styles lit) ∙ bright
+  ];
+  below = λ k inside. omega (arith, length_more styles lit, are.below k inside);
+}
+
+-- and each cell shows what it showed
+pub same_cells : (styles : List Cell) (numbers : List ℕ) (lit : Cell) → ((k : ℕ) → k < length numbers → get_or numbers k 0 < length styles)
+    → map (style (styles ++ lit ∷ [])) numbers ≡ map (style styles) numbers
+same_cells styles [] lit below = refl
+same_cells styles (n ∷ numbers) lit below =
+    ap (λ cell. cell ∷ map (style (styles ++ lit ∷ [])) numbers) (style_kept styles lit n (below 0 (omega arith)))
+    ∙ ap (λ cells. style styles n ∷ cells) (same_cells styles numbers lit (λ k inside. below (suc k) (omega arith)))
+
+map_replicate : {A B : Type 0} (f : A → B) (count : ℕ) (x : A) → map f (replicate count x) ≡ replicate count (f x)
+map_replicate f zero x = refl
+map_replicate f (suc count) x = ap (λ l. f x ∷ l) (map_replicate f count x)
+
+-- the first styles
+pub dark_styled : (background count : ℕ) (numbers : List ℕ) → numbers ≡ replicate count 0 → AreStyled (unlit background ∷ []) numbers
+dark_styled background count numbers are = record {
+  some = omega arith;
+  unlit_first = refl;
+  lit_others = λ k some below. absurd (omega arith);
+  below = λ k inside.
+      let dark : ℕ = 0 in
+      let zero_there : get_or numbers k 0 ≡ 0 =
+      ap (λ l. get_or l k 0) are ∙ get_or-replicate count k dark dark (omega (arith, ap length are, length-replicate count dark)) in
+      omega (arith, zero_there);
+}
+
+pub dark_cells : (background count : ℕ) (numbers : List ℕ) → numbers ≡ replicate count 0 → map (style (unlit background ∷ [])) numbers ≡ replicate count (unlit background)
+dark_cells background count numbers are = ap (map (style (unlit background ∷ []))) are ∙ map_replicate (style (unlit background ∷ [])) count 0
+
+-- a place in the list whose style is lit is the number of a lit style
+pub is_lit_style : (styles : List Cell) (lit : Cell) (number : ℕ) → (style styles 0).lit ≡ false → lit.lit ≡ true → number < length styles → style styles number ≡ lit
+    → IsLitStyle styles number
+is_lit_style styles lit zero dark bright below is = absurd (let wrong : true ≡ false = sym bright ∙ ap (λ (cell : Cell). cell.lit) (sym is) ∙ dark in cc)
+is_lit_style styles lit (suc number) dark bright below is = record { lit = omega arith; below = below; shines = ap (λ (cell : Cell). cell.lit) is ∙ bright }

@@ -1,0 +1,43 @@
+use Rattle.std.proofs.Common.{◌≡◌, ◌∙◌, ◌+◌, ◌/◌, ◌%◌, ◌&&◌, ◌||◌, ap, arith}
+use Rattle.std.specs.Prelude.{nat_lt}
+use Rattle.dms_pages.specs.Drawing.{is_in_picture, is_lit_on_row}
+use Rattle.dms_pages.specs.Styled.{style}
+use Rattle.dms_pages.proofs.DrawingLaws.{none_above, under_top, more_above, all_above, lights_none, lights_same, lights_more, still}
+use Rattle.dms_pages.proofs.drawing.draw_picture.Goals as goal
+
+pub loop-row-init : goal.loop-row-init
+loop-row-init c =
+    let width = c.args.face.now.width in
+    lights_none (λ place. is_in_picture (place % width) (place / width) c.args.x c.args.y c.args.glyph.now && nat_lt (place / width) (c.args.y + 0))
+    (style c.args.cells.now.styles c.args.number) c.args.cells.now
+    (λ place below. none_above _ (place / width) c.args.y (under_top (place % width) (place / width) c.args.x c.args.y c.args.glyph.now))
+
+pub draw_row-requires : goal.draw_row-requires
+draw_row-requires c = record {
+  matrix = omega (arith, c.requires.matrix, c.loop-row.invariant.len);
+  number = still c.args.number c.args.cells.now c.loop-row.cells c.loop-row.invariant.styles c.requires.number;
+  glyph = λ column line on. (c.height-row-end.ensures.inside column line on).0;
+}
+
+pub loop-row-preserved : goal.loop-row-preserved
+loop-row-preserved c =
+    let width = c.args.face.now.width in
+    let row = c.loop-row.row in
+    let glyph = c.args.glyph.now in
+    let line : c.args.y + c.from-row.result ≡ c.args.y + row = omega arith in
+    lights_more (λ place. is_in_picture (place % width) (place / width) c.args.x c.args.y glyph && nat_lt (place / width) (c.args.y + row))
+    (is_lit_on_row width c.args.x (c.args.y + c.from-row.result) glyph c.from-row.result)
+    (λ place. is_in_picture (place % width) (place / width) c.args.x c.args.y glyph && nat_lt (place / width) (c.args.y + (row + 1)))
+    c.args.number c.args.cells.now c.loop-row.cells c.draw_row.new.cells c.requires.number c.loop-row.invariant c.draw_row.ensures
+    (λ place below.
+    ap (λ r. is_lit_on_row width c.args.x (c.args.y + c.from-row.result) glyph r place || (is_in_picture (place % width) (place / width) c.args.x c.args.y glyph && nat_lt (place / width) (c.args.y + row))) c.from-row.ensures
+    ∙ ap (λ y. is_lit_on_row width c.args.x y glyph row place || (is_in_picture (place % width) (place / width) c.args.x c.args.y glyph && nat_lt (place / width) (c.args.y + row))) line
+    ∙ more_above width c.args.x c.args.y glyph row place)
+
+pub returns : goal.returns
+returns c =
+    let width = c.args.face.now.width in
+    lights_same _ (λ place. is_in_picture (place % width) (place / width) c.args.x c.args.y c.args.glyph.now) (style c.args.cells.now.styles c.args.number) c.args.cells.now c.loop-row.cells
+    (λ place below. all_above (place % width) (place / width) c.loop-row.row c.args.x c.args.y c.args.glyph.now
+    (λ k row on. let within = c.height-row-end.ensures.inside k row on in omega (arith, within.1)))
+    c.loop-row.invariant
