@@ -4,6 +4,7 @@ use crate::{Page, PagesFault, pages, pages_with};
 use dms_face::{Cell, Defaults, Face, Flash, Font, check, check_with};
 use dms_multi::Lead;
 use std::alloc::{AllocError, Global};
+use std::process::Abort;
 use std::test::Fail;
 
 const TALL: &[u8] = b"font 1 height 7 space 1 line 1 version 0001
@@ -93,16 +94,61 @@ fn face_of_one_font(alloc: Global) -> Option<Face> {
     Face::new(23, 14, fonts, DEFAULTS).ok()
 }
 
-/// With any allocation refused, the answer is that there is no memory, and nothing else.
+const TWO_PAGES: &[u8] = b"A[nl0]A[np]A[jp4]A";
+
+/// Two letters one above the other on each of two pages: 18 cells of each letter are lit.
+fn check_two_pages(rt: &impl Abort, made: &[Page]) {
+    assert_eq!(rt; made.len(), 2);
+    for page in made {
+        assert_eq!(rt; (page.width(), page.height()), (23, 14));
+        assert_eq!(rt; lit_cells(page), 36);
+        assert_eq!(rt;
+            first_lit(page).map(|(x, y, cell)| (x, y, cell.colour)),
+            Some((10, 0, 9))
+        );
+    }
+}
+
+fn lit_cells(page: &Page) -> u32 {
+    let mut count = 0_u32;
+    for y in 0..page.height() {
+        for x in 0..page.width() {
+            count = count.wrapping_add(u32::from(page.cell(x, y).lit));
+        }
+    }
+    count
+}
+
+/// With any allocation of the call refused it answers that memory is out, and the same call with memory gives the pages.
 #[test]
 fn pages_or_out_of_memory(rt: HostRuntime) {
     let Some(face) = face_of_one_font(rt.alloc()) else {
         return;
     };
-    match pages(rt.alloc(), &face, b"A[nl0]A[np]A[jp4]A") {
-        Ok(made) => assert_eq!(rt; made.len(), 2),
-        Err(fault) => assert_eq!(rt; fault, PagesFault::Memory),
-    }
+    let made = match pages(rt.alloc(), &face, TWO_PAGES) {
+        Ok(made) => Ok(made),
+        Err(fault) => {
+            assert_eq!(rt; fault, PagesFault::Memory);
+            pages(rt.alloc(), &face, TWO_PAGES)
+        }
+    };
+    check_two_pages(&rt, made.expect(&rt, "pages").as_slice());
+}
+
+#[test]
+fn pages_with_or_out_of_memory(rt: HostRuntime) {
+    let Some(face) = face_of_one_font(rt.alloc()) else {
+        return;
+    };
+    let defaults = face.defaults();
+    let made = match pages_with(rt.alloc(), &face, &defaults, TWO_PAGES) {
+        Ok(made) => Ok(made),
+        Err(fault) => {
+            assert_eq!(rt; fault, PagesFault::Memory);
+            pages_with(rt.alloc(), &face, &defaults, TWO_PAGES)
+        }
+    };
+    check_two_pages(&rt, made.expect(&rt, "pages").as_slice());
 }
 
 #[test]
