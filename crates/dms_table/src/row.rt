@@ -272,8 +272,8 @@ impl Row {
         ensures { self.new ≡ with_field self.old (field_of field.entry) }
     {
         match field {
-            Field::Text(octets) => self.text = copy_of(octets),
-            Field::Owner(octets) => self.owner = copy_of(octets),
+            Field::Text(octets) => replace(&mut self.text, octets),
+            Field::Owner(octets) => replace(&mut self.owner, octets),
             Field::Beacon(on) => self.beacon = on,
             Field::Pixel(on) => self.pixel = on,
             Field::Priority(priority) => self.priority = priority,
@@ -324,4 +324,13 @@ pub(crate) fn copy_of<const N: usize>(octets: &[u8]) -> ArrayVec<u8, N>
     let mut copy = ArrayVec::new();
     let _ = copy.try_extend_from_slice(octets);
     copy
+}
+
+/// Puts these octets in the place of those that are kept.
+fn replace<const N: usize>(kept: &mut ArrayVec<u8, N>, octets: &[u8])
+    requires { length octets.now ≤ N }
+    ensures { kept.new.items ≡ octets.now }
+{
+    kept.clear();
+    let _ = kept.try_extend_from_slice(octets);
 }

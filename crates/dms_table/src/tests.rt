@@ -446,17 +446,32 @@ fn counts(rt: HostRuntime) -> Result<(), Fail> {
     Ok(())
 }
 
-/// Under `--fail-alloc N`: a refused allocation of the table is answered by Memory. One of the face ends the test.
+/// With any allocation of the call refused it answers that memory is out, and the same call with memory gives the table. One of
+/// the face that is refused ends the test.
 #[test]
 fn table_or_out_of_memory(rt: HostRuntime) -> Result<(), Fail> {
     let face = bench_face(rt.alloc())?;
-    match Table::new(rt.alloc(), bench_stock(&[B]), &face) {
-        Ok(table) => assert_eq!(rt;
-            (table.row_count(2), table.row_count(3), table.row_count(4)),
-            (1, 2, 1)
-        ),
-        Err(fault) => assert_eq!(rt; fault, TableFault::Memory),
-    }
+    let made = match Table::new(rt.alloc(), bench_stock(&[B]), &face) {
+        Ok(table) => Ok(table),
+        Err(fault) => {
+            assert_eq!(rt; fault, TableFault::Memory);
+            Table::new(rt.alloc(), bench_stock(&[B]), &face)
+        }
+    };
+    let table = made.ok().expect(&rt, "a table");
+    assert_eq!(rt;
+        (table.row_count(2), table.row_count(3), table.row_count(4)),
+        (1, 2, 1)
+    );
+    let first = RowId {
+        memory: 2,
+        number: 1,
+    };
+    let read = table
+        .row(first)
+        .map(|row| (row.text, row.priority, row.status));
+    assert_eq!(rt; read, Some((b"B".as_slice(), 100, Status::Valid)));
+    assert_eq!(rt; (table.unused_count(3), table.unused_count(4)), (2, 1));
     Ok(())
 }
 
