@@ -97,6 +97,55 @@ fn check_steps(rt: &impl Abort, centre: &mut Centre, steps: &[(&[u8], &[u8])], c
     }
 }
 
+/// A Get of a sign's object, 48 octets, of another community.
+const GET: [u8; 48] =
+    *b"\x30\x2e\x02\x01\x00\x04\x06public\xa0\x21\x02\x01\x01\x02\x01\x00\x02\x01\x00\x30\x16\x30\x14\x06\x10\x2b\x06\x01\x04\x01\x89\x36\x04\x02\x03\x05\x08\x01\x09\x03\x01\x05\x00";
+
+/// A datagram that does not answer the first request of a job: nothing is sent, and the job goes on.
+fn check_unheard(rt: &impl Abort, centre: &mut Centre, datagram: &[u8]) {
+    check_answer(rt, centre, datagram, &[]);
+    assert!(rt; centre.busy() && centre.ledger().is_empty());
+}
+
+/// Each change of one octet of a Get is not heard: the request that waits is as old as before, and its reply is taken.
+#[test]
+fn changed_octets(rt: HostRuntime) {
+    let mut centre = centre(&rt, rt.alloc(), Order::High, 1);
+    let (first, reply) = cases::PUBLISHED[0];
+    check_sent(&rt, &mut centre, publish(3, 1, b"A"), first);
+    for place in 0..GET.len() {
+        let mut datagram = GET;
+        for octet in 0..=255 {
+            datagram[place] = octet;
+            check_unheard(&rt, &mut centre, &datagram);
+        }
+    }
+    check_tick(&rt, &mut centre, &[]);
+    check_tick(&rt, &mut centre, &[]);
+    check_tick(&rt, &mut centre, first);
+    let (second, _) = cases::PUBLISHED[1];
+    check_answer(&rt, &mut centre, reply, second);
+}
+
+/// Each proper prefix of the reply that is waited for, and the reply with one to four octets more, are not heard.
+#[test]
+fn cut_and_longer_replies(rt: HostRuntime) {
+    let mut centre = centre(&rt, rt.alloc(), Order::High, 1);
+    let (first, reply) = cases::PUBLISHED[0];
+    check_sent(&rt, &mut centre, publish(3, 1, b"A"), first);
+    for (place, _) in reply.iter().enumerate() {
+        check_unheard(&rt, &mut centre, &reply[..place]);
+    }
+    let mut longer = Out::new();
+    assert!(rt; longer.try_extend_from_slice(reply).is_ok());
+    for octet in [0, 5, 48, 255] {
+        assert!(rt; longer.try_extend_from_slice(&[octet]).is_ok());
+        check_unheard(&rt, &mut centre, &longer);
+    }
+    let (second, _) = cases::PUBLISHED[1];
+    check_answer(&rt, &mut centre, reply, second);
+}
+
 #[test]
 fn published(rt: HostRuntime) {
     let mut centre = centre(&rt, rt.alloc(), Order::High, 1);
