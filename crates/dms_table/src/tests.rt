@@ -446,11 +446,19 @@ fn counts(rt: HostRuntime) -> Result<(), Fail> {
     Ok(())
 }
 
-/// With any allocation of the call refused it answers that memory is out, and the same call with memory gives the table. One of
-/// the face that is refused ends the test.
+/// A face, where there is memory for it.
+fn face_of_one_font(alloc: Global) -> Option<Face> {
+    let mut fonts = Vec::new(alloc);
+    fonts.push(Font::from_text(alloc, TALL).ok()?).ok()?;
+    Face::new(23, 14, fonts, DEFAULTS).ok()
+}
+
+/// With any allocation of the call refused it answers that memory is out, and the same call with memory gives the table.
 #[test]
-fn table_or_out_of_memory(rt: HostRuntime) -> Result<(), Fail> {
-    let face = bench_face(rt.alloc())?;
+fn table_or_out_of_memory(rt: HostRuntime) {
+    let Some(face) = face_of_one_font(rt.alloc()) else {
+        return;
+    };
     let made = match Table::new(rt.alloc(), bench_stock(&[B]), &face) {
         Ok(table) => Ok(table),
         Err(fault) => {
@@ -472,7 +480,6 @@ fn table_or_out_of_memory(rt: HostRuntime) -> Result<(), Fail> {
         .map(|row| (row.text, row.priority, row.status));
     assert_eq!(rt; read, Some((b"B".as_slice(), 100, Status::Valid)));
     assert_eq!(rt; (table.unused_count(3), table.unused_count(4)), (2, 1));
-    Ok(())
 }
 
 #[test]
