@@ -1,7 +1,7 @@
 //! The commands of a SET: each is judged on the state with the other values assigned; where it fails, none is.
 
 ghost use Rattle.std.specs.Prelude.{◌≡◌, ◌≤◌, length, option_map, IsSome, IfSome, Some, is_some, false};
-ghost use Rattle.dms_wire.specs.Limits.{AreBindingsInLimits};
+ghost use Rattle.dms_wire.specs.Limits.{AreBindingsInLimits, most_bindings};
 ghost use Rattle.dms_codes.specs.Codes.{activation_of};
 ghost use Rattle.dms_table.specs.Rows.{asked};
 ghost use Rattle.dms_table.specs.Activation.{seconds_of};
@@ -28,7 +28,7 @@ impl Sign {
         may_write: bool,
         binds: &Binds<'_>,
     ) -> Result<Option<Activation>, Refusal>
-        requires few { length binds.now ≤ 210 }
+        requires few { length binds.now ≤ most_bindings }
         requires limits { AreBindingsInLimits binds.now }
         ensures after { self.new ≡ (set self.old may_write binds.now).after }
         ensures says { Says result (set self.old may_write binds.now) }

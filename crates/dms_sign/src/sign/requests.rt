@@ -2,6 +2,7 @@
 
 ghost use Rattle.std.specs.Prelude.{◌≡◌, ◌≤◌, Some, None, length, map, option_map, IfOk, IfErr, OnOk};
 ghost use Rattle.std.specs.List.{position_from};
+ghost use Rattle.dms_wire.specs.Limits.{most_bindings};
 ghost use Rattle.dms_wire.specs.View.{object_value};
 ghost use Rattle.dms_wire.specs.Written.{octets_of_bindings};
 ghost use Rattle.dms_sign.specs.Values.{bound, value_after};
@@ -14,7 +15,7 @@ use dms_wire::{Bind, BindingOctets, Binds, Oid, Value};
 impl Sign {
     /// The octets of these bindings with what their names read, or the index of the first name that is that of no instance.
     pub(super) fn values_of(&self, binds: &Binds<'_>) -> Result<BindingOctets, u32>
-        requires { length binds.now ≤ 210 }
+        requires { length binds.now ≤ most_bindings }
         ensures found { IfOk result (λ octets. octets ≡ octets_of_bindings (map (with_value self.now) binds.now)) }
         ensures none_missing { OnOk result (position_from (has_no_value self.now) 1 binds.now ≡ None) }
         ensures missing { IfErr result (λ index. position_from (has_no_value self.now) 1 binds.now ≡ Some index) }
@@ -37,7 +38,7 @@ impl Sign {
 
     /// The octets of the bindings that come after these names, or the index of the first name after which none comes.
     pub(super) fn values_after(&self, binds: &Binds<'_>) -> Result<BindingOctets, u32>
-        requires { length binds.now ≤ 210 }
+        requires { length binds.now ≤ most_bindings }
         ensures found { IfOk result (λ octets. octets ≡ octets_of_bindings (map (next_after self.now) binds.now)) }
         ensures none_last { OnOk result (position_from (is_last self.now) 1 binds.now ≡ None) }
         ensures last { IfErr result (λ index. position_from (is_last self.now) 1 binds.now ≡ Some index) }

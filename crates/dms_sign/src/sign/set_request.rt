@@ -2,6 +2,7 @@
 
 ghost use Rattle.std.specs.Prelude.{◌≡◌, ◌≤◌, ◌+◌, ◌||◌, if◌then◌else◌, [], ◌∷◌, Some, None, true, false, length, take, find, option_map, slice_get, IfOk, IfErr, OnOk};
 ghost use Rattle.std.specs.List.{list_any, cons_option};
+ghost use Rattle.dms_wire.specs.Limits.{most_bindings};
 ghost use Rattle.dms_wire.specs.View.{var_bind};
 ghost use Rattle.dms_instances.specs.Places.{HasCounts};
 ghost use Rattle.dms_sign.specs.State.{SignState};
@@ -118,7 +119,7 @@ impl Sign {
         may_write: bool,
         binds: &Binds<'a>,
     ) -> Result<Judged<'a>, Refusal>
-        requires { length binds.now ≤ 210 }
+        requires { length binds.now ≤ most_bindings }
         ensures none { OnOk result (causes self.now may_write binds.now ≡ []) }
         ensures settings { IfOk result (λ judged. judged.settings ≡ set_by settings (writes_of self.now binds.now)) }
         ensures fields { IfOk result (λ judged. StaysWithout judged.fields self.now binds.now) }
