@@ -8,6 +8,11 @@ use std::fmt;
 pub struct Failed;
 
 impl fmt::Display for Failed {
+    ghost use Rattle.std.specs.Prelude.{Some};
+    ghost use Rattle.dms_streams.specs.FaultTexts.{failed_text};
+
+    ghost output = { λ failed. Some (failed_text failed) };
+
     fn fmt<W: fmt::Write>(&self, f: &mut fmt::Formatter<W>) -> fmt::Result {
         f.write_str("a call failed")
     }

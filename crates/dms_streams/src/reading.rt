@@ -20,6 +20,11 @@ pub enum ReadFault {
 }
 
 impl fmt::Display for ReadFault {
+    ghost use Rattle.std.specs.Prelude.{Some};
+    ghost use Rattle.dms_streams.specs.FaultTexts.{read_fault_text};
+
+    ghost output = { λ fault. Some (read_fault_text fault) };
+
     fn fmt<W: fmt::Write>(&self, f: &mut fmt::Formatter<W>) -> fmt::Result {
         match self {
             ReadFault::Read => f.write_str("read"),
