@@ -1,5 +1,7 @@
 use crate::act::act;
 use crate::command_line::{Call, SignWanted, asked};
+use std::io;
+use std::io::Read;
 use std::test::Fail;
 
 /// Datagrams, and what `answer` prints for them with which exit status.
@@ -301,7 +303,7 @@ const SMALL_SIGN: &str =
     "size 5 7\ncommunities public admin\nrows 1 1\norder swapped\nhas 0 0\ndefaults 0 1 5 5 1 2 2 10 0\nfirst 1\nfont 1 height 7 space 1 line 1 version 0001\nglyph 65 5 7463f8c620\nend\n";
 
 /// Calls with a standard input, and what they print with which exit status.
-const WITH_INPUT: [(&[&str], &str, &str, u8); 10] = [
+const WITH_INPUT: [(&[&str], &str, &str, u8); 11] = [
     (
         &["signtool", "check", "--sign", "A"],
         SMALL_SIGN,
@@ -350,6 +352,12 @@ const WITH_INPUT: [(&[&str], &str, &str, u8); 10] = [
         "events 1\nsent 0 0\nshown 7 1 0000 mode 10 priority 1 remaining 65535 text -\n",
         0,
     ),
+    (
+        &["signtool", "replay"],
+        "bench\nblank 1 65535 255 0.0.0.0\nto-sign 0\nto-centre 0\n",
+        "events 3\nsent 1 1\nshown 7 1 0000 mode 8 priority 1 remaining 65535 text -\naccepted 2 ffffff070001000000000000\nledger 1 ffffff070001000000000000 accepted\n",
+        0,
+    ),
     (&["signtool", "replay"], "bench\nsign-tock\n", "line 2\n", 1),
     (&["signtool", "replay"], "", "line 1\n", 1),
 ];
@@ -367,4 +375,120 @@ fn calls_with_input(rt: HostRuntime) -> Result<(), Fail> {
         assert_eq!(rt; found, status, "for {words:?}");
     }
     Ok(())
+}
+
+/// A reader that gives so many `#` and then fails, or then ends.
+#[derive(Drop)]
+struct Filler {
+    left: usize,
+    fails: bool,
+}
+
+impl Read for Filler {
+    fn read(&mut self, buf: &mut [u8]) -> io::Result<usize> {
+        if self.left == 0 && self.fails {
+            return Err(io::Error::from(io::ErrorKind::Other));
+        }
+        let count = self.left.min(buf.len());
+        buf[..count].fill(b'#');
+        self.left -= count;
+        Ok(count)
+    }
+}
+
+/// Whatever reads the standard input says that it fails, and that it is too long.
+#[test]
+fn bad_inputs(rt: HostRuntime) -> Result<(), Fail> {
+    let sign = SignWanted::Described;
+    for call in [
+        Call::Check { text: "A", sign },
+        Call::Pages { text: "A", sign },
+        Call::Answer { hex: "30", sign },
+        Call::Replay,
+    ] {
+        for (left, fails, printed) in [
+            (0, true, "read\n"),
+            (1_048_576, true, "read\n"),
+            (1_048_577, true, "too long\n"),
+            (1_048_577, false, "too long\n"),
+            (1_048_576, false, "line 2\n"),
+        ] {
+            let mut input = Filler { left, fails };
+            let mut output = Vec::new(rt.alloc());
+            assert_eq!(rt; act(rt.alloc(), &call, &mut input, &mut output), 1);
+            assert!(rt; output.as_slice() == printed.as_bytes(), "after {left}");
+        }
+    }
+    Ok(())
+}
+
+/// An output that is full after each octet in turn has a prefix of the report, and the status says that it is not all.
+#[test]
+fn full_after_each_octet(rt: HostRuntime) {
+    let report = b"events 0\nsent 0 0\nshown 7 1 0000 mode 10 priority 1 remaining 65535 text -\n";
+    for room in 0..=report.len() {
+        let mut buffer = [0_u8; 128];
+        let mut output: &mut [u8] = &mut buffer[..room];
+        let mut input: &[u8] = b"bench";
+        let found = act(rt.alloc(), &Call::Replay, &mut input, &mut output);
+        assert_eq!(rt; found, u8::from(room < report.len()));
+        assert!(rt; buffer[..room] == report[..room]);
+    }
+}
+
+/// Where memory is refused once, as `rt try --test --fail-alloc N` refuses it, each call prints what it prints without, or `memory` with
+/// status 1. Done again, it prints that.
+#[test]
+fn printed_or_out_of_memory(rt: HostRuntime) {
+    let bench = SignWanted::Bench;
+    let sign = SignWanted::Described;
+    for (call, input, printed, status) in [
+        (
+            Call::Check { text: "A", sign },
+            SMALL_SIGN,
+            "ok pages 1\n",
+            0,
+        ),
+        (
+            Call::Pages { text: "A", sign },
+            SMALL_SIGN,
+            "page 1 on 10 off 0 back 0\n.111.\n1...1\n1...1\n11111\n1...1\n1...1\n1...1\n",
+            0,
+        ),
+        (
+            Call::Answer {
+                hex: "301802010004067075626c6963a00b0201010201000201003000",
+                sign: bench,
+            },
+            "",
+            "301802010004067075626c6963a20b0201010201000201003000\n",
+            0,
+        ),
+        (Call::Answer { hex: "3", sign }, "", "not hex\n", 2),
+        (
+            Call::Replay,
+            "bench\nforge-sign 30",
+            "events 1\nsent 0 0\nshown 7 1 0000 mode 10 priority 1 remaining 65535 text -\n",
+            0,
+        ),
+    ] {
+        let mut refused = false;
+        for _ in 0..2 {
+            let mut buffer = [0_u8; 256];
+            let mut output: &mut [u8] = &mut buffer;
+            let mut input = input.as_bytes();
+            let found = act(rt.alloc(), &call, &mut input, &mut output);
+            let written = 256_usize.saturating_sub(output.len());
+            let text = &buffer[..written];
+            if found == status && text == printed.as_bytes() {
+                break;
+            }
+            assert!(rt;
+                found == 1 && text == b"memory\n".as_slice(),
+                "for {call:?}"
+            );
+            assert!(rt; !refused, "for {call:?}");
+            refused = true;
+        }
+    }
 }
