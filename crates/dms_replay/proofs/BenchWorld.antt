@@ -1,5 +1,5 @@
 -- The bench sign as a value, and events on it that can be computed.
-use Rattle.std.proofs.Common.{ℕ, true, false, List, [], ◌∷◌, length}
+use Rattle.std.proofs.Common.{ℕ, true, List, [], ◌∷◌, length}
 use Rattle.std.specs.Prelude.{pos, map, codes, unwrap_or, replicate}
 use Rattle.std.specs.Fmt.{digits}
 use Rattle.std.specs.Result.{result_ok}

@@ -1,17 +1,17 @@
 -- The event of a line is the one that the line spells.
-use Rattle.std.proofs.Common.{◌≡◌, ℕ, ◌<◌, ◌≤◌, ◌==◌, ◌&&◌, true, false, cond, List, [], ◌∷◌, ◌++◌, length, Option, Some, None, option_map, Result, Ok, Err, refl, sym, ap, subst, ◌∙◌, arith, rules, inl, inr}
+use Rattle.std.proofs.Common.{◌≡◌, ℕ, ◌<◌, ◌≤◌, true, false, cond, List, [], ◌∷◌, ◌++◌, length, Option, Some, None, option_map, Result, Ok, Err, refl, sym, ap, subst, ◌∙◌, arith, rules, inl, inr}
 use Rattle.std.specs.Prelude.{codes, IfOk, IfSome, IfNone, ◌+◌, ◌*◌, ◌/◌, ◌%◌, ◌⊎◌, All, suc, slice_index}
 use Rattle.std.proofs.lemmas.Slice.Eq.{text_from_reads}
 use Rattle.std.proofs.lemmas.List.Elements.{All-nil, All-cons}
-use Rattle.std.proofs.lemmas.Bool.{and_parts, and_from, eqb-true, eq-eqb, cases_Bool}
+use Rattle.std.proofs.lemmas.Bool.{and_parts, eqb-true, eq-eqb, cases_Bool}
 use Rattle.std.proofs.lemmas.Option.{cond_some, same_Some}
 use Rattle.hex.specs.Hex.{decode_of, IsBytes}
 use Rattle.hex.specs.declared.error.FromHexError.{FromHexError}
 use Rattle.hex.proofs.HexLemmas.{decode_of-ok}
 use Rattle.dms_text.specs.Words.{words_of, parts_of}
-use Rattle.dms_text.specs.Numbers.{SpellsNumber, SpellsDecimal}
+use Rattle.dms_text.specs.Numbers.{SpellsNumber}
 use Rattle.dms_text.specs.Octets.{SpellsOctets}
-use Rattle.dms_text.specs.Reading.{number_of, same_octets, octets_of, word_at, decimal_at, is_end, ◌>>=◌}
+use Rattle.dms_text.specs.Reading.{same_octets, word_at, decimal_at}
 use Rattle.dms_text.proofs.NumberLaws.{number_found, number_only, within_found, within_only}
 use Rattle.dms_text.proofs.WordLaws.{begun, goes_on, word_found, word_only, decimal_found, decimal_only, octets_found, octets_only, octets_some}
 use Rattle.dms_codes.specs.declared.codes.Order.{Order}
@@ -20,7 +20,7 @@ use Rattle.dms_codes.specs.declared.codes.Activation.{Activation}
 use Rattle.dms_codes.specs.Codes.{two_octets, octets_of_checksum, in_order, number_at, octets_of_activation, activation_of, IsActivation}
 use Rattle.dms_codes.proofs.Places.{all_four}
 use Rattle.dms_centre.specs.State.{PublicationModel}
-use Rattle.dms_centre.specs.Commands.{CommandModel, Publish, Blank, Activate}
+use Rattle.dms_centre.specs.Commands.{Publish, Blank, Activate}
 use Rattle.dms_world.specs.Event.{EventModel, command, sign_tick, centre_tick, to_sign, to_centre, power_lost, power_back, centre_restart, forge_sign, forge_centre}
 use Rattle.dms_description.specs.Fields.{SpellsEach, SpellsOctet, SpellsTwoOctets, SpellsFourOctets}
 use Rattle.dms_replay.specs.EventFields.{SpellsAddressPart, SpellsAddress, SpellsCode}

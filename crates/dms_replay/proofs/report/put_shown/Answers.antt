@@ -1,4 +1,4 @@
-use Rattle.std.proofs.Common.{◌≡◌, ◌++◌, List, ℕ, codes, decimal}
+use Rattle.std.proofs.Common.{◌++◌, codes, decimal}
 use Rattle.indexmap.proofs.MapLemmas.{OnOk-map}
 use Rattle.hex.specs.Hex.{encode_lower}
 use Rattle.dms_codes.specs.Codes.{two_octets}
