@@ -12,11 +12,12 @@ use Rattle.dms_multi.specs.Outcomes.{items_of}
 use Rattle.dms_multi.proofs.ReadLaws.{items_read}
 use Rattle.dms_font.specs.Glyph.{GlyphModel}
 use Rattle.dms_font.specs.Font.{FontModel, IsFont, IsGlyph, glyph_of}
+use Rattle.dms_face.specs.declared.justification.Place.{Place}
+use Rattle.dms_face.specs.declared.justification.Place.TheVariants.{Start, Halfway, End}
 use Rattle.dms_face.specs.declared.room.Block.{Block}
-use Rattle.dms_face.specs.declared.room.Span.{Span}
 use Rattle.dms_face.specs.Face.{FaceModel, IsFace, font_of}
 use Rattle.dms_face.specs.Layout.{Style, Character, Line, PageModel, Turn, is_blank, no_font, blank_layout, layout_of}
-use Rattle.dms_face.specs.Room.{gap_between, extent, placed_from, character_block, line_block, line_height, at_place, extent_at, begin, spread, span, overlap, have_room, blocks_fit, characters_fit, lines_fit, page_fits, has_room}
+use Rattle.dms_face.specs.Room.{is_at, Span, gap_between, extent, placed_from, character_block, line_block, line_height, at_place, extent_at, begin, spread, span, overlap, have_room, blocks_fit, characters_fit, lines_fit, page_fits, has_room}
 use Rattle.dms_face.specs.Fit.{are_allowed, fits, turns_of, IsGood}
 use Rattle.dms_face.specs.Cells.{pages_of, placed_on, line_characters, page_characters, is_lit_by}
 use Rattle.dms_face.specs.Rules.{font_said, last_said, style_after, character_with, character_said, characters_said, characters_from, LightsEachCellOnce}
@@ -167,23 +168,23 @@ kept_one : {A : Type 0} (block : A → Block) (b : Bool) (x : A) (xs : List A) �
 kept_one block true x xs = refl
 kept_one block false x xs = refl
 
-kept : {A : Type 0} (block : A → Block) (place : ℕ) (xs : List A) → map block (filter (λ x. (block x).place == place) xs) ≡ at_place place (map block xs)
+kept : {A : Type 0} (block : A → Block) (place : Place) (xs : List A) → map block (filter (λ x. is_at place (block x)) xs) ≡ at_place place (map block xs)
 kept block place [] = refl
 kept block place (x ∷ xs) =
-    kept_one block ((block x).place == place) x (filter (λ x. (block x).place == place) xs)
-    ∙ ap (λ l. cond ((block x).place == place) (block x ∷ l) l) (kept block place xs)
+    kept_one block (is_at place (block x)) x (filter (λ x. is_at place (block x)) xs)
+    ∙ ap (λ l. cond (is_at place (block x)) (block x ∷ l) l) (kept block place xs)
 
-abbrev first_of : {A : Type 0} → (A → Block) → ℕ → List A → ℕ → ℕ
+abbrev first_of : {A : Type 0} → (A → Block) → ℕ → List A → Place → ℕ
 first_of block whole xs place = begin place whole (extent_at place (map block xs))
 
-abbrev side_of : {A : Type 0} → (A → Block) → ℕ → List A → ℕ → List (ℕ × A)
-side_of block whole xs place = placed_from block (first_of block whole xs place) (filter (λ x. (block x).place == place) xs)
+abbrev side_of : {A : Type 0} → (A → Block) → ℕ → List A → Place → List (ℕ × A)
+side_of block whole xs place = placed_from block (first_of block whole xs place) (filter (λ x. is_at place (block x)) xs)
 
-side_cover : {A : Type 0} (block : A → Block) (whole : ℕ) (xs : List A) (c place : ℕ)
+side_cover : {A : Type 0} (block : A → Block) (whole : ℕ) (xs : List A) (c : ℕ) (place : Place)
     → Cover (first_of block whole xs place) (extent_at place (map block xs)) c (tally (covers block c) (side_of block whole xs place))
 side_cover block whole xs c place =
     subst (λ size. Cover (first_of block whole xs place) size c (tally (covers block c) (side_of block whole xs place))) (ap extent (kept block place xs))
-    (placed_cover block (first_of block whole xs place) (filter (λ x. (block x).place == place) xs) c)
+    (placed_cover block (first_of block whole xs place) (filter (λ x. is_at place (block x)) xs) c)
 
 apart : (c : ℕ) (a b : Span) (m n : ℕ) → overlap a b ≡ false → Cover a.first a.size c m → Cover b.first b.size c n → (m ≡ 0) ⊎ (n ≡ 0)
 apart c a b m n free left right = elim (split c a.first) [
@@ -232,19 +233,19 @@ rooms whole a b c room =
 spread_cover : {A : Type 0} (block : A → Block) (whole : ℕ) (xs : List A) → blocks_fit whole (map block xs) ≡ true
     → (c : ℕ) → tally (covers block c) (spread block whole xs) ≤ 1
 spread_cover {A} block whole xs fit c =
-    let side : ℕ → List (ℕ × A) = side_of block whole xs in
+    let side : Place → List (ℕ × A) = side_of block whole xs in
     let test = covers block c in
-    let span_at : ℕ → Span = λ place. span whole place (extent_at place (map block xs)) in
-    let free = rooms whole (span_at 2) (span_at 3) (span_at 4) fit in
-    let a = side_cover block whole xs c 2 in
-    let b = side_cover block whole xs c 3 in
-    let d = side_cover block whole xs c 4 in
-    let few : tally test (side 2) + (tally test (side 3) + (tally test (side 4) + 0)) ≤ 1 =
-    three (tally test (side 2)) (tally test (side 3)) (tally test (side 4)) a.one b.one d.one
-    (apart c (span_at 2) (span_at 3) _ _ free.0 a b) (apart c (span_at 2) (span_at 4) _ _ free.1 a d) (apart c (span_at 3) (span_at 4) _ _ free.2 b d) in
-    let parts : tally test (side 2 ++ (side 3 ++ (side 4 ++ []))) ≡ tally test (side 2) + (tally test (side 3) + (tally test (side 4) + 0)) =
-    tally_append test (side 2) (side 3 ++ (side 4 ++ []))
-    ∙ ap (λ n. tally test (side 2) + n) (tally_append test (side 3) (side 4 ++ []) ∙ ap (λ n. tally test (side 3) + n) (tally_append test (side 4) [])) in
+    let span_at : Place → Span = λ place. span whole place (extent_at place (map block xs)) in
+    let free = rooms whole (span_at Start) (span_at Halfway) (span_at End) fit in
+    let a = side_cover block whole xs c Start in
+    let b = side_cover block whole xs c Halfway in
+    let d = side_cover block whole xs c End in
+    let few : tally test (side Start) + (tally test (side Halfway) + (tally test (side End) + 0)) ≤ 1 =
+    three (tally test (side Start)) (tally test (side Halfway)) (tally test (side End)) a.one b.one d.one
+    (apart c (span_at Start) (span_at Halfway) _ _ free.0 a b) (apart c (span_at Start) (span_at End) _ _ free.1 a d) (apart c (span_at Halfway) (span_at End) _ _ free.2 b d) in
+    let parts : tally test (side Start ++ (side Halfway ++ (side End ++ []))) ≡ tally test (side Start) + (tally test (side Halfway) + (tally test (side End) + 0)) =
+    tally_append test (side Start) (side Halfway ++ (side End ++ []))
+    ∙ ap (λ n. tally test (side Start) + n) (tally_append test (side Halfway) (side End ++ []) ∙ ap (λ n. tally test (side Halfway) + n) (tally_append test (side End) [])) in
     subst (λ n. n ≤ 1) (sym parts) few
 
 every_placed : {A : Type 0} (block : A → Block) (P : A → Type 0) (first : ℕ) (xs : List A) → AllByRecursion P xs → AllByRecursion (λ placed. P placed.1) (placed_from block first xs)
@@ -255,9 +256,9 @@ every_placed block P first (x ∷ y ∷ rest) all = (all.0, every_placed block P
 every_spread : {A : Type 0} (block : A → Block) (whole : ℕ) (P : A → Type 0) (xs : List A) → AllByRecursion P xs → AllByRecursion (λ placed. P placed.1) (spread block whole xs)
 every_spread {A} block whole P xs all =
     let Q : ℕ × A → Type 0 = λ placed. P placed.1 in
-    let at : (place : ℕ) → AllByRecursion Q (side_of block whole xs place) = λ place. every_placed block P (first_of block whole xs place) (filter (λ x. (block x).place == place) xs) (every_filter P (λ x. (block x).place == place) xs all) in
-    every_append Q (side_of block whole xs 2) (side_of block whole xs 3 ++ (side_of block whole xs 4 ++ [])) (at 2)
-    (every_append Q (side_of block whole xs 3) (side_of block whole xs 4 ++ []) (at 3) (every_append Q (side_of block whole xs 4) [] (at 4) tt))
+    let at : (place : Place) → AllByRecursion Q (side_of block whole xs place) = λ place. every_placed block P (first_of block whole xs place) (filter (λ x. is_at place (block x)) xs) (every_filter P (λ x. is_at place (block x)) xs all) in
+    every_append Q (side_of block whole xs Start) (side_of block whole xs Halfway ++ (side_of block whole xs End ++ [])) (at Start)
+    (every_append Q (side_of block whole xs Halfway) (side_of block whole xs End ++ []) (at Halfway) (every_append Q (side_of block whole xs End) [] (at End) tt))
 
 -- ---- a picture lights cells of its own block alone
 

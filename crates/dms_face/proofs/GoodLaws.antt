@@ -10,12 +10,13 @@ use Rattle.dms_multi.specs.Grammar.{IsReading, ReadsAs, outcomes}
 use Rattle.dms_multi.specs.Outcomes.{fault_in, outcomes_of}
 use Rattle.dms_multi.proofs.ItemLaws.{one_list}
 use Rattle.dms_multi.proofs.Readings.{is_reading}
+use Rattle.dms_codes.specs.Limits.{longest_text}
 use Rattle.dms_face.specs.declared.multi_fault.MultiFault.{MultiFault}
 use Rattle.dms_face.specs.declared.multi_fault.MultiFaultCode.TheVariants.{TextTooBig}
 use Rattle.dms_face.specs.FaultCode.{syntax_fault}
 use Rattle.dms_face.specs.Face.{FaceModel}
 use Rattle.dms_face.specs.Layout.{Turn, layout_of}
-use Rattle.dms_face.specs.Fit.{fits, Fits, code_of, PlacedTurn, turns_of, turns_in, first_fault, fault_of_reading, fault_of, longest_text, or_fault, page_count, checked_text, IsGood}
+use Rattle.dms_face.specs.Fit.{fits, Fits, code_of, PlacedTurn, turns_of, turns_in, first_fault, fault_of_reading, fault_of, or_fault, page_count, checked_text, IsGood}
 use Rattle.dms_face.proofs.Bools.{join}
 use Rattle.dms_face.proofs.RoomLaws.{nothing_fits}
 use Rattle.dms_face.proofs.WalkLaws.{none_fits}
@@ -67,7 +68,7 @@ or_none : (o p : Option MultiFault) → option_or o p ≡ None → (o ≡ None) 
 or_none None p is = (refl, is)
 or_none (Some fault) p is = absurd (let wrong : Some fault ≡ None = is in cc)
 
-good_reading : (face : FaceModel) (text : List ℕ) (spots : List Spot) (fault : Option SyntaxFault) → ReadsAs text spots fault → length text ≤ 512
+good_reading : (face : FaceModel) (text : List ℕ) (spots : List Spot) (fault : Option SyntaxFault) → ReadsAs text spots fault → length text ≤ longest_text
     → fault_of_reading face (length text) (outcomes spots fault) ≡ None → IsGood face text
 unfolding turns_alone
 good_reading face text spots None reads short none =
@@ -101,7 +102,7 @@ short_law : (face : FaceModel) (text : List ℕ) → nat_lt longest_text (length
 unfolding fault_of
 short_law face text few =
     let reading : IsReading text (outcomes_of text) = is_reading text in
-    let short : length text ≤ 512 = grind (arith, nat_tests) in
+    let short : length text ≤ longest_text = grind (arith, nat_tests) in
     let fault : fault_of face text ≡ fault_of_reading face (length text) (outcomes reading.spots reading.fault) =
     ap (λ b. cond b (Some (record { code = TextTooBig; place = longest_text })) (fault_of_reading face (length text) (outcomes_of text))) few
     ∙ ap (fault_of_reading face (length text)) reading.parts in
@@ -118,7 +119,7 @@ long_law face text many =
     ap (λ b. cond b (Some (record { code = TextTooBig; place = longest_text })) (fault_of_reading face (length text) (outcomes_of text))) many in
     let there : fault_of face text ≡ None → IsGood face text =
     λ none. absurd (let wrong : Some (record { code = TextTooBig; place = longest_text }) ≡ None = sym fault ∙ none in cc) in
-    let back : IsGood face text → fault_of face text ≡ None = λ good. absurd (let short : length text ≤ 512 = good.short in grind (arith, nat_tests)) in
+    let back : IsGood face text → fault_of face text ≡ None = λ good. absurd (let short : length text ≤ longest_text = good.short in grind (arith, nat_tests)) in
     (there, back)
 
 -- A text has no fault just where it is good.

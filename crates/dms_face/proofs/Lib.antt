@@ -1,9 +1,11 @@
 pub mod Bench
 pub mod Extents
 pub mod PartLaws
+mod PlaceLaws
 pub mod TellsLaws
 pub mod Bools
 pub mod RoomLaws
+mod RoomTests
 pub mod WalkLaws
 pub mod GoodLaws
 pub mod WalkState

@@ -4,6 +4,7 @@ use Rattle.std.specs.List.{list_all}
 use Rattle.std.proofs.lemmas.Bool.Decides.{nat_tests}
 use Rattle.std.proofs.lemmas.List.Folds.{list_all-append}
 use Rattle.std.proofs.lemmas.List.{map-append}
+use Rattle.dms_face.specs.declared.justification.Part.{Part}
 use Rattle.dms_font.specs.Font.{FontModel}
 use Rattle.dms_face.specs.Face.{FaceModel}
 use Rattle.dms_face.specs.Layout.{Character, Line, PageModel, Layout, Style, is_blank, open_line, standing, closed, has_line_in, page_of, with_line, with_page}
@@ -30,13 +31,13 @@ all_push : {A : Type 0} (p : A → Bool) (xs : List A) (x : A) → list_all p xs
 all_push p xs x all = list_all-append p xs (x ∷ []) ∙ ap (λ b. b && (p x && true)) all ∙ and_true (p x)
 
 -- the lines that stand fit where the closed ones do and the open one does
-standing_fits : (face : FaceModel) (characters : List Character) (lines : List Line) (part : ℕ) (font : FontModel) (gap : Option ℕ)
+standing_fits : (face : FaceModel) (characters : List Character) (lines : List Line) (part : Part) (font : FontModel) (gap : Option ℕ)
     → list_all (line_fits face) lines ≡ true
     → list_all (line_fits face) (cond (is_blank characters) lines (lines ++ (record { characters = characters; part = part; font = font; gap = gap }) ∷ [])) ≡ characters_fit face characters
 standing_fits face [] lines part font gap all = all ∙ sym (nothing_fits face.width)
 standing_fits face (c ∷ cs) lines part font gap all = all_push (line_fits face) lines (record { characters = c ∷ cs; part = part; font = font; gap = gap }) all
 
-standing_parts : (face : FaceModel) (characters : List Character) (lines : List Line) (part : ℕ) (font : FontModel) (gap : Option ℕ)
+standing_parts : (face : FaceModel) (characters : List Character) (lines : List Line) (part : Part) (font : FontModel) (gap : Option ℕ)
     → list_all (line_fits face) (cond (is_blank characters) lines (lines ++ (record { characters = characters; part = part; font = font; gap = gap }) ∷ [])) ≡ true
     → (list_all (line_fits face) lines ≡ true) × (characters_fit face characters ≡ true)
 standing_parts face [] lines part font gap all = (all, nothing_fits face.width)
@@ -96,7 +97,7 @@ page_room face layout parts =
     ∙ ap (λ b. b && lines_fit face (closed layout)) (closed_fits face layout parts)
 
 -- the font of the style says nothing of a line that has characters
-same_standing : (face : FaceModel) (characters : List Character) (lines : List Line) (part : ℕ) (font other : FontModel) (gap : Option ℕ)
+same_standing : (face : FaceModel) (characters : List Character) (lines : List Line) (part : Part) (font other : FontModel) (gap : Option ℕ)
     → lines_fit face (cond (is_blank characters) lines (lines ++ (record { characters = characters; part = part; font = font; gap = gap }) ∷ []))
     ≡ lines_fit face (cond (is_blank characters) lines (lines ++ (record { characters = characters; part = part; font = other; gap = gap }) ∷ []))
 same_standing face [] lines part font other gap = refl

@@ -1,21 +1,22 @@
 -- The layout of a text gives each character and each page what the rules say.
-use Rattle.std.proofs.Common.{◌≡◌, ℕ, ◌+◌, ◌==◌, ◌&&◌, Bool, true, false, cond, not, List, [], ◌∷◌, ◌++◌, length, map, fold, Option, Some, None, unwrap_or, refl, sym, ap, subst, ◌∙◌, arith, append_assoc, length-append}
-use Rattle.std.specs.Prelude.{flat_map}
+use Rattle.std.proofs.Common.{◌≡◌, ℕ, ◌+◌, ◌&&◌, Bool, true, false, cond, not, List, [], ◌∷◌, ◌++◌, length, map, fold, Option, Some, None, unwrap_or, refl, sym, ap, ◌∙◌, arith, append_assoc, length-append}
 use Rattle.std.specs.List.{count_by}
-use Rattle.std.proofs.lemmas.Bool.{eqb-true, cases_Bool}
 use Rattle.std.proofs.lemmas.List.{append-nil, map-append}
 use Rattle.std.proofs.lemmas.Grind.{flat_map-append}
 use Rattle.std.proofs.lemmas.List.Sums.{sum_by-cons, sum_by_push}
 use Rattle.dms_multi.specs.declared.item.Item.{Item}
 use Rattle.dms_multi.specs.declared.item.Item.TheVariants.{Char, Background, Foreground, Font, FlashOn, FlashEnd, JustLine, JustPage, NewLine, NewPage, PageTime}
 use Rattle.dms_multi.specs.Outcomes.{items_of}
+use Rattle.dms_face.specs.declared.justification.Part.{Part}
 use Rattle.dms_font.specs.Glyph.{GlyphModel}
 use Rattle.dms_font.specs.Font.{glyph_of}
 use Rattle.dms_face.specs.Face.{FaceModel, font_of}
-use Rattle.dms_face.specs.Layout.{Style, Character, Line, PageModel, Layout, Turn, styled, first_style, no_font, open_line, closed, is_blank, has_line_in, with_character, with_line, with_page, with_part, with_item, with_turn, blank_layout, layout_of, page_of}
+use Rattle.dms_face.specs.Justification.{side_of, part_of, same_part}
+use Rattle.dms_face.specs.Layout.{Style, Character, Line, PageModel, Layout, styled, no_font, open_line, closed, is_blank, has_line_in, with_character, with_page, with_part, with_item, with_turn, blank_layout, layout_of, page_of}
 use Rattle.dms_face.specs.Fit.{is_new_page, turns_of, page_count}
 use Rattle.dms_face.specs.Cells.{pages_of}
-use Rattle.dms_face.specs.Rules.{font_said, foreground_said, flash_said, side_said, part_said, background_said, on_said, off_said, last_said, style_after, character_with, character_said, characters_said, line_characters, characters_from, PageStyle, page_style, page_style_of, page_said, pages_said}
+use Rattle.dms_face.specs.Rules.{font_said, foreground_said, flash_said, side_said, part_said, background_said, on_said, off_said, last_said, style_after, character_with, character_said, characters_said, line_characters, characters_from, page_style, page_style_of, page_said, pages_said}
+use Rattle.dms_face.proofs.PlaceLaws.{same_part_is}
 
 -- ---- the style
 
@@ -42,8 +43,8 @@ style_more face before item =
       last_more (font_said face) (unwrap_or (font_of face face.defaults.font) no_font) before item,
       last_more (foreground_said face) face.defaults.foreground before item,
       last_more (flash_said face) None before item,
-      last_more (side_said face) face.defaults.line before item,
-      last_more (part_said face) face.defaults.page before item,
+      last_more (side_said face) (side_of face.defaults.line) before item,
+      last_more (part_said face) (part_of face.defaults.page) before item,
       last_more (background_said face) face.defaults.background before item,
       last_more (on_said face) face.defaults.on before item,
       last_more (off_said face) face.defaults.off before item,
@@ -118,12 +119,12 @@ character_pages layout None = refl
 character_pages layout (Some glyph) = refl
 
 -- where the part stays, the style does too
-part_style : (layout : Layout) (part : ℕ) → (with_part layout (record layout.style { part = part })).style ≡ record layout.style { part = part }
-part_style layout part = either (part == layout.style.part) refl
+part_style : (layout : Layout) (part : Part) → (with_part layout (record layout.style { part = part })).style ≡ record layout.style { part = part }
+part_style layout part = either (same_part part layout.style.part) refl
   where
-    either : (b : Bool) → (part == layout.style.part) ≡ b
+    either : (b : Bool) → same_part part layout.style.part ≡ b
         → (cond b layout (record { pages = layout.pages; lines = closed layout; characters = []; gap = None; style = record layout.style { part = part } })).style ≡ record layout.style { part = part }
-    either true e = ap (λ p. record layout.style { part = p }) (sym (eqb-true part layout.style.part e))
+    either true e = ap (λ p. record layout.style { part = p }) (sym (same_part_is part layout.style.part e))
     either false e = refl
 
 part_pages : (layout : Layout) (style : Style) (b : Bool)
@@ -139,7 +140,7 @@ part_characters layout style false =
 
 item_style : (face : FaceModel) (layout : Layout) (item : Item) → (with_item face layout item).style ≡ styled face layout.style item
 item_style face layout (Char character) = character_style layout (glyph_of layout.style.font character)
-item_style face layout (JustPage part) = part_style layout (unwrap_or part face.defaults.page)
+item_style face layout (JustPage part) = part_style layout (part_of (unwrap_or part face.defaults.page))
 item_style face layout (Background colour) = refl
 item_style face layout (Foreground colour) = refl
 item_style face layout (Font font) = refl
@@ -152,7 +153,7 @@ item_style face layout (PageTime on off) = refl
 
 item_pages : (face : FaceModel) (layout : Layout) (item : Item) → length (with_item face layout item).pages ≡ length layout.pages + cond (is_new_page item) 1 0
 item_pages face layout (Char character) = omega (arith, ap length (character_pages layout (glyph_of layout.style.font character)))
-item_pages face layout (JustPage part) = omega (arith, ap length (part_pages layout (styled face layout.style (JustPage part)) (unwrap_or part face.defaults.page == layout.style.part)))
+item_pages face layout (JustPage part) = omega (arith, ap length (part_pages layout (styled face layout.style (JustPage part)) (same_part (part_of (unwrap_or part face.defaults.page)) layout.style.part)))
 item_pages face layout NewPage = length-append layout.pages (page_of layout.style (closed layout) ∷ [])
 item_pages face layout (Background colour) = omega arith
 item_pages face layout (Foreground colour) = omega arith
@@ -192,7 +193,7 @@ item_characters face before layout (Char character) follows =
     ∙ ap (λ n. characters_of layout ++ character_with n layout.style (glyph_of layout.style.font character)) follows.pages
     ∙ ap (λ (style : Style). characters_of layout ++ character_with (count_by is_new_page before) style (glyph_of style.font character)) follows.style
 item_characters face before layout (JustPage part) follows =
-    part_characters layout (styled face layout.style (JustPage part)) (unwrap_or part face.defaults.page == layout.style.part) ∙ sym (append-nil (characters_of layout))
+    part_characters layout (styled face layout.style (JustPage part)) (same_part (part_of (unwrap_or part face.defaults.page)) layout.style.part) ∙ sym (append-nil (characters_of layout))
 item_characters face before layout (NewLine gap) follows =
     ap (λ l. characters_from 0 layout.pages ++ map (λ (it : Character). (length layout.pages, it)) l) (append-nil _ ∙ lines_more layout.lines (open_line layout))
     ∙ sym (append-nil (characters_of layout))
@@ -219,7 +220,7 @@ item_page : (face : FaceModel) (before : List Item) (layout : Layout) (item : It
     → map page_style (with_item face layout item).pages ≡ map page_style layout.pages ++ page_said face before item
 item_page face before layout (Char character) follows = ap (map page_style) (character_pages layout (glyph_of layout.style.font character)) ∙ sym (append-nil _)
 item_page face before layout (JustPage part) follows =
-    ap (map page_style) (part_pages layout (styled face layout.style (JustPage part)) (unwrap_or part face.defaults.page == layout.style.part)) ∙ sym (append-nil _)
+    ap (map page_style) (part_pages layout (styled face layout.style (JustPage part)) (same_part (part_of (unwrap_or part face.defaults.page)) layout.style.part)) ∙ sym (append-nil _)
 item_page face before layout NewPage follows =
     map-append page_style layout.pages (page_of layout.style (closed layout) ∷ []) ∙ ap (λ style. map page_style layout.pages ++ page_style_of style ∷ []) follows.style
 item_page face before layout (NewLine gap) follows = sym (append-nil _)

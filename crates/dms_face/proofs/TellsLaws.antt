@@ -1,11 +1,18 @@
 -- What running sums tell of a layout, once a page or a part is closed.
-use Rattle.std.proofs.Common.{◌≡◌, ℕ, ◌+◌, Bool, true, false, cond, ◌||◌, eqb, List, [], ◌∷◌, Option, Some, None, refl, ap, sym, ◌∙◌, subst, length-append}
+use Rattle.std.proofs.Common.{◌≡◌, ℕ, ◌+◌, ◌<◌, Bool, true, false, cond, ◌||◌, eqb, List, [], ◌∷◌, length, nat_le, Option, Some, None, refl, ap, sym, ◌∙◌, subst, length-append, arith}
+use Rattle.std.proofs.lemmas.Bool.Decides.{nat_tests}
 use Rattle.std.specs.Borrow.{Bor}
 use Rattle.std.specs.Option.{option_copied, IsSome}
 use Rattle.dms_face.specs.declared.totals.Totals.{Totals}
+use Rattle.dms_face.specs.declared.justification.Part.{Part}
 use Rattle.dms_font.specs.Font.{FontModel}
-use Rattle.dms_face.specs.Face.{font_in, has_font}
+use Rattle.dms_face.specs.declared.multi_fault.MultiFaultCode.TheVariants.{TextTooBig, TooManyPages}
+use Rattle.dms_face.specs.Face.{FaceModel, font_in, has_font}
+use Rattle.dms_face.specs.Justification.{same_part}
 use Rattle.dms_face.specs.Layout.{Layout, closed, with_page, with_part}
+use Rattle.dms_face.specs.Room.{lines_fit}
+use Rattle.dms_face.specs.Fit.{most_pages}
+use Rattle.dms_face.specs.OnePass.{page_fault}
 use Rattle.dms_face.specs.Totals.{Tells}
 
 -- the open page is closed
@@ -23,8 +30,15 @@ tells_page totals layout tells = record {
   font = tells.font;
 }
 
+-- the open page has room, and there are pages left
+pub page_passes : (face : FaceModel) (totals : Totals) (layout : Layout) → Tells totals layout → lines_fit face (closed layout) ≡ true → totals.pages + 1 < most_pages
+    → None ≡ page_fault face layout
+page_passes face totals layout tells fit less =
+    let few : nat_le most_pages (length layout.pages + 1) ≡ false = (let same : totals.pages ≡ length layout.pages = tells.pages in grind (arith, nat_tests)) in
+    sym (ap (λ b. cond b (cond (nat_le most_pages (length layout.pages + 1)) (Some TooManyPages) None) (Some TextTooBig)) fit ∙ ap (λ b. cond b (Some TooManyPages) None) few)
+
 -- the part changes
-pub tells_part : (totals : Totals) (layout : Layout) (part : ℕ) → eqb part layout.style.part ≡ false
+pub tells_part : (totals : Totals) (layout : Layout) (part : Part) → same_part part layout.style.part ≡ false
     → Tells totals (record layout { lines = closed layout; characters = []; gap = None })
     → Tells (record totals { part = part }) (with_part layout (record layout.style { part = part }))
 tells_part totals layout part other tells =

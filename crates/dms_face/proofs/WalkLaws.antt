@@ -1,5 +1,5 @@
 -- One walk over the items of a text gives what each of its fronts, laid out anew, tells.
-use Rattle.std.proofs.Common.{◌≡◌, ℕ, ◌+◌, ◌==◌, ◌≤◌, Bool, true, false, ◌&&◌, cond, List, [], ◌∷◌, ◌++◌, fold, length, map, nat_le, nat_lt, Option, Some, None, is_none, unwrap_or, Result, Ok, Err, refl, ap, sym, ◌∙◌, arith, zero-add, add-zero, length-append, ◌<◌}
+use Rattle.std.proofs.Common.{◌≡◌, ℕ, ◌+◌, ◌≤◌, Bool, true, false, ◌&&◌, cond, List, [], ◌∷◌, ◌++◌, fold, length, map, nat_le, nat_lt, Option, Some, None, is_none, unwrap_or, Result, Ok, Err, refl, ap, sym, ◌∙◌, arith, zero-add, add-zero, length-append, ◌<◌}
 use Rattle.std.specs.List.{count_by}
 use Rattle.std.proofs.lemmas.Bool.Decides.{nat_tests}
 use Rattle.std.specs.Option.{option_or, option_map}
@@ -9,6 +9,7 @@ use Rattle.dms_multi.specs.declared.item.Item.TheVariants.{Char, Background, For
 use Rattle.dms_multi.specs.declared.spots.Spot.{Spot}
 use Rattle.dms_multi.specs.declared.fault.SyntaxFault.{SyntaxFault}
 use Rattle.dms_multi.specs.Outcomes.{outcomes_of, fault_in, items_in}
+use Rattle.dms_codes.specs.Limits.{longest_text}
 use Rattle.dms_face.specs.declared.multi_fault.MultiFault.{MultiFault}
 use Rattle.dms_face.specs.declared.multi_fault.MultiFaultCode.{MultiFaultCode}
 use Rattle.dms_face.specs.declared.multi_fault.MultiFaultCode.TheVariants.{TextTooBig, CharacterNotDefined, TagConflict, TooManyPages}
@@ -16,9 +17,10 @@ use Rattle.dms_face.specs.FaultCode.{syntax_fault}
 use Rattle.dms_font.specs.Glyph.{GlyphModel}
 use Rattle.dms_font.specs.Font.{glyph_of}
 use Rattle.dms_face.specs.Face.{FaceModel}
+use Rattle.dms_face.specs.Justification.{part_of, place_of_part, same_part}
 use Rattle.dms_face.specs.Layout.{Layout, Style, Turn, styled, closed, with_character, with_page, with_item, with_turn, blank_layout, layout_of}
 use Rattle.dms_face.specs.Room.{line_block, lines_fit, has_room}
-use Rattle.dms_face.specs.Fit.{misuse, is_taken, are_allowed, fits, most_pages, code_of, turns_in, first_fault, fault_of_reading, fault_of, page_count, checked_text, longest_text, is_new_page, or_fault}
+use Rattle.dms_face.specs.Fit.{misuse, is_taken, are_allowed, fits, most_pages, code_of, turns_in, first_fault, fault_of_reading, fault_of, page_count, checked_text, is_new_page, or_fault}
 use Rattle.dms_face.specs.OnePass.{room_fault, character_fault, local_fault, or_else, walked}
 use Rattle.dms_face.proofs.Bools.{both, and_true, and_assoc}
 use Rattle.dms_face.proofs.RoomLaws.{RoomParts, room_parts, room_is_open, line_room, part_room, page_room, style_room, nothing_fits}
@@ -71,7 +73,7 @@ turn_law face layout (Some (NewLine gap)) room parts = ap room_fault (sym (line_
 turn_law face layout (Some NewPage) room parts = page_cases (nat_le most_pages (length layout.pages + 1)) (lines_fit face (closed layout)) (has_room face (with_page layout)) (page_room face layout parts)
 turn_law face layout (Some (JustPage part)) room parts =
     part_cases face layout (record { pages = layout.pages; lines = closed layout; characters = []; gap = None; style = styled face layout.style (JustPage part) })
-    (unwrap_or part face.defaults.page == layout.style.part) (is_taken (unwrap_or part face.defaults.page) (map line_block (closed layout))) (lines_fit face (closed layout)) room
+    (same_part (part_of (unwrap_or part face.defaults.page)) layout.style.part) (is_taken (place_of_part (part_of (unwrap_or part face.defaults.page))) (map line_block (closed layout))) (lines_fit face (closed layout)) room
     (part_room face layout (styled face layout.style (JustPage part)) parts)
 turn_law face layout (Some (JustLine side)) room parts = style_law face layout (styled face layout.style (JustLine side)) (misuse face layout (Some (JustLine side))) refl parts
 turn_law face layout (Some (Font None)) room parts = style_law face layout (styled face layout.style (Font None)) None refl parts
@@ -120,7 +122,7 @@ pages_with face layout (Char character) = go (glyph_of layout.style.font charact
     go : (glyph : Option GlyphModel) → length (with_character layout glyph).pages ≡ 0 + length layout.pages
     go None = sym (zero-add _)
     go (Some glyph) = sym (zero-add _)
-pages_with face layout (JustPage part) = go (unwrap_or part face.defaults.page == layout.style.part)
+pages_with face layout (JustPage part) = go (same_part (part_of (unwrap_or part face.defaults.page)) layout.style.part)
   where
     go : (same : Bool) → length (cond same layout (record { pages = layout.pages; lines = closed layout; characters = []; gap = None; style = styled face layout.style (JustPage part) })).pages ≡ 0 + length layout.pages
     go true = sym (zero-add _)
@@ -186,7 +188,7 @@ checked_walk face text short =
     ∙ ap (λ b. or_fault (count_by is_new_page (items_in (outcomes_of text)) + 1) (cond b (Some (record { code = TextTooBig; place = longest_text })) (fault_of_reading face (length text) (outcomes_of text)))) (sym few)
 
 -- a text that is too long
-pub checked_long : (face : FaceModel) (text : List ℕ) → 512 < length text → Err (record { code = TextTooBig; place = 512 }) ≡ checked_text face text
+pub checked_long : (face : FaceModel) (text : List ℕ) → longest_text < length text → Err (record { code = TextTooBig; place = longest_text }) ≡ checked_text face text
 unfolding fault_of page_count
 checked_long face text long =
     let many : nat_lt longest_text (length text) ≡ true = grind (arith, nat_tests) in

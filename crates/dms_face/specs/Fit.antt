@@ -8,13 +8,16 @@ use Rattle.dms_multi.specs.declared.spots.Spot.{Spot}
 use Rattle.dms_multi.specs.declared.fault.SyntaxFault.{SyntaxFault}
 use Rattle.dms_multi.specs.Grammar.{TextSpells}
 use Rattle.dms_multi.specs.Outcomes.{outcomes_of, fault_in, items_in}
+use Rattle.dms_face.specs.declared.justification.Place.{Place}
 use Rattle.dms_face.specs.declared.room.Block.{Block}
 use Rattle.dms_face.specs.declared.multi_fault.MultiFault.{MultiFault}
 use Rattle.dms_face.specs.declared.multi_fault.MultiFaultCode.{MultiFaultCode}
 use Rattle.dms_face.specs.declared.multi_fault.MultiFaultCode.TheVariants.{TextTooBig, FontNotDefined, CharacterNotDefined, TagConflict, TooManyPages, FontVersionId}
+use Rattle.dms_codes.specs.Limits.{longest_text}
 use Rattle.dms_font.specs.Font.{FontModel, glyph_of}
 use Rattle.dms_face.specs.Face.{FaceModel, font_of}
 use Rattle.dms_face.specs.FaultCode.{syntax_fault}
+use Rattle.dms_face.specs.Justification.{side_of, part_of, place_of_side, place_of_part, rank, same_part}
 use Rattle.dms_face.specs.Layout.{Layout, Turn, blank_layout, closed, with_turn, layout_of}
 use Rattle.dms_face.specs.Room.{character_block, line_block, has_room}
 
@@ -27,12 +30,12 @@ font_fault (Some font) None = None
 font_fault (Some font) (Some version) = if font.version == version then None else Some FontVersionId
 
 -- something stands already at a place behind this one
-abbrev pub goes_back : ℕ → List Block → Bool
-goes_back place blocks = list_any (λ (block : Block). nat_lt place block.place) blocks
+abbrev pub goes_back : Place → List Block → Bool
+goes_back place blocks = list_any (λ (block : Block). nat_lt (rank place) (rank block.place)) blocks
 
 -- something stands already at this place or one behind it
-abbrev pub is_taken : ℕ → List Block → Bool
-is_taken place blocks = list_any (λ (block : Block). nat_le place block.place) blocks
+abbrev pub is_taken : Place → List Block → Bool
+is_taken place blocks = list_any (λ (block : Block). nat_le (rank place) (rank block.place)) blocks
 
 abbrev pub most_pages : ℕ
 most_pages = 6
@@ -41,10 +44,10 @@ most_pages = 6
 abbrev pub misuse : FaceModel → Layout → Turn → Option MultiFaultCode
 misuse face layout (Some (Char character)) = if is_none (glyph_of layout.style.font character) then Some CharacterNotDefined else None
 misuse face layout (Some (Font (Some wanted))) = font_fault (font_of face wanted.0) wanted.1
-misuse face layout (Some (JustLine side)) = if goes_back (unwrap_or side face.defaults.line) (map character_block layout.characters) then Some TagConflict else None
+misuse face layout (Some (JustLine side)) = if goes_back (place_of_side (side_of (unwrap_or side face.defaults.line))) (map character_block layout.characters) then Some TagConflict else None
 misuse face layout (Some (JustPage part)) =
-    if unwrap_or part face.defaults.page == layout.style.part then None
-    else if is_taken (unwrap_or part face.defaults.page) (map line_block (closed layout)) then Some TagConflict else None
+    if same_part (part_of (unwrap_or part face.defaults.page)) layout.style.part then None
+    else if is_taken (place_of_part (part_of (unwrap_or part face.defaults.page))) (map line_block (closed layout)) then Some TagConflict else None
 misuse face layout (Some NewPage) = if nat_le most_pages (length layout.pages + 1) then Some TooManyPages else None
 misuse face layout turn = None
 
@@ -61,9 +64,6 @@ abbrev pub Fits : FaceModel → List Turn → Type 0
 Fits face front = IsTrue (fits face front)
 
 -- ---- good texts
-
-abbrev pub longest_text : ℕ
-longest_text = 512
 
 -- items, and their end
 abbrev pub turns_of : List Item → List Turn

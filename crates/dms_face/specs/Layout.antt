@@ -1,5 +1,5 @@
 -- Where the characters of a message stand: pages of lines of characters, as its items make them one by one (NTCIP 1203, MULTI).
-use Rattle.std.specs.Prelude.{ℕ, ◌==◌, ◌&&◌, Bool, true, false, not, if◌then◌else◌, List, [], ◌∷◌, ◌++◌, fold, Option, Some, None, unwrap_or}
+use Rattle.std.specs.Prelude.{ℕ, ◌&&◌, Bool, true, false, not, if◌then◌else◌, List, [], ◌∷◌, ◌++◌, fold, Option, Some, None, unwrap_or}
 use Rattle.std.specs.List.{list_any}
 use Rattle.dms_multi.specs.declared.item.Item.{Item}
 use Rattle.dms_multi.specs.declared.item.Item.TheVariants.{Char, Background, Foreground, Font, FlashOn, FlashEnd, JustLine, JustPage, NewLine, NewPage, PageTime}
@@ -7,6 +7,9 @@ use Rattle.dms_face.specs.declared.cell.Flash.{Flash}
 use Rattle.dms_face.specs.declared.defaults.Defaults.{Defaults}
 use Rattle.dms_font.specs.Glyph.{GlyphModel}
 use Rattle.dms_font.specs.Font.{FontModel, glyph_of}
+use Rattle.dms_face.specs.declared.justification.Side.{Side}
+use Rattle.dms_face.specs.declared.justification.Part.{Part}
+use Rattle.dms_face.specs.Justification.{side_of, part_of, same_part}
 use Rattle.dms_face.specs.Face.{FaceModel, font_of}
 
 -- the same face, with other defaults
@@ -15,14 +18,14 @@ under face defaults = record face { defaults = defaults }
 
 -- ---- what items say of all that follows them
 
--- The font, the colour and the flash of characters; their side of the line, left 2, centre 3, right 4; the part of the page
--- where lines stand, top 2, middle 3, bottom 4; and the page's background and times.
+-- The font, the colour and the flash of characters; their side of the line; the part of the page where lines stand; and the
+-- page's background and times.
 pub record Style : Type 0 where
   pub font : FontModel
   pub foreground : ℕ
   pub flash : Option Flash
-  pub side : ℕ
-  pub part : ℕ
+  pub side : Side
+  pub part : Part
   pub background : ℕ
   pub on : ℕ
   pub off : ℕ
@@ -35,8 +38,8 @@ first_style face = record {
   font = unwrap_or (font_of face face.defaults.font) no_font;
   foreground = face.defaults.foreground;
   flash = None;
-  side = face.defaults.line;
-  part = face.defaults.page;
+  side = side_of face.defaults.line;
+  part = part_of face.defaults.page;
   background = face.defaults.background;
   on = face.defaults.on;
   off = face.defaults.off;
@@ -50,8 +53,8 @@ styled face style (Font None) = record style { font = unwrap_or (font_of face fa
 styled face style (Font (Some wanted)) = record style { font = unwrap_or (font_of face wanted.0) style.font }
 styled face style (FlashOn first lit dark) = record style { flash = Some (record { first = first; lit = unwrap_or lit face.defaults.flash_on; dark = unwrap_or dark face.defaults.flash_off }) }
 styled face style FlashEnd = record style { flash = None }
-styled face style (JustLine side) = record style { side = unwrap_or side face.defaults.line }
-styled face style (JustPage part) = record style { part = unwrap_or part face.defaults.page }
+styled face style (JustLine side) = record style { side = side_of (unwrap_or side face.defaults.line) }
+styled face style (JustPage part) = record style { part = part_of (unwrap_or part face.defaults.page) }
 styled face style (PageTime on off) = record style { on = unwrap_or on face.defaults.on; off = unwrap_or off face.defaults.off }
 styled face style _ = style
 
@@ -64,7 +67,7 @@ pub record Character : Type 0 where
 -- a line's characters, its part of the page, the font current at its end, and the gap that its tag gives above it
 pub record Line : Type 0 where
   pub characters : List Character
-  pub part : ℕ
+  pub part : Part
   pub font : FontModel
   pub gap : Option ℕ
 
@@ -94,8 +97,8 @@ open_line layout = record { characters = layout.characters; part = layout.style.
 abbrev pub standing : Layout → List Line
 standing layout = if is_blank layout.characters then layout.lines else layout.lines ++ open_line layout ∷ []
 
-abbrev pub has_line_in : ℕ → List Line → Bool
-has_line_in part lines = list_any (λ (line : Line). line.part == part) lines
+abbrev pub has_line_in : Part → List Line → Bool
+has_line_in part lines = list_any (λ (line : Line). same_part line.part part) lines
 
 -- the open page's lines once the open line and its part are closed: a part with a single line without a character has no lines
 abbrev pub closed : Layout → List Line
@@ -118,7 +121,7 @@ with_page layout = record { pages = layout.pages ++ page_of layout.style (closed
 
 -- Where the part changes, the line and its part are closed, and a line opens in the other part.
 abbrev pub with_part : Layout → Style → Layout
-with_part layout style = if style.part == layout.style.part then layout else record { pages = layout.pages; lines = closed layout; characters = []; gap = None; style = style }
+with_part layout style = if same_part style.part layout.style.part then layout else record { pages = layout.pages; lines = closed layout; characters = []; gap = None; style = style }
 
 -- what an item makes of the layout
 abbrev pub with_item : FaceModel → Layout → Item → Layout

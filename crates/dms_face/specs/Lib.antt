@@ -3,6 +3,7 @@ pub mod Face
 pub mod Fault
 pub mod FaultCode
 pub mod FaultTexts
+pub mod Justification
 pub mod Layout
 pub mod Room
 pub mod Fit

@@ -1,12 +1,14 @@
 -- One walk over the items of a text: whether a front of one turn more fits is told by the open line and the open page alone.
-use Rattle.std.specs.Prelude.{ℕ, ◌+◌, ◌==◌, ◌&&◌, Bool, if◌then◌else◌, List, [], ◌∷◌, ◌++◌, length, map, Option, Some, None, unwrap_or, nat_le, Result, Ok, Err}
+use Rattle.std.specs.Prelude.{ℕ, ◌+◌, ◌&&◌, Bool, if◌then◌else◌, List, [], ◌∷◌, ◌++◌, length, map, Option, Some, None, unwrap_or, nat_le, Result, Ok, Err}
 use Rattle.dms_multi.specs.declared.item.Item.TheVariants.{Char, JustPage, NewLine, NewPage}
 use Rattle.dms_multi.specs.declared.spots.Spot.{Spot}
 use Rattle.dms_multi.specs.declared.fault.SyntaxFault.{SyntaxFault}
 use Rattle.dms_face.specs.declared.multi_fault.MultiFault.{MultiFault}
 use Rattle.dms_face.specs.declared.multi_fault.MultiFaultCode.{MultiFaultCode}
 use Rattle.dms_face.specs.declared.multi_fault.MultiFaultCode.TheVariants.{TextTooBig, CharacterNotDefined, TagConflict, TooManyPages}
+use Rattle.dms_face.specs.declared.justification.Part.{Part}
 use Rattle.dms_face.specs.FaultCode.{syntax_fault}
+use Rattle.dms_face.specs.Justification.{part_of, place_of_part, same_part}
 use Rattle.dms_font.specs.Glyph.{GlyphModel}
 use Rattle.dms_font.specs.Font.{glyph_of}
 use Rattle.dms_face.specs.Face.{FaceModel}
@@ -30,10 +32,10 @@ page_fault face layout =
     if lines_fit face (closed layout) then (if nat_le most_pages (length layout.pages + 1) then Some TooManyPages else None)
     else Some TextTooBig
 
-abbrev pub part_fault : FaceModel → Layout → ℕ → Option MultiFaultCode
+abbrev pub part_fault : FaceModel → Layout → Part → Option MultiFaultCode
 part_fault face layout part =
-    if part == layout.style.part then None
-    else if is_taken part (map line_block (closed layout)) then Some TagConflict
+    if same_part part layout.style.part then None
+    else if is_taken (place_of_part part) (map line_block (closed layout)) then Some TagConflict
     else room_fault (lines_fit face (closed layout))
 
 -- The fault of a turn behind a front that fits. What stands behind the open line and the open page has room, and keeps it.
@@ -42,7 +44,7 @@ local_fault face layout None = room_fault (lines_fit face (closed layout))
 local_fault face layout (Some (Char character)) = character_fault face layout (glyph_of layout.style.font character)
 local_fault face layout (Some (NewLine gap)) = room_fault (lines_fit face (layout.lines ++ open_line layout ∷ []))
 local_fault face layout (Some NewPage) = page_fault face layout
-local_fault face layout (Some (JustPage part)) = part_fault face layout (unwrap_or part face.defaults.page)
+local_fault face layout (Some (JustPage part)) = part_fault face layout (part_of (unwrap_or part face.defaults.page))
 local_fault face layout (Some item) = misuse face layout (Some item)
 
 -- what is answered at a turn: its fault, or what follows

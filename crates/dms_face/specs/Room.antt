@@ -1,8 +1,10 @@
 -- How much room characters and lines take, and where each begins (NTCIP 1203, MULTI).
-use Rattle.std.specs.Prelude.{ℕ, ◌+◌, ◌-◌, ◌/◌, ◌==◌, ◌&&◌, Bool, true, not, if◌then◌else◌, List, [], ◌∷◌, map, filter, fold, max, min, None, unwrap_or, nat_lt, nat_le}
+use Rattle.std.specs.Prelude.{ℕ, ◌+◌, ◌-◌, ◌/◌, ◌&&◌, Bool, true, not, if◌then◌else◌, List, [], ◌∷◌, map, filter, fold, max, min, None, unwrap_or, nat_lt, nat_le}
 use Rattle.std.specs.List.{list_any, list_all, flat_map}
+use Rattle.dms_face.specs.declared.justification.Place.{Place}
+use Rattle.dms_face.specs.declared.justification.Place.TheVariants.{Start, Halfway, End}
 use Rattle.dms_face.specs.declared.room.Block.{Block}
-use Rattle.dms_face.specs.declared.room.Span.{Span}
+use Rattle.dms_face.specs.Justification.{place_of_side, place_of_part, same_place}
 use Rattle.dms_font.specs.Font.{FontModel}
 use Rattle.dms_face.specs.Face.{FaceModel}
 use Rattle.dms_face.specs.Layout.{Character, Line, PageModel, Layout, is_blank, standing}
@@ -31,7 +33,7 @@ placed_from block start (x ∷ y ∷ rest) = (start, x) ∷ placed_from block (s
 
 -- a character in its line: its side, its picture's width, the spacing of its font
 abbrev pub character_block : Character → Block
-character_block character = record { place = character.style.side; size = character.glyph.width; spacing = character.style.font.character_spacing; gap = None }
+character_block character = record { place = place_of_side character.style.side; size = character.glyph.width; spacing = character.style.font.character_spacing; gap = None }
 
 -- the greatest number of a line's fonts; without a character that of the font at its end
 abbrev pub greatest : (FontModel → ℕ) → Line → ℕ
@@ -42,33 +44,43 @@ line_height line = greatest (λ (font : FontModel). font.height) line
 
 -- a line on its page: its part, its height, the greatest spacing of its fonts, the gap of its tag
 abbrev pub line_block : Line → Block
-line_block line = record { place = line.part; size = line_height line; spacing = greatest (λ (font : FontModel). font.line_spacing) line; gap = line.gap }
+line_block line = record { place = place_of_part line.part; size = line_height line; spacing = greatest (λ (font : FontModel). font.line_spacing) line; gap = line.gap }
 
 -- ---- blocks at three places
 
+abbrev pub is_at : Place → Block → Bool
+is_at place block = same_place block.place place
+
 -- the blocks of one place, in order
-abbrev pub at_place : ℕ → List Block → List Block
-at_place place blocks = filter (λ (block : Block). block.place == place) blocks
+abbrev pub at_place : Place → List Block → List Block
+at_place place blocks = filter (is_at place) blocks
 
 -- the room that the blocks of one place take
-abbrev pub extent_at : ℕ → List Block → ℕ
+abbrev pub extent_at : Place → List Block → ℕ
 extent_at place blocks = extent (at_place place blocks)
 
--- left and top, 2, begin at 0; right and bottom, 4, end at the end; centre and middle, 3, stand halfway, rounded down
-abbrev pub begin : ℕ → ℕ → ℕ → ℕ
-begin place whole size = if place == 2 then 0 else if place == 3 then (whole - size) / 2 else whole - size
+-- left and top begin at 0; right and bottom end at the end; centre and middle stand halfway, rounded down
+abbrev pub begin : Place → ℕ → ℕ → ℕ
+begin Start whole size = 0
+begin Halfway whole size = (whole - size) / 2
+begin End whole size = whole - size
 
-abbrev pub places : List ℕ
-places = 2 ∷ 3 ∷ 4 ∷ []
+abbrev pub places : List Place
+places = Start ∷ Halfway ∷ End ∷ []
 
 -- the things of all places, each with the point where it begins
 abbrev pub spread : {A : Type 0} → (A → Block) → ℕ → List A → List (ℕ × A)
-spread block whole xs = flat_map (λ place. placed_from block (begin place whole (extent_at place (map block xs))) (filter (λ x. (block x).place == place) xs)) places
+spread block whole xs = flat_map (λ place. placed_from block (begin place whole (extent_at place (map block xs))) (filter (λ x. is_at place (block x)) xs)) places
 
 -- ---- whether there is room
 
--- where something of a size begins at a place, and its size
-abbrev pub span : ℕ → ℕ → ℕ → Span
+-- where something begins, and its size
+pub record Span : Type 0 where
+  pub first : ℕ
+  pub size : ℕ
+
+-- something of a size at a place
+abbrev pub span : ℕ → Place → ℕ → Span
 span whole place size = record { first = begin place whole size; size = size }
 
 -- they have a point in common

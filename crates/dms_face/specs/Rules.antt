@@ -1,12 +1,15 @@
 -- What the rules say of each character and each page of a text (NTCIP 1203, MULTI): what holds for it is what the last item before it
 -- said that says it, and else the default.
-use Rattle.std.specs.Prelude.{ℕ, ◌+◌, ◌≤◌, List, [], ◌∷◌, ◌++◌, map, flat_map, length, Option, Some, None, unwrap_or}
+use Rattle.std.specs.Prelude.{ℕ, ◌+◌, ◌≤◌, List, [], ◌∷◌, ◌++◌, map, flat_map, Option, Some, None, unwrap_or}
 use Rattle.std.specs.List.{count_by}
 use Rattle.dms_multi.specs.declared.item.Item.{Item}
 use Rattle.dms_multi.specs.declared.item.Item.TheVariants.{Char, Background, Foreground, Font, FlashOn, FlashEnd, JustLine, JustPage, NewPage, PageTime}
 use Rattle.dms_face.specs.declared.cell.Flash.{Flash}
+use Rattle.dms_face.specs.declared.justification.Side.{Side}
+use Rattle.dms_face.specs.declared.justification.Part.{Part}
 use Rattle.dms_font.specs.Glyph.{GlyphModel}
 use Rattle.dms_font.specs.Font.{FontModel, glyph_of}
+use Rattle.dms_face.specs.Justification.{side_of, part_of}
 use Rattle.dms_face.specs.Face.{FaceModel, font_of}
 use Rattle.dms_face.specs.Layout.{Style, Character, Line, PageModel, no_font}
 use Rattle.dms_face.specs.Fit.{is_new_page}
@@ -28,12 +31,12 @@ flash_said face (FlashOn first lit dark) = Some (Some (record { first = first; l
 flash_said face FlashEnd = Some None
 flash_said face _ = None
 
-abbrev pub side_said : FaceModel → Item → Option ℕ
-side_said face (JustLine side) = Some (unwrap_or side face.defaults.line)
+abbrev pub side_said : FaceModel → Item → Option Side
+side_said face (JustLine side) = Some (side_of (unwrap_or side face.defaults.line))
 side_said face _ = None
 
-abbrev pub part_said : FaceModel → Item → Option ℕ
-part_said face (JustPage part) = Some (unwrap_or part face.defaults.page)
+abbrev pub part_said : FaceModel → Item → Option Part
+part_said face (JustPage part) = Some (part_of (unwrap_or part face.defaults.page))
 part_said face _ = None
 
 abbrev pub background_said : FaceModel → Item → Option ℕ
@@ -60,8 +63,8 @@ style_after face items = record {
   font = last_said (font_said face) (unwrap_or (font_of face face.defaults.font) no_font) items;
   foreground = last_said (foreground_said face) face.defaults.foreground items;
   flash = last_said (flash_said face) None items;
-  side = last_said (side_said face) face.defaults.line items;
-  part = last_said (part_said face) face.defaults.page items;
+  side = last_said (side_said face) (side_of face.defaults.line) items;
+  part = last_said (part_said face) (part_of face.defaults.page) items;
   background = last_said (background_said face) face.defaults.background items;
   on = last_said (on_said face) face.defaults.on items;
   off = last_said (off_said face) face.defaults.off items;

@@ -1,15 +1,13 @@
 -- What running sums tell of the blocks that they were made of, and of a layout.
-use Rattle.std.specs.Prelude.{◌≡◌, ℕ, ◌+◌, ◌<◌, ◌≤◌, false, not, List, [], ◌∷◌, map, fold, max, length, nat_lt, nat_le, slice_index_or}
-use Rattle.dms_multi.specs.declared.item.Item.{Item}
-use Rattle.dms_multi.specs.declared.item.Item.TheVariants.{JustLine, JustPage}
-use Rattle.dms_multi.specs.Range.{IsWithin}
+use Rattle.std.specs.Prelude.{◌≡◌, ℕ, ◌≤◌, not, List, [], ◌∷◌, map, fold, max, length, Option, IfNone}
+use Rattle.dms_face.specs.declared.justification.Place.TheVariants.{Start, Halfway, End}
+use Rattle.dms_face.specs.declared.multi_fault.MultiFaultCode.{MultiFaultCode}
 use Rattle.dms_face.specs.declared.room.Block.{Block}
 use Rattle.dms_face.specs.declared.room.Run.{Run}
 use Rattle.dms_face.specs.declared.room.Places.{Places}
 use Rattle.dms_face.specs.declared.totals.Totals.{Totals}
 use Rattle.dms_face.specs.Layout.{Character, Layout, is_blank}
 use Rattle.dms_face.specs.Room.{extent, at_place, character_block, line_block}
-use Rattle.dms_face.specs.Fit.{goes_back, is_taken}
 
 abbrev pub last_spacing : List Block → ℕ
 last_spacing [] = 0
@@ -21,21 +19,16 @@ pub record Sums (run : Run) (blocks : List Block) : Type 0 where
   pub size : run.size ≡ extent blocks
   pub spacing : run.spacing ≡ last_spacing blocks
 
-abbrev pub no_run : Run
-no_run = record { any = false; size = 0; spacing = 0 }
-
-abbrev pub run_at : Places → ℕ → Run
-run_at places k = slice_index_or places.runs k no_run
-
 pub record TellsBlocks (places : Places) (blocks : List Block) : Type 0 where
-  pub any : places.any ≡ not (is_blank blocks)
-  pub behind : (place : ℕ) → goes_back place blocks ≡ nat_lt place places.last
-  pub taken : (place : ℕ) → 1 ≤ place → is_taken place blocks ≡ nat_le place places.last
-  pub runs : (k : ℕ) → k < 3 → Sums (run_at places k) (at_place (k + 2) blocks)
+  pub start : Sums places.start (at_place Start blocks)
+  pub halfway : Sums places.halfway (at_place Halfway blocks)
+  pub end : Sums places.end (at_place End blocks)
 
 -- no run takes more room
-abbrev pub AreWithin : ℕ → Places → Type 0
-AreWithin limit places = (k : ℕ) → k < 3 → (run_at places k).size ≤ limit
+pub record AreWithin (limit : ℕ) (places : Places) : Type 0 where
+  pub start : places.start.size ≤ limit
+  pub halfway : places.halfway.size ≤ limit
+  pub end : places.end.size ≤ limit
 
 pub record Tells (totals : Totals) (layout : Layout) : Type 0 where
   pub pages : totals.pages ≡ length layout.pages
@@ -53,13 +46,9 @@ pub record AreSmall (totals : Totals) : Type 0 where
   pub pages : totals.pages ≤ 5
   pub lines : AreWithin 256 totals.lines
   pub characters : AreWithin 256 totals.characters
-  pub low_side : 2 ≤ totals.side
-  pub high_side : totals.side ≤ 4
-  pub low_part : 2 ≤ totals.part
-  pub high_part : totals.part ≤ 4
 
--- a justification is one of the three places
-abbrev pub IsJustified : Item → Type 0
-IsJustified (JustLine side) = IsWithin 2 4 side
-IsJustified (JustPage part) = IsWithin 2 4 part
-IsJustified _ = Unit {0}
+-- What becomes of running sums at an item: it has this fault, or they tell the layout after it.
+pub record Takes (old new : Totals) (result : Option MultiFaultCode) (fault_at : Layout → Option MultiFaultCode) (after : Layout → Layout) : Type 0 where
+  pub fault : (layout : Layout) → Tells old layout → result ≡ fault_at layout
+  pub tells : (layout : Layout) → Tells old layout → IfNone result (Tells new (after layout))
+  pub small : IfNone result (AreSmall new)

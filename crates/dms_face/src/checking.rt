@@ -1,22 +1,18 @@
 //! Whether a text can be shown on a face.
 
-ghost use Rattle.std.specs.Prelude.{◌≡◌, IsTrue, ◌↔◌, All};
+ghost use Rattle.std.specs.Prelude.{◌≡◌, IsTrue, ◌↔◌};
 ghost use Rattle.std.specs.Result.{is_ok};
 ghost use Rattle.dms_face.specs.Face.{fit};
 ghost use Rattle.dms_face.specs.Layout.{under, blank_layout};
-ghost use Rattle.dms_multi.specs.Outcomes.{items_in};
 ghost use Rattle.dms_face.specs.Fit.{IsGood, checked_text};
 ghost use Rattle.dms_face.specs.OnePass.{walked};
-ghost use Rattle.dms_face.specs.Totals.{IsJustified};
 
 use crate::defaults::Defaults;
 use crate::face::Face;
 use crate::multi_fault::{MultiFault, MultiFaultCode};
 use crate::totals::Totals;
+use dms_codes::MAX_TEXT;
 use dms_multi::{Spots, items};
-
-/// The most octets of a text.
-pub const MAX_TEXT: usize = 512;
 
 /// The number of the text's pages, or why it can not be shown under the face's own defaults.
 pub fn check(face: &Face, text: &[u8]) -> Result<usize, MultiFault>
@@ -43,8 +39,7 @@ pub fn check_with(face: &Face, defaults: &Defaults, text: &[u8]) -> Result<usize
 
 /// What is answered for a text that ends at this offset, by one walk over its items.
 fn walk(face: &Face, defaults: &Defaults, spots: Spots<'_>, end: usize) -> Result<usize, MultiFault>
-    requires fit { IsTrue (fit face.now.fonts defaults.now) }
-    requires justified { All IsJustified (items_in spots) }
+    requires { IsTrue (fit face.now.fonts defaults.now) }
     ensures { result ≡ walked (under face.now defaults.now) end (blank_layout (under face.now defaults.now)) spots.entry }
 {
     let mut totals = Totals::new(face, defaults);

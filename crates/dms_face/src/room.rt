@@ -1,21 +1,35 @@
 //! How much room characters take in their line, and lines on their page.
 
-ghost use Rattle.std.specs.Prelude.{◌≡◌, ◌+◌, ◌≤◌, List, [], ◌∷◌, ◌++◌, IsTrue};
-ghost use Rattle.dms_face.specs.Room.{average, span, overlap, have_room, blocks_fit};
+ghost use Rattle.std.specs.Prelude.{◌≡◌, ◌≤◌, not, List, [], ◌∷◌, ◌++◌, IsTrue};
+ghost use Rattle.dms_face.specs.declared.justification.Place.TheVariants.{Start, Halfway, End};
+ghost use Rattle.dms_face.specs.Layout.{is_blank};
+ghost use Rattle.dms_face.specs.Room.{average, is_at, at_place, span, have_room, blocks_fit};
+ghost use Rattle.dms_face.specs.Fit.{goes_back, is_taken};
 ghost use Rattle.dms_face.specs.Totals.{Sums, TellsBlocks, AreWithin};
 
-/// What a character is to its line, and a line to its page: its place, 2 to 4, its size, its spacing, and the gap that a
-/// tag gives before it.
+use crate::justification::Place;
+
+/// What a character is to its line, and a line to its page: its place, its size, its spacing, and the gap that a tag gives
+/// before it.
 #[derive(Clone, Copy)]
 pub struct Block {
-    /// Left or top 2, centre or middle 3, right or bottom 4.
-    pub place: u8,
+    /// Where it stands.
+    pub place: Place,
     /// Its columns or rows.
     pub size: u8,
     /// The spacing of its font, or the greatest of its fonts, in columns or rows.
     pub spacing: u8,
     /// The gap before it that a tag gives, in rows; none where the spacings give it.
     pub gap: Option<u8>,
+}
+
+impl Block {
+    /// Whether it stands there.
+    pub fn is_at(&self, place: Place) -> bool
+        ensures { result ≡ is_at place self.now }
+    {
+        self.place.is(place)
+    }
 }
 
 /// Blocks in a row: whether there are any, how much room they take, and the spacing of the last.
@@ -69,12 +83,12 @@ impl Run {
     }
 }
 
-/// The blocks of three places, 2 to 4: whether there are any, the last place that has one, and the row of each place.
+/// The blocks of the three places, a row each.
 #[derive(Clone, Copy)]
 pub(crate) struct Places {
-    pub any: bool,
-    pub last: u8,
-    pub runs: [Run; 3],
+    pub start: Run,
+    pub halfway: Run,
+    pub end: Run,
 }
 
 impl Places {
@@ -84,24 +98,62 @@ impl Places {
         ensures within { AreWithin 256 result }
     {
         Places {
-            any: false,
-            last: 0,
-            runs: [Run::EMPTY; 3],
+            start: Run::EMPTY,
+            halfway: Run::EMPTY,
+            end: Run::EMPTY,
         }
     }
 
     /// One more block stands after those of its place.
     pub(crate) fn push(&mut self, block: Block)
-        requires low { 2 ≤ block.place }
-        requires high { block.place ≤ 4 }
-        requires within { AreWithin 256 self.old }
+        requires { AreWithin 256 self.old }
         ensures tells { (blocks : List Block) → TellsBlocks self.old blocks → TellsBlocks self.new (blocks ++ block ∷ []) }
-        ensures small { AreWithin 766 self.new }
+        ensures within { AreWithin 766 self.new }
     {
-        let index = usize::from(block.place - 2);
-        self.runs[index] = self.runs[index].with(block);
-        self.any = true;
-        self.last = self.last.max(block.place);
+        match block.place {
+            Place::Start => self.start = self.start.with(block),
+            Place::Halfway => self.halfway = self.halfway.with(block),
+            Place::End => self.end = self.end.with(block),
+        }
+    }
+
+    /// Whether there is a block.
+    #[tactic(auto, using(crate::proofs::PlaceLaws::places))]
+    pub(crate) fn any(&self) -> bool
+        ensures { (blocks : List Block) → TellsBlocks self.now blocks → result ≡ not (is_blank blocks) }
+    {
+        self.start.any || self.halfway.any || self.end.any
+    }
+
+    /// Whether a block stands at this place.
+    pub(crate) fn any_at(&self, place: Place) -> bool
+        ensures { (blocks : List Block) → TellsBlocks self.now blocks → result ≡ not (is_blank (at_place place blocks)) }
+    {
+        match place {
+            Place::Start => self.start.any,
+            Place::Halfway => self.halfway.any,
+            Place::End => self.end.any,
+        }
+    }
+
+    /// Whether a block stands after this place.
+    #[tactic(auto, using(crate::proofs::PlaceLaws::places))]
+    pub(crate) fn goes_back(&self, place: Place) -> bool
+        ensures { (blocks : List Block) → TellsBlocks self.now blocks → result ≡ goes_back place blocks }
+    {
+        match place {
+            Place::Start => self.halfway.any || self.end.any,
+            Place::Halfway => self.end.any,
+            Place::End => false,
+        }
+    }
+
+    /// Whether a block stands at this place or after it.
+    #[tactic(auto, using(crate::proofs::PlaceLaws::places))]
+    pub(crate) fn is_taken(&self, place: Place) -> bool
+        ensures { (blocks : List Block) → TellsBlocks self.now blocks → result ≡ is_taken place blocks }
+    {
+        self.any_at(place) || self.goes_back(place)
     }
 
     /// Whether the places have room beside each other.
@@ -111,60 +163,26 @@ impl Places {
         ensures fit { (blocks : List Block) → TellsBlocks self.now blocks → result ≡ blocks_fit whole blocks }
         ensures within { IsTrue result → AreWithin 256 self.now }
     {
-        have_room(
-            whole,
-            self.runs[0].size,
-            self.runs[1].size,
-            self.runs[2].size,
-        )
+        have_room(whole, self.start.size, self.halfway.size, self.end.size)
     }
 }
 
-/// Where something begins, and its size.
-#[derive(Clone, Copy)]
-struct Span {
-    first: u32,
-    size: u32,
-}
-
-impl Span {
-    /// What takes this room at a place, 2 to 4, of the whole.
-    fn new(whole: u32, place: u8, size: u32) -> Span
-        ensures { result ≡ span whole place size }
-    {
-        let rest = whole.saturating_sub(size);
-        let first = match place {
-            2 => 0,
-            3 => rest / 2,
-            _ => rest,
-        };
-        Span { first, size }
-    }
-
-    /// Whether the two have a point in common.
-    fn overlaps(self, other: Span) -> bool
-        requires one { self.first + self.size ≤ 65536 }
-        requires other { other.first + other.size ≤ 65536 }
-        ensures { result ≡ overlap self other }
-    {
-        self.first.max(other.first) < (self.first + self.size).min(other.first + other.size)
-    }
-}
-
-/// Whether so much room at each place is there.
-fn have_room(whole: u32, left: u32, centre: u32, right: u32) -> bool
+/// Whether there is so much room at the start, halfway and at the end of the whole.
+#[tactic(auto, using(crate::proofs::RoomTests::room))]
+fn have_room(whole: u32, start: u32, halfway: u32, end: u32) -> bool
     requires whole { whole ≤ 256 }
-    requires left { left ≤ 766 }
-    requires centre { centre ≤ 766 }
-    requires right { right ≤ 766 }
-    ensures { result ≡ have_room whole (span whole 2 left ∷ span whole 3 centre ∷ span whole 4 right ∷ []) }
+    requires start { start ≤ 766 }
+    requires halfway { halfway ≤ 766 }
+    requires end { end ≤ 766 }
+    ensures room { result ≡ have_room whole (span whole Start start ∷ span whole Halfway halfway ∷ span whole End end ∷ []) }
+    ensures within { IsTrue result → start ≤ whole × halfway ≤ whole × end ≤ whole }
 {
-    let left = Span::new(whole, 2, left);
-    let centre = Span::new(whole, 3, centre);
-    let right = Span::new(whole, 4, right);
-    left.size <= whole
-        && !(left.overlaps(centre) || left.overlaps(right))
-        && centre.size <= whole
-        && !centre.overlaps(right)
-        && right.size <= whole
+    if halfway == 0 {
+        return start + end <= whole;
+    }
+    if halfway > whole {
+        return false;
+    }
+    let first = (whole - halfway) / 2;
+    start <= first && first + halfway + end <= whole
 }

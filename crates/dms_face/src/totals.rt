@@ -1,16 +1,17 @@
 //! What is known of a text while its items are walked: running sums of the open line and the open page.
 
-ghost use Rattle.std.specs.Prelude.{◌≡◌, ◌≤◌, List, [], ◌∷◌, ◌++◌, map, Some, None, IsTrue, IfNone};
+ghost use Rattle.std.specs.Prelude.{◌≡◌, List, [], ◌∷◌, ◌++◌, map, not, Some, None, IsTrue, IfNone};
 ghost use Rattle.dms_multi.specs.declared.item.Item.TheVariants.{JustLine};
 ghost use Rattle.dms_face.specs.Face.{fit};
-ghost use Rattle.dms_face.specs.Layout.{Layout, Line, under, open_line, standing, closed, has_line_in, with_character, with_line, with_page, with_part, with_item, blank_layout};
+ghost use Rattle.dms_face.specs.Layout.{Layout, Line, is_blank, under, open_line, standing, closed, has_line_in, with_character, with_line, with_page, with_part, with_item, blank_layout};
 ghost use Rattle.dms_face.specs.Room.{line_block, lines_fit};
 ghost use Rattle.dms_face.specs.Fit.{misuse};
 ghost use Rattle.dms_face.specs.OnePass.{room_fault, open_fits, page_fault, part_fault, local_fault};
-ghost use Rattle.dms_face.specs.Totals.{TellsBlocks, AreWithin, Tells, AreSmall, IsJustified};
+ghost use Rattle.dms_face.specs.Totals.{TellsBlocks, AreWithin, Tells, AreSmall, Takes};
 
 use crate::defaults::Defaults;
 use crate::face::Face;
+use crate::justification::{Part, Side};
 use crate::multi_fault::MultiFaultCode;
 use crate::room::{Block, Places};
 use dms_font::{Font, Glyph};
@@ -29,24 +30,30 @@ pub(crate) struct Totals<'a> {
     pub height: u8,
     pub spacing: u8,
     pub gap: Option<u8>,
-    pub side: u8,
-    pub part: u8,
+    pub side: Side,
+    pub part: Part,
     pub font: &'a Font,
 }
 
 impl<'a> Totals<'a> {
+    /// Whether the open line has a character.
+    fn holds_character(&self) -> bool
+        ensures { (layout : Layout) → Tells self.now layout → result ≡ not (is_blank layout.characters) }
+    {
+        self.characters.any()
+    }
+
     /// The open line, as it is where it is closed.
     fn line_block(&self) -> Block
         ensures block { (layout : Layout) → Tells self.now layout → result ≡ line_block (open_line layout) }
-        ensures place { result.place ≡ self.now.part }
     {
-        let (height, spacing) = if self.characters.any {
+        let (height, spacing) = if self.holds_character() {
             (self.height, self.spacing)
         } else {
             (self.font.height(), self.font.line_spacing())
         };
         Block {
-            place: self.part,
+            place: self.part.place(),
             size: height,
             spacing,
             gap: self.gap,
@@ -56,8 +63,6 @@ impl<'a> Totals<'a> {
     /// The open page's lines with the open line closed.
     fn lines_with_open(&self) -> Places
         requires within { AreWithin 256 self.now.lines }
-        requires low { 2 ≤ self.now.part }
-        requires high { self.now.part ≤ 4 }
         ensures tells { (layout : Layout) → Tells self.now layout → TellsBlocks result (map line_block (layout.lines ++ open_line layout ∷ [])) }
         ensures within { AreWithin 766 result }
     {
@@ -69,12 +74,10 @@ impl<'a> Totals<'a> {
     /// The open page's lines while the open line is open.
     fn standing(&self) -> Places
         requires within { AreWithin 256 self.now.lines }
-        requires low { 2 ≤ self.now.part }
-        requires high { self.now.part ≤ 4 }
         ensures tells { (layout : Layout) → Tells self.now layout → TellsBlocks result (map line_block (standing layout)) }
         ensures within { AreWithin 766 result }
     {
-        if !self.characters.any {
+        if !self.holds_character() {
             return self.lines;
         }
         self.lines_with_open()
@@ -83,23 +86,19 @@ impl<'a> Totals<'a> {
     /// Whether the open page has a line in the part of the open line.
     #[tactic(auto, using(crate::proofs::PartLaws::has_line))]
     fn holds_line(&self) -> bool
-        requires within { AreWithin 256 self.now.lines }
-        requires low { 2 ≤ self.now.part }
-        requires high { self.now.part ≤ 4 }
+        requires { AreWithin 256 self.now.lines }
         ensures { (layout : Layout) → Tells self.now layout → result ≡ has_line_in layout.style.part layout.lines }
     {
-        self.lines.runs[usize::from(self.part - 2)].any
+        self.lines.any_at(self.part.place())
     }
 
     /// The open page's lines with the open line and its part closed.
     fn closed(&self) -> Places
         requires within { AreWithin 256 self.now.lines }
-        requires low { 2 ≤ self.now.part }
-        requires high { self.now.part ≤ 4 }
         ensures tells { (layout : Layout) → Tells self.now layout → TellsBlocks result (map line_block (closed layout)) }
         ensures within { AreWithin 766 result }
     {
-        if self.characters.any || self.holds_line() {
+        if self.holds_character() || self.holds_line() {
             self.lines_with_open()
         } else {
             self.lines
@@ -130,7 +129,7 @@ impl<'a> Totals<'a> {
         ensures part { self.new.part ≡ self.old.part }
     {
         self.characters.push(Block {
-            place: self.side,
+            place: self.side.place(),
             size: glyph.width(),
             spacing: self.font.character_spacing(),
             gap: None,
@@ -143,8 +142,6 @@ impl<'a> Totals<'a> {
     fn open_fits(&self, face: &Face) -> bool
         requires within { AreWithin 256 self.now.lines }
         requires characters { AreWithin 766 self.now.characters }
-        requires low { 2 ≤ self.now.part }
-        requires high { self.now.part ≤ 4 }
         ensures fit { (layout : Layout) → Tells self.now layout → result ≡ open_fits face.now layout }
         ensures within { IsTrue result → AreWithin 256 self.now.characters }
     {
@@ -154,10 +151,8 @@ impl<'a> Totals<'a> {
 
     /// A character joins the open line, or does not fit.
     fn take_character(&mut self, face: &Face, glyph: &Glyph) -> Option<MultiFaultCode>
-        requires small { AreSmall self.old }
-        ensures fault { (layout : Layout) → Tells self.old layout → result ≡ room_fault (open_fits face.now (with_character layout (Some glyph.now))) }
-        ensures tells { (layout : Layout) → Tells self.old layout → IfNone result (Tells self.new (with_character layout (Some glyph.now))) }
-        ensures small { IfNone result (AreSmall self.new) }
+        requires { AreSmall self.old }
+        ensures { Takes self.old self.new result (λ (layout : Layout). room_fault (open_fits face.now (with_character layout (Some glyph.now)))) (λ (layout : Layout). with_character layout (Some glyph.now)) }
     {
         self.add_character(glyph);
         if self.open_fits(face) {
@@ -169,10 +164,8 @@ impl<'a> Totals<'a> {
 
     /// The open line is closed and the next one opens, or it does not fit.
     fn take_line(&mut self, face: &Face, gap: Option<u8>) -> Option<MultiFaultCode>
-        requires small { AreSmall self.old }
-        ensures fault { (layout : Layout) → Tells self.old layout → result ≡ room_fault (lines_fit face.now (layout.lines ++ open_line layout ∷ [])) }
-        ensures tells { (layout : Layout) → Tells self.old layout → IfNone result (Tells self.new (with_line layout gap)) }
-        ensures small { IfNone result (AreSmall self.new) }
+        requires { AreSmall self.old }
+        ensures { Takes self.old self.new result (λ (layout : Layout). room_fault (lines_fit face.now (layout.lines ++ open_line layout ∷ []))) (λ (layout : Layout). with_line layout gap) }
     {
         let lines = self.lines_with_open();
         if !lines.fit(u32::from(face.height())) {
@@ -192,10 +185,8 @@ impl<'a> Totals<'a> {
 
     /// The open page is closed and the next one opens, or it does not fit, or there are pages enough.
     fn take_page(&mut self, face: &Face) -> Option<MultiFaultCode>
-        requires small { AreSmall self.old }
-        ensures fault { (layout : Layout) → Tells self.old layout → result ≡ page_fault face.now layout }
-        ensures tells { (layout : Layout) → Tells self.old layout → IfNone result (Tells self.new (with_page layout)) }
-        ensures small { IfNone result (AreSmall self.new) }
+        requires { AreSmall self.old }
+        ensures { Takes self.old self.new result (λ (layout : Layout). page_fault face.now layout) (λ (layout : Layout). with_page layout) }
     {
         if !self.closed_fits(face) {
             return Some(MultiFaultCode::TextTooBig);
@@ -209,19 +200,15 @@ impl<'a> Totals<'a> {
     }
 
     /// A line opens in another part of the page, or may not, or what is closed does not fit.
-    fn take_part(&mut self, face: &Face, part: u8) -> Option<MultiFaultCode>
-        requires small { AreSmall self.old }
-        requires low { 2 ≤ part }
-        requires high { part ≤ 4 }
-        ensures fault { (layout : Layout) → Tells self.old layout → result ≡ part_fault face.now layout part }
-        ensures tells { (layout : Layout) → Tells self.old layout → IfNone result (Tells self.new (with_part layout (record layout.style { part = part }))) }
-        ensures small { IfNone result (AreSmall self.new) }
+    fn take_part(&mut self, face: &Face, part: Part) -> Option<MultiFaultCode>
+        requires { AreSmall self.old }
+        ensures { Takes self.old self.new result (λ (layout : Layout). part_fault face.now layout part) (λ (layout : Layout). with_part layout (record layout.style { part = part })) }
     {
-        if part == self.part {
+        if part.is(self.part) {
             return None;
         }
         let lines = self.closed();
-        if part <= lines.last {
+        if lines.is_taken(part.place()) {
             return Some(MultiFaultCode::TagConflict);
         }
         if !lines.fit(u32::from(face.height())) {
@@ -241,13 +228,10 @@ impl<'a> Totals<'a> {
     ) -> Option<MultiFaultCode>
         requires small { AreSmall self.old }
         requires fit { IsTrue (fit face.now.fonts defaults.now) }
-        requires justified { IsJustified (JustLine side) }
-        ensures fault { (layout : Layout) → Tells self.old layout → result ≡ misuse (under face.now defaults.now) layout (Some (JustLine side)) }
-        ensures tells { (layout : Layout) → Tells self.old layout → IfNone result (Tells self.new (with_item (under face.now defaults.now) layout (JustLine side))) }
-        ensures small { IfNone result (AreSmall self.new) }
+        ensures { Takes self.old self.new result (λ (layout : Layout). misuse (under face.now defaults.now) layout (Some (JustLine side))) (λ (layout : Layout). with_item (under face.now defaults.now) layout (JustLine side)) }
     {
-        let side = side.unwrap_or(defaults.line);
-        if side < self.characters.last {
+        let side = Side::of_number(side.unwrap_or(defaults.line));
+        if self.characters.goes_back(side.place()) {
             return Some(MultiFaultCode::TagConflict);
         }
         self.side = side;
@@ -261,10 +245,8 @@ impl<'a> Totals<'a> {
         number: u8,
         version: Option<u16>,
     ) -> Option<MultiFaultCode>
-        requires small { AreSmall self.old }
-        ensures fault { (layout : Layout) → Tells self.old layout → result ≡ misuse face.now layout (Some (Item.Font (Some (number, version)))) }
-        ensures tells { (layout : Layout) → Tells self.old layout → IfNone result (Tells self.new (with_item face.now layout (Item.Font (Some (number, version))))) }
-        ensures small { IfNone result (AreSmall self.new) }
+        requires { AreSmall self.old }
+        ensures { Takes self.old self.new result (λ (layout : Layout). misuse face.now layout (Some (Item.Font (Some (number, version))))) (λ (layout : Layout). with_item face.now layout (Item.Font (Some (number, version)))) }
     {
         let Some(font) = face.font(number) else {
             return Some(MultiFaultCode::FontNotDefined);
@@ -300,10 +282,7 @@ impl<'a> Totals<'a> {
     ) -> Option<MultiFaultCode>
         requires small { AreSmall self.old }
         requires fit { IsTrue (fit face.now.fonts defaults.now) }
-        requires justified { IsJustified item }
-        ensures fault { (layout : Layout) → Tells self.old layout → result ≡ local_fault (under face.now defaults.now) layout (Some item) }
-        ensures tells { (layout : Layout) → Tells self.old layout → IfNone result (Tells self.new (with_item (under face.now defaults.now) layout item)) }
-        ensures small { IfNone result (AreSmall self.new) }
+        ensures { Takes self.old self.new result (λ (layout : Layout). local_fault (under face.now defaults.now) layout (Some item)) (λ (layout : Layout). with_item (under face.now defaults.now) layout item) }
     {
         match item {
             Item::Char(character) => match self.font.glyph(character) {
@@ -312,7 +291,10 @@ impl<'a> Totals<'a> {
             },
             Item::NewLine(gap) => self.take_line(face, gap),
             Item::NewPage => self.take_page(face),
-            Item::JustPage(part) => self.take_part(face, part.unwrap_or(defaults.page)),
+            Item::JustPage(part) => self.take_part(
+                face,
+                Part::of_number(part.unwrap_or(defaults.page)),
+            ),
             Item::JustLine(side) => self.take_side(face, defaults, side),
             Item::Font(Some((number, version))) => self.take_font(face, number, version),
             Item::Font(None) => {
@@ -352,8 +334,8 @@ impl<'a> Totals<'a> {
             height: 0,
             spacing: 0,
             gap: None,
-            side: defaults.line,
-            part: defaults.page,
+            side: Side::of_number(defaults.line),
+            part: Part::of_number(defaults.page),
             font: face.font(defaults.font).unwrap(),
         }
     }

@@ -1,6 +1,7 @@
 //! Writing items as their canonical text.
 ghost use Rattle.std.specs.Prelude.{◌≡◌, ◌↔◌, ℕ, ◌+◌, ◌<◌, ◌≤◌, ◌++◌, [], true, All, IsOk, OnErr, OnOk, length, codes, decimal};
 ghost use Rattle.std.specs.Fmt.{digits, digit_glyph};
+ghost use Rattle.dms_codes.specs.Limits.{longest_text};
 ghost use Rattle.dms_multi.specs.Item.{IsInRange};
 ghost use Rattle.dms_multi.specs.Grammar.{plain};
 ghost use Rattle.dms_multi.specs.Appending.{AppendsOrRefuses};
@@ -9,13 +10,14 @@ ghost use Rattle.dms_multi.specs.Canonical.{value_text, later_time_text, hexadec
 use crate::fault::TooLong;
 use crate::item::{Item, Lead};
 use arrayvec::ArrayVec;
+use dms_codes::MAX_TEXT;
 use itoa::Buffer;
 
-type Text = ArrayVec<u8, 512>;
+type Text = ArrayVec<u8, MAX_TEXT>;
 
 /// Appends the octets.
 fn put(text: &mut Text, octets: &[u8]) -> Result<(), TooLong>
-    requires { length text.old.items ≤ 512 }
+    requires { length text.old.items ≤ longest_text }
     ensures { AppendsOrRefuses result text.old.items text.new.items octets.now }
 {
     text.try_extend_from_slice(octets).map_err(|_| TooLong)
@@ -23,7 +25,7 @@ fn put(text: &mut Text, octets: &[u8]) -> Result<(), TooLong>
 
 /// Appends a number in decimal digits.
 fn put_number(text: &mut Text, number: u8) -> Result<(), TooLong>
-    requires { length text.old.items ≤ 512 }
+    requires { length text.old.items ≤ longest_text }
     ensures { AppendsOrRefuses result text.old.items text.new.items (decimal number) }
 {
     put(text, Buffer::new().format(number).as_bytes())
@@ -31,7 +33,7 @@ fn put_number(text: &mut Text, number: u8) -> Result<(), TooLong>
 
 /// Appends a value, if it is there.
 fn put_value(text: &mut Text, value: Option<u8>) -> Result<(), TooLong>
-    requires { length text.old.items ≤ 512 }
+    requires { length text.old.items ≤ longest_text }
     ensures { AppendsOrRefuses result text.old.items text.new.items (value_text value) }
 {
     match value {
@@ -42,7 +44,7 @@ fn put_value(text: &mut Text, value: Option<u8>) -> Result<(), TooLong>
 
 /// Appends a letter and the time behind it, if there is one.
 fn put_later_time(text: &mut Text, letter: &[u8], time: Option<u8>) -> Result<(), TooLong>
-    requires { length text.old.items ≤ 512 }
+    requires { length text.old.items ≤ longest_text }
     ensures { AppendsOrRefuses result text.old.items text.new.items (later_time_text letter.now time) }
 {
     match time {
@@ -83,7 +85,7 @@ fn four_digits(number: u16, upper: bool) -> [u8; 4]
 
 /// Appends a font's number and version.
 fn put_font(text: &mut Text, font: Option<(u8, Option<u16>)>) -> Result<(), TooLong>
-    requires { length text.old.items ≤ 512 }
+    requires { length text.old.items ≤ longest_text }
     ensures { AppendsOrRefuses result text.old.items text.new.items (font_text font) }
 {
     match font {
@@ -104,7 +106,7 @@ fn put_times(
     letter: &[u8],
     second: Option<u8>,
 ) -> Result<(), TooLong>
-    requires { length text.old.items ≤ 512 }
+    requires { length text.old.items ≤ longest_text }
     ensures { AppendsOrRefuses result text.old.items text.new.items (value_text first ++ later_time_text letter.now second) }
 {
     put_value(text, first)?;
@@ -113,7 +115,7 @@ fn put_times(
 
 /// Appends the times of a flash.
 fn put_flash(text: &mut Text, first: Lead, lit: Option<u8>, dark: Option<u8>) -> Result<(), TooLong>
-    requires { length text.old.items ≤ 512 }
+    requires { length text.old.items ≤ longest_text }
     ensures { AppendsOrRefuses result text.old.items text.new.items (flash_text first lit dark) }
 {
     match first {
@@ -149,7 +151,7 @@ fn leading_zeros(number: u16) -> usize
 /// Appends a character's number in capital hexadecimal digits.
 #[tactic(auto, using(crate::proofs::Digits::digits_dropped))]
 fn put_character(text: &mut Text, character: u16) -> Result<(), TooLong>
-    requires { length text.old.items ≤ 512 }
+    requires { length text.old.items ≤ longest_text }
     ensures { AppendsOrRefuses result text.old.items text.new.items (digits 16 true character) }
 {
     put(
@@ -160,7 +162,7 @@ fn put_character(text: &mut Text, character: u16) -> Result<(), TooLong>
 
 /// Appends a tag's name and its value, if it is there.
 fn put_named(text: &mut Text, name: &[u8], value: Option<u8>) -> Result<(), TooLong>
-    requires { length text.old.items ≤ 512 }
+    requires { length text.old.items ≤ longest_text }
     ensures { AppendsOrRefuses result text.old.items text.new.items (name.now ++ value_text value) }
 {
     put(text, name)?;
@@ -169,7 +171,7 @@ fn put_named(text: &mut Text, name: &[u8], value: Option<u8>) -> Result<(), TooL
 
 /// Appends what stands between the brackets of the item's tag.
 fn put_body(text: &mut Text, item: Item) -> Result<(), TooLong>
-    requires { length text.old.items ≤ 512 }
+    requires { length text.old.items ≤ longest_text }
     ensures { AppendsOrRefuses result text.old.items text.new.items (body_text item) }
 {
     match item {
@@ -201,7 +203,7 @@ fn put_body(text: &mut Text, item: Item) -> Result<(), TooLong>
 
 /// Appends the item's tag.
 fn put_tag(text: &mut Text, item: Item) -> Result<(), TooLong>
-    requires { length text.old.items ≤ 512 }
+    requires { length text.old.items ≤ longest_text }
     ensures { AppendsOrRefuses result text.old.items text.new.items (tag_text item) }
 {
     put(text, b"[")?;
@@ -211,7 +213,7 @@ fn put_tag(text: &mut Text, item: Item) -> Result<(), TooLong>
 
 /// Appends a character as itself, a bracket twice.
 fn put_plain(text: &mut Text, octet: u8) -> Result<(), TooLong>
-    requires { length text.old.items ≤ 512 }
+    requires { length text.old.items ≤ longest_text }
     ensures { AppendsOrRefuses result text.old.items text.new.items (plain octet) }
 {
     if octet == b'[' || octet == b']' {
@@ -224,7 +226,7 @@ fn put_plain(text: &mut Text, octet: u8) -> Result<(), TooLong>
 /// Appends an item.
 #[tactic(auto, unfolding(crate::specs::Canonical::item_text))]
 fn put_item(text: &mut Text, item: Item) -> Result<(), TooLong>
-    requires { length text.old.items ≤ 512 }
+    requires { length text.old.items ≤ longest_text }
     ensures { AppendsOrRefuses result text.old.items text.new.items (item_text item) }
 {
     match item {
@@ -234,9 +236,9 @@ fn put_item(text: &mut Text, item: Item) -> Result<(), TooLong>
 }
 
 /// Writes the canonical text of the items, or nothing where it has more than 512 octets.
-pub fn render(items: &[Item], text: &mut ArrayVec<u8, 512>) -> Result<(), TooLong>
+pub fn render(items: &[Item], text: &mut ArrayVec<u8, MAX_TEXT>) -> Result<(), TooLong>
     requires { All IsInRange items.now }
-    ensures fits { IsOk result ↔ (length (text_of items.now) ≤ 512) }
+    ensures fits { IsOk result ↔ (length (text_of items.now) ≤ longest_text) }
     ensures ok { OnOk result (text.new.items ≡ text_of items.now) }
     ensures err { OnErr result (text.new.items ≡ []) }
 {

@@ -6,13 +6,15 @@ use Rattle.std.proofs.lemmas.Bool.{and_parts, cases_Bool, leb-true}
 use Rattle.std.proofs.lemmas.List.{take-append-drop, map-append, append-nil}
 use Rattle.std.proofs.lemmas.List.Elements.{filter-append, filter_more}
 use Rattle.std.proofs.lemmas.List.Concat.{flat_map-append}
+use Rattle.dms_face.specs.declared.justification.Place.{Place}
+use Rattle.dms_face.specs.declared.justification.Place.TheVariants.{Start, Halfway, End}
 use Rattle.dms_face.specs.declared.room.Block.{Block}
 use Rattle.dms_face.specs.declared.room.Run.{Run}
 use Rattle.dms_face.specs.Face.{FaceModel}
 use Rattle.dms_face.specs.Layout.{Character, Line}
 use Rattle.dms_face.specs.Room.{gap_between, extent, placed_from, at_place, extent_at, begin, spread, blocks_fit, character_block, line_block, line_height}
 use Rattle.dms_face.specs.Cells.{PlacedCharacter, line_characters}
-use Rattle.dms_pages.specs.Drawing.{placed_above, lines_characters}
+use Rattle.dms_pages.specs.Drawing.{has_place, placed_above, lines_characters}
 use Rattle.dms_face.specs.Totals.{Sums}
 
 extent_front : (blocks more : List Block) → extent blocks ≤ extent (blocks ++ more)
@@ -21,23 +23,19 @@ extent_front (a ∷ []) [] = omega arith
 extent_front (a ∷ []) (b ∷ more) = omega arith
 extent_front (a ∷ b ∷ rest) more = let front : extent (b ∷ rest) ≤ extent ((b ∷ rest) ++ more) = extent_front (b ∷ rest) more in omega arith
 
--- the things whose blocks have this place
-abbrev pub has_place : {A : Type 0} → (A → Block) → ℕ → A → Bool
-has_place block place x = (block x).place == place
-
-pub at_place-map : {A : Type 0} (block : A → Block) (place : ℕ) (xs : List A) → at_place place (map block xs) ≡ map block (filter (has_place block place) xs)
+pub at_place-map : {A : Type 0} (block : A → Block) (place : Place) (xs : List A) → at_place place (map block xs) ≡ map block (filter (has_place block place) xs)
 at_place-map block place [] = refl
-at_place-map block place (x ∷ xs) = elim (cases_Bool ((block x).place == place)) [
+at_place-map block place (x ∷ xs) = elim (cases_Bool (has_place block place x)) [
   | inl here ↦ rw here (ap (λ blocks. block x ∷ blocks) (at_place-map block place xs))
   | inr other ↦ rw other (at_place-map block place xs)
 ]
 
 -- the things of one place among the first ones
-abbrev pub among : {A : Type 0} → (A → Block) → ℕ → ℕ → List A → List A
+abbrev pub among : {A : Type 0} → (A → Block) → Place → ℕ → List A → List A
 among block place i xs = filter (has_place block place) (take i xs)
 
 -- their room
-pub front_extent : {A : Type 0} (block : A → Block) (place i : ℕ) (xs : List A) → extent (map block (among block place i xs)) ≤ extent_at place (map block xs)
+pub front_extent : {A : Type 0} (block : A → Block) (place : Place) (i : ℕ) (xs : List A) → extent (map block (among block place i xs)) ≤ extent_at place (map block xs)
 front_extent block place i xs =
     let p = has_place block place in
     let split : map block (filter p xs) ≡ map block (filter p (take i xs)) ++ map block (filter p (drop i xs)) =
@@ -47,24 +45,24 @@ front_extent block place i xs =
     omega (arith, front, whole, ap extent split)
 
 -- one thing more, at another place
-pub among_other : {A : Type 0} (block : A → Block) (place i : ℕ) (xs : List A) (x : A) → i < length xs → get_or xs i x ≡ x → has_place block place x ≡ false
+pub among_other : {A : Type 0} (block : A → Block) (place : Place) (i : ℕ) (xs : List A) (x : A) → i < length xs → get_or xs i x ≡ x → has_place block place x ≡ false
     → among block place (i + 1) xs ≡ among block place i xs
 among_other block place i xs x below at other =
     let p = has_place block place in
     filter_more p xs i x below ∙ ap (λ y. filter p (take i xs) ++ cond (p y) (y ∷ []) []) at ∙ ap (λ b. filter p (take i xs) ++ cond b (x ∷ []) []) other ∙ append-nil _
 
 -- one thing more, at this place
-pub among_more : {A : Type 0} (block : A → Block) (place i : ℕ) (xs : List A) (x : A) → i < length xs → get_or xs i x ≡ x → has_place block place x ≡ true
+pub among_more : {A : Type 0} (block : A → Block) (place : Place) (i : ℕ) (xs : List A) (x : A) → i < length xs → get_or xs i x ≡ x → has_place block place x ≡ true
     → among block place (i + 1) xs ≡ among block place i xs ++ x ∷ []
 among_more block place i xs x below at here =
     let p = has_place block place in
     filter_more p xs i x below ∙ ap (λ y. filter p (take i xs) ++ cond (p y) (y ∷ []) []) at ∙ ap (λ b. filter p (take i xs) ++ cond b (x ∷ []) []) here
 
-pub sums_other : {A : Type 0} (block : A → Block) (place i : ℕ) (xs : List A) (x : A) (run : Run) → i < length xs → get_or xs i x ≡ x → has_place block place x ≡ false
+pub sums_other : {A : Type 0} (block : A → Block) (place : Place) (i : ℕ) (xs : List A) (x : A) (run : Run) → i < length xs → get_or xs i x ≡ x → has_place block place x ≡ false
     → Sums run (map block (among block place i xs)) → Sums run (map block (among block place (i + 1) xs))
 sums_other block place i xs x run below at other sums = rw (among_other block place i xs x below at other) sums
 
-pub sums_more_of : {A : Type 0} (block : A → Block) (place i : ℕ) (xs : List A) (x : A) (run : Run) → i < length xs → get_or xs i x ≡ x → has_place block place x ≡ true
+pub sums_more_of : {A : Type 0} (block : A → Block) (place : Place) (i : ℕ) (xs : List A) (x : A) (run : Run) → i < length xs → get_or xs i x ≡ x → has_place block place x ≡ true
     → Sums run (map block (among block place i xs) ++ block x ∷ []) → Sums run (map block (among block place (i + 1) xs))
 sums_more_of block place i xs x run below at here sums =
     rw (among_more block place i xs x below at here, map-append block (among block place i xs) (x ∷ [])) sums
@@ -84,7 +82,7 @@ placed_push block start (y ∷ z ∷ rest) x =
     (let e : next + more - (block x).size ≡ start + ((block y).size + gap_between (block y) (block z) + more) - (block x).size = omega arith in e)
 
 -- the places have room
-pub places_fit : (whole : ℕ) (blocks : List Block) → blocks_fit whole blocks ≡ true → (extent_at 2 blocks ≤ whole) × (extent_at 3 blocks ≤ whole) × (extent_at 4 blocks ≤ whole)
+pub places_fit : (whole : ℕ) (blocks : List Block) → blocks_fit whole blocks ≡ true → (extent_at Start blocks ≤ whole) × (extent_at Halfway blocks ≤ whole) × (extent_at End blocks ≤ whole)
 places_fit whole blocks fit =
     let first = and_parts _ _ fit in
     let second = and_parts _ _ first.1 in
@@ -105,7 +103,7 @@ last_fits (a ∷ []) block = omega arith
 last_fits (a ∷ b ∷ rest) block = let more : block.size ≤ extent ((b ∷ rest) ++ block ∷ []) = last_fits (b ∷ rest) block in omega arith
 
 -- one thing more of a row, drawn
-pub placed_more : {A B : Type 0} (block : A → Block) (place i : ℕ) (xs : List A) (x : A) (f : ℕ × A → B) (start at : ℕ) (before : List B)
+pub placed_more : {A B : Type 0} (block : A → Block) (place : Place) (i : ℕ) (xs : List A) (x : A) (f : ℕ × A → B) (start at : ℕ) (before : List B)
     → i < length xs → get_or xs i x ≡ x → has_place block place x ≡ true → at ≡ start + extent (map block (among block place i xs) ++ block x ∷ []) - (block x).size
     → (before ++ map f (placed_from block start (among block place i xs))) ++ f (at, x) ∷ [] ≡ before ++ map f (placed_from block start (among block place (i + 1) xs))
 placed_more block place i xs x f start at before below is here at_is =
@@ -116,7 +114,7 @@ placed_more block place i xs x f start at before below is here at_is =
     ∙ sym (ap (λ ys. map f (placed_from block start ys)) (among_more block place i xs x below is here) ∙ ap (map f) (placed_push block start front x)
     ∙ map-append f (placed_from block start front) ((start + extent (map block front ++ block x ∷ []) - (block x).size, x) ∷ [])))
 
-pub placed_more_of : {A B : Type 0} (block : A → Block) (place i : ℕ) (xs : List A) (x : A) (f : ℕ × A → List B) (start at : ℕ) (before : List B)
+pub placed_more_of : {A B : Type 0} (block : A → Block) (place : Place) (i : ℕ) (xs : List A) (x : A) (f : ℕ × A → List B) (start at : ℕ) (before : List B)
     → i < length xs → get_or xs i x ≡ x → has_place block place x ≡ true → at ≡ start + extent (map block (among block place i xs) ++ block x ∷ []) - (block x).size
     → (before ++ flat_map f (placed_from block start (among block place i xs))) ++ f (at, x) ≡ before ++ flat_map f (placed_from block start (among block place (i + 1) xs))
 placed_more_of block place i xs x f start at before below is here at_is =
@@ -137,41 +135,41 @@ three_parts_of f before x y z =
     ∙ ap (λ l. before ++ flat_map f (x ++ (y ++ l))) (sym (append-nil z))
 
 -- the row of a place, of three that have a beginning each
-abbrev row : {A : Type 0} → (A → Block) → List A → ℕ → ℕ → List (ℕ × A)
+abbrev row : {A : Type 0} → (A → Block) → List A → ℕ → Place → List (ℕ × A)
 row block xs start place = placed_from block start (filter (has_place block place) xs)
 
 abbrev rows : {A : Type 0} → (A → Block) → List A → ℕ → ℕ → ℕ → List (ℕ × A)
-rows block xs first second third = row block xs first 2 ++ (row block xs second 3 ++ (row block xs third 4 ++ []))
+rows block xs first second third = row block xs first Start ++ (row block xs second Halfway ++ (row block xs third End ++ []))
 
 -- They are spread where each begins at its place.
 rows_are : {A : Type 0} (block : A → Block) (whole : ℕ) (xs ys : List A) (first second third : ℕ) → xs ≡ ys
-    → first ≡ begin 2 whole (extent_at 2 (map block xs)) → second ≡ begin 3 whole (extent_at 3 (map block xs)) → third ≡ begin 4 whole (extent_at 4 (map block xs))
+    → first ≡ begin Start whole (extent_at Start (map block xs)) → second ≡ begin Halfway whole (extent_at Halfway (map block xs)) → third ≡ begin End whole (extent_at End (map block xs))
     → rows block xs first second third ≡ spread block whole ys
 rows_are block whole xs ys first second third same one two three =
     ap (λ n. rows block xs n second third) one
-    ∙ ap (λ n. rows block xs (begin 2 whole (extent_at 2 (map block xs))) n third) two
-    ∙ ap (λ n. rows block xs (begin 2 whole (extent_at 2 (map block xs))) (begin 3 whole (extent_at 3 (map block xs))) n) three
+    ∙ ap (λ n. rows block xs (begin Start whole (extent_at Start (map block xs))) n third) two
+    ∙ ap (λ n. rows block xs (begin Start whole (extent_at Start (map block xs))) (begin Halfway whole (extent_at Halfway (map block xs))) n) three
     ∙ ap (spread block whole) same
 
 pub line_is : (face : FaceModel) (top : ℕ) (line : Line) (characters : List Character) (left centre right bottom : ℕ) (before : List PlacedCharacter) → characters ≡ line.characters
-    → left ≡ begin 2 face.width (extent_at 2 (map character_block characters)) → centre ≡ begin 3 face.width (extent_at 3 (map character_block characters))
-    → right ≡ begin 4 face.width (extent_at 4 (map character_block characters)) → bottom ≡ top + line_height line
-    → ((before ++ map (placed_above bottom) (row character_block characters left 2)) ++ map (placed_above bottom) (row character_block characters centre 3))
-    ++ map (placed_above bottom) (row character_block characters right 4)
+    → left ≡ begin Start face.width (extent_at Start (map character_block characters)) → centre ≡ begin Halfway face.width (extent_at Halfway (map character_block characters))
+    → right ≡ begin End face.width (extent_at End (map character_block characters)) → bottom ≡ top + line_height line
+    → ((before ++ map (placed_above bottom) (row character_block characters left Start)) ++ map (placed_above bottom) (row character_block characters centre Halfway))
+    ++ map (placed_above bottom) (row character_block characters right End)
     ≡ before ++ line_characters face (top, line)
 line_is face top line characters left centre right bottom before same one two three bottom_is =
-    three_parts (placed_above bottom) before (row character_block characters left 2) (row character_block characters centre 3) (row character_block characters right 4)
+    three_parts (placed_above bottom) before (row character_block characters left Start) (row character_block characters centre Halfway) (row character_block characters right End)
     ∙ ap (λ l. before ++ map (placed_above bottom) l) (rows_are character_block face.width characters line.characters left centre right same one two three)
     ∙ ap (λ n. before ++ map (placed_above n) (spread character_block face.width line.characters)) bottom_is
 
 pub lines_are : (face : FaceModel) (lines : List Line) (top middle bottom : ℕ) (before : List PlacedCharacter)
-    → top ≡ begin 2 face.height (extent_at 2 (map line_block lines)) → middle ≡ begin 3 face.height (extent_at 3 (map line_block lines))
-    → bottom ≡ begin 4 face.height (extent_at 4 (map line_block lines))
-    → ((before ++ flat_map (line_characters face) (row line_block lines top 2)) ++ flat_map (line_characters face) (row line_block lines middle 3))
-    ++ flat_map (line_characters face) (row line_block lines bottom 4)
+    → top ≡ begin Start face.height (extent_at Start (map line_block lines)) → middle ≡ begin Halfway face.height (extent_at Halfway (map line_block lines))
+    → bottom ≡ begin End face.height (extent_at End (map line_block lines))
+    → ((before ++ flat_map (line_characters face) (row line_block lines top Start)) ++ flat_map (line_characters face) (row line_block lines middle Halfway))
+    ++ flat_map (line_characters face) (row line_block lines bottom End)
     ≡ before ++ lines_characters face lines
 lines_are face lines top middle bottom before one two three =
-    three_parts_of (line_characters face) before (row line_block lines top 2) (row line_block lines middle 3) (row line_block lines bottom 4)
+    three_parts_of (line_characters face) before (row line_block lines top Start) (row line_block lines middle Halfway) (row line_block lines bottom End)
     ∙ ap (λ l. before ++ flat_map (line_characters face) l) (rows_are line_block face.height lines lines top middle bottom refl one two three)
 
 -- what all pass, the one at a place does

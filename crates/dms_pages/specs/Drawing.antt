@@ -5,7 +5,9 @@ use Rattle.dms_face.specs.declared.cell.Cell.{Cell}
 use Rattle.dms_font.specs.Glyph.{GlyphModel, lit_at}
 use Rattle.dms_face.specs.Face.{FaceModel}
 use Rattle.dms_face.specs.Layout.{Style, Character, Line, PageModel}
-use Rattle.dms_face.specs.Room.{line_block, spread}
+use Rattle.dms_face.specs.declared.justification.Place.{Place}
+use Rattle.dms_face.specs.declared.room.Block.{Block}
+use Rattle.dms_face.specs.Room.{is_at, line_block, spread}
 use Rattle.dms_face.specs.Cells.{PlacedCharacter, line_characters, is_lit_by, cell_by}
 
 -- the cell that a character lights
@@ -27,6 +29,10 @@ is_lit_on_row width x y glyph row place = (place / width == y) && nat_le x (plac
 -- a picture with its left top corner in column x of line y has its bit there
 abbrev pub is_in_picture : ℕ → ℕ → ℕ → ℕ → GlyphModel → Bool
 is_in_picture column line x y glyph = nat_le x column && nat_le y line && lit_at glyph (column - x) (line - y)
+
+-- the things whose blocks have this place
+abbrev pub has_place : {A : Type 0} → (A → Block) → Place → A → Bool
+has_place block place x = is_at place (block x)
 
 -- a character on the bottom of its line
 abbrev pub placed_above : ℕ → ℕ × Character → PlacedCharacter

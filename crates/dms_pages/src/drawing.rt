@@ -7,14 +7,14 @@ ghost use Rattle.dms_font.specs.Font.{FontModel};
 ghost use Rattle.dms_face.specs.Layout.{Character, Line, PageModel};
 ghost use Rattle.dms_face.specs.Room.{begin, extent_at, placed_from, character_block, line_block, line_height, greatest, characters_fit, page_fits};
 ghost use Rattle.dms_face.specs.Cells.{PlacedCharacter, is_lit_by, line_characters};
-ghost use Rattle.dms_pages.specs.Drawing.{covered, is_in_picture, is_lit_in_row, is_lit_on_row, lit_cell, placed_above, lines_characters, Shows};
+ghost use Rattle.dms_pages.specs.Drawing.{has_place, covered, is_in_picture, is_lit_in_row, is_lit_on_row, lit_cell, placed_above, lines_characters, Shows};
 ghost use Rattle.dms_pages.specs.StylingView.{style_of};
 ghost use Rattle.dms_pages.specs.Styled.{style, IsLitStyle, Lights};
 
 use crate::cells::Cells;
 use crate::text_layout::{StyledGlyph, Styling, TextLine};
 use dms_face::room::{Block, Run};
-use dms_face::{Cell, Face, Glyph};
+use dms_face::{Cell, Face, Glyph, Place};
 use std::alloc::AllocError;
 
 impl Styling<'_> {
@@ -112,7 +112,7 @@ impl StyledGlyph<'_> {
         ensures { result ≡ character_block self.now }
     {
         Block {
-            place: self.style.side,
+            place: self.style.side.place(),
             size: self.glyph.width(),
             spacing: self.style.font.character_spacing(),
             gap: None,
@@ -126,7 +126,7 @@ impl TextLine<'_> {
         ensures { result ≡ line_block self.now }
     {
         Block {
-            place: self.part,
+            place: self.part.place(),
             size: self.height(),
             spacing: self.spacing(),
             gap: self.gap,
@@ -159,53 +159,55 @@ impl TextLine<'_> {
     }
 }
 
-/// Where something of a size begins at a place, 2 to 4, of the whole.
-fn begin(place: u8, whole: u32, size: u32) -> u32
+/// Where something of a size begins at a place of the whole.
+fn begin(place: Place, whole: u32, size: u32) -> u32
     ensures { result ≡ begin place whole size }
 {
     match place {
-        2 => 0,
-        3 => whole.saturating_sub(size) / 2,
-        _ => whole.saturating_sub(size),
+        Place::Start => 0,
+        Place::Halfway => whole.saturating_sub(size) / 2,
+        Place::End => whole.saturating_sub(size),
     }
 }
 
-/// The room that the characters of a side take.
-fn side_extent(characters: &[StyledGlyph<'_>], side: u8) -> u32
+/// The room that the characters at a place of their line take.
+fn side_extent(characters: &[StyledGlyph<'_>], side: Place) -> u32
     requires { extent_at side (map character_block characters.now) ≤ 256 }
     ensures { result ≡ extent_at side (map character_block characters.now) }
 {
     let mut run = Run::EMPTY;
     for character in characters {
-        if character.style.side != side {
+        let block = character.block();
+        if !block.is_at(side) {
             continue;
         }
-        run = run.with(character.block());
+        run = run.with(block);
     }
     run.size
 }
 
-/// The room that the lines of a part take.
-fn part_extent(lines: &[TextLine<'_>], part: u8) -> u32
+/// The room that the lines at a place of their page take.
+fn part_extent(lines: &[TextLine<'_>], part: Place) -> u32
     requires { extent_at part (map line_block lines.now) ≤ 256 }
     ensures { result ≡ extent_at part (map line_block lines.now) }
 {
     let mut run = Run::EMPTY;
     for line in lines {
-        if line.part != part {
+        let block = line.block();
+        if !block.is_at(part) {
             continue;
         }
-        run = run.with(line.block());
+        run = run.with(block);
     }
     run.size
 }
 
-/// Draws the characters of a side, from this column on, on the bottom of their line.
+/// Draws the characters at a place of their line, from this column on, on the bottom of their line.
 fn draw_side(
     cells: &mut Cells,
     face: &Face,
     characters: &[StyledGlyph<'_>],
-    side: u8,
+    side: Place,
     first: u32,
     bottom: u32,
 ) -> Result<(), AllocError>
@@ -214,14 +216,14 @@ fn draw_side(
     requires first { first ≤ 256 }
     ensures len { OnOk result (length cells.new.cells ≡ length cells.old.cells) }
     ensures cells { OnOk result ((page : PageModel) (before : List PlacedCharacter) → Shows face.now page before cells.old.cells
-        → Shows face.now page (before ++ map (placed_above bottom) (placed_from character_block first (filter (λ (character : Character). character.style.side == side) characters.now))) cells.new.cells) }
+        → Shows face.now page (before ++ map (placed_above bottom) (placed_from character_block first (filter (has_place character_block side) characters.now))) cells.new.cells) }
 {
     let mut run = Run::EMPTY;
     for character in characters {
-        if character.style.side != side {
+        let block = character.block();
+        if !block.is_at(side) {
             continue;
         }
-        let block = character.block();
         run = run.with(block);
         let x = first + run.size - u32::from(block.size);
         let y = bottom.saturating_sub(u32::from(character.style.font.height()));
@@ -247,21 +249,21 @@ fn draw_line(
     let width = u32::from(face.width());
     let bottom = top + u32::from(line.height());
     let characters = line.characters.as_slice();
-    let left = begin(2, width, side_extent(characters, 2));
-    draw_side(cells, face, characters, 2, left, bottom)?;
-    let centre = begin(3, width, side_extent(characters, 3));
-    draw_side(cells, face, characters, 3, centre, bottom)?;
-    let right = begin(4, width, side_extent(characters, 4));
-    draw_side(cells, face, characters, 4, right, bottom)?;
+    let left = begin(Place::Start, width, side_extent(characters, Place::Start));
+    draw_side(cells, face, characters, Place::Start, left, bottom)?;
+    let centre = begin(Place::Halfway, width, side_extent(characters, Place::Halfway));
+    draw_side(cells, face, characters, Place::Halfway, centre, bottom)?;
+    let right = begin(Place::End, width, side_extent(characters, Place::End));
+    draw_side(cells, face, characters, Place::End, right, bottom)?;
     Ok(())
 }
 
-/// Draws the lines of a part, from this row on.
+/// Draws the lines at a place of their page, from this row on.
 fn draw_part(
     cells: &mut Cells,
     face: &Face,
     lines: &[TextLine<'_>],
-    part: u8,
+    part: Place,
     first: u32,
 ) -> Result<(), AllocError>
     requires matrix { length cells.old.cells ≡ face.now.width * face.now.height }
@@ -270,14 +272,14 @@ fn draw_part(
     requires first { first ≤ 256 }
     ensures len { OnOk result (length cells.new.cells ≡ length cells.old.cells) }
     ensures cells { OnOk result ((page : PageModel) (before : List PlacedCharacter) → Shows face.now page before cells.old.cells
-        → Shows face.now page (before ++ flat_map (line_characters face.now) (placed_from line_block first (filter (λ (line : Line). line.part == part) lines.now))) cells.new.cells) }
+        → Shows face.now page (before ++ flat_map (line_characters face.now) (placed_from line_block first (filter (has_place line_block part) lines.now))) cells.new.cells) }
 {
     let mut run = Run::EMPTY;
     for line in lines {
-        if line.part != part {
+        let block = line.block();
+        if !block.is_at(part) {
             continue;
         }
-        let block = line.block();
         run = run.with(block);
         draw_line(cells, face, line, first + run.size - u32::from(block.size))?;
     }
@@ -297,11 +299,11 @@ pub(crate) fn draw_lines(
         → Shows face.now page (before ++ lines_characters face.now lines.now) cells.new.cells) }
 {
     let height = u32::from(face.height());
-    let top = begin(2, height, part_extent(lines, 2));
-    draw_part(cells, face, lines, 2, top)?;
-    let middle = begin(3, height, part_extent(lines, 3));
-    draw_part(cells, face, lines, 3, middle)?;
-    let bottom = begin(4, height, part_extent(lines, 4));
-    draw_part(cells, face, lines, 4, bottom)?;
+    let top = begin(Place::Start, height, part_extent(lines, Place::Start));
+    draw_part(cells, face, lines, Place::Start, top)?;
+    let middle = begin(Place::Halfway, height, part_extent(lines, Place::Halfway));
+    draw_part(cells, face, lines, Place::Halfway, middle)?;
+    let bottom = begin(Place::End, height, part_extent(lines, Place::End));
+    draw_part(cells, face, lines, Place::End, bottom)?;
     Ok(())
 }

@@ -6,7 +6,7 @@ ghost use Rattle.dms_face.specs.Face.{fit};
 ghost use Rattle.dms_face.specs.Layout.{under, first_style, styled, blank_layout, closed, has_line_in, with_character, with_line, with_page, with_part, with_item};
 ghost use Rattle.dms_pages.specs.StylingView.{style_of};
 
-use dms_face::{Defaults, Face, Flash, Font, Glyph};
+use dms_face::{Defaults, Face, Flash, Font, Glyph, Part, Side};
 use dms_multi::Item;
 use std::alloc::{AllocError, Global};
 use std::marker::Model;
@@ -19,8 +19,8 @@ pub(crate) struct Styling<'a> {
     pub font: &'a Font,
     pub foreground: u8,
     pub flash: Option<Flash>,
-    pub side: u8,
-    pub part: u8,
+    pub side: Side,
+    pub part: Part,
     pub background: u8,
     pub on: u8,
     pub off: u8,
@@ -36,8 +36,8 @@ impl<'a> Styling<'a> {
             font: face.font(defaults.font).unwrap(),
             foreground: defaults.foreground,
             flash: None,
-            side: defaults.line,
-            part: defaults.page,
+            side: Side::of_number(defaults.line),
+            part: Part::of_number(defaults.page),
             background: defaults.background,
             on: defaults.on,
             off: defaults.off,
@@ -62,8 +62,8 @@ impl<'a> Styling<'a> {
                 });
             }
             Item::FlashEnd => style.flash = None,
-            Item::JustLine(side) => style.side = side.unwrap_or(defaults.line),
-            Item::JustPage(part) => style.part = part.unwrap_or(defaults.page),
+            Item::JustLine(side) => style.side = Side::of_number(side.unwrap_or(defaults.line)),
+            Item::JustPage(part) => style.part = Part::of_number(part.unwrap_or(defaults.page)),
             Item::PageTime { lit, dark } => {
                 style.on = lit.unwrap_or(defaults.on);
                 style.off = dark.unwrap_or(defaults.off);
@@ -95,7 +95,7 @@ impl<'a> Model for StyledGlyph<'a> {
 #[derive(Drop)]
 pub(crate) struct TextLine<'a> {
     pub characters: Vec<StyledGlyph<'a>>,
-    pub part: u8,
+    pub part: Part,
     pub font: &'a Font,
     pub gap: Option<u8>,
 }
@@ -227,7 +227,7 @@ impl<'a> TextLayout<'a> {
     fn change_part(&mut self, alloc: Global, style: Styling<'a>) -> Result<(), AllocError>
         ensures { OnOk result (self.new ≡ with_part self.old (style_of style.entry)) }
     {
-        if style.part == self.style.part {
+        if style.part.is(self.style.part) {
             return Ok(());
         }
         self.close_part(alloc)?;
@@ -262,8 +262,8 @@ impl<'a> TextLayout<'a> {
 }
 
 /// Whether a line stands in this part of the page.
-fn has_line_in(lines: &[TextLine<'_>], part: u8) -> bool
+fn has_line_in(lines: &[TextLine<'_>], part: Part) -> bool
     ensures { result ≡ has_line_in part lines.now }
 {
-    lines.iter().any(|line| line.part == part)
+    lines.iter().any(|line| line.part.is(part))
 }

@@ -14,7 +14,8 @@ use Rattle.dms_face.specs.declared.multi_fault.MultiFaultCode.TheVariants as cod
 use Rattle.dms_face.specs.FaultCode.{number_of_code, syntax_fault}
 use Rattle.dms_face.specs.Face.{FaceModel}
 use Rattle.dms_face.specs.Layout.{Turn, layout_of}
-use Rattle.dms_face.specs.Fit.{PlacedTurn, fits, code_of, turns_in, first_fault, fault_of_reading, fault_of, longest_text}
+use Rattle.dms_codes.specs.Limits.{longest_text}
+use Rattle.dms_face.specs.Fit.{PlacedTurn, fits, code_of, turns_in, first_fault, fault_of_reading, fault_of}
 use Rattle.dms_sign.proofs.InRangeLists.{if_mapped}
 
 pub code_small : (code : MultiFaultCode) → number_of_code code ≤ 255

@@ -7,5 +7,5 @@ loop-outcome-preserved c = (
   tt,
   tt,
   walked_more _ _ _ _ _ c.in_ok-spot.spot _ _ c.take.result c.loop-outcome.invariant.2
-      (c.in-Some.ensures.steps ∙ ap (λ x. x ∷ c.next.new.self) c.in_ok-spot.was) c.in_default.is c.take.ensures.fault c.take.ensures.tells c.take.ensures.small,
+      (c.in-Some.ensures.steps ∙ ap (λ x. x ∷ c.next.new.self) c.in_ok-spot.was) c.in_default.is c.take.ensures,
 )

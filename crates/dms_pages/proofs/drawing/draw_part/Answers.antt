@@ -1,13 +1,12 @@
 use Rattle.std.proofs.Common.{◌≡◌, ◌∙◌, ◌+◌, ◌-◌, ◌<◌, true, [], ◌∷◌, ◌++◌, get_or, length, map, sym, ap, subst, arith}
 use Rattle.std.specs.List.{flat_map}
-use Rattle.std.proofs.lemmas.Bool.{eq-eqb}
 use Rattle.dms_face.specs.declared.room.Block.{Block}
 use Rattle.dms_face.specs.Layout.{Line}
-use Rattle.dms_face.specs.Room.{extent, placed_from, line_block, characters_fit}
+use Rattle.dms_face.specs.Room.{is_at, extent, placed_from, line_block, characters_fit}
 use Rattle.dms_face.specs.Totals.{Sums}
 use Rattle.dms_face.specs.Cells.{line_characters}
-use Rattle.dms_pages.specs.Drawing.{Shows}
-use Rattle.dms_pages.proofs.PlacingLaws.{has_place, among, front_extent, last_fits, sums_more_of, placed_more_of, all_at}
+use Rattle.dms_pages.specs.Drawing.{has_place, Shows}
+use Rattle.dms_pages.proofs.PlacingLaws.{among, front_extent, last_fits, sums_more_of, placed_more_of, all_at}
 use Rattle.dms_pages.proofs.drawing.draw_part.Goals as goal
 
 pub with-run-requires : goal.with-run-requires
@@ -41,7 +40,7 @@ loop-line-preserved c =
     let sums = c.with-run.ensures.sums front c.loop-line.invariant.0 in
     let below : i < length xs = omega arith in
     let is : get_or xs i x ≡ x = sym c.line-item.is in
-    let here : has_place line_block c.args.part x ≡ true = eq-eqb (line_block x).place c.args.part (sym (ap (λ (it : Line). (line_block it).place) c.line.view_is) ∙ c.if-line-part.false) in
+    let here : has_place line_block c.args.part x ≡ true = sym (ap (is_at c.args.part) c.block-block.ensures) ∙ sym c.is_at.ensures ∙ c.if-not-is_at.false in
     let own = subst (λ (block : Block). Sums c.with-run.result (front ++ block ∷ [])) c.block-block.ensures sums in
     let at = c.args.first + c.with-run.result.size - c.from.result in
     let at_is : at ≡ c.args.first + extent (front ++ line_block x ∷ []) - (line_block x).size =

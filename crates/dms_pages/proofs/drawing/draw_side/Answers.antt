@@ -1,13 +1,12 @@
 use Rattle.std.proofs.Common.{◌≡◌, ◌∙◌, ◌+◌, ◌-◌, ◌/◌, ◌%◌, ◌<◌, true, [], ◌∷◌, ◌++◌, get_or, length, map, sym, ap, subst, arith}
 use Rattle.std.specs.Prelude.{slice_index_or}
-use Rattle.std.proofs.lemmas.Bool.{eq-eqb}
 use Rattle.dms_face.specs.declared.room.Block.{Block}
 use Rattle.dms_face.specs.Layout.{Character}
-use Rattle.dms_face.specs.Room.{extent, placed_from, character_block}
+use Rattle.dms_face.specs.Room.{is_at, extent, placed_from, character_block}
 use Rattle.dms_face.specs.Totals.{Sums}
 use Rattle.dms_face.specs.Cells.{PlacedCharacter, is_lit_by}
-use Rattle.dms_pages.specs.Drawing.{placed_above, covered, lit_cell, Shows}
-use Rattle.dms_pages.proofs.PlacingLaws.{has_place, among, front_extent, last_fits, sums_more_of, placed_more}
+use Rattle.dms_pages.specs.Drawing.{has_place, placed_above, covered, lit_cell, Shows}
+use Rattle.dms_pages.proofs.PlacingLaws.{among, front_extent, last_fits, sums_more_of, placed_more}
 use Rattle.dms_pages.proofs.DrawingLaws.{shows_more}
 use Rattle.dms_pages.proofs.drawing.draw_side.Goals as goal
 
@@ -33,7 +32,7 @@ loop-character-preserved c =
     let sums = c.with-run.ensures.sums front c.loop-character.invariant.0 in
     let below : i < length xs = omega arith in
     let is : get_or xs i x ≡ x = sym c.character-item.is in
-    let here : has_place character_block c.args.side x ≡ true = eq-eqb (character_block x).place c.args.side (sym (ap (λ (it : Character). (character_block it).place) c.character.view_is) ∙ c.if-character-side.false) in
+    let here : has_place character_block c.args.side x ≡ true = sym (ap (is_at c.args.side) c.block-block.ensures) ∙ sym c.is_at.ensures ∙ c.if-not-is_at.false in
     let own = subst (λ (block : Block). Sums c.with-run.result (front ++ block ∷ [])) c.block-block.ensures sums in
     let at = c.args.first + c.with-run.result.size - c.from.result in
     let at_is : at ≡ c.args.first + extent (front ++ character_block x ∷ []) - (character_block x).size =

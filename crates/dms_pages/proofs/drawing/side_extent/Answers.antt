@@ -1,7 +1,8 @@
 use Rattle.std.proofs.Common.{◌∙◌, ◌≤◌, map, filter, length, sym, ap, arith}
 use Rattle.std.proofs.lemmas.List.{take_all}
 use Rattle.dms_face.specs.Room.{extent, character_block}
-use Rattle.dms_pages.proofs.PlacingLaws.{has_place, front_extent, at_place-map}
+use Rattle.dms_pages.specs.Drawing.{has_place}
+use Rattle.dms_pages.proofs.PlacingLaws.{front_extent, at_place-map}
 use Rattle.dms_pages.proofs.drawing.side_extent.Goals as goal
 
 pub with-run-requires : goal.with-run-requires
