@@ -5,6 +5,7 @@ mod PlaceLaws
 pub mod TellsLaws
 pub mod Bools
 pub mod RoomLaws
+pub mod GrowthLaws
 mod RoomTests
 pub mod WalkLaws
 pub mod GoodLaws

@@ -97,7 +97,7 @@ page_room face layout parts =
     ∙ ap (λ b. b && lines_fit face (closed layout)) (closed_fits face layout parts)
 
 -- the font of the style says nothing of a line that has characters
-same_standing : (face : FaceModel) (characters : List Character) (lines : List Line) (part : Part) (font other : FontModel) (gap : Option ℕ)
+pub same_standing : (face : FaceModel) (characters : List Character) (lines : List Line) (part : Part) (font other : FontModel) (gap : Option ℕ)
     → lines_fit face (cond (is_blank characters) lines (lines ++ (record { characters = characters; part = part; font = font; gap = gap }) ∷ []))
     ≡ lines_fit face (cond (is_blank characters) lines (lines ++ (record { characters = characters; part = part; font = other; gap = gap }) ∷ []))
 same_standing face [] lines part font other gap = refl

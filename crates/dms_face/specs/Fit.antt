@@ -21,7 +21,7 @@ use Rattle.dms_face.specs.Justification.{side_of, part_of, place_of_side, place_
 use Rattle.dms_face.specs.Layout.{Layout, Turn, blank_layout, closed, with_turn, layout_of}
 use Rattle.dms_face.specs.Room.{character_block, line_block, has_room}
 
--- ---- fronts that fit
+-- ---- prefixes that fit
 
 -- the fault of a wanted font; where a version is wanted, the font has to have it
 abbrev pub font_fault : Option FontModel → Option ℕ → Option MultiFaultCode
@@ -29,18 +29,18 @@ font_fault None version = Some FontNotDefined
 font_fault (Some font) None = None
 font_fault (Some font) (Some version) = if font.version == version then None else Some FontVersionId
 
--- something stands already at a place behind this one
+-- something stands already at a place after this one
 abbrev pub goes_back : Place → List Block → Bool
 goes_back place blocks = list_any (λ (block : Block). nat_lt (rank place) (rank block.place)) blocks
 
--- something stands already at this place or one behind it
+-- something stands already at this place or one after it
 abbrev pub is_taken : Place → List Block → Bool
 is_taken place blocks = list_any (λ (block : Block). nat_le (rank place) (rank block.place)) blocks
 
 abbrev pub most_pages : ℕ
 most_pages = 6
 
--- Why a turn may not stand behind this layout, whatever room there is.
+-- Why a turn may not stand after this layout, whatever room there is.
 abbrev pub misuse : FaceModel → Layout → Turn → Option MultiFaultCode
 misuse face layout (Some (Char character)) = if is_none (glyph_of layout.style.font character) then Some CharacterNotDefined else None
 misuse face layout (Some (Font (Some wanted))) = font_fault (font_of face wanted.0) wanted.1
@@ -51,12 +51,12 @@ misuse face layout (Some (JustPage part)) =
 misuse face layout (Some NewPage) = if nat_le most_pages (length layout.pages + 1) then Some TooManyPages else None
 misuse face layout turn = None
 
--- each turn may stand behind those before it
+-- each turn may stand after those before it
 abbrev pub are_allowed : FaceModel → Layout → List Turn → Bool
 are_allowed face layout [] = true
 are_allowed face layout (turn ∷ turns) = is_none (misuse face layout turn) && are_allowed face (with_turn face layout turn) turns
 
--- A front fits where each of its turns may stand behind those before it, and all that stands then has room.
+-- A prefix fits where each of its turns may stand after those before it, and all that stands then has room.
 abbrev pub fits : FaceModel → List Turn → Bool
 fits face front = are_allowed face (blank_layout face) front && has_room face (layout_of face front)
 
@@ -69,7 +69,7 @@ Fits face front = IsTrue (fits face front)
 abbrev pub turns_of : List Item → List Turn
 turns_of items = map Some items ++ None ∷ []
 
--- A text is good where it is short enough and spells items of which every front fits, the one with the end included.
+-- A text is good where it is short enough and spells items of which every prefix fits, the one with the end included.
 pub record IsGood (face : FaceModel) (text : List ℕ) : Type 0 where
   pub short : length text ≤ longest_text
   pub items : List Item
@@ -78,7 +78,7 @@ pub record IsGood (face : FaceModel) (text : List ℕ) : Type 0 where
 
 -- ---- faults
 
--- the code of the last turn of a front that does not fit, where all before it stands so and fits
+-- the code of the last turn of a prefix that does not fit, where all before it stands so and fits
 abbrev pub code_of : FaceModel → Layout → Turn → MultiFaultCode
 code_of face layout (Some NewPage) = if has_room face (with_turn face layout (Some NewPage)) then TooManyPages else TextTooBig
 code_of face layout turn = unwrap_or (misuse face layout turn) TextTooBig
@@ -87,20 +87,20 @@ code_of face layout turn = unwrap_or (misuse face layout turn) TextTooBig
 abbrev pub PlacedTurn : Type 0
 PlacedTurn = Turn × ℕ
 
--- the turns of what a text is read as; behind a fault of its grammar it has no end
+-- the turns of what a text is read as; after a fault of its grammar it has no end
 abbrev pub turns_in : ℕ → List (Result Spot SyntaxFault) → List PlacedTurn
 turns_in end [] = (None, end) ∷ []
 turns_in end (Ok spot ∷ more) = (Some spot.item, spot.first) ∷ turns_in end more
 turns_in end (Err fault ∷ more) = []
 
--- Of the fronts that begin with this one, which fits, the shortest that does not fit: the fault of its last turn.
+-- Of the prefixes that begin with this one, which fits, the shortest that does not fit: the fault of its last turn.
 abbrev pub first_fault : FaceModel → List Turn → List PlacedTurn → Option MultiFault
 first_fault face front [] = None
 first_fault face front ((turn, place) ∷ more) =
     if fits face (front ++ turn ∷ []) then first_fault face (front ++ turn ∷ []) more
     else Some (record { code = code_of face (layout_of face front) turn; place = place })
 
--- the fault of a text of which this is read: of its fronts, or else of its grammar
+-- the fault of a text of which this is read: of its prefixes, or else of its grammar
 abbrev pub fault_of_reading : FaceModel → ℕ → List (Result Spot SyntaxFault) → Option MultiFault
 fault_of_reading face end read = option_or (first_fault face [] (turns_in end read)) (option_map syntax_fault (fault_in read))
 

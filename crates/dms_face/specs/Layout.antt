@@ -45,7 +45,7 @@ first_style face = record {
   off = face.defaults.off;
 }
 
--- the style behind an item; a value that is missing is the default
+-- the style after an item; a value that is missing is the default
 abbrev pub styled : FaceModel → Style → Item → Style
 styled face style (Background colour) = record style { background = unwrap_or colour face.defaults.background }
 styled face style (Foreground colour) = record style { foreground = unwrap_or colour face.defaults.foreground }
@@ -135,7 +135,7 @@ with_item face layout item = record layout { style = styled face layout.style it
 abbrev pub blank_layout : FaceModel → Layout
 blank_layout face = record { pages = []; lines = []; characters = []; gap = None; style = first_style face }
 
--- ---- fronts
+-- ---- prefixes
 
 -- an item of a text, or none for its end, which counts as a last item and closes the page
 abbrev pub Turn : Type 0
@@ -145,6 +145,6 @@ abbrev pub with_turn : FaceModel → Layout → Turn → Layout
 with_turn face layout None = with_page layout
 with_turn face layout (Some item) = with_item face layout item
 
--- where the characters of a front of a text stand
+-- where the characters of a prefix of a text stand
 abbrev pub layout_of : FaceModel → List Turn → Layout
 layout_of face front = fold (with_turn face) (blank_layout face) front

@@ -1,4 +1,4 @@
--- One walk over the items of a text: whether a front of one turn more fits is told by the open line and the open page alone.
+-- One walk over the items of a text: whether a prefix of one turn more fits is told by the open line and the open page alone.
 use Rattle.std.specs.Prelude.{ℕ, ◌+◌, ◌&&◌, Bool, if◌then◌else◌, List, [], ◌∷◌, ◌++◌, length, map, Option, Some, None, unwrap_or, nat_le, Result, Ok, Err}
 use Rattle.dms_multi.specs.declared.item.Item.TheVariants.{Char, JustPage, NewLine, NewPage}
 use Rattle.dms_multi.specs.declared.spots.Spot.{Spot}
@@ -38,7 +38,7 @@ part_fault face layout part =
     else if is_taken (place_of_part part) (map line_block (closed layout)) then Some TagConflict
     else room_fault (lines_fit face (closed layout))
 
--- The fault of a turn behind a front that fits. What stands behind the open line and the open page has room, and keeps it.
+-- The fault of a turn after a prefix that fits. What is closed has room, and keeps it.
 abbrev pub local_fault : FaceModel → Layout → Turn → Option MultiFaultCode
 local_fault face layout None = room_fault (lines_fit face (closed layout))
 local_fault face layout (Some (Char character)) = character_fault face layout (glyph_of layout.style.font character)
@@ -52,7 +52,7 @@ abbrev pub or_else : {A : Type 0} → ℕ → Option MultiFaultCode → Result A
 or_else place None more = more
 or_else place (Some code) more = Err (record { code = code; place = place })
 
--- What is answered for the rest of a text behind a layout that fits: the number of pages, or the fault.
+-- What is answered for the rest of a text after a layout that fits: the number of pages, or the fault.
 abbrev pub walked : FaceModel → ℕ → Layout → List (Result Spot SyntaxFault) → Result ℕ MultiFault
 walked face end layout [] = or_else end (local_fault face layout None) (Ok (length layout.pages + 1))
 walked face end layout (Ok spot ∷ more) = or_else spot.first (local_fault face layout (Some spot.item)) (walked face end (with_item face layout spot.item) more)

@@ -1,13 +1,14 @@
 -- What running sums tell of the blocks that they were made of, and of a layout.
-use Rattle.std.specs.Prelude.{◌≡◌, ℕ, ◌≤◌, not, List, [], ◌∷◌, map, fold, max, length, Option, IfNone}
+use Rattle.std.specs.Prelude.{◌≡◌, ℕ, ◌≤◌, true, not, List, [], ◌∷◌, map, fold, max, length, Option, IfNone}
 use Rattle.dms_face.specs.declared.justification.Place.TheVariants.{Start, Halfway, End}
 use Rattle.dms_face.specs.declared.multi_fault.MultiFaultCode.{MultiFaultCode}
 use Rattle.dms_face.specs.declared.room.Block.{Block}
 use Rattle.dms_face.specs.declared.room.Run.{Run}
 use Rattle.dms_face.specs.declared.room.Places.{Places}
 use Rattle.dms_face.specs.declared.totals.Totals.{Totals}
-use Rattle.dms_face.specs.Layout.{Character, Layout, is_blank}
-use Rattle.dms_face.specs.Room.{extent, at_place, character_block, line_block}
+use Rattle.dms_face.specs.Face.{FaceModel}
+use Rattle.dms_face.specs.Layout.{Character, Layout, is_blank, standing}
+use Rattle.dms_face.specs.Room.{extent, at_place, character_block, line_block, lines_fit}
 
 abbrev pub last_spacing : List Block → ℕ
 last_spacing [] = 0
@@ -47,8 +48,13 @@ pub record AreSmall (totals : Totals) : Type 0 where
   pub lines : AreWithin 256 totals.lines
   pub characters : AreWithin 256 totals.characters
 
+-- The sums tell the layout, and the lines that stand on its open page have room.
+pub record Holds (face : FaceModel) (totals : Totals) (layout : Layout) : Type 0 where
+  pub tells : Tells totals layout
+  pub room : lines_fit face (standing layout) ≡ true
+
 -- What becomes of running sums at an item: it has this fault, or they tell the layout after it.
-pub record Takes (old new : Totals) (result : Option MultiFaultCode) (fault_at : Layout → Option MultiFaultCode) (after : Layout → Layout) : Type 0 where
-  pub fault : (layout : Layout) → Tells old layout → result ≡ fault_at layout
-  pub tells : (layout : Layout) → Tells old layout → IfNone result (Tells new (after layout))
+pub record Takes (face : FaceModel) (old new : Totals) (result : Option MultiFaultCode) (fault_at : Layout → Option MultiFaultCode) (after : Layout → Layout) : Type 0 where
+  pub fault : (layout : Layout) → Holds face old layout → result ≡ fault_at layout
+  pub holds : (layout : Layout) → Holds face old layout → IfNone result (Holds face new (after layout))
   pub small : IfNone result (AreSmall new)

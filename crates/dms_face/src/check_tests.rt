@@ -193,7 +193,7 @@ const WIDE: &[u8] = b"font 4 height 8 space 2 line 2 version 0004
 glyph 65 4 96f99999
 ";
 
-/// Eleven lines of 46 octets on two pages, in four fonts in turn, and behind them so many characters.
+/// Eleven lines of 46 octets on two pages, in four fonts in turn, and after them so many characters.
 fn long_text(alloc: Global, more: usize) -> Result<Vec<u8>, AllocError> {
     let mut text = Vec::new(alloc);
     for line in 0..11 {

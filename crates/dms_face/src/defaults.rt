@@ -19,6 +19,6 @@ pub struct Defaults {
     pub page: u8,
     /// How long a page is shown, in tenths of a second.
     pub on: u8,
-    /// How long nothing is shown behind a page, in tenths of a second.
+    /// How long nothing is shown after a page, in tenths of a second.
     pub off: u8,
 }

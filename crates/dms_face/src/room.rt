@@ -59,6 +59,7 @@ impl Run {
     };
 
     /// The row with one more block at its end.
+    #[inline]
     pub fn with(self, block: Block) -> Run
         requires { self.size ≤ 256 }
         ensures sums { (blocks : List Block) → Sums self blocks → Sums result (blocks ++ block ∷ []) }
@@ -105,6 +106,7 @@ impl Places {
     }
 
     /// One more block stands after those of its place.
+    #[inline]
     pub(crate) fn push(&mut self, block: Block)
         requires { AreWithin 256 self.old }
         ensures tells { (blocks : List Block) → TellsBlocks self.old blocks → TellsBlocks self.new (blocks ++ block ∷ []) }
@@ -157,6 +159,7 @@ impl Places {
     }
 
     /// Whether the places have room beside each other.
+    #[inline]
     pub(crate) fn fit(&self, whole: u32) -> bool
         requires whole { whole ≤ 256 }
         requires within { AreWithin 766 self.now }
@@ -169,6 +172,7 @@ impl Places {
 
 /// Whether there is so much room at the start, halfway and at the end of the whole.
 #[tactic(auto, using(crate::proofs::RoomTests::room))]
+#[inline]
 fn have_room(whole: u32, start: u32, halfway: u32, end: u32) -> bool
     requires whole { whole ≤ 256 }
     requires start { start ≤ 766 }

@@ -1,6 +1,6 @@
 //! Faces by their values, and each fault of a face.
 
-use crate::{Defaults, Face, FaceFault, Font, MultiFault, MultiFaultCode, check};
+use crate::{Defaults, Face, FaceFault, Font, FontFaultKind, MultiFault, MultiFaultCode, check};
 use std::alloc::Global;
 use std::test::Fail;
 
@@ -25,6 +25,12 @@ const DEFAULTS: Defaults = Defaults {
     page: 2,
     on: 30,
     off: 0,
+};
+
+/// Five letters of five columns take 29 columns of 23.
+const TOO_BIG: MultiFault = MultiFault {
+    code: MultiFaultCode::TextTooBig,
+    place: 4,
 };
 
 /// The example of the crate's page.
@@ -189,6 +195,36 @@ fn faces(rt: HostRuntime) -> Result<(), Fail> {
         assert_eq!(rt; defaults.fits(&face), fits, "{defaults:?}");
     }
     Ok(())
+}
+
+/// With any allocation refused, the fonts of a face are out of memory, and the same face with memory checks texts as ever.
+#[test]
+fn face_or_out_of_memory(rt: HostRuntime) {
+    let mut refused = false;
+    for _ in 0..2 {
+        let mut fonts = Vec::new(rt.alloc());
+        let font = match Font::from_text(rt.alloc(), TALL) {
+            Ok(font) => font,
+            Err(fault) => {
+                assert_eq!(rt; (fault.kind, fault.line), (FontFaultKind::Memory, 0));
+                assert!(rt; !refused);
+                refused = true;
+                continue;
+            }
+        };
+        if fonts.push(font).is_err() {
+            assert!(rt; !refused);
+            refused = true;
+            continue;
+        }
+        match Face::new(23, 14, fonts, DEFAULTS) {
+            Ok(face) => {
+                assert_eq!(rt; check(&face, b"A[np]B[jp4]1"), Ok(2));
+                assert_eq!(rt; check(&face, b"AAAAA"), Err(TOO_BIG));
+            }
+            Err(fault) => assert_eq!(rt; Some(fault), None),
+        }
+    }
 }
 
 #[test]

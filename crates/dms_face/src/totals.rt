@@ -1,13 +1,13 @@
 //! What is known of a text while its items are walked: running sums of the open line and the open page.
 
-ghost use Rattle.std.specs.Prelude.{◌≡◌, List, [], ◌∷◌, ◌++◌, map, not, Some, None, IsTrue, IfNone};
+ghost use Rattle.std.specs.Prelude.{◌≡◌, List, [], ◌∷◌, ◌++◌, map, true, false, not, Some, None, IsTrue, IfNone};
 ghost use Rattle.dms_multi.specs.declared.item.Item.TheVariants.{JustLine};
 ghost use Rattle.dms_face.specs.Face.{fit};
 ghost use Rattle.dms_face.specs.Layout.{Layout, Line, is_blank, under, open_line, standing, closed, has_line_in, with_character, with_line, with_page, with_part, with_item, blank_layout};
 ghost use Rattle.dms_face.specs.Room.{line_block, lines_fit};
 ghost use Rattle.dms_face.specs.Fit.{misuse};
 ghost use Rattle.dms_face.specs.OnePass.{room_fault, open_fits, page_fault, part_fault, local_fault};
-ghost use Rattle.dms_face.specs.Totals.{TellsBlocks, AreWithin, Tells, AreSmall, Takes};
+ghost use Rattle.dms_face.specs.Totals.{TellsBlocks, AreWithin, Tells, Holds, AreSmall, Takes};
 
 use crate::defaults::Defaults;
 use crate::face::Face;
@@ -105,7 +105,7 @@ impl<'a> Totals<'a> {
         }
     }
 
-    /// These are the closed lines of the open page, and behind them a line opens, with this gap above it.
+    /// These are the closed lines of the open page, and after them a line opens, with this gap above it.
     fn open_line(&mut self, lines: Places, gap: Option<u8>)
         ensures tells { (layout : Layout) (closed_lines : List Line) → Tells self.old layout → TellsBlocks lines (map line_block closed_lines)
             → Tells self.new (record layout { lines = closed_lines; characters = []; gap = gap }) }
@@ -119,43 +119,53 @@ impl<'a> Totals<'a> {
         self.gap = gap;
     }
 
-    /// A character joins the open line.
-    fn add_character(&mut self, glyph: &Glyph)
+    /// A character joins the open line; whether the line grows, and so may take more room on its page.
+    #[tactic(auto, using(crate::proofs::GrowthLaws::growth))]
+    #[inline]
+    fn add_character(&mut self, glyph: &Glyph) -> bool
         requires small { AreSmall self.old }
         ensures tells { (layout : Layout) → Tells self.old layout → Tells self.new (with_character layout (Some glyph.now)) }
+        ensures same { (layout : Layout) → Tells self.old layout → result ≡ false
+            → map line_block (standing (with_character layout (Some glyph.now))) ≡ map line_block (standing layout) }
         ensures within { AreWithin 766 self.new.characters }
         ensures small { AreWithin 256 self.new.characters → AreSmall self.new }
         ensures lines { AreWithin 256 self.new.lines }
-        ensures part { self.new.part ≡ self.old.part }
     {
+        let height = self.font.height();
+        let spacing = self.font.line_spacing();
+        let grows = !self.holds_character() || height > self.height || spacing > self.spacing;
         self.characters.push(Block {
             place: self.side.place(),
             size: glyph.width(),
             spacing: self.font.character_spacing(),
             gap: None,
         });
-        self.height = self.height.max(self.font.height());
-        self.spacing = self.spacing.max(self.font.line_spacing());
+        self.height = self.height.max(height);
+        self.spacing = self.spacing.max(spacing);
+        grows
     }
 
-    /// Whether the open line and the open page have room.
-    fn open_fits(&self, face: &Face) -> bool
+    /// Whether the open line has room, and the open page too where the line has grown.
+    #[inline]
+    fn open_fits(&self, face: &Face, grown: bool) -> bool
         requires within { AreWithin 256 self.now.lines }
         requires characters { AreWithin 766 self.now.characters }
-        ensures fit { (layout : Layout) → Tells self.now layout → result ≡ open_fits face.now layout }
+        ensures fit { (layout : Layout) → Tells self.now layout → (grown ≡ false → lines_fit face.now (standing layout) ≡ true)
+            → result ≡ open_fits face.now layout }
         ensures within { IsTrue result → AreWithin 256 self.now.characters }
     {
         self.characters.fit(u32::from(face.width()))
-            && self.standing().fit(u32::from(face.height()))
+            && (!grown || self.standing().fit(u32::from(face.height())))
     }
 
     /// A character joins the open line, or does not fit.
+    #[inline]
     fn take_character(&mut self, face: &Face, glyph: &Glyph) -> Option<MultiFaultCode>
         requires { AreSmall self.old }
-        ensures { Takes self.old self.new result (λ (layout : Layout). room_fault (open_fits face.now (with_character layout (Some glyph.now)))) (λ (layout : Layout). with_character layout (Some glyph.now)) }
+        ensures { Takes face.now self.old self.new result (λ (layout : Layout). room_fault (open_fits face.now (with_character layout (Some glyph.now)))) (λ (layout : Layout). with_character layout (Some glyph.now)) }
     {
-        self.add_character(glyph);
-        if self.open_fits(face) {
+        let grown = self.add_character(glyph);
+        if self.open_fits(face, grown) {
             None
         } else {
             Some(MultiFaultCode::TextTooBig)
@@ -165,7 +175,7 @@ impl<'a> Totals<'a> {
     /// The open line is closed and the next one opens, or it does not fit.
     fn take_line(&mut self, face: &Face, gap: Option<u8>) -> Option<MultiFaultCode>
         requires { AreSmall self.old }
-        ensures { Takes self.old self.new result (λ (layout : Layout). room_fault (lines_fit face.now (layout.lines ++ open_line layout ∷ []))) (λ (layout : Layout). with_line layout gap) }
+        ensures { Takes face.now self.old self.new result (λ (layout : Layout). room_fault (lines_fit face.now (layout.lines ++ open_line layout ∷ []))) (λ (layout : Layout). with_line layout gap) }
     {
         let lines = self.lines_with_open();
         if !lines.fit(u32::from(face.height())) {
@@ -184,9 +194,10 @@ impl<'a> Totals<'a> {
     }
 
     /// The open page is closed and the next one opens, or it does not fit, or there are pages enough.
+    #[tactic(auto, using(crate::proofs::RoomLaws::nothing_fits))]
     fn take_page(&mut self, face: &Face) -> Option<MultiFaultCode>
         requires { AreSmall self.old }
-        ensures { Takes self.old self.new result (λ (layout : Layout). page_fault face.now layout) (λ (layout : Layout). with_page layout) }
+        ensures { Takes face.now self.old self.new result (λ (layout : Layout). page_fault face.now layout) (λ (layout : Layout). with_page layout) }
     {
         if !self.closed_fits(face) {
             return Some(MultiFaultCode::TextTooBig);
@@ -202,7 +213,7 @@ impl<'a> Totals<'a> {
     /// A line opens in another part of the page, or may not, or what is closed does not fit.
     fn take_part(&mut self, face: &Face, part: Part) -> Option<MultiFaultCode>
         requires { AreSmall self.old }
-        ensures { Takes self.old self.new result (λ (layout : Layout). part_fault face.now layout part) (λ (layout : Layout). with_part layout (record layout.style { part = part })) }
+        ensures { Takes face.now self.old self.new result (λ (layout : Layout). part_fault face.now layout part) (λ (layout : Layout). with_part layout (record layout.style { part = part })) }
     {
         if part.is(self.part) {
             return None;
@@ -228,7 +239,7 @@ impl<'a> Totals<'a> {
     ) -> Option<MultiFaultCode>
         requires small { AreSmall self.old }
         requires fit { IsTrue (fit face.now.fonts defaults.now) }
-        ensures { Takes self.old self.new result (λ (layout : Layout). misuse (under face.now defaults.now) layout (Some (JustLine side))) (λ (layout : Layout). with_item (under face.now defaults.now) layout (JustLine side)) }
+        ensures { Takes (under face.now defaults.now) self.old self.new result (λ (layout : Layout). misuse (under face.now defaults.now) layout (Some (JustLine side))) (λ (layout : Layout). with_item (under face.now defaults.now) layout (JustLine side)) }
     {
         let side = Side::of_number(side.unwrap_or(defaults.line));
         if self.characters.goes_back(side.place()) {
@@ -239,6 +250,7 @@ impl<'a> Totals<'a> {
     }
 
     /// The next characters are of another font, or may not be.
+    #[tactic(auto, using(crate::proofs::GrowthLaws::fonts))]
     fn take_font(
         &mut self,
         face: &'a Face,
@@ -246,7 +258,7 @@ impl<'a> Totals<'a> {
         version: Option<u16>,
     ) -> Option<MultiFaultCode>
         requires { AreSmall self.old }
-        ensures { Takes self.old self.new result (λ (layout : Layout). misuse face.now layout (Some (Item.Font (Some (number, version))))) (λ (layout : Layout). with_item face.now layout (Item.Font (Some (number, version)))) }
+        ensures { Takes face.now self.old self.new result (λ (layout : Layout). misuse face.now layout (Some (Item.Font (Some (number, version))))) (λ (layout : Layout). with_item face.now layout (Item.Font (Some (number, version)))) }
     {
         let Some(font) = face.font(number) else {
             return Some(MultiFaultCode::FontNotDefined);
@@ -262,10 +274,11 @@ impl<'a> Totals<'a> {
     }
 
     /// The next characters are of the default font.
+    #[tactic(auto, using(crate::proofs::GrowthLaws::fonts))]
     fn take_default_font(&mut self, face: &'a Face, defaults: &Defaults)
         requires small { AreSmall self.old }
         requires fit { IsTrue (fit face.now.fonts defaults.now) }
-        ensures tells { (layout : Layout) → Tells self.old layout → Tells self.new (with_item (under face.now defaults.now) layout (Item.Font None)) }
+        ensures holds { (layout : Layout) → Holds (under face.now defaults.now) self.old layout → Holds (under face.now defaults.now) self.new (with_item (under face.now defaults.now) layout (Item.Font None)) }
         ensures small { AreSmall self.new }
     {
         if let Some(font) = face.font(defaults.font) {
@@ -274,6 +287,7 @@ impl<'a> Totals<'a> {
     }
 
     /// An item is taken, or it has a fault where it stands.
+    #[inline]
     pub(crate) fn take(
         &mut self,
         face: &'a Face,
@@ -282,7 +296,7 @@ impl<'a> Totals<'a> {
     ) -> Option<MultiFaultCode>
         requires small { AreSmall self.old }
         requires fit { IsTrue (fit face.now.fonts defaults.now) }
-        ensures { Takes self.old self.new result (λ (layout : Layout). local_fault (under face.now defaults.now) layout (Some item)) (λ (layout : Layout). with_item (under face.now defaults.now) layout item) }
+        ensures { Takes (under face.now defaults.now) self.old self.new result (λ (layout : Layout). local_fault (under face.now defaults.now) layout (Some item)) (λ (layout : Layout). with_item (under face.now defaults.now) layout item) }
     {
         match item {
             Item::Char(character) => match self.font.glyph(character) {
@@ -322,9 +336,10 @@ impl<'a> Totals<'a> {
     }
 
     /// What is known before the first item.
+    #[tactic(auto, using(crate::proofs::RoomLaws::nothing_fits))]
     pub(crate) fn new(face: &'a Face, defaults: &Defaults) -> Totals<'a>
         requires { IsTrue (fit face.now.fonts defaults.now) }
-        ensures tells { Tells result (blank_layout (under face.now defaults.now)) }
+        ensures holds { Holds (under face.now defaults.now) result (blank_layout (under face.now defaults.now)) }
         ensures small { AreSmall result }
     {
         Totals {

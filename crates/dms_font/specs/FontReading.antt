@@ -1,4 +1,4 @@
--- Reading a font from the front of its text: the font, or the first fault and its line.
+-- Reading a font from the beginning of its text: the font, or the first fault and its line.
 use Rattle.std.specs.Prelude.{ℕ, ◌+◌, ◌*◌, ◌/◌, ◌==◌, Bool, if◌then◌else◌, List, [], ◌∷◌, ◌++◌, length, codes, nat_le, Option, Some, None, Result, Ok, Err}
 use Rattle.dms_text.specs.Lines.{NumberedLine, TextLeft, lines_left, number_after}
 use Rattle.dms_text.specs.Words.{words_of}
@@ -9,7 +9,7 @@ use Rattle.dms_font.specs.declared.fault.FontFaultKind.{FontFaultKind}
 use Rattle.dms_font.specs.declared.fault.FontFaultKind.TheVariants.{Header, Glyph, Bitmap, Twice, TooMany, Memory}
 use Rattle.dms_font.specs.declared.fault.FontFault.{FontFault}
 
--- a word that tells what the number behind it is
+-- a word that tells what the number after it is
 unfoldable pub labelled_at : List ℕ → ℕ → ℕ → List (List ℕ) → Option (ℕ × List (List ℕ))
 labelled_at label low high words = keyword_at label words >>= decimal_at 5 low high
 
@@ -85,7 +85,7 @@ glyph_added font line = with_glyph font (glyph_read font.height line)
 abbrev pub fault : FontFaultKind → ℕ → FontFault
 fault kind line = record { kind = kind; line = line }
 
--- a fault stands at its line; want of memory stands at none
+-- a fault stands at its line; out of memory stands at none
 abbrev pub placed : FontFaultKind → ℕ → FontFault
 placed Memory line = fault Memory 0
 placed kind line = fault kind line

@@ -9,7 +9,7 @@ use Rattle.dms_font.specs.FontReading.{GlyphWords, fault}
 abbrev pub glyph_line : GlyphLine → GlyphWords
 glyph_line line = record { character = line.character; width = line.width; bits = line.bits.now }
 
--- the answer is the expected one, or that memory is wanting
+-- the answer is the expected one, or that memory ran out
 abbrev pub GivesOrMemory : {A B : Type 0} → (A → B) → Result A FontFaultKind → Result B FontFaultKind → Type 0
 GivesOrMemory view (Ok value) expected = expected ≡ Ok (view value)
 GivesOrMemory view (Err kind) expected = (kind ≡ Memory) ⊎ (expected ≡ Err kind)

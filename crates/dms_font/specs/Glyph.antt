@@ -24,7 +24,7 @@ abbrev pub joined : List (List Bool) → List Bool
 joined [] = []
 joined (row ∷ rows) = row ++ joined rows
 
--- Octets are the bits of a picture, row by row, with less than one octet of padding behind them.
+-- Octets are the bits of a picture, row by row, with less than one octet of padding after them.
 pub record SpellsRows (width height : ℕ) (rows : List (List Bool)) (octets : List ℕ) : Type 0 where
   pub padding : List Bool
   pub bits : bits_of octets ≡ joined rows ++ padding

@@ -4,6 +4,6 @@ pub mod Font
 pub mod FontText
 pub mod Fault
 pub mod FaultTexts
--- reading from the front, which names the first fault; `font_found` and `font_only` in proofs/ join it to the above
+-- reading from the beginning, which names the first fault; `font_found` and `font_only` in proofs/ join it to the above
 pub mod FontReading
 pub mod FontView

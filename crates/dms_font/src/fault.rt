@@ -3,7 +3,7 @@
 use std::error::Error;
 use std::fmt;
 
-/// The rule of a font's text that a line breaks, or want of memory.
+/// The rule of a font's text that a line breaks, or out of memory.
 #[derive(Clone, Copy, Debug, PartialEq, Eq)]
 pub enum FontFaultKind {
     /// The first line is no header of a font, or there is none.
@@ -16,7 +16,7 @@ pub enum FontFaultKind {
     Twice = 4,
     /// A 256th character.
     TooMany = 5,
-    /// No memory for the font.
+    /// Out of memory for the font.
     Memory = 6,
 }
 

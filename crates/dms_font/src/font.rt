@@ -90,6 +90,7 @@ impl Font {
     }
 
     /// The picture of a character, where the font has one.
+    #[inline]
     pub fn glyph(&self, character: u16) -> Option<&Glyph>
         ensures { option_copied result ≡ glyph_of self.now character }
     {
@@ -117,6 +118,7 @@ pub(crate) fn set_place(places: &mut [u8; 256], character: u16, place: u8) {
 
 /// The picture of a character, where the hint leads to it.
 #[tactic(auto, using(crate::proofs::GlyphSearch::hints))]
+#[inline]
 fn hinted_glyph<'a>(glyphs: &'a [Glyph], places: &[u8; 256], character: u16) -> Option<&'a Glyph>
     requires { are_distinct glyphs.now ≡ true }
     ensures { IfSome result (λ glyph. glyph_in glyphs.now character ≡ Some glyph.now) }

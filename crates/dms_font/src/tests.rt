@@ -156,17 +156,58 @@ fn faults_of_a_font(rt: HostRuntime) -> Result<(), Fail> {
     Ok(())
 }
 
-/// With any allocation refused, the answer is want of memory, and nothing else.
+/// With any allocation refused, that call answers out of memory, and the same call with memory gives the font.
 #[test]
-fn font_or_want_of_memory(rt: HostRuntime) {
-    let wanting = FontFault {
+fn font_or_out_of_memory(rt: HostRuntime) {
+    let out_of_memory = FontFault {
         kind: FontFaultKind::Memory,
         line: 0,
     };
-    match Font::from_text(rt.alloc(), TALL) {
-        Ok(font) => assert_eq!(rt; font.height(), 7),
-        Err(fault) => assert_eq!(rt; fault, wanting),
+    let mut refused = false;
+    for _ in 0..2 {
+        match Font::from_text(rt.alloc(), TALL) {
+            Ok(font) => {
+                assert_eq!(rt;
+                    (font.number(), font.height(), font.glyphs().len()),
+                    (1, 7, 5)
+                );
+                assert!(rt; font.glyph(66).is_some_and(|glyph| glyph.is_lit(0, 0)));
+            }
+            Err(fault) => {
+                assert_eq!(rt; fault, out_of_memory);
+                assert!(rt; !refused);
+                refused = true;
+            }
+        }
     }
+}
+
+/// The same of a character that is added: where its memory is refused, the font is as it was.
+#[test]
+fn character_or_out_of_memory(rt: HostRuntime) {
+    let Some(mut font) = Font::from_header(
+        rt.alloc(),
+        b"font 2 height 5 space 1 line 1 version 0002",
+    ) else {
+        assert!(rt; false);
+        return;
+    };
+    let mut refused = false;
+    for character in ["glyph 65 3 57da", "glyph 66 3 57da"] {
+        let before = font.glyphs().len();
+        match font.add_glyph(rt.alloc(), character.as_bytes()) {
+            Ok(()) => assert_eq!(rt; font.glyphs().len(), before + 1),
+            Err(kind) => {
+                assert_eq!(rt; kind, FontFaultKind::Memory);
+                assert_eq!(rt; font.glyphs().len(), before);
+                assert_eq!(rt; font.add_glyph(rt.alloc(), character.as_bytes()), Ok(()));
+                assert!(rt; !refused);
+                refused = true;
+            }
+        }
+    }
+    assert_eq!(rt; font.glyphs().len(), 2);
+    assert!(rt; font.glyph(65).is_some() && font.glyph(66).is_some());
 }
 
 /// A character is found wherever it stands, above 255 too, and none where the font has it not.

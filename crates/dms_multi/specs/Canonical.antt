@@ -13,7 +13,7 @@ abbrev pub value_text : Option ℕ → List ℕ
 value_text None = []
 value_text (Some n) = decimal n
 
--- a letter and the time behind it; neither where the time is missing
+-- a letter and the time after it; neither where the time is missing
 abbrev pub later_time_text : List ℕ → Option ℕ → List ℕ
 later_time_text letter None = []
 later_time_text letter (Some n) = letter ++ decimal n

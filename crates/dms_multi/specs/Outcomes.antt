@@ -1,4 +1,4 @@
--- What a text is read as: its spots from the front on, and at most one fault behind them.
+-- What a text is read as: its spots from the beginning, and at most one fault after them.
 use Rattle.std.specs.Prelude.{ℕ, zero, suc, ◌-◌, List, [], ◌∷◌, length, Option, Some, None, Result, Ok, Err}
 use Rattle.dms_multi.specs.declared.fault.FaultCode.{FaultCode}
 use Rattle.dms_multi.specs.declared.fault.SyntaxFault.{SyntaxFault}
@@ -12,7 +12,7 @@ spot end text piece = record { item = piece.0; first = end - length text; past =
 abbrev pub fault : ℕ → List ℕ → FaultCode → SyntaxFault
 fault end text code = record { code = code; place = end - length text }
 
--- an item's spot and what is read behind it, or a fault
+-- an item's spot and what is read after it, or a fault
 abbrev pub with_outcome : ℕ → List ℕ → Result (Item × List ℕ) FaultCode → (List ℕ → List (Result Spot SyntaxFault)) → List (Result Spot SyntaxFault)
 with_outcome end text (Ok piece) more = Ok (spot end text piece) ∷ more piece.1
 with_outcome end text (Err code) more = Err (fault end text code) ∷ []
@@ -41,7 +41,7 @@ fault_in [] = None
 fault_in (Ok s ∷ more) = fault_in more
 fault_in (Err f ∷ more) = Some f
 
--- the items that a text spells, or that its longest front spells that spells any
+-- the items that a text spells, or that its longest prefix spells that spells any
 abbrev pub items_of : List ℕ → List Item
 items_of text = items_in (outcomes_of text)
 

@@ -1,4 +1,4 @@
--- Reading a text from its front: the next item and what follows it, or the code of the fault that stands there.
+-- Reading a text from its beginning: the next item and what follows it, or the code of the fault that stands there.
 use Rattle.std.specs.Prelude.{ℕ, ◌+◌, ◌==◌, Bool, List, [], ◌∷◌, take, drop, position, Option, Some, None, option_map, option_and_then}
 use Rattle.std.specs.Char.{to_ascii_lowercase}
 use Rattle.std.specs.Borrow.{Bor}
@@ -22,7 +22,7 @@ value_of low high (c ∷ cs) = option_map Some (decimal_of low high (c ∷ cs))
 abbrev pub is_letter : ℕ → ℕ → Bool
 is_letter letter c = to_ascii_lowercase c == letter
 
--- what stands before and behind the first such octet
+-- what stands before and after the first such octet
 unfoldable pub cut : ℕ → List ℕ → Option (List ℕ × List ℕ)
 cut letter text = option_map (λ n. (take n text, drop (n + 1) text)) (position (is_letter letter) text)
 

@@ -1,4 +1,4 @@
--- Reading items: the item that a tag's body spells, and the item at the front of a text.
+-- Reading items: the item that a tag's body spells, and the item at the beginning of a text.
 use Rattle.std.specs.Prelude.{◌≡◌, ℕ, ◌==◌, ◌&&◌, if◌then◌else◌, List, [], ◌∷◌, Option, Some, None, Result, Ok, Err, option_map, ok_or}
 use Rattle.std.specs.Char.{to_ascii_lowercase}
 use Rattle.std.specs.Borrow.{Bor}
@@ -24,7 +24,7 @@ abbrev pub times_in : ℕ → List ℕ → Option (List ℕ × List ℕ) → Opt
 times_in high text None = time_pair (value_of 0 high text) (Some None)
 times_in high text (Some (front, back)) = time_pair (value_of 0 high front) (value_of 0 high back)
 
--- a time, and perhaps another behind the letter
+-- a time, and perhaps another after the letter
 unfoldable pub times_of : ℕ → ℕ → List ℕ → Option TwoTimes
 times_of letter high text = times_in high text (cut letter text)
 
@@ -63,7 +63,7 @@ letters_name a b =
     else if (a == 112) && (b == 116) then Some Pt
     else None
 
--- the name behind a slash, and what follows it
+-- the name after a slash, and what follows it
 unfoldable pub end_name : List ℕ → Option (TagName × List ℕ)
 end_name [] = None
 end_name (a ∷ []) = None
@@ -141,17 +141,17 @@ tag_in (Some (body, rest)) = with_rest rest (body_item body)
 unfoldable pub tag_at : List ℕ → Result (Item × List ℕ) FaultCode
 tag_at text = tag_in (cut 93 text)
 
--- the item behind an opening bracket
+-- the item after an opening bracket
 unfoldable pub item_after_opening : List ℕ → Result (Item × List ℕ) FaultCode
 item_after_opening [] = Err UnsupportedTag
 item_after_opening (c ∷ rest) = if c == 91 then Ok (Char 91, rest) else tag_at (c ∷ rest)
 
--- the item behind a closing bracket
+-- the item after a closing bracket
 unfoldable pub item_after_closing : List ℕ → Result (Item × List ℕ) FaultCode
 item_after_closing [] = Err UnsupportedTag
 item_after_closing (c ∷ rest) = if c == 93 then Ok (Char 93, rest) else Err UnsupportedTag
 
--- the item at the front of a text, and what follows it
+-- the item at the beginning of a text, and what follows it
 unfoldable pub item_at : List ℕ → Result (Item × List ℕ) FaultCode
 item_at [] = Err UnsupportedTag
 item_at (c ∷ rest) = if c == 91 then item_after_opening rest else if c == 93 then item_after_closing rest else Ok (Char c, rest)

@@ -26,7 +26,7 @@ pub fn reading_follows_grammar()
         → (items_of text ≡ items) × (syntax_fault text ≡ None) }
     // What is read without a fault spells the text.
     ensures found { (text : List ℕ) → syntax_fault text ≡ None → TextSpells (items_of text) text }
-    // A fault stands behind the longest front that items spell, and the items read are those of this front.
+    // A fault stands after the longest prefix that items spell, and the items read are those of this prefix.
     ensures fault { (text : List ℕ) (fault : SyntaxFault) → syntax_fault text ≡ Some fault
         → IsSyntaxFault text fault × TextSpells (items_of text) (take fault.place text) }
 {}

@@ -42,7 +42,7 @@ fn put_value(text: &mut Text, value: Option<u8>) -> Result<(), TooLong>
     }
 }
 
-/// Appends a letter and the time behind it, if there is one.
+/// Appends a letter and the time after it, if there is one.
 fn put_later_time(text: &mut Text, letter: &[u8], time: Option<u8>) -> Result<(), TooLong>
     requires { length text.old.items ≤ longest_text }
     ensures { AppendsOrRefuses result text.old.items text.new.items (later_time_text letter.now time) }
@@ -99,7 +99,7 @@ fn put_font(text: &mut Text, font: Option<(u8, Option<u16>)>) -> Result<(), TooL
     }
 }
 
-/// Appends two times, each behind its letter.
+/// Appends two times, each after its letter.
 fn put_times(
     text: &mut Text,
     first: Option<u8>,

@@ -44,6 +44,7 @@ impl<'a> Model for Spots<'a> {
 
 /// The item of the tag that an opening bracket before this text begins, and what follows it.
 #[tactic(auto, unfolding(crate::specs::TagReading::tag_at))]
+#[inline(never)]
 fn tag_at(text: &[u8]) -> Result<(Item, &[u8]), FaultCode>
     ensures { Gives item_with_rest result (tag_at text.now) }
 {
@@ -74,8 +75,9 @@ fn item_after_closing(text: &[u8]) -> Result<(Item, &[u8]), FaultCode>
     }
 }
 
-/// The item at the front of a text, and what follows it.
+/// The item at the beginning of a text, and what follows it.
 #[tactic(auto, unfolding(crate::specs::TagReading::item_at))]
+#[inline]
 fn item_at(text: &[u8]) -> Result<(Item, &[u8]), FaultCode>
     ensures { Gives item_with_rest result (item_at text.now) }
 {
@@ -88,6 +90,7 @@ fn item_at(text: &[u8]) -> Result<(Item, &[u8]), FaultCode>
 }
 
 /// The first outcome of a text that ends at the offset `end`, and the text after it.
+#[inline]
 fn outcome_at(text: &[u8], end: usize) -> Option<(Result<Spot, SyntaxFault>, &[u8])>
     requires { length text.now ≤ end }
     ensures none { IfNone result (outcomes_from end text.now ≡ []) }
@@ -114,6 +117,7 @@ impl<'a> Iterator for Spots<'a> {
 
     ghost remaining = { item_count (λ s. s) };
 
+    #[inline]
     fn next(&mut self) -> Option<Result<Spot, SyntaxFault>> {
         let (outcome, rest) = outcome_at(self.rest, self.end)?;
         self.rest = rest;

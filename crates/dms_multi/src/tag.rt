@@ -44,7 +44,7 @@ fn letters_name(first: u8, second: u8) -> Option<TagName>
     }
 }
 
-/// The name behind a slash, and what follows it.
+/// The name after a slash, and what follows it.
 #[tactic(auto, unfolding(crate::specs::TagReading::end_name))]
 fn end_name(text: &[u8]) -> Option<(TagName, &[u8])>
     ensures { option_map name_with_rest result ≡ end_name text.now }

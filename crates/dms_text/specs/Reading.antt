@@ -1,4 +1,4 @@
--- Reading a line from its front: a value and the words after it (this profile).
+-- Reading a line from its beginning: a value and the words after it (this profile).
 use Rattle.std.specs.Prelude.{ℕ, ◌==◌, ◌&&◌, Bool, true, false, if◌then◌else◌, List, [], ◌∷◌, length, nat_lt, nat_le, Option, Some, None, Result, Ok, Err}
 use Rattle.std.specs.Char.{is_digit}
 use Rattle.std.specs.List.{list_all}

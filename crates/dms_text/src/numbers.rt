@@ -5,6 +5,7 @@ ghost use Rattle.dms_text.specs.Reading.{number_of, within, version_of};
 
 /// The number that one to `most` digits of the base spell, leading zeros and letters in either case allowed.
 #[tactic(auto, unfolding(crate::specs::Reading::number_of))]
+#[inline]
 pub fn number(word: &[u8], base: u32, most: usize) -> Option<u64>
     requires least_base { 2 ≤ base }
     requires greatest_base { base ≤ 16 }

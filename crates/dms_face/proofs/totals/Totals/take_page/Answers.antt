@@ -1,5 +1,6 @@
-use Rattle.std.proofs.Common.{[], sym, ◌∙◌, arith}
+use Rattle.std.proofs.Common.{[], ap, sym, ◌∙◌, arith}
 use Rattle.dms_face.specs.Totals.{AreSmall}
+use Rattle.dms_face.proofs.RoomLaws.{nothing_fits}
 use Rattle.dms_face.proofs.TellsLaws.{tells_page, page_passes}
 use Rattle.dms_face.proofs.totals.Totals.take_page.Goals as goal
 
@@ -7,7 +8,7 @@ pub returns : goal.returns
 returns c =
     let small : AreSmall c.open_line.new.self = c.open_line.ensures.small c.requires c.empty.ensures.within in
     record {
-      fault = λ layout tells. page_passes c.args.face.now c.args.self.now layout tells (sym (c.closed_fits.ensures layout tells) ∙ c.if-not-closed_fits.false) (omega arith);
-      tells = λ layout tells. tells_page _ layout (c.open_line.ensures.tells layout [] tells c.empty.ensures.tells);
+      fault = λ layout holds. page_passes c.args.face.now c.args.self.now layout holds.tells (sym (c.closed_fits.ensures layout holds.tells) ∙ c.if-not-closed_fits.false) (omega arith);
+      holds = λ layout holds. record { tells = tells_page _ layout (c.open_line.ensures.tells layout [] holds.tells c.empty.ensures.tells); room = nothing_fits c.args.face.now.height };
       small = record { pages = omega (arith, c.open_line.ensures.pages); lines = small.lines; characters = small.characters };
     }
