@@ -1,7 +1,7 @@
 #!/usr/bin/env python3
 """Which definitions a reader must believe: the files that each crate's specs/Lib.antt names first, with their lines.
 
-Without arguments it prints the table of README.md; with --check it fails where README.md has another."""
+Without arguments it prints the table of docs/PROVED.md; with --check it fails where README.md has another."""
 import pathlib
 import sys
 
@@ -40,8 +40,8 @@ def main():
     table = "\n".join(["| crate | files of specs/ with their lines | lines |", "|---|---|---|", *rows()])
     if "--check" not in sys.argv[1:]:
         print(table)
-    elif table not in (TOP / "README.md").read_text():
-        sys.exit("README.md has another table of definitions; run tools/definitions.py")
+    elif table not in (TOP / "docs/PROVED.md").read_text():
+        sys.exit("docs/PROVED.md has another table of definitions; run tools/definitions.py")
 
 
 main()

@@ -6,7 +6,8 @@
 A publication to the bench sign is carried out datagram by datagram, and before each of its events a share of hostile
 datagrams is handed to the sign and to the centre: requests and replies whose fields are changed (forms of lengths, tag
 classes, integers at each bound, names of 0, 1, 127 and 128 sub-identifiers, nesting, cut ends, repeated octets, long
-communities). Left out is what neither end could tell from its partner: a SET that is in order and has the writing
+communities). Before them each change of one octet, each proper prefix, each datagram with one to four octets more, and each
+pair of neighbours deleted, doubled and exchanged, of the first request and of its reply. Left out is what neither end could tell from its partner: a SET that is in order and has the writing
 community, and the reply that the centre waits for. A script holds at most 1,048,576 octets, so as many scripts are run
 as the count needs. Of each report every line is foretold, the number of the sign's replies too, by a reader of datagrams
 that is written here from X.690 and RFC 1157 with nothing of the repository's code.
@@ -15,6 +16,7 @@ It prints what each script took, and last `N passed, M failed`. With --print it 
 """
 
 import argparse
+import itertools
 import os
 import pathlib
 import random
@@ -341,23 +343,64 @@ class Maker:
                 return octets
 
 
-def script(maker, count):
-    """The script with at most this many hostile datagrams, how many it has, and the report that is foretold."""
-    share = max(1, count // len(PUBLICATION) + 1)
+def first(kind):
+    """The publication's first request, dmsMessageStatus.3.1 asked to be modified, and its reply."""
+    maker = Maker(0)
+    listed = maker.element(0x30, maker.element(0x30, maker.name(DMS + (5, 8, 1, 9, 3, 1)) + maker.integer(6)))
+    pdu = maker.element(kind, maker.integer(1) + maker.integer(0) + maker.integer(0) + listed)
+    return maker.element(0x30, maker.integer(0) + maker.element(0x04, WRITER) + pdu)
+
+
+REQUEST, REPLY = first(SET), first(RESPONSE)
+assert message_of(REQUEST) is not None and is_in_order(REQUEST) and is_waited_for(REPLY, 1)
+
+
+def alike(octets):
+    """Every datagram that is near this one."""
+    for at, octet in enumerate(octets):
+        yield octets[:at]
+        for other in range(256):
+            if other != octet:
+                yield octets[:at] + bytes([other]) + octets[at + 1:]
+    for more in range(1, 5):
+        yield octets + bytes(more)
+    for at in range(len(octets) - 1):
+        first, second = octets[at:at + 1], octets[at + 1:at + 2]
+        yield octets[:at] + octets[at + 2:]
+        yield octets[:at] + first + second + first + second + octets[at + 2:]
+        yield octets[:at] + second + first + octets[at + 2:]
+
+
+def near():
+    """Those of the first request to the sign and of its reply to the centre, which waits for number 1."""
+    for octets in alike(REQUEST):
+        if not is_in_order(octets):
+            yield "sign", octets
+    for octets in alike(REPLY):
+        if not is_waited_for(octets, 1):
+            yield "centre", octets
+
+
+def random_ones(maker, waiting):
+    while True:
+        yield ("sign", maker.to_sign()) if maker.random.randrange(2) else ("centre", maker.to_centre(waiting))
+
+
+def script(count, shares):
+    """The script with at most this many hostile datagrams, how many it has, and the report that is foretold. `shares` gives
+    those for each event, by the number that the centre waits for."""
     room = (MOST_INPUT - 2000) // len(PUBLICATION)
     lines, done, waiting, replies, events, accepted = ["bench"], 0, 1, 0, 0, 0
     own = []
     for event in PUBLICATION:
         size = 0
-        for _ in range(min(share, count - done)):
-            to_sign = maker.random.randrange(2)
-            octets = maker.to_sign() if to_sign else maker.to_centre(waiting)
-            line = f"forge-{'sign' if to_sign else 'centre'} {octets.hex() or '-'}"
-            if size + len(line) + 1 > room:
+        for to, octets in shares(waiting, count - done, event):
+            line = f"forge-{to} {octets.hex() or '-'}"
+            if size + len(line) + 1 > room and shares.is_even:
                 break
             lines.append(line)
             size, done, events = size + len(line) + 1, done + 1, events + 1
-            replies += to_sign and is_answered(octets)
+            replies += to == "sign" and is_answered(octets)
         events += 1
         if event.startswith("to-sign"):
             own.append(replies)
@@ -371,6 +414,49 @@ def script(maker, count):
             lines.append(event)
     report = [f"events {events}", f"sent 7 {replies}", SHOWN, f"accepted {accepted} {CODE}", f"ledger 7 {CODE} accepted"]
     return "\n".join(lines) + "\n", done, report
+
+
+class Random:
+    """An even share of random datagrams before each event."""
+
+    is_even = True
+
+    def __init__(self, maker, count):
+        self.maker, self.share = maker, max(1, count // len(PUBLICATION) + 1)
+
+    def __call__(self, waiting, left, _):
+        return itertools.islice(random_ones(self.maker, waiting), min(self.share, left))
+
+
+class Given:
+    """These datagrams, all while the centre waits for the first reply."""
+
+    is_even = False
+
+    def __init__(self, given):
+        self.given = given
+
+    def __call__(self, _, __, event):
+        return self.given if event == "to-sign 0" else []
+
+
+def near_scripts():
+    """The datagrams of `near` in scripts that are short enough."""
+    given, size = [], 0
+    for to, octets in near():
+        given.append((to, octets))
+        size += 15 + 2 * len(octets)
+        if size > MOST_INPUT - 2000:
+            yield script(len(given), Given(given))
+            given, size = [], 0
+    yield script(len(given), Given(given))
+
+
+def random_scripts(maker, count):
+    while count > 0:
+        made = script(count, Random(maker, count))
+        count -= made[1]
+        yield made
 
 
 def run(program, text):
@@ -389,22 +475,20 @@ def main():
     asked = words.parse_args()
     maker = Maker(asked.seed)
     if asked.print:
-        sys.stdout.write(script(maker, asked.count)[0])
+        sys.stdout.write(script(asked.count, Random(maker, asked.count))[0])
         return 0
     if not os.access(asked.program, os.X_OK):
         print(f"no program at {asked.program}: (cd crates/signtool && rt run -- --help) builds it", file=sys.stderr)
         return 2
-    passed = failed = total = 0
-    while total < asked.count:
-        text, done, report = script(maker, asked.count - total)
-        total += done
+    passed = failed = 0
+    for text, done, report in itertools.chain(near_scripts(), random_scripts(maker, asked.count)):
         ended, seconds = run(asked.program, text)
         if ended.returncode == 0 and ended.stdout.decode().splitlines() == report and not ended.stderr:
             passed += 1
         else:
             failed += 1
             print(f"exit {ended.returncode}, reported:\n{ended.stdout.decode()}foretold:\n" + "\n".join(report))
-            kept = pathlib.Path(f"hostile-{asked.seed}-{total}.script")
+            kept = pathlib.Path(f"hostile-{asked.seed}-{passed + failed}.script")
             kept.write_text(text, encoding="utf-8")
             print(f"the script is kept in {kept}")
         peak = resource.getrusage(resource.RUSAGE_CHILDREN).ru_maxrss
