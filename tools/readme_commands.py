@@ -1,0 +1,59 @@
+#!/usr/bin/env python3
+"""Runs README's commands: `tools/readme_commands.py [--program PATH]` prints `N passed, N failed`.
+
+Each block of `sh` that begins with `./signtool` or `cp` is run at a copy of signs/ and the built program, line by line (a
+here-document is one line). A block without a language right after it is what its last command prints. The two commands
+that prove, `rt run` and the gate, are left to the gate.
+"""
+
+import argparse
+import pathlib
+import re
+import shutil
+import subprocess
+import sys
+import tempfile
+
+TOP = pathlib.Path(__file__).resolve().parent.parent
+
+
+def commands(block):
+    """The commands of a block, a here-document with its lines as one."""
+    lines = iter(block.splitlines())
+    for line in lines:
+        command = [line]
+        if "<<'EOF'" in line:
+            for more in lines:
+                command.append(more)
+                if more == "EOF":
+                    break
+        if not line.startswith("#") and not line.startswith("cp "):
+            yield "\n".join(command) + "\n"
+
+
+def main():
+    words = argparse.ArgumentParser(description="README's commands")
+    words.add_argument("--program", default=str(TOP / "crates/signtool/out/signtool"))
+    asked = words.parse_args()
+    text = (TOP / "README.md").read_text(encoding="utf-8")
+    passed = failed = 0
+    with tempfile.TemporaryDirectory() as folder:
+        shutil.copy(asked.program, f"{folder}/signtool")
+        shutil.copytree(TOP / "signs", f"{folder}/signs")
+        for block, after in re.findall(r"```sh\n(.*?)```\n(?:\n```\n(.*?)```)?", text, re.DOTALL):
+            if not block.startswith(("./signtool", "cp ")):
+                continue
+            made = list(commands(block))
+            for at, command in enumerate(made):
+                ended = subprocess.run(["bash", "-c", command], cwd=folder, capture_output=True, text=True, timeout=60, check=False)
+                wanted = after if after and at + 1 == len(made) else None
+                well = ended.returncode == 0 and ended.stdout and not ended.stderr and wanted in (None, ended.stdout)
+                passed, failed = passed + bool(well), failed + (not well)
+                if not well:
+                    print(f"{command}exit {ended.returncode}\n{ended.stdout}{ended.stderr}")
+    print(f"{passed} passed, {failed} failed")
+    return 1 if failed else 0
+
+
+if __name__ == "__main__":
+    sys.exit(main())
