@@ -251,7 +251,11 @@ fn draw_line(
     let characters = line.characters.as_slice();
     let left = begin(Place::Start, width, side_extent(characters, Place::Start));
     draw_side(cells, face, characters, Place::Start, left, bottom)?;
-    let centre = begin(Place::Halfway, width, side_extent(characters, Place::Halfway));
+    let centre = begin(
+        Place::Halfway,
+        width,
+        side_extent(characters, Place::Halfway),
+    );
     draw_side(cells, face, characters, Place::Halfway, centre, bottom)?;
     let right = begin(Place::End, width, side_extent(characters, Place::End));
     draw_side(cells, face, characters, Place::End, right, bottom)?;
