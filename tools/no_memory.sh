@@ -5,7 +5,7 @@ tools=$(cd "$(dirname "$0")" && pwd)
 crate=$tools/../crates/dms_bench
 build=$crate/out
 # What makes no list may name no allocation but where it makes what it measures.
-if grep -nE 'Vec::|String::|Box::|vec!|format!|\.to_vec|with_capacity' "$crate/src/still.rt"; then
+if grep -nE '\bVec::|String::|Box::|vec!|format!|\.to_vec|with_capacity' "$crate/src/still.rt"; then
     echo "still.rt names an allocation" >&2
     exit 1
 fi
