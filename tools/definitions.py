@@ -1,7 +1,7 @@
 #!/usr/bin/env python3
 """Which definitions a reader must believe: the files that each crate's specs/Lib.antt names first, with their lines.
 
-Without arguments it prints the table of docs/PROVED.md; with --check it fails where README.md has another."""
+Without arguments it prints the table of docs/PROVED.md; with --check it fails where that has another."""
 import pathlib
 import sys
 
