@@ -6,11 +6,11 @@
 A publication to the bench sign is carried out datagram by datagram, and before each of its events a share of hostile
 datagrams is handed to the sign and to the centre: requests and replies whose fields are changed (forms of lengths, tag
 classes, integers at each bound, names of 0, 1, 127 and 128 sub-identifiers, nesting, cut ends, repeated octets, long
-communities). Before them each change of one octet, each proper prefix, each datagram with one to four octets more, and each
-pair of neighbours deleted, doubled and exchanged, of the first request and of its reply. Left out is what neither end could tell from its partner: a SET that is in order and has the writing
-community, and the reply that the centre waits for. A script holds at most 1,048,576 octets, so as many scripts are run
-as the count needs. Of each report every line is foretold, the number of the sign's replies too, by a reader of datagrams
-that is written here from X.690 and RFC 1157 with nothing of the repository's code.
+communities). Before them each change of one octet, each proper prefix, each datagram with one to four octets more, and
+each pair of neighbours deleted, doubled and exchanged, of the first request and of its reply. Left out is what neither
+end could tell from its partner: a SET that is in order and has the writing community, and the reply that the centre
+waits for. A script holds at most 1,048,576 octets, so as many scripts are run as the count needs. Of each report every
+line is foretold, the number of the sign's replies too, by the reader of tools/model.
 
 It prints what each script took, and last `N passed, M failed`. With --print it prints the first script alone.
 """
@@ -25,10 +25,12 @@ import subprocess
 import sys
 import time
 
+from model import wire
+
 MOST_INPUT = 1_048_576
-MOST_DATAGRAM = 1472
+MOST_DATAGRAM = wire.MOST_DATAGRAM
 DMS = (1, 3, 6, 1, 4, 1, 1206, 4, 2, 3)
-GET, GET_NEXT, RESPONSE, SET, TRAP = 0xA0, 0xA1, 0xA2, 0xA3, 0xA4
+GET, GET_NEXT, RESPONSE, SET, TRAP = wire.GET, wire.GET_NEXT, wire.RESPONSE, wire.SET, 0xA4
 READER, WRITER = b"public", b"admin"
 
 # the events of a publication of the text "A" in row 1 of changeable memory, and what a report of them says
@@ -41,105 +43,12 @@ CODE = "ffffff0300019a66c0000201"
 ACCEPTED_BY = "to-sign 6"
 
 
-# --- reading, as the profile says -------------------------------------------------------------------------------------
-
-class Refused(Exception):
-    """The octets spell no message."""
-
-
-def cut(octets):
-    """The tag and content of the first element, and the octets after it."""
-    if len(octets) < 2:
-        raise Refused
-    tag, first, rest = octets[0], octets[1], octets[2:]
-    size = first
-    if first >= 128:
-        digits = first - 128
-        if not 1 <= digits <= 4 or len(rest) < digits:
-            raise Refused
-        size, rest = int.from_bytes(rest[:digits], "big"), rest[digits:]
-    if len(rest) < size:
-        raise Refused
-    return tag, rest[:size], rest[size:]
-
-
-def part(octets, tags):
-    tag, content, rest = cut(octets)
-    if tag not in tags:
-        raise Refused
-    return tag, content, rest
-
-
-def whole(octets, tags):
-    tag, content, rest = part(octets, tags)
-    if rest:
-        raise Refused
-    return tag, content
-
-
-def number_of(content, least=-2 ** 31):
-    if not content or (len(content) > 1 and (content[0], content[1] >> 7) in ((0, 0), (255, 1))):
-        raise Refused
-    number = int.from_bytes(content, "big", signed=True)
-    if not least <= number < 2 ** 32:
-        raise Refused
-    return number
-
-
-def name_of(content):
-    numbers, number, begun = [], 0, False
-    for octet in content:
-        if not begun and octet == 128:
-            raise Refused
-        number, begun = number * 128 + octet % 128, octet >= 128
-        if number >= 2 ** 32:
-            raise Refused
-        if not begun:
-            numbers.append(number)
-            number = 0
-    if begun or not 1 <= len(numbers) <= 127:
-        raise Refused
-    first = min(numbers[0] // 40, 2)
-    return (first, numbers[0] - 40 * first, *numbers[1:])
-
-
-def value_of(tag, content):
-    if tag == 0x02:
-        return tag, number_of(content)
-    if tag == 0x05 and content or tag == 0x40 and len(content) != 4:
-        raise Refused
-    if tag == 0x06:
-        return tag, name_of(content)
-    if tag in (0x41, 0x42, 0x43):
-        return tag, number_of(content, 0)
-    return tag, content
-
+# --- what each end makes of a datagram ----------------------------------------------------------------------------------
 
 def message_of(octets):
     """Kind, community, request number, error-status, error-index and bindings, or None where no message is spelled."""
-    try:
-        if len(octets) > MOST_DATAGRAM:
-            raise Refused
-        _, content = whole(octets, (0x30,))
-        _, version, rest = part(content, (0x02,))
-        if number_of(version) != 0:
-            raise Refused
-        _, community, rest = part(rest, (0x04,))
-        kind, rest = whole(rest, (GET, GET_NEXT, RESPONSE, SET))
-        numbers = []
-        for _ in range(3):
-            _, digits, rest = part(rest, (0x02,))
-            numbers.append(number_of(digits))
-        _, listed = whole(rest, (0x30,))
-        bindings = []
-        while listed:
-            _, pair, listed = part(listed, (0x30,))
-            _, name, after = part(pair, (0x06,))
-            values = (0x02, 0x04, 0x05, 0x06, 0x40, 0x41, 0x42, 0x43, 0x44)
-            bindings.append((name_of(name), value_of(*whole(after, values))))
-        return kind, community, *numbers, bindings
-    except Refused:
-        return None
+    message = wire.spelled(octets)
+    return None if message is None else (message.kind, message.community, message.number, message.status, message.index, message.bindings)
 
 
 def is_answered(octets):
@@ -241,13 +150,7 @@ class Maker:
             numbers = self.one([(1, 3), numbers[:-1] if len(numbers) > 2 else DMS[:-1], numbers + (0,), numbers + (2 ** 32 - 1,), (2, 2 ** 32 - 81),
                                 (1, 3) + (1,) * 126, (1, 3) + (1,) * 127, (0, 0), (2, 999), DMS, DMS + (5, 8, 1, 9, 7, 255),
                                 DMS + (99, 0)])
-        content = b""
-        for number in (40 * numbers[0] + numbers[1], *numbers[2:]):
-            digits = [number % 128]
-            while number >= 128:
-                number //= 128
-                digits.insert(0, 128 + number % 128)
-            content += bytes(digits)
+        content = wire.name_content(numbers)
         if self.happens():
             content = self.one([b"", b"\x80" + content, content + b"\x80", content + b"\xff" * 5 + b"\x7f", content[:-1] + b"\xff",
                                 b"\x90\x80\x80\x80\x00"])

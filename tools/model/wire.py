@@ -152,7 +152,7 @@ def integer(number, tag=INTEGER):
     return element(tag, number.to_bytes((number if number >= 0 else ~number).bit_length() // 8 + 1, "big", signed=True))
 
 
-def name(numbers):
+def name_content(numbers):
     content = b""
     for number in (40 * numbers[0] + numbers[1], *numbers[2:]):
         digits = [number % 128]
@@ -160,7 +160,11 @@ def name(numbers):
             number //= 128
             digits.insert(0, 128 + number % 128)
         content += bytes(digits)
-    return element(NAME, content)
+    return content
+
+
+def name(numbers):
+    return element(NAME, name_content(numbers))
 
 
 def value(tagged):
