@@ -33,14 +33,14 @@ use Rattle.dms_replay.specs.declared.keyword.Keyword.TheVariants as key
 
 -- ---- words
 
-same_rest : (word other : List ℕ) (words others : List (List ℕ)) → word ∷ words ≡ other ∷ others → words ≡ others
+pub same_rest : (word other : List ℕ) (words others : List (List ℕ)) → word ∷ words ≡ other ∷ others → words ≡ others
 same_rest word other words others e = ap drop_first e
   where
     drop_first : List (List ℕ) → List (List ℕ)
     drop_first [] = []
     drop_first (word ∷ words) = words
 
-alone_found : {A : Type 0} (value found : A) (words : List (List ℕ)) → alone value words ≡ Some found → (words ≡ []) × (value ≡ found)
+pub alone_found : {A : Type 0} (value found : A) (words : List (List ℕ)) → alone value words ≡ Some found → (words ≡ []) × (value ≡ found)
 alone_found value found [] e = (refl, same_Some _ _ e)
 alone_found value found (word ∷ words) e = absurd (let none : None ≡ Some found = e in cc)
 
@@ -103,7 +103,7 @@ next_octets_only octets word rest spelled =
 
 -- ---- the last word of a line
 
-last_number_found : (keyword : List ℕ) (words : List (List ℕ)) (number : ℕ) → last_number_at words ≡ Some number → SpellsOne keyword (SpellsFourOctets number) (keyword ∷ words)
+pub last_number_found : (keyword : List ℕ) (words : List (List ℕ)) (number : ℕ) → last_number_at words ≡ Some number → SpellsOne keyword (SpellsFourOctets number) (keyword ∷ words)
 unfolding last_number_at
 last_number_found keyword words number e =
     let read = begun _ _ _ e in
@@ -118,11 +118,11 @@ last_number_found keyword words number e =
       };
     }
 
-last_number_only : (number : ℕ) (word : List ℕ) → SpellsFourOctets number word → last_number_at (word ∷ []) ≡ Some number
+pub last_number_only : (number : ℕ) (word : List ℕ) → SpellsFourOctets number word → last_number_at (word ∷ []) ≡ Some number
 unfolding last_number_at
 last_number_only number word spelled = goes_on _ _ _ (numeral_only 10 4294967295 number word [] spelled.spelled (omega (arith, spelled.small)))
 
-last_octets_found : (keyword : List ℕ) (words : List (List ℕ)) (octets : List ℕ) → last_octets_at words ≡ Some octets → SpellsOne keyword (SpellsOctets octets) (keyword ∷ words)
+pub last_octets_found : (keyword : List ℕ) (words : List (List ℕ)) (octets : List ℕ) → last_octets_at words ≡ Some octets → SpellsOne keyword (SpellsOctets octets) (keyword ∷ words)
 unfolding last_octets_at
 last_octets_found keyword words octets e =
     let read = begun _ _ _ e in
@@ -134,7 +134,7 @@ last_octets_found keyword words octets e =
       spelled = subst (λ xs. SpellsOctets xs found.word) end.1 found.spelled;
     }
 
-last_octets_only : (octets word : List ℕ) → SpellsOctets octets word → last_octets_at (word ∷ []) ≡ Some octets
+pub last_octets_only : (octets word : List ℕ) → SpellsOctets octets word → last_octets_at (word ∷ []) ≡ Some octets
 unfolding last_octets_at
 last_octets_only octets word spelled = goes_on _ _ _ (next_octets_only octets word [] spelled)
 
@@ -471,7 +471,7 @@ keyword_only key.CentreRestart = refl
 keyword_only key.ForgeSign = refl
 keyword_only key.ForgeCentre = refl
 
-same_word : (xs ys : List ℕ) → same_octets xs ys ≡ true → xs ≡ ys
+pub same_word : (xs ys : List ℕ) → same_octets xs ys ≡ true → xs ≡ ys
 same_word [] [] e = refl
 same_word [] (y ∷ ys) e = absurd (let never : false ≡ true = e in cc)
 same_word (x ∷ xs) [] e = absurd (let never : false ≡ true = e in cc)
@@ -542,7 +542,7 @@ keyword_found word keyword e =
     ]
 
 -- what a value was made from
-made_of : {A B : Type 0} (f : A → B) (from : Option A) (made : B) → option_map f from ≡ Some made → (x : A) × (from ≡ Some x) × (f x ≡ made)
+pub made_of : {A B : Type 0} (f : A → B) (from : Option A) (made : B) → option_map f from ≡ Some made → (x : A) × (from ≡ Some x) × (f x ≡ made)
 made_of f None made e = absurd (let none : None ≡ Some made = e in cc)
 made_of f (Some x) made e = (x, refl, same_Some _ _ e)
 

@@ -26,7 +26,7 @@ pub fn event(alloc: Global, order: Order, line: &[u8]) -> Result<Option<ScriptEv
 
 /// The event that is read of a line.
 #[tactic(auto, unfolding(crate::specs::EventReading::event_of))]
-pub(crate) fn read_event(
+pub fn read_event(
     alloc: Global,
     order: Order,
     line: &[u8],

@@ -36,7 +36,7 @@ pub(crate) fn two_octets(words: Words<'_>) -> Option<(u16, Words<'_>)>
 
 /// A number of four octets, and nothing after it.
 #[tactic(auto, unfolding(crate::specs::EventReading::last_number_at))]
-pub(crate) fn last_number(words: Words<'_>) -> Option<u32>
+pub fn last_number(words: Words<'_>) -> Option<u32>
     ensures { result ≡ last_number_at words.entry }
 {
     let (number, rest) = words.decimal(10, 0, 4_294_967_295)?;
@@ -66,7 +66,7 @@ pub(crate) fn next_octets(
 
 /// Octets as pairs of hexadecimal digits, and nothing after them.
 #[tactic(auto, unfolding(crate::specs::EventReading::last_octets_at))]
-pub(crate) fn last_octets(alloc: Global, words: Words<'_>) -> Result<Option<Vec<u8>>, AllocError>
+pub fn last_octets(alloc: Global, words: Words<'_>) -> Result<Option<Vec<u8>>, AllocError>
     ensures { IfOk result (λ found. octets_found found ≡ last_octets_at words.entry) }
 {
     match next_octets(alloc, words)? {

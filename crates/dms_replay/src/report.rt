@@ -148,14 +148,15 @@ fn put_entries(
     Ok(())
 }
 
-fn put_ledger(alloc: Global, report: &mut Vec<u8>, centre: &Centre) -> io::Result<()>
+/// Appends a line for each activation of the ledger, in the order of their requests.
+pub fn put_ledger(alloc: Global, report: &mut Vec<u8>, centre: &Centre) -> io::Result<()>
     ensures { OnOk result (report.new.items ≡ report.old.items ++ flat_map (ledger_line centre.now.state.settings.order) centre.now.state.ledger) }
 {
     put_entries(alloc, report, centre.order(), centre.ledger())
 }
 
-/// The line of what is shown: its row with the checksum as a number, how it came up, its priority, the minutes that are left, its text.
-fn put_shown(alloc: Global, report: &mut Vec<u8>, shown: &Shown) -> io::Result<()>
+/// Appends the line of what is shown: its row with the checksum as a number, how it came up, its priority, the minutes that are left, its text.
+pub fn put_shown(alloc: Global, report: &mut Vec<u8>, shown: &Shown) -> io::Result<()>
     ensures { OnOk result (report.new.items ≡ report.old.items ++ shown_line shown.now) }
 {
     put_source(alloc, report, shown)?;
