@@ -1,0 +1,4 @@
+mod Parts
+mod Taken
+mod LineCuts
+mod Turns
