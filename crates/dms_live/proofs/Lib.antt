@@ -2,3 +2,4 @@ mod Parts
 mod Taken
 mod LineCuts
 mod Turns
+mod Descriptions

@@ -24,23 +24,40 @@ ended line =
 unended : (octets : List ℕ) → (slice_index octets (length octets - 1) == 10) ≡ false → line_of octets ≡ octets
 unended octets tested = ap (λ b. cond b (strip_carriage_return (take (length octets - 1) octets)) octets) tested
 
+taken_at : (octets : List ℕ) (n : ℕ) → position is_newline octets ≡ Some n
+    → (take_through 10 octets ≡ take (n + 1) octets) × (drop_through 10 octets ≡ drop (n + 1) octets)
+taken_at octets n found =
+    let taken = part_ends octets n found [] (λ _. refl) in (
+      ap (take_through 10) (sym (append-nil octets)) ∙ taken.0,
+      ap (drop_through 10) (sym (append-nil octets)) ∙ taken.1 ∙ append-nil (drop (n + 1) octets),
+    )
+
+-- up to and with the first newline
+pub to_newline : (octets : List ℕ) (n : ℕ) → position is_newline octets ≡ Some n → take_through 10 octets ≡ take n octets ++ 10 ∷ []
+to_newline octets n found = (taken_at octets n found).0 ∙ through_newline octets n found
+
+-- without a newline all is taken
+pub to_end : (octets : List ℕ) → position is_newline octets ≡ None → (take_through 10 octets ≡ octets) × (drop_through 10 octets ≡ [])
+to_end octets none =
+    let all = no_newline octets none in (
+      ap (take_through 10) (sym (append-nil octets)) ∙ take_through-append 10 octets [] all ∙ append-nil octets,
+      ap (drop_through 10) (sym (append-nil octets)) ∙ drop_through-append 10 octets [] all,
+    )
+
 first_at : (octets : List ℕ) → 0 < length octets → (place : Option ℕ) → position is_newline octets ≡ place
     → lines octets ≡ line_of (take_through 10 octets) ∷ lines (drop_through 10 octets)
 first_at octets some (Some n) found =
-    let taken = part_ends octets n found [] (λ _. refl) in
-    let through : take_through 10 octets ≡ take n octets ++ 10 ∷ [] = ap (take_through 10) (sym (append-nil octets)) ∙ taken.0 ∙ through_newline octets n found in
-    let after : drop_through 10 octets ≡ drop (n + 1) octets = ap (drop_through 10) (sym (append-nil octets)) ∙ taken.1 ∙ append-nil (drop (n + 1) octets) in
+    let through = to_newline octets n found in
+    let after = (taken_at octets n found).1 in
     line_first octets (take n octets) (drop (n + 1) octets) (first_part is_newline octets n found ∙ ap (λ l. take n octets ∷ slice_split is_newline l) (take_rest octets (n + 1)))
     ∙ ap (λ l. l ∷ lines (drop (n + 1) octets)) (sym (ended (take n octets)))
     ∙ ap (λ l. line_of l ∷ lines (drop (n + 1) octets)) (sym through) ∙ ap (λ l. line_of (take_through 10 octets) ∷ lines l) (sym after)
 first_at octets some None none =
     let all = no_newline octets none in
-    let through : take_through 10 octets ≡ octets =
-    ap (take_through 10) (sym (append-nil octets)) ∙ take_through-append 10 octets [] all ∙ append-nil octets in
-    let after : drop_through 10 octets ≡ [] = ap (drop_through 10) (sym (append-nil octets)) ∙ drop_through-append 10 octets [] all in
+    let whole = to_end octets none in
     let last : line_of octets ≡ octets = unended octets (ne_eqb _ _ (all (length octets - 1) 0 (omega arith))) in
     line_only octets (only_part is_newline octets none) some
-    ∙ ap (λ l. l ∷ lines []) (sym (ap line_of through ∙ last)) ∙ ap (λ l. line_of (take_through 10 octets) ∷ lines l) (sym after)
+    ∙ ap (λ l. l ∷ lines []) (sym (ap line_of whole.0 ∙ last)) ∙ ap (λ l. line_of (take_through 10 octets) ∷ lines l) (sym whole.1)
 
 -- the first line, and the lines after it
 pub first_line_is : (octets : List ℕ) → 0 < length octets → lines octets ≡ line_of (take_through 10 octets) ∷ lines (drop_through 10 octets)

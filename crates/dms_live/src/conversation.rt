@@ -120,7 +120,7 @@ fn bad_line(alloc: Global) -> Result<Vec<u8>, AllocError>
 }
 
 /// A line without its newline, and without a carriage return before that.
-fn without_newline(line: &[u8]) -> &[u8]
+pub(crate) fn without_newline(line: &[u8]) -> &[u8]
     ensures { result.now ≡ line_of line.now }
 {
     match line {

@@ -2,12 +2,14 @@
 #![tactic(auto)]
 
 pub mod conversation;
+pub mod describing;
 pub mod fault;
 pub mod input;
 pub mod party;
 pub mod taking;
 
 pub use conversation::{LONGEST_LINE, converse};
+pub use describing::{LONGEST_DESCRIPTION, description_text};
 pub use fault::ConversationFault;
 pub use input::Input;
 pub use party::Party;

@@ -2,8 +2,8 @@
 
 ghost use Rattle.std.specs.Prelude.{ℕ, List, [], ◌∷◌, ◌++◌, slice_index_or};
 
-use crate::{ConversationFault, Input, Party, converse};
-use dms_streams::{Failed, Gathered, Sink, Source};
+use crate::{ConversationFault, Input, Party, converse, description_text};
+use dms_streams::{Failed, Gathered, ReadFault, Sink, Source};
 use std::alloc::{AllocError, Global};
 use std::test::Fail;
 
@@ -190,5 +190,55 @@ fn long_lines(rt: HostRuntime) -> Result<(), Fail> {
         assert!(rt; sink.bytes().ends_with(last), "for {length}");
         assert_eq!(rt; sink.bytes().len() > 20, !refused);
     }
+    Ok(())
+}
+
+/// What is taken up to the line `end`, and that the rest is talked about.
+#[test]
+fn a_description_comes_first(rt: HostRuntime) -> Result<(), Fail> {
+    for (talk, description, answers) in [
+        ("size\nend\none\n", "size\nend\n", "-one\n"),
+        ("end", "end", ""),
+        ("# end\r\nend\r\nend\n", "# end\r\nend\r\n", "-end\n"),
+        ("ends\n end\nen", "ends\n end\nen", ""),
+        ("\nend\n\nend", "\nend\n", "-\n-end\n"),
+        ("", "", ""),
+    ] {
+        let mut input = Input::new(rt.alloc(), talk.as_bytes())?;
+        let text = description_text(rt.alloc(), &mut input)?;
+        assert!(rt; text.as_slice() == description.as_bytes(), "for {talk}");
+        let mut sink = Gathered::new(rt.alloc());
+        let ended = converse(rt.alloc(), &mut Echo { first: b'-' }, &mut input, &mut sink);
+        assert_eq!(rt; ended, Ok(()));
+        assert!(rt; sink.bytes() == answers.as_bytes(), "for {talk}");
+    }
+    Ok(())
+}
+
+/// A description of 1,048,576 octets is taken, one more is too long, and a reader may fail within.
+#[test]
+fn long_descriptions(rt: HostRuntime) -> Result<(), Fail> {
+    let mut talk = Vec::new(rt.alloc());
+    talk.resize(1_048_573, b'#')?;
+    talk.extend_from_slice(b"\nend\n")?;
+    for (length, taken) in [
+        (1_048_576, Ok(1_048_576)),
+        (1_048_577, Err(ReadFault::TooLong)),
+        (1_048_578, Err(ReadFault::TooLong)),
+    ] {
+        let mut input = Input::new(rt.alloc(), &talk[..length])?;
+        let found = description_text(rt.alloc(), &mut input).map(|text| text.len());
+        assert_eq!(rt; found, taken, "for {length}");
+    }
+    let source = Narrow {
+        octets: b"size",
+        fails: true,
+        failed: 0,
+    };
+    let mut input = Input::new(rt.alloc(), source)?;
+    assert_eq!(rt;
+        description_text(rt.alloc(), &mut input).err(),
+        Some(ReadFault::Read)
+    );
     Ok(())
 }
