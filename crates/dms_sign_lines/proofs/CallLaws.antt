@@ -1,0 +1,131 @@
+-- The call of a line is the one that the line spells.
+use Rattle.std.proofs.Common.{◌≡◌, ◌↔◌, ℕ, ◌<◌, cond, List, [], ◌∷◌, length, Option, Some, None, option_map, refl, sym, ap, subst, ◌∙◌, arith, inl, inr}
+use Rattle.std.specs.Prelude.{codes, ◌⊎◌}
+use Rattle.std.proofs.lemmas.Bool.{cases_Bool}
+use Rattle.std.proofs.lemmas.Option.{same_Some}
+use Rattle.dms_text.specs.Words.{words_of}
+use Rattle.dms_text.specs.Reading.{same_octets, word_at}
+use Rattle.dms_text.proofs.WordLaws.{begun, goes_on, word_found, word_only}
+use Rattle.dms_replay.specs.EventReading.{alone}
+use Rattle.dms_replay.proofs.EventLaws.{alone_found, last_number_found, last_number_only, last_octets_found, last_octets_only, same_word, made_of}
+use Rattle.dms_sign_lines.specs.SignCall.{SignCall, datagram, tick, power_lost, power_back, show, state}
+use Rattle.dms_sign_lines.specs.SignLine.{SpellsCallWords, SpellsSignCall}
+use Rattle.dms_sign_lines.specs.SignReading.{keyword_of, call_after, call_of}
+use Rattle.dms_sign_lines.specs.declared.keyword.Keyword.{Keyword}
+use Rattle.dms_sign_lines.specs.declared.keyword.Keyword.TheVariants as key
+
+-- ---- keywords
+
+abbrev keyword_text : Keyword → List ℕ
+keyword_text key.Datagram = codes "datagram"
+keyword_text key.Tick = codes "tick"
+keyword_text key.PowerLost = codes "power-lost"
+keyword_text key.PowerBack = codes "power-back"
+keyword_text key.Show = codes "show"
+keyword_text key.State = codes "state"
+
+keyword_some : (keyword : Keyword) → 0 < length (keyword_text keyword)
+keyword_some key.Datagram = omega arith
+keyword_some key.Tick = omega arith
+keyword_some key.PowerLost = omega arith
+keyword_some key.PowerBack = omega arith
+keyword_some key.Show = omega arith
+keyword_some key.State = omega arith
+
+keyword_only : (keyword : Keyword) → keyword_of (keyword_text keyword) ≡ Some keyword
+unfolding keyword_of
+keyword_only key.Datagram = refl
+keyword_only key.Tick = refl
+keyword_only key.PowerLost = refl
+keyword_only key.PowerBack = refl
+keyword_only key.Show = refl
+keyword_only key.State = refl
+
+-- the word is this keyword's, or another one is found
+hit_or : (word : List ℕ) (keyword found : Keyword) (others : Option Keyword)
+    → cond (same_octets word (keyword_text keyword)) (Some keyword) others ≡ Some found → (word ≡ keyword_text found) ⊎ (others ≡ Some found)
+hit_or word keyword found others e =
+    elim (cases_Bool (same_octets word (keyword_text keyword))) [
+      | inl same ↦
+          let this : Some keyword ≡ Some found = ap (λ b. cond b (Some keyword) others) (sym same) ∙ e in
+          inl (same_word _ _ same ∙ ap keyword_text (same_Some _ _ this))
+      | inr other ↦ inr (ap (λ b. cond b (Some keyword) others) (sym other) ∙ e)
+    ]
+
+keyword_found : (word : List ℕ) (keyword : Keyword) → keyword_of word ≡ Some keyword → word ≡ keyword_text keyword
+unfolding keyword_of
+keyword_found word keyword e =
+    elim (hit_or word key.Datagram keyword _ e) [
+      | inl hit ↦ hit
+      | inr e ↦
+          elim (hit_or word key.Tick keyword _ e) [
+            | inl hit ↦ hit
+            | inr e ↦
+                elim (hit_or word key.PowerLost keyword _ e) [
+                  | inl hit ↦ hit
+                  | inr e ↦
+                      elim (hit_or word key.PowerBack keyword _ e) [
+                        | inl hit ↦ hit
+                        | inr e ↦
+                            elim (hit_or word key.Show keyword _ e) [
+                              | inl hit ↦ hit
+                              | inr e ↦
+                                  elim (hit_or word key.State keyword _ e) [ inl hit ↦ hit | inr e ↦ absurd (let none : None ≡ Some keyword = e in cc) ]
+                            ]
+                      ]
+                ]
+          ]
+    ]
+
+-- ---- calls
+
+bare_found : (keyword : List ℕ) (bare call : SignCall) (words : List (List ℕ)) → alone bare words ≡ Some call
+    → SpellsCallWords bare (keyword ∷ []) → SpellsCallWords call (keyword ∷ words)
+bare_found keyword bare call words e spelled =
+    let end = alone_found bare call words e in
+    subst (λ call. SpellsCallWords call (keyword ∷ words)) end.1 (subst (λ rest. SpellsCallWords bare (keyword ∷ rest)) (sym end.0) spelled)
+
+after_found : (keyword : Keyword) (words : List (List ℕ)) (call : SignCall) → call_after keyword words ≡ Some call
+    → SpellsCallWords call (keyword_text keyword ∷ words)
+after_found key.Datagram words call e =
+    let made = made_of _ _ _ e in subst (λ call. SpellsCallWords call (codes "datagram" ∷ words)) made.2 (last_octets_found (codes "datagram") words made.0 made.1)
+after_found key.Tick words call e = bare_found (codes "tick") tick call words e refl
+after_found key.PowerLost words call e = bare_found (codes "power-lost") power_lost call words e refl
+after_found key.PowerBack words call e =
+    let made = made_of _ _ _ e in subst (λ call. SpellsCallWords call (codes "power-back" ∷ words)) made.2 (last_number_found (codes "power-back") words made.0 made.1)
+after_found key.Show words call e = bare_found (codes "show") show call words e refl
+after_found key.State words call e = bare_found (codes "state") state call words e refl
+
+-- what is read of a line is what it spells
+pub call_found : (line : List ℕ) (call : SignCall) → call_of line ≡ Some call → SpellsSignCall call line
+unfolding call_of
+call_found line call e =
+    let read = begun _ _ _ e in
+    let keyword = begun _ _ _ read.2 in
+    let words : words_of line ≡ keyword_text keyword.0 ∷ read.0.1 =
+    (word_found (words_of line) read.0 read.1).0 ∙ ap (λ word. word ∷ read.0.1) (keyword_found read.0.0 keyword.0 keyword.1) in
+    subst (SpellsCallWords call) (sym words) (after_found keyword.0 read.0.1 call keyword.2)
+
+line_read : (keyword : Keyword) (line : List ℕ) (words : List (List ℕ)) → words_of line ≡ keyword_text keyword ∷ words
+    → call_of line ≡ call_after keyword words
+unfolding call_of
+line_read keyword line words e =
+    goes_on _ _ _ (ap word_at e ∙ word_only (keyword_text keyword) words (keyword_some keyword)) ∙ goes_on _ _ _ (keyword_only keyword)
+
+-- what a line spells is read of it
+pub call_only : (line : List ℕ) (call : SignCall) → SpellsSignCall call line → call_of line ≡ Some call
+call_only line (datagram octets) spelled =
+    line_read key.Datagram line _ spelled.words_are ∙ ap (option_map datagram) (last_octets_only octets spelled.word spelled.spelled)
+call_only line tick spelled = line_read key.Tick line [] spelled
+call_only line power_lost spelled = line_read key.PowerLost line [] spelled
+call_only line (power_back seconds) spelled =
+    line_read key.PowerBack line _ spelled.words_are ∙ ap (option_map power_back) (last_number_only seconds spelled.word spelled.spelled)
+call_only line show spelled = line_read key.Show line [] spelled
+call_only line state spelled = line_read key.State line [] spelled
+
+-- a line spells at most one call
+pub one_call : (line : List ℕ) (one other : SignCall) → SpellsSignCall one line → SpellsSignCall other line → one ≡ other
+one_call line one other this that = same_Some _ _ (sym (call_only line one this) ∙ call_only line other that)
+
+pub read_is_spelled : (line : List ℕ) (call : SignCall) → (call_of line ≡ Some call) ↔ SpellsSignCall call line
+read_is_spelled line call = (call_found line call, call_only line call)

@@ -1,0 +1,82 @@
+-- What a live sign answers to a line, and what it is afterwards (this profile). Each line of an answer ends in a newline.
+use Rattle.std.specs.Prelude.{ℕ, if◌then◌else◌, List, [], ◌++◌, codes, Option, Some, None, Result, Ok, Err}
+use Rattle.hex.specs.Hex.{encode_lower}
+use Rattle.dms_codes.specs.declared.codes.Order.{Order}
+use Rattle.dms_codes.specs.declared.codes.Activation.{Activation}
+use Rattle.dms_face.specs.declared.multi_fault.MultiFault.{MultiFault}
+use Rattle.dms_face.specs.Face.{fit}
+use Rattle.dms_face.specs.Layout.{under}
+use Rattle.dms_pages.specs.Drawn.{DrawnPage, drawn_text}
+use Rattle.dms_sign.specs.State.{SignState}
+use Rattle.dms_sign.specs.Reply.{Received, received}
+use Rattle.dms_sign.specs.Events.{after_tick, after_power_loss, after_power_return}
+use Rattle.dms_replay.specs.Report.{ended, code_text, shown_line}
+use Rattle.dms_sign_lines.specs.SignCall.{SignCall, datagram, tick, power_lost, power_back, show, state}
+use Rattle.dms_sign_lines.specs.SignReading.{call_of}
+use Rattle.dms_sign_lines.specs.PageText.{pages_text}
+
+-- ---- what comes of a datagram
+
+-- the reply's octets, and before them the code that was accepted, in the sign's order
+abbrev pub reply_line : Order → List ℕ → Option Activation → List ℕ
+reply_line order reply None = ended (codes "reply " ++ encode_lower reply)
+reply_line order reply (Some code) = ended (codes "accepted " ++ code_text order code ++ codes " " ++ encode_lower reply)
+
+abbrev pub receipt_line : Order → Option (List ℕ) → Option Activation → List ℕ
+receipt_line order None accepted = ended (codes "dropped")
+receipt_line order (Some reply) accepted = reply_line order reply accepted
+
+abbrev pub received_line : Order → Received → List ℕ
+received_line order received = receipt_line order received.reply received.accepted
+
+-- ---- what is shown
+
+abbrev pub pages_or_none : Result (List DrawnPage) MultiFault → List DrawnPage
+pages_or_none (Ok pages) = pages
+pages_or_none (Err fault) = []
+
+-- The pages of what is shown, under the copy of the defaults that belongs to it. What a sign shows has pages: the other cases never
+-- come (`signs_show_good_texts` of laws).
+abbrev pub shown_pages : SignState → List DrawnPage
+shown_pages s =
+    if fit s.config.face.fonts s.shown.defaults then pages_or_none (drawn_text (under s.config.face s.shown.defaults) s.shown.text)
+    else []
+
+-- ---- calls
+
+abbrev pub done : List ℕ
+done = ended (codes "ok")
+
+abbrev pub call_text : SignState → SignCall → List ℕ
+call_text s (datagram octets) = received_line s.table.order (received s octets)
+call_text s tick = done
+call_text s power_lost = done
+call_text s (power_back seconds) = done
+call_text s show = pages_text (shown_pages s) ++ done
+call_text s state = shown_line s.shown ++ done
+
+abbrev pub after_call : SignState → SignCall → SignState
+after_call s (datagram octets) = (received s octets).after
+after_call s tick = after_tick s
+after_call s power_lost = after_power_loss s
+after_call s (power_back seconds) = after_power_return s seconds
+after_call s show = s
+after_call s state = s
+
+-- ---- lines
+
+abbrev pub text_if : SignState → Option SignCall → List ℕ
+text_if s None = ended (codes "bad line")
+text_if s (Some call) = call_text s call
+
+abbrev pub after_if : SignState → Option SignCall → SignState
+after_if s None = s
+after_if s (Some call) = after_call s call
+
+-- the answer to a line; one that is no call is a bad line
+abbrev pub answer_text : SignState → List ℕ → List ℕ
+answer_text s line = text_if s (call_of line)
+
+-- the sign after a line; a bad line changes nothing
+abbrev pub after_line : SignState → List ℕ → SignState
+after_line s line = after_if s (call_of line)

@@ -1,0 +1,19 @@
+-- The lines to a live sign (this profile).
+use Rattle.std.specs.Prelude.{◌≡◌, ℕ, List, [], ◌∷◌, codes}
+use Rattle.dms_text.specs.Words.{words_of}
+use Rattle.dms_text.specs.Octets.{SpellsOctets}
+use Rattle.dms_description.specs.Fields.{SpellsFourOctets}
+use Rattle.dms_replay.specs.EventLine.{SpellsOne}
+use Rattle.dms_sign_lines.specs.SignCall.{SignCall, datagram, tick, power_lost, power_back, show, state}
+
+abbrev pub SpellsCallWords : SignCall → List (List ℕ) → Type 0
+SpellsCallWords (datagram octets) words = SpellsOne (codes "datagram") (SpellsOctets octets) words
+SpellsCallWords tick words = words ≡ codes "tick" ∷ []
+SpellsCallWords power_lost words = words ≡ codes "power-lost" ∷ []
+SpellsCallWords (power_back seconds) words = SpellsOne (codes "power-back") (SpellsFourOctets seconds) words
+SpellsCallWords show words = words ≡ codes "show" ∷ []
+SpellsCallWords state words = words ≡ codes "state" ∷ []
+
+-- the line of a call: its words, with one space between two
+abbrev pub SpellsSignCall : SignCall → List ℕ → Type 0
+SpellsSignCall call line = SpellsCallWords call (words_of line)

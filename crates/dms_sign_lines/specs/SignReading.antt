@@ -1,0 +1,34 @@
+-- The lines to a live sign read from their beginning (this profile).
+use Rattle.std.specs.Prelude.{ℕ, if◌then◌else◌, List, codes, Option, Some, None, option_map}
+use Rattle.dms_text.specs.Words.{words_of}
+use Rattle.dms_text.specs.Reading.{same_octets, word_at, ◌>>=◌}
+use Rattle.dms_replay.specs.EventReading.{alone, last_number_at, last_octets_at}
+use Rattle.dms_sign_lines.specs.SignCall.{SignCall, datagram, tick, power_lost, power_back, show, state}
+use Rattle.dms_sign_lines.specs.declared.keyword.Keyword.{Keyword}
+use Rattle.dms_sign_lines.specs.declared.keyword.Keyword.TheVariants as key
+
+unfoldable pub keyword_of : List ℕ → Option Keyword
+keyword_of word =
+    if same_octets word (codes "datagram") then Some key.Datagram
+    else if same_octets word (codes "tick") then Some key.Tick
+    else if same_octets word (codes "power-lost") then Some key.PowerLost
+    else if same_octets word (codes "power-back") then Some key.PowerBack
+    else if same_octets word (codes "show") then Some key.Show
+    else if same_octets word (codes "state") then Some key.State
+    else None
+
+-- what stands after a keyword
+abbrev pub call_after : Keyword → List (List ℕ) → Option SignCall
+call_after key.Datagram words = option_map datagram (last_octets_at words)
+call_after key.Tick words = alone tick words
+call_after key.PowerLost words = alone power_lost words
+call_after key.PowerBack words = option_map power_back (last_number_at words)
+call_after key.Show words = alone show words
+call_after key.State words = alone state words
+
+-- the call of a line
+unfoldable pub call_of : List ℕ → Option SignCall
+call_of line = do
+  found ← word_at (words_of line)
+  keyword ← keyword_of found.0
+  call_after keyword found.1

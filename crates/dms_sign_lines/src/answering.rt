@@ -1,0 +1,201 @@
+//! The answer of a live sign to a line.
+
+ghost use Rattle.std.specs.Prelude.{◌≡◌, ◌++◌, ◌+◌, ◌*◌, ◌≤◌, codes, length, IfOk, OnOk, OnErr, vec_len, vec_capacity};
+ghost use Rattle.hex.specs.Hex.{encode_lower};
+ghost use Rattle.dms_sign.specs.Reply.{received};
+ghost use Rattle.dms_sign.specs.ReplyView.{sent, accepted_by};
+ghost use Rattle.dms_replay.specs.Report.{ended, shown_line};
+ghost use Rattle.dms_sign_lines.specs.PageText.{pages_text};
+ghost use Rattle.dms_sign_lines.specs.CallView.{call_model};
+ghost use Rattle.dms_sign_lines.specs.Answer.{receipt_line, received_line, shown_pages, done, call_text, after_call, answer_text, after_line};
+
+use crate::page_text::put_pages;
+use crate::sign_call::{SignCall, call};
+use dms_codes::Order;
+use dms_pages::{Page, PagesFault, pages_with};
+use dms_replay::report::put_shown;
+use dms_sign::{Receipt, Sign};
+use dms_wire::{MAX_DATAGRAM, Out};
+use std::alloc::{AllocError, Global};
+use std::io;
+use std::io::Write;
+
+/// The octets of the longest answer to a datagram: `accepted`, a code of twelve octets, those of a reply, two spaces and a newline.
+const LONGEST_RECEIPT: usize = 8 + 2 * 12 + 2 * MAX_DATAGRAM + 3;
+
+/// The answer to a line, which is given without its newline; each line of the answer ends in one. A line that spells no call is answered
+/// with `bad line`, and changes nothing. Where memory is wanting, nothing changes either: what an answer needs is had before the sign is
+/// called.
+pub fn answer(alloc: Global, sign: &mut Sign, line: &[u8]) -> Result<Vec<u8>, AllocError>
+    ensures text { IfOk result (λ text. text.items ≡ answer_text sign.old line.now) }
+    ensures after { OnOk result (sign.new ≡ after_line sign.old line.now) }
+    ensures memory { OnErr result (sign.new ≡ sign.old) }
+{
+    match call(alloc, line)? {
+        Some(call) => carry_out(alloc, sign, &call),
+        None => text_of(alloc, b"bad line\n"),
+    }
+}
+
+/// Carries out a call, and gives its answer.
+pub fn carry_out(alloc: Global, sign: &mut Sign, call: &SignCall) -> Result<Vec<u8>, AllocError>
+    ensures text { IfOk result (λ text. text.items ≡ call_text sign.old (call_model call.now)) }
+    ensures after { OnOk result (sign.new ≡ after_call sign.old (call_model call.now)) }
+    ensures memory { OnErr result (sign.new ≡ sign.old) }
+{
+    match call {
+        SignCall::Datagram(octets) => receive(alloc, sign, octets.as_slice()),
+        SignCall::Tick => {
+            let done = text_of(alloc, b"ok\n")?;
+            sign.tick();
+            Ok(done)
+        }
+        SignCall::PowerLost => {
+            let done = text_of(alloc, b"ok\n")?;
+            sign.power_lost();
+            Ok(done)
+        }
+        SignCall::PowerBack(seconds) => {
+            let done = text_of(alloc, b"ok\n")?;
+            sign.power_back(*seconds);
+            Ok(done)
+        }
+        SignCall::Show => show(alloc, sign),
+        SignCall::State => state(alloc, sign),
+    }
+}
+
+/// A text of these octets.
+fn text_of(alloc: Global, octets: &[u8]) -> Result<Vec<u8>, AllocError>
+    ensures { IfOk result (λ text. text.items ≡ octets.now) }
+{
+    let mut text = Vec::new(alloc);
+    text.extend_from_slice(octets)?;
+    Ok(text)
+}
+
+/// The sign receives a datagram. The memory of the longest answer is had before.
+fn receive(alloc: Global, sign: &mut Sign, datagram: &[u8]) -> Result<Vec<u8>, AllocError>
+    ensures text { IfOk result (λ text. text.items ≡ received_line sign.old.table.order (received sign.old datagram.now)) }
+    ensures after { OnOk result (sign.new ≡ (received sign.old datagram.now).after) }
+    ensures memory { OnErr result (sign.new ≡ sign.old) }
+{
+    let order = sign.order();
+    let mut text = Vec::with_capacity(alloc, LONGEST_RECEIPT)?;
+    let mut reply = Out::new();
+    let receipt = sign.receive(datagram, &mut reply);
+    put_receipt(&mut text, order, receipt, reply.as_slice());
+    Ok(text)
+}
+
+/// Appends what came of a datagram, for which there is room.
+fn put_receipt(text: &mut Vec<u8>, order: Order, receipt: Receipt, reply: &[u8])
+    requires short { length reply.now ≤ 1472 }
+    requires room { vec_len text.old + 2979 ≤ vec_capacity text.old }
+    ensures { text.new.items ≡ text.old.items ++ receipt_line order (sent receipt reply.now) (accepted_by receipt) }
+{
+    match receipt {
+        Receipt::Dropped => put(text, b"dropped\n"),
+        Receipt::Replied => put_reply(text, reply),
+        Receipt::Accepted(code) => put_accepted(text, &code.to_bytes(order), reply),
+    }
+}
+
+fn put_reply(text: &mut Vec<u8>, reply: &[u8])
+    requires short { length reply.now ≤ 1472 }
+    requires room { vec_len text.old + 2979 ≤ vec_capacity text.old }
+    ensures { text.new.items ≡ text.old.items ++ ended (codes "reply " ++ encode_lower reply.now) }
+{
+    put(text, b"reply ");
+    put_digits(text, reply);
+    put(text, b"\n");
+}
+
+fn put_accepted(text: &mut Vec<u8>, code: &[u8], reply: &[u8])
+    requires code { length code.now ≡ 12 }
+    requires short { length reply.now ≤ 1472 }
+    requires room { vec_len text.old + 2979 ≤ vec_capacity text.old }
+    ensures { text.new.items ≡ text.old.items ++ ended (codes "accepted " ++ encode_lower code.now ++ codes " " ++ encode_lower reply.now) }
+{
+    put(text, b"accepted ");
+    put_digits(text, code);
+    put(text, b" ");
+    put_digits(text, reply);
+    put(text, b"\n");
+}
+
+/// Appends octets, for which there is room.
+fn put(text: &mut Vec<u8>, octets: &[u8])
+    requires { vec_len text.old + length octets.now ≤ vec_capacity text.old }
+    ensures items { text.new.items ≡ text.old.items ++ octets.now }
+    ensures len { vec_len text.new ≡ vec_len text.old + length octets.now }
+    ensures capacity { vec_capacity text.old ≤ vec_capacity text.new }
+{
+    let _ = text.extend_from_slice(octets);
+}
+
+/// Appends octets as pairs of lower case hexadecimal digits, for which there is room.
+fn put_digits(text: &mut Vec<u8>, octets: &[u8])
+    requires short { length octets.now ≤ 1472 }
+    requires room { vec_len text.old + 2 * length octets.now ≤ vec_capacity text.old }
+    ensures items { text.new.items ≡ text.old.items ++ encode_lower octets.now }
+    ensures len { vec_len text.new ≡ vec_len text.old + 2 * length octets.now }
+    ensures capacity { vec_capacity text.old ≤ vec_capacity text.new }
+{
+    let mut digits = [0; 2 * MAX_DATAGRAM];
+    let digits = &mut digits[..2 * octets.len()];
+    let _ = hex::encode_to_slice(octets, digits);
+    put(text, digits);
+}
+
+/// The pages of what is shown.
+fn show(alloc: Global, sign: &Sign) -> Result<Vec<u8>, AllocError>
+    ensures { IfOk result (λ text. text.items ≡ pages_text (shown_pages sign.now) ++ done) }
+{
+    let pages = shown_pages(alloc, sign)?;
+    let mut text = Vec::new(alloc);
+    match put_show(&mut text, pages.as_slice()) {
+        Ok(()) => Ok(text),
+        Err(_) => Err(AllocError),
+    }
+}
+
+/// The pages of what is shown, under the copy of the defaults that belongs to it.
+fn shown_pages(alloc: Global, sign: &Sign) -> Result<Vec<Page>, AllocError>
+    ensures { IfOk result (λ pages. pages.items ≡ shown_pages sign.now) }
+{
+    let shown = sign.shown();
+    if !shown.defaults.fits(sign.face()) {
+        return Ok(Vec::new(alloc));
+    }
+    match pages_with(alloc, sign.face(), &shown.defaults, shown.text.as_slice()) {
+        Ok(pages) => Ok(pages),
+        Err(PagesFault::Multi(_)) => Ok(Vec::new(alloc)),
+        Err(PagesFault::Memory) => Err(AllocError),
+    }
+}
+
+fn put_show(text: &mut Vec<u8>, pages: &[Page]) -> io::Result<()>
+    ensures { OnOk result (text.new.items ≡ text.old.items ++ (pages_text pages.now ++ done)) }
+{
+    put_pages(text, pages)?;
+    writeln!(text, "ok")
+}
+
+/// The line of what is shown.
+fn state(alloc: Global, sign: &Sign) -> Result<Vec<u8>, AllocError>
+    ensures { IfOk result (λ text. text.items ≡ shown_line sign.now.shown ++ done) }
+{
+    let mut text = Vec::new(alloc);
+    match put_state(alloc, &mut text, sign) {
+        Ok(()) => Ok(text),
+        Err(_) => Err(AllocError),
+    }
+}
+
+fn put_state(alloc: Global, text: &mut Vec<u8>, sign: &Sign) -> io::Result<()>
+    ensures { OnOk result (text.new.items ≡ text.old.items ++ (shown_line sign.now.shown ++ done)) }
+{
+    put_shown(alloc, text, sign.shown())?;
+    writeln!(text, "ok")
+}

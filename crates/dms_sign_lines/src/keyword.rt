@@ -1,0 +1,48 @@
+//! The words with which the lines to a live sign begin.
+
+ghost use Rattle.std.specs.Prelude.{◌≡◌};
+ghost use Rattle.dms_text.specs.Reading.{same_octets};
+
+/// The word with which a line begins.
+#[derive(Clone, Copy, Debug, PartialEq, Eq)]
+pub enum Keyword {
+    Datagram,
+    Tick,
+    PowerLost,
+    PowerBack,
+    Show,
+    State,
+}
+
+impl Keyword {
+    ghost use Rattle.std.specs.Prelude.{◌≡◌};
+    ghost use Rattle.dms_sign_lines.specs.SignReading.{keyword_of};
+
+    /// The keyword that a word is, if any.
+    #[tactic(auto, unfolding(crate::specs::SignReading::keyword_of))]
+    pub fn of(word: &[u8]) -> Option<Keyword>
+        ensures { result ≡ keyword_of word.now }
+    {
+        if is(word, b"datagram") {
+            Some(Keyword::Datagram)
+        } else if is(word, b"tick") {
+            Some(Keyword::Tick)
+        } else if is(word, b"power-lost") {
+            Some(Keyword::PowerLost)
+        } else if is(word, b"power-back") {
+            Some(Keyword::PowerBack)
+        } else if is(word, b"show") {
+            Some(Keyword::Show)
+        } else if is(word, b"state") {
+            Some(Keyword::State)
+        } else {
+            None
+        }
+    }
+}
+
+fn is(word: &[u8], keyword: &[u8]) -> bool
+    ensures { result ≡ same_octets word.now keyword.now }
+{
+    word == keyword
+}

@@ -1,0 +1,57 @@
+//! What a line asks of a live sign.
+
+ghost use Rattle.std.specs.Prelude.{◌≡◌, IfOk, option_map};
+ghost use Rattle.dms_replay.specs.EventReading.{alone};
+ghost use Rattle.dms_sign_lines.specs.SignReading.{call_of};
+ghost use Rattle.dms_sign_lines.specs.CallView.{call_model};
+
+use crate::keyword::Keyword;
+use dms_replay::fields::{last_number, last_octets};
+use dms_text::Words;
+use std::alloc::{AllocError, Global};
+
+/// What a line asks of a live sign.
+#[derive(Debug, Drop)]
+pub enum SignCall {
+    /// `datagram OCTETS`: the sign receives these octets.
+    Datagram(Vec<u8>),
+    /// `tick`: a second passes.
+    Tick,
+    /// `power-lost`: the power is lost.
+    PowerLost,
+    /// `power-back SECONDS`: the power is back after so many seconds.
+    PowerBack(u32),
+    /// `show`: the pages of what is shown are asked for.
+    Show,
+    /// `state`: the line of what is shown is asked for.
+    State,
+}
+
+/// The call that a line spells, or none. A line is its words with one space between two; a carriage return at its end belongs to the
+/// last word.
+#[tactic(auto, unfolding(crate::specs::SignReading::call_of))]
+pub fn call(alloc: Global, line: &[u8]) -> Result<Option<SignCall>, AllocError>
+    ensures { IfOk result (λ found. option_map call_model found ≡ call_of line.now) }
+{
+    let Some((word, words)) = Words::of(line).next_word() else {
+        return Ok(None);
+    };
+    let Some(keyword) = Keyword::of(word) else {
+        return Ok(None);
+    };
+    match keyword {
+        Keyword::Datagram => Ok(last_octets(alloc, words)?.map(SignCall::Datagram)),
+        Keyword::Tick => Ok(alone(words, SignCall::Tick)),
+        Keyword::PowerLost => Ok(alone(words, SignCall::PowerLost)),
+        Keyword::PowerBack => Ok(last_number(words).map(SignCall::PowerBack)),
+        Keyword::Show => Ok(alone(words, SignCall::Show)),
+        Keyword::State => Ok(alone(words, SignCall::State)),
+    }
+}
+
+/// The call, where no words are left.
+fn alone(words: Words<'_>, call: SignCall) -> Option<SignCall>
+    ensures { result ≡ alone call words.entry }
+{
+    if words.is_empty() { Some(call) } else { None }
+}
