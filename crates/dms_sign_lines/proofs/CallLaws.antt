@@ -1,16 +1,18 @@
--- The call of a line is the one that the line spells.
-use Rattle.std.proofs.Common.{◌≡◌, ◌↔◌, ℕ, ◌<◌, cond, List, [], ◌∷◌, length, Option, Some, None, option_map, refl, sym, ap, subst, ◌∙◌, arith, inl, inr}
+-- The call of a line is the one that the line spells, and the answer is the one of the call.
+use Rattle.std.proofs.Common.{◌≡◌, ℕ, ◌<◌, cond, List, [], ◌∷◌, length, Option, Some, None, option_map, refl, sym, ap, subst, ◌∙◌, arith, inl, inr}
 use Rattle.std.specs.Prelude.{codes, ◌⊎◌}
 use Rattle.std.proofs.lemmas.Bool.{cases_Bool}
 use Rattle.std.proofs.lemmas.Option.{same_Some}
 use Rattle.dms_text.specs.Words.{words_of}
 use Rattle.dms_text.specs.Reading.{same_octets, word_at}
 use Rattle.dms_text.proofs.WordLaws.{begun, goes_on, word_found, word_only}
+use Rattle.dms_sign.specs.State.{SignState}
 use Rattle.dms_replay.specs.EventReading.{alone}
 use Rattle.dms_replay.proofs.EventLaws.{alone_found, last_number_found, last_number_only, last_octets_found, last_octets_only, same_word, made_of}
 use Rattle.dms_sign_lines.specs.SignCall.{SignCall, datagram, tick, power_lost, power_back, show, state}
-use Rattle.dms_sign_lines.specs.SignLine.{SpellsCallWords, SpellsSignCall}
+use Rattle.dms_sign_lines.specs.SignLine.{SpellsCallWords, SpellsSignCall, SpellsNoSignCall}
 use Rattle.dms_sign_lines.specs.SignReading.{keyword_of, call_after, call_of}
+use Rattle.dms_sign_lines.specs.Answer.{answer_text, after_line, call_text, after_call, text_if, after_if, bad_line}
 use Rattle.dms_sign_lines.specs.declared.keyword.Keyword.{Keyword}
 use Rattle.dms_sign_lines.specs.declared.keyword.Keyword.TheVariants as key
 
@@ -127,5 +129,23 @@ call_only line state spelled = line_read key.State line [] spelled
 pub one_call : (line : List ℕ) (one other : SignCall) → SpellsSignCall one line → SpellsSignCall other line → one ≡ other
 one_call line one other this that = same_Some _ _ (sym (call_only line one this) ∙ call_only line other that)
 
-pub read_is_spelled : (line : List ℕ) (call : SignCall) → (call_of line ≡ Some call) ↔ SpellsSignCall call line
-read_is_spelled line call = (call_found line call, call_only line call)
+nothing : {A : Type 0} (found : Option A) → ((x : A) → found ≡ Some x → ⊥) → found ≡ None
+nothing None never = refl
+nothing (Some x) never = absurd (never x refl)
+
+none_read : (line : List ℕ) → SpellsNoSignCall line → call_of line ≡ None
+none_read line none = nothing (call_of line) (λ call e. none call (call_found line call e))
+
+-- ---- answers
+
+pub text_of_call : (s : SignState) (line : List ℕ) (call : SignCall) → SpellsSignCall call line → answer_text s line ≡ call_text s call
+text_of_call s line call spelled = ap (text_if s) (call_only line call spelled)
+
+pub after_the_call : (s : SignState) (line : List ℕ) (call : SignCall) → SpellsSignCall call line → after_line s line ≡ after_call s call
+after_the_call s line call spelled = ap (after_if s) (call_only line call spelled)
+
+pub text_of_bad_line : (s : SignState) (line : List ℕ) → SpellsNoSignCall line → answer_text s line ≡ bad_line
+text_of_bad_line s line none = ap (text_if s) (none_read line none)
+
+pub after_bad_line : (s : SignState) (line : List ℕ) → SpellsNoSignCall line → after_line s line ≡ s
+after_bad_line s line none = ap (after_if s) (none_read line none)

@@ -1,4 +1,5 @@
--- What a live sign answers to a line, and what it is afterwards (this profile). Each line of an answer ends in a newline.
+-- What a live sign answers to a line, and what it is afterwards (this profile). Each line of an answer ends in a
+-- newline.
 use Rattle.std.specs.Prelude.{ℕ, if◌then◌else◌, List, [], ◌++◌, codes, Option, Some, None, Result, Ok, Err}
 use Rattle.hex.specs.Hex.{encode_lower}
 use Rattle.dms_codes.specs.declared.codes.Order.{Order}
@@ -35,12 +36,12 @@ abbrev pub pages_or_none : Result (List DrawnPage) MultiFault → List DrawnPage
 pages_or_none (Ok pages) = pages
 pages_or_none (Err fault) = []
 
--- The pages of what is shown, under the copy of the defaults that belongs to it. What a sign shows has pages: the other cases never
--- come (`signs_show_good_texts` of laws).
+-- The pages of what is shown, under the copy of the defaults that belongs to it. What a sign shows has pages: the other
+-- cases never come (`signs_show_good_texts` of laws).
 abbrev pub shown_pages : SignState → List DrawnPage
 shown_pages s =
-    if fit s.config.face.fonts s.shown.defaults then pages_or_none (drawn_text (under s.config.face s.shown.defaults) s.shown.text)
-    else []
+    if fit s.config.face.fonts s.shown.defaults
+    then pages_or_none (drawn_text (under s.config.face s.shown.defaults) s.shown.text) else []
 
 -- ---- calls
 
@@ -65,8 +66,11 @@ after_call s state = s
 
 -- ---- lines
 
+abbrev pub bad_line : List ℕ
+bad_line = ended (codes "bad line")
+
 abbrev pub text_if : SignState → Option SignCall → List ℕ
-text_if s None = ended (codes "bad line")
+text_if s None = bad_line
 text_if s (Some call) = call_text s call
 
 abbrev pub after_if : SignState → Option SignCall → SignState

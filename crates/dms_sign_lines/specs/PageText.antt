@@ -8,15 +8,18 @@ use Rattle.dms_pages.specs.Drawn.{DrawnPage, cell_at}
 abbrev pub cell_text : Cell → List ℕ
 cell_text cell = if cell.lit then decimal cell.colour else codes "."
 
--- the cells of row y from the left, and a newline
+-- the cells of row y from the left
+abbrev pub cells_text : DrawnPage → ℕ → List ℕ
+cells_text page y = flat_map (λ x. cell_text (cell_at page x y)) (range_with_len 0 page.width)
+
 abbrev pub row_text : DrawnPage → ℕ → List ℕ
-row_text page y = flat_map (λ x. cell_text (cell_at page x y)) (range_with_len 0 page.width) ++ codes "\n"
+row_text page y = cells_text page y ++ codes "\n"
 
 -- the number of the page, its times in tenths of a second, and its background
 abbrev pub page_line : ℕ × DrawnPage → List ℕ
 page_line numbered =
-    codes "page " ++ decimal numbered.0 ++ codes " on " ++ decimal numbered.1.on ++ codes " off " ++ decimal numbered.1.off
-    ++ codes " back " ++ decimal numbered.1.background ++ codes "\n"
+    codes "page " ++ decimal numbered.0 ++ codes " on " ++ decimal numbered.1.on
+    ++ codes " off " ++ decimal numbered.1.off ++ codes " back " ++ decimal numbered.1.background ++ codes "\n"
 
 -- the rows of a page from the top
 abbrev pub rows_text : DrawnPage → List ℕ

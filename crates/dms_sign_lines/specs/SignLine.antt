@@ -17,3 +17,7 @@ SpellsCallWords state words = words ≡ codes "state" ∷ []
 -- the line of a call: its words, with one space between two
 abbrev pub SpellsSignCall : SignCall → List ℕ → Type 0
 SpellsSignCall call line = SpellsCallWords call (words_of line)
+
+-- the line spells no call
+abbrev pub SpellsNoSignCall : List ℕ → Type 0
+SpellsNoSignCall line = (call : SignCall) → SpellsSignCall call line → ⊥

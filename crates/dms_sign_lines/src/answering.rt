@@ -1,13 +1,15 @@
 //! The answer of a live sign to a line.
 
-ghost use Rattle.std.specs.Prelude.{◌≡◌, ◌++◌, ◌+◌, ◌*◌, ◌≤◌, codes, length, IfOk, OnOk, OnErr, vec_len, vec_capacity};
+ghost use Rattle.std.specs.Prelude.{◌≡◌, ◌++◌, ◌+◌, ◌*◌, ◌≤◌, codes, length, vec_len, vec_capacity};
+ghost use Rattle.std.specs.Prelude.{IfOk, OnOk, OnErr};
 ghost use Rattle.hex.specs.Hex.{encode_lower};
 ghost use Rattle.dms_sign.specs.Reply.{received};
 ghost use Rattle.dms_sign.specs.ReplyView.{sent, accepted_by};
 ghost use Rattle.dms_replay.specs.Report.{ended, shown_line};
 ghost use Rattle.dms_sign_lines.specs.PageText.{pages_text};
 ghost use Rattle.dms_sign_lines.specs.CallView.{call_model};
-ghost use Rattle.dms_sign_lines.specs.Answer.{receipt_line, received_line, shown_pages, done, call_text, after_call, answer_text, after_line};
+ghost use Rattle.dms_sign_lines.specs.Answer.{answer_text, after_line, call_text, after_call, done};
+ghost use Rattle.dms_sign_lines.specs.Answer.{receipt_line, received_line, shown_pages};
 
 use crate::page_text::put_pages;
 use crate::sign_call::{SignCall, call};
@@ -20,12 +22,24 @@ use std::alloc::{AllocError, Global};
 use std::io;
 use std::io::Write;
 
-/// The octets of the longest answer to a datagram: `accepted`, a code of twelve octets, those of a reply, two spaces and a newline.
+/// The octets of the longest answer to a datagram: `accepted`, a code of twelve octets, those of a reply, two spaces
+/// and a newline.
 const LONGEST_RECEIPT: usize = 8 + 2 * 12 + 2 * MAX_DATAGRAM + 3;
 
-/// The answer to a line, which is given without its newline; each line of the answer ends in one. A line that spells no call is answered
-/// with `bad line`, and changes nothing. Where memory is wanting, nothing changes either: what an answer needs is had before the sign is
-/// called.
+/// The answer to a line, which is given without its newline; each line of the answer ends in one. A line is its words
+/// with one space between two, so that a carriage return belongs to the last word:
+///
+/// ```text
+/// datagram OCTETS      the sign receives it: `reply OCTETS`, `accepted CODE OCTETS` or `dropped`
+/// tick                 a second passes: `ok`
+/// power-lost           the power is lost: `ok`
+/// power-back SECONDS   the power is back after so many seconds, 0 to 4294967295: `ok`
+/// show                 the pages of what is shown, and `ok`
+/// state                the line of what is shown, as a report has it, and `ok`
+/// ```
+///
+/// Any other line is answered `bad line`, and changes nothing. Octets are pairs of hexadecimal digits, or `-` for none.
+/// Where memory is wanting nothing changes either: what an answer needs is had before the sign is called.
 pub fn answer(alloc: Global, sign: &mut Sign, line: &[u8]) -> Result<Vec<u8>, AllocError>
     ensures text { IfOk result (λ text. text.items ≡ answer_text sign.old line.now) }
     ensures after { OnOk result (sign.new ≡ after_line sign.old line.now) }
@@ -38,7 +52,7 @@ pub fn answer(alloc: Global, sign: &mut Sign, line: &[u8]) -> Result<Vec<u8>, Al
 }
 
 /// Carries out a call, and gives its answer.
-pub fn carry_out(alloc: Global, sign: &mut Sign, call: &SignCall) -> Result<Vec<u8>, AllocError>
+fn carry_out(alloc: Global, sign: &mut Sign, call: &SignCall) -> Result<Vec<u8>, AllocError>
     ensures text { IfOk result (λ text. text.items ≡ call_text sign.old (call_model call.now)) }
     ensures after { OnOk result (sign.new ≡ after_call sign.old (call_model call.now)) }
     ensures memory { OnErr result (sign.new ≡ sign.old) }

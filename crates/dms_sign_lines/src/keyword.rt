@@ -5,7 +5,7 @@ ghost use Rattle.dms_text.specs.Reading.{same_octets};
 
 /// The word with which a line begins.
 #[derive(Clone, Copy, Debug, PartialEq, Eq)]
-pub enum Keyword {
+pub(crate) enum Keyword {
     Datagram,
     Tick,
     PowerLost,
@@ -20,7 +20,7 @@ impl Keyword {
 
     /// The keyword that a word is, if any.
     #[tactic(auto, unfolding(crate::specs::SignReading::keyword_of))]
-    pub fn of(word: &[u8]) -> Option<Keyword>
+    pub(crate) fn of(word: &[u8]) -> Option<Keyword>
         ensures { result ≡ keyword_of word.now }
     {
         if is(word, b"datagram") {

@@ -1,28 +1,41 @@
 //! Laws on the lines to a live sign, each the contract of a function that does nothing.
 
-ghost use Rattle.std.specs.Prelude.{◌≡◌, ◌↔◌, ℕ, List, IsTrue, Some, Ok};
+ghost use Rattle.std.specs.Prelude.{◌≡◌, ℕ, List, IsTrue, Ok};
 ghost use Rattle.dms_face.specs.Face.{is_face};
 ghost use Rattle.dms_face.specs.Layout.{under};
 ghost use Rattle.dms_pages.specs.Drawn.{drawn_text};
 ghost use Rattle.dms_table.specs.Rows.{TableModel};
 ghost use Rattle.dms_sign.specs.State.{ConfigModel, SignState, start};
 ghost use Rattle.dms_sign_lines.specs.SignCall.{SignCall};
-ghost use Rattle.dms_sign_lines.specs.SignLine.{SpellsSignCall};
-ghost use Rattle.dms_sign_lines.specs.SignReading.{call_of};
-ghost use Rattle.dms_sign_lines.specs.Answer.{shown_pages, after_line};
+ghost use Rattle.dms_sign_lines.specs.SignLine.{SpellsSignCall, SpellsNoSignCall};
+ghost use Rattle.dms_sign_lines.specs.Answer.{answer_text, after_line, call_text, after_call, bad_line, shown_pages};
 ghost use Rattle.dms_sign_lines.specs.GoodTexts.{ShowsGoodTexts};
 
-/// What is read of a line is what it spells, and a line spells at most one call.
-#[tactic(auto, using(crate::proofs::CallLaws::read_is_spelled, crate::proofs::CallLaws::one_call))]
-pub fn lines_spell_their_calls()
-    ensures read { (line : List ℕ) (call : SignCall) → (call_of line ≡ Some call) ↔ SpellsSignCall call line }
-    ensures one { (line : List ℕ) (call other : SignCall) → SpellsSignCall call line → SpellsSignCall other line → call ≡ other }
+/// A line spells at most one call.
+#[tactic(auto, using(crate::proofs::CallLaws::one_call))]
+pub fn a_line_spells_at_most_one_call()
+    ensures { (line : List ℕ) (call other : SignCall) → SpellsSignCall call line → SpellsSignCall other line
+        → call ≡ other }
 {}
 
-/// What a sign shows can be drawn: as the sign is made, and after every line. Its pages are then those that `show` gives.
+/// The answer to a line, and the sign after it, are those of the call that the line spells; a line that spells none is a
+/// bad line, and changes nothing.
+pub fn answers_are_those_of_calls()
+    ensures text { (s : SignState) (line : List ℕ) (call : SignCall) → SpellsSignCall call line
+        → answer_text s line ≡ call_text s call }
+    ensures after { (s : SignState) (line : List ℕ) (call : SignCall) → SpellsSignCall call line
+        → after_line s line ≡ after_call s call }
+    ensures bad_line { (s : SignState) (line : List ℕ) → SpellsNoSignCall line → answer_text s line ≡ bad_line }
+    ensures unchanged { (s : SignState) (line : List ℕ) → SpellsNoSignCall line → after_line s line ≡ s }
+{}
+
+/// What a sign shows can be drawn: as the sign is made, and after every line. Its pages are then those that `show`
+/// gives.
 #[tactic(auto, using(crate::proofs::GoodTexts::good_is_drawn))]
 pub fn signs_show_good_texts()
-    ensures made { (config : ConfigModel) (table : TableModel) → IsTrue (is_face config.face) → ShowsGoodTexts (start config table) }
+    ensures made { (config : ConfigModel) (table : TableModel) → IsTrue (is_face config.face)
+        → ShowsGoodTexts (start config table) }
     ensures line { (s : SignState) (line : List ℕ) → ShowsGoodTexts s → ShowsGoodTexts (after_line s line) }
-    ensures drawn { (s : SignState) → ShowsGoodTexts s → drawn_text (under s.config.face s.shown.defaults) s.shown.text ≡ Ok (shown_pages s) }
+    ensures drawn { (s : SignState) → ShowsGoodTexts s
+        → drawn_text (under s.config.face s.shown.defaults) s.shown.text ≡ Ok (shown_pages s) }
 {}

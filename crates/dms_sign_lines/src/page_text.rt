@@ -1,17 +1,17 @@
 //! Pages as text: a line of a page's times and its background, and a line for each row of the matrix.
 
-ghost use Rattle.std.specs.Prelude.{◌≡◌, ◌++◌, ◌<◌, OnOk, codes, flat_map};
-ghost use Rattle.std.specs.List.{range_with_len};
-ghost use Rattle.dms_pages.specs.Drawn.{cell_at};
-ghost use Rattle.dms_sign_lines.specs.PageText.{cell_text, row_text, page_line, rows_text, page_text, pages_text};
+ghost use Rattle.std.specs.Prelude.{◌≡◌, ◌++◌, ◌<◌, OnOk};
+ghost use Rattle.dms_sign_lines.specs.PageText.{cell_text, cells_text, row_text, page_line, rows_text, page_text, pages_text};
 
 use dms_face::Cell;
 use dms_pages::Page;
 use std::io;
 use std::io::Write;
 
-/// Appends pages, counted from 1: a line of each page's times, in tenths of a second, and its background, and a line for each row of
-/// the matrix, a dot for each cell that is unlit, else the digit of its colour.
+/// Appends pages, counted from 1: a line `page NUMBER on TENTHS off TENTHS back COLOUR` that tells a page's times, in
+/// tenths of a second, and its background, and a line for each row of the matrix, from the top, with a dot for each
+/// cell that is unlit, else the digit of its colour. Each line ends in a newline. `Err` comes only where memory is
+/// wanting; a prefix may have been appended then.
 pub fn put_pages(text: &mut Vec<u8>, pages: &[Page]) -> io::Result<()>
     ensures { OnOk result (text.new.items ≡ text.old.items ++ pages_text pages.now) }
 {
@@ -56,7 +56,7 @@ fn put_row(text: &mut Vec<u8>, page: &Page, y: u16) -> io::Result<()>
 /// The cells of a row.
 fn put_cells(text: &mut Vec<u8>, page: &Page, y: u16) -> io::Result<()>
     requires { y < page.now.height }
-    ensures { OnOk result (text.new.items ≡ text.old.items ++ flat_map (λ x. cell_text (cell_at page.now x y)) (range_with_len 0 page.now.width)) }
+    ensures { OnOk result (text.new.items ≡ text.old.items ++ cells_text page.now y) }
 {
     for x in 0..page.width() {
         put_cell(text, &page.cell(x, y))?;

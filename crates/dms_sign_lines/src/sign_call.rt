@@ -12,7 +12,7 @@ use std::alloc::{AllocError, Global};
 
 /// What a line asks of a live sign.
 #[derive(Debug, Drop)]
-pub enum SignCall {
+pub(crate) enum SignCall {
     /// `datagram OCTETS`: the sign receives these octets.
     Datagram(Vec<u8>),
     /// `tick`: a second passes.
@@ -27,10 +27,9 @@ pub enum SignCall {
     State,
 }
 
-/// The call that a line spells, or none. A line is its words with one space between two; a carriage return at its end belongs to the
-/// last word.
+/// The call that a line spells, or none.
 #[tactic(auto, unfolding(crate::specs::SignReading::call_of))]
-pub fn call(alloc: Global, line: &[u8]) -> Result<Option<SignCall>, AllocError>
+pub(crate) fn call(alloc: Global, line: &[u8]) -> Result<Option<SignCall>, AllocError>
     ensures { IfOk result (λ found. option_map call_model found ≡ call_of line.now) }
 {
     let Some((word, words)) = Words::of(line).next_word() else {
