@@ -347,7 +347,22 @@ fn after_long_sub_identifier(count: usize, octets: &[u8]) -> Option<&[u8]>
 }
 
 /// The first sub-identifier of the octets, and what follows it; none where no octet is below 128.
+#[inline(always)]
 fn first_sub_identifier(octets: &[u8]) -> Option<(u32, &[u8])>
+    requires { IsTrue (fits_after 0 octets.now) }
+    ensures some { IfSome result (λ x. sub_identifiers_after 0 octets.now ≡ x.0 ∷ sub_identifiers_after 0 x.1.now) }
+    ensures fits { IfSome result (λ x. IsTrue (fits_after 0 x.1.now)) }
+    ensures shorter { IfSome result (λ x. length x.1.now < length octets.now) }
+    ensures none { IfNone result (sub_identifiers_after 0 octets.now ≡ []) }
+{
+    match octets {
+        [octet, rest @ ..] if *octet < 128 => Some((u32::from(*octet), rest)),
+        _ => first_long_sub_identifier(octets),
+    }
+}
+
+/// The same, whatever the size of the sub-identifier.
+fn first_long_sub_identifier(octets: &[u8]) -> Option<(u32, &[u8])>
     requires { IsTrue (fits_after 0 octets.now) }
     ensures some { IfSome result (λ x. sub_identifiers_after 0 octets.now ≡ x.0 ∷ sub_identifiers_after 0 x.1.now) }
     ensures fits { IfSome result (λ x. IsTrue (fits_after 0 x.1.now)) }

@@ -1,7 +1,6 @@
 -- The instance at each place of the list of instances is the one that is computed; a name lies where the search by halving says.
-use Rattle.std.proofs.Common.{◌≡◌, ◌⊎◌, inl, inr, ℕ, zero, suc, ◌+◌, ◌-◌, ◌*◌, ◌/◌, ◌%◌, ◌<◌, ◌≤◌, ◌==◌, Bool, true, false, cond, List, [], ◌∷◌, ◌++◌, map, length, flat_map, find, Option, Some, None, slice_get, get_or, refl, sym, ap, subst, ◌∙◌, arith, ltb, lt-ltb, ltb-true, eqb, length-append}
-use Rattle.std.specs.List.{range_with_len, position_or_len}
-use Rattle.std.specs.Cmp.Lexicographic.{pointwise, bytes_decides}
+use Rattle.std.proofs.Common.{◌≡◌, ◌⊎◌, inl, inr, ℕ, zero, suc, ◌+◌, ◌-◌, ◌*◌, ◌/◌, ◌%◌, ◌<◌, ◌≤◌, ◌==◌, Bool, true, false, cond, List, [], ◌∷◌, ◌++◌, map, length, flat_map, find, Some, None, slice_get, get_or, refl, sym, ap, subst, ◌∙◌, arith, ltb, lt-ltb, ltb-true, length-append}
+use Rattle.std.specs.Cmp.Lexicographic.{bytes_decides}
 use Rattle.std.proofs.Math.Nat.{div-lt_iff_lt-mul, mod-lt, mod-eq-sub-mul-div, mul-div-le}
 use Rattle.std.proofs.lemmas.Bool.{and_parts, both_ways, cond-true, cond-false, false_from_ne_true, eq-eqb, ne_eqb}
 use Rattle.std.proofs.lemmas.List.{get_or_append_left, get_or-append_right, get_or-map, length-map}
@@ -11,16 +10,15 @@ use Rattle.std.proofs.lemmas.List.Sums.{position_or_len_is}
 use Rattle.dms_codes.specs.declared.row_id.RowId.{RowId}
 use Rattle.dms_objects.specs.declared.column.Column.{Column}
 use Rattle.dms_objects.specs.declared.column.Column.TheVariants.{MemoryType}
-use Rattle.dms_objects.specs.declared.scalar.Scalar.{Scalar}
 use Rattle.dms_objects.specs.declared.scalar.Scalar.TheVariants.{SignHeightPixels}
 use Rattle.dms_objects.specs.declared.instance.Instance.{Instance}
 use Rattle.dms_objects.specs.declared.instance.Instance.TheVariants.{The, Cell}
 use Rattle.dms_objects.specs.Names.{name_of}
 use Rattle.dms_table.specs.Rows.{TableModel}
 use Rattle.dms_instances.specs.declared.counts.Counts.{Counts}
-use Rattle.dms_instances.specs.Objects.{before_table, after_table, columns, memories, rows_in, row_ids, cells, instances, is_before, has_name, comes_after, instance_named, next_instance, IsInstance}
+use Rattle.dms_instances.specs.Objects.{before_table, after_table, columns, rows_in, row_ids, cells, instances, is_before, has_name, comes_after, instance_named, next_instance, IsInstance}
 use Rattle.dms_instances.specs.Places.{HasCounts, row_total, place_total, row_at, instance_at, listed, IsBetween}
-use Rattle.dms_instances.proofs.InOrder.{rises, before_trans, not_before_itself, above, instances_rise, named_back}
+use Rattle.dms_instances.proofs.InOrder.{rises, before_trans, not_before_itself, instances_rise, named_back}
 
 -- two numbers are in this order or not
 less_or_not : (a b : ℕ) → (a < b) ⊎ (b ≤ a)

@@ -12,6 +12,8 @@ use Rattle.dms_objects.specs.declared.scalar.Scalar.TheVariants.{SignHeightPixel
 use Rattle.dms_objects.specs.declared.instance.Instance.{Instance}
 use Rattle.dms_objects.specs.declared.instance.Instance.TheVariants.{The, Cell}
 use Rattle.dms_instances.specs.Objects.{before_table, after_table, columns, memories, rows_in, row_ids, cells, instances, IsInstance}
+use Rattle.dms_instances.specs.declared.counts.Counts.{Counts}
+use Rattle.dms_instances.specs.Places.{HasCounts, last_number}
 use Rattle.dms_instances.proofs.Members.{In, some_is, in_left, in_right, in_either, in_map, of_map, in_flat, of_flat, in_range, of_range}
 
 -- ---- rows
@@ -273,3 +275,29 @@ cell_read table shown column row = (there_read, read_there)
     read_there read =
         let held = read_held table shown row read in
         cell_there table column row (in_flat rows_in (memories table) held.1.0 held.0 row held.1.1 (rows_in_in held.0 row held.2))
+
+-- ---- by the numbers of rows
+
+held_by : (two three four five seven : Bool) (table : TableModel) (n : Counts) (row : RowId) → HasCounts table n
+    → (row.memory == 2) ≡ two → (row.memory == 3) ≡ three → (row.memory == 4) ≡ four → (row.memory == 5) ≡ five → (row.memory == 7) ≡ seven
+    → 1 ≤ row.number → row.number ≤ cond two n.permanent (cond three n.changeable (cond four n.volatile (cond five 1 (cond seven 255 0)))) → Held table row
+held_by true c v b s table n row has is2 is3 is4 is5 is7 from to =
+    ((2, length table.permanent), (0, refl), record { type_is = eqb-true row.memory 2 is2; from_1 = from; to = omega (arith, to, has.permanent) })
+held_by false true v b s table n row has is2 is3 is4 is5 is7 from to =
+    ((3, length table.changeable), (1, refl), record { type_is = eqb-true row.memory 3 is3; from_1 = from; to = omega (arith, to, has.changeable) })
+held_by false false true b s table n row has is2 is3 is4 is5 is7 from to =
+    ((4, length table.volatile), (2, refl), record { type_is = eqb-true row.memory 4 is4; from_1 = from; to = omega (arith, to, has.volatile) })
+held_by false false false true s table n row has is2 is3 is4 is5 is7 from to =
+    ((5, 1), (3, refl), record { type_is = eqb-true row.memory 5 is5; from_1 = from; to = to })
+held_by false false false false true table n row has is2 is3 is4 is5 is7 from to =
+    ((7, 255), (4, refl), record { type_is = eqb-true row.memory 7 is7; from_1 = from; to = to })
+held_by false false false false false table n row has is2 is3 is4 is5 is7 from to = absurd (omega (arith, from, to))
+
+-- a row whose number is one of its type of memory has an instance in each column
+pub counted_there : (table : TableModel) (n : Counts) (column : Column) (row : RowId) → HasCounts table n → 1 ≤ row.number
+    → row.number ≤ last_number n row.memory → IsInstance table (Cell column row)
+counted_there table n column row has from to =
+    let held =
+    held_by (row.memory == 2) (row.memory == 3) (row.memory == 4) (row.memory == 5) (row.memory == 7) table n row has refl refl refl refl refl from to
+    in
+    cell_there table column row (in_flat rows_in (memories table) held.1.0 held.0 row held.1.1 (rows_in_in held.0 row held.2))

@@ -2,6 +2,7 @@
 use Rattle.std.specs.Prelude.{◌≡◌, ◌<◌, ◌≤◌, true, false, length, ℕ, ◌+◌, ◌-◌, ◌*◌, ◌/◌, ◌%◌, ◌==◌, if◌then◌else◌, nat_lt, List}
 use Rattle.std.specs.List.{slice_index_or}
 use Rattle.dms_codes.specs.declared.row_id.RowId.{RowId}
+use Rattle.dms_codes.specs.Memory.{permanent_memory, changeable_memory, volatile_memory, current_buffer, blank_memory}
 use Rattle.dms_objects.specs.declared.column.Column.TheVariants.{MemoryType}
 use Rattle.dms_objects.specs.declared.scalar.Scalar.TheVariants.{SignHeightPixels}
 use Rattle.dms_objects.specs.declared.instance.Instance.{Instance}
@@ -15,6 +16,16 @@ pub record HasCounts (table : TableModel) (n : Counts) : Type 0 where
   pub permanent : length table.permanent ≡ n.permanent
   pub changeable : length table.changeable ≡ n.changeable
   pub volatile : length table.volatile ≡ n.volatile
+
+-- the last number of a row of a type of memory, or 0 where it has no row
+abbrev pub last_number : Counts → ℕ → ℕ
+last_number n memory =
+    if memory == permanent_memory then n.permanent
+    else if memory == changeable_memory then n.changeable
+    else if memory == volatile_memory then n.volatile
+    else if memory == current_buffer then 1
+    else if memory == blank_memory then 255
+    else 0
 
 -- the rows of a column: the stored ones, the current buffer and 255 blank messages
 abbrev pub row_total : Counts → ℕ

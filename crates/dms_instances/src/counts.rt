@@ -3,8 +3,8 @@
 ghost use Rattle.std.specs.Prelude.{◌≡◌, ◌≤◌, ◌<◌, ℕ, true, length, IfSome};
 ghost use Rattle.dms_table.specs.Rows.{TableModel};
 ghost use Rattle.dms_objects.specs.Names.{name_of};
-ghost use Rattle.dms_instances.specs.Objects.{has_name, comes_after, instance_named, next_instance};
-ghost use Rattle.dms_instances.specs.Places.{HasCounts, row_total, place_total, row_at, instance_at, IsBetween};
+ghost use Rattle.dms_instances.specs.Objects.{has_name, comes_after, instance_named, next_instance, IsInstance};
+ghost use Rattle.dms_instances.specs.Places.{HasCounts, last_number, row_total, place_total, row_at, instance_at, IsBetween};
 
 use crate::guess;
 use dms_ber::{Oid, oid_cmp};
@@ -14,7 +14,7 @@ use dms_table::Table;
 use std::cmp::Ordering;
 
 /// The objects before dmsMessageTable.
-const BEFORE_TABLE: [Scalar; 19] = [
+pub(crate) const BEFORE_TABLE: [Scalar; 19] = [
     Scalar::SignHeightPixels,
     Scalar::SignWidthPixels,
     Scalar::DefaultBackgroundColor,
@@ -37,7 +37,7 @@ const BEFORE_TABLE: [Scalar; 19] = [
 ];
 
 /// The objects after dmsMessageTable.
-const AFTER_TABLE: [Scalar; 17] = [
+pub(crate) const AFTER_TABLE: [Scalar; 17] = [
     Scalar::ValidateMessageError,
     Scalar::ActivateMessage,
     Scalar::MessageTimeRemaining,
@@ -58,7 +58,7 @@ const AFTER_TABLE: [Scalar; 17] = [
 ];
 
 /// The columns of dmsMessageTable.
-const COLUMNS: [Column; 9] = [
+pub(crate) const COLUMNS: [Column; 9] = [
     Column::MemoryType,
     Column::Number,
     Column::MultiString,
@@ -100,8 +100,8 @@ impl Counts {
     pub fn named(&self, name: &Oid<'_>) -> Option<Instance>
         ensures { (table : TableModel) → HasCounts table self.now → result ≡ instance_named table name.now }
     {
-        if let Some(place) = self.guessed(name) {
-            return Some(self.instance_at(place));
+        if let Some(instance) = self.spelled(name) {
+            return Some(instance);
         }
         let place = self.place_after(name);
         if place == 0 {
@@ -112,6 +112,43 @@ impl Counts {
             Some(last)
         } else {
             None
+        }
+    }
+
+    /// The instance of this name, where its octets tell it at once.
+    fn spelled(&self, name: &Oid<'_>) -> Option<Instance>
+        ensures there { IfSome result (λ i. (table : TableModel) → HasCounts table self.now → IsInstance table i) }
+        ensures named { IfSome result (λ i. has_name name.now i ≡ true) }
+    {
+        let instance = guess::instance(name.content())?;
+        if self.has(instance) && has_name(name, instance) {
+            Some(instance)
+        } else {
+            None
+        }
+    }
+
+    /// Whether a table of as many rows has the instance.
+    fn has(&self, instance: Instance) -> bool
+        ensures { result ≡ true → (table : TableModel) → HasCounts table self.now → IsInstance table instance }
+    {
+        match instance {
+            Instance::The(_) => true,
+            Instance::Cell(_, row) => 1 <= row.number && row.number <= self.last_number(row.memory),
+        }
+    }
+
+    /// The last number of a row of a type of memory, or 0 where it has no row.
+    fn last_number(&self, kind: u8) -> u16
+        ensures { result ≡ last_number self.now kind }
+    {
+        match kind {
+            memory::PERMANENT => u16::from(self.permanent),
+            memory::CHANGEABLE => u16::from(self.changeable),
+            memory::VOLATILE => u16::from(self.volatile),
+            memory::CURRENT_BUFFER => 1,
+            memory::BLANK => 255,
+            _ => 0,
         }
     }
 

@@ -1,4 +1,5 @@
 pub mod GoodRows
+pub mod KnownTexts
 pub mod Stands
 pub mod Settlement
 pub mod OneRow

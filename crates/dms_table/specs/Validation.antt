@@ -7,7 +7,7 @@ use Rattle.dms_codes.specs.declared.status.Status.TheVariants.{Valid, Validating
 use Rattle.dms_codes.specs.declared.row_id.RowId.{RowId}
 use Rattle.dms_table.specs.declared.row.Services.{Services}
 use Rattle.dms_table.specs.declared.validation.Verdict.{Verdict}
-use Rattle.dms_table.specs.Rows.{RowModel, TableModel, row_is_validating, row_at}
+use Rattle.dms_table.specs.Rows.{RowModel, TableModel, row_is_validating, row_at, rows_of, numbered}
 
 -- the verdict on a text: 2 that nothing is wrong, 5 that it does not fit
 abbrev pub text_verdict : Option MultiFault → Verdict
@@ -62,3 +62,8 @@ pub data CameToBeValid (services : Services) (face : FaceModel) (before : Option
 abbrev pub ValidRowsAreGood : FaceModel → TableModel → TableModel → Type 0
 ValidRowsAreGood face old new =
     (id : RowId) (row : RowModel) → row_at new id ≡ Some row → row.status ≡ Valid → CameToBeValid old.services face (row_at old id) row
+
+-- the text of each row that is valid is good on this face
+abbrev pub AreValidTextsGood : FaceModel → TableModel → Type 0
+AreValidTextsGood face table =
+    (memory number : ℕ) (row : RowModel) → numbered (rows_of table memory) number ≡ Some row → row.status ≡ Valid → IsGood face row.text

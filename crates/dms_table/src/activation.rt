@@ -1,7 +1,11 @@
 //! What a code activates, and why one is refused.
 
-ghost use Rattle.std.specs.Prelude.{◌≡◌, IsTrue, IfSome, option_map};
+ghost use Rattle.std.specs.Prelude.{◌≡◌, true, None, IsTrue, IfSome, option_map};
 ghost use Rattle.dms_face.specs.Face.{fit};
+ghost use Rattle.dms_face.specs.Fit.{fault_of};
+ghost use Rattle.dms_codes.specs.Memory.{current_buffer};
+ghost use Rattle.dms_codes.specs.Status.{is_valid};
+ghost use Rattle.dms_table.specs.Validation.{AreValidTextsGood};
 ghost use Rattle.dms_face.specs.Layout.{under};
 ghost use Rattle.dms_table.specs.RowsView.{reading_of, IsShort};
 ghost use Rattle.dms_table.specs.Activation.{is_memory, named, activation_error, unless_refused, decided};
@@ -81,13 +85,44 @@ impl Table {
         requires { IsTrue (fit face.now.fonts defaults.now) }
         ensures { result ≡ decided face.now defaults.now self.now shown.now code.now }
     {
+        self.decide_where(false, face, defaults, code, shown)
+    }
+
+    /// What `decide` answers, where the text of each valid row is known to be good under these defaults: no text is checked again.
+    pub fn decide_known(
+        &self,
+        face: &Face,
+        defaults: &Defaults,
+        code: &Activation,
+        shown: &Shown,
+    ) -> Result<Shown, Cause>
+        requires fit { IsTrue (fit face.now.fonts defaults.now) }
+        requires good { AreValidTextsGood (under face.now defaults.now) self.now }
+        ensures { result ≡ decided face.now defaults.now self.now shown.now code.now }
+    {
+        self.decide_where(true, face, defaults, code, shown)
+    }
+
+    /// What a code puts up, or why it is refused; texts that are known to be good are not checked.
+    fn decide_where(
+        &self,
+        known: bool,
+        face: &Face,
+        defaults: &Defaults,
+        code: &Activation,
+        shown: &Shown,
+    ) -> Result<Shown, Cause>
+        requires fit { IsTrue (fit face.now.fonts defaults.now) }
+        requires good { known ≡ true → AreValidTextsGood (under face.now defaults.now) self.now }
+        ensures { result ≡ decided face.now defaults.now self.now shown.now code.now }
+    {
         if !is_memory(code.id.memory) {
             return Err(Cause::MemoryType);
         }
         match self.named(shown, &code.id) {
             None => Err(Cause::Number),
             Some(row) => {
-                judge(face, defaults, code, shown, &row)?;
+                judge(known, face, defaults, code, shown, &row)?;
                 Ok(shown.after(code, &row, defaults))
             }
         }
@@ -125,15 +160,18 @@ fn is_memory(kind: u8) -> bool
     )
 }
 
-/// Refuses a code of this row for the first cause that there is.
+/// Refuses a code of this row for the first cause that there is; a text that is known to be good is not checked.
 fn judge(
+    known: bool,
     face: &Face,
     defaults: &Defaults,
     code: &Activation,
     shown: &Shown,
     row: &RowView<'_>,
 ) -> Result<(), Cause>
-    requires { IsTrue (fit face.now.fonts defaults.now) }
+    requires fit { IsTrue (fit face.now.fonts defaults.now) }
+    requires good { known ≡ true → is_valid row.now.status ≡ true → (code.now.id.memory ≡ current_buffer → ⊥)
+        → fault_of (under face.now defaults.now) row.now.text.now ≡ None }
     ensures { result ≡ unless_refused tt (activation_error (under face.now defaults.now) shown.now code.now (reading_of row.now)) }
 {
     if row.status != Status::Valid {
@@ -146,6 +184,9 @@ fn judge(
         return Err(Cause::Priority);
     }
     if code.id.memory == memory::CURRENT_BUFFER {
+        return Ok(());
+    }
+    if known {
         return Ok(());
     }
     match check_with(face, defaults, row.text) {

@@ -266,10 +266,18 @@ impl BindingOctets {
         ensures { result ≡ octets_of_bindings binds.entry }
     {
         let mut octets = BindingOctets::new();
+        octets.fill(binds);
+        octets
+    }
+
+    /// The same, where no binding was pushed: the octets stay where they are.
+    pub(crate) fn fill(&mut self, binds: Binds<'_>)
+        requires { self.old ≡ octets_of_bindings [] }
+        ensures { self.new ≡ octets_of_bindings binds.entry }
+    {
         let mut rest = binds;
         while let Some(binding) = rest.next() {
-            octets.push(&binding);
+            self.push(&binding);
         }
-        octets
     }
 }

@@ -332,7 +332,8 @@ pub fn write_response(
 ) -> Result<(), TooBig>
     ensures { IsWritten result out.new.items (canonical (response_to (snmp_message message.now) (error_status_number status) index)) }
 {
-    let octets = BindingOctets::of(message.binds.again());
+    let mut octets = BindingOctets::new();
+    octets.fill(message.binds.again());
     write_around(&message.response(status, index), &octets, out)
 }
 

@@ -6,4 +6,4 @@ use Rattle.dms_wire.proofs.message.write_response.Goals as goal
 pub returns : goal.returns
 returns c =
     subst (λ m. IsWritten c.write_around.result c.write_around.new.out.items (canonical m)) (c.response.ensures c.args.message.now.binds)
-    (c.write_around.ensures c.args.message.now.binds (c.of-octets.ensures ∙ ap octets_of_bindings c.again.ensures))
+    (c.write_around.ensures c.args.message.now.binds (c.fill.ensures ∙ ap octets_of_bindings c.again.ensures))

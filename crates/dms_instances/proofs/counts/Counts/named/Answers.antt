@@ -1,13 +1,16 @@
-use Rattle.std.proofs.Common.{◌≡◌, true, false, Some, None, ap, ◌∙◌, ◌-◌, ◌+◌, sym, subst, arith}
-use Rattle.dms_instances.specs.Objects.{has_name}
+use Rattle.std.proofs.Common.{◌≡◌, true, false, Some, ap, ◌∙◌, ◌-◌, ◌+◌, sym, subst, arith}
+use Rattle.std.specs.Cmp.Lexicographic.{bytes_decides}
+use Rattle.dms_objects.specs.Names.{name_of}
+use Rattle.dms_instances.specs.Objects.{has_name, instance_named}
 use Rattle.dms_instances.specs.Places.{instance_at, IsBetween}
+use Rattle.dms_instances.proofs.InOrder.{named_back}
 use Rattle.dms_instances.proofs.Places.{named_found, last_none, none_before_all}
 use Rattle.dms_instances.proofs.counts.Counts.named.Goals as goal
 
 pub returns-in-Some : goal.returns-in-Some
 returns-in-Some c = λ table has.
-    ap Some c.instance_at.ensures
-    ∙ named_found table c.args.self.now c.args.name.now c.in-Some.place has c.in-Some.ensures.within c.in-Some.ensures.named
+    sym (ap (instance_named table) (sym ((bytes_decides (name_of c.in-Some.instance) c.args.name.now).0 c.in-Some.ensures.named))
+    ∙ named_back table c.in-Some.instance (c.in-Some.ensures.there table has))
 
 pub returns-then-place-eq0 : goal.returns-then-place-eq0
 returns-then-place-eq0 c = λ table has.

@@ -1,7 +1,7 @@
 use Rattle.std.proofs.Common.{◌≡◌, ◌+◌, ◌-◌, ◌/◌, true, false, sym, subst, arith}
 use Rattle.dms_instances.specs.Objects.{comes_after}
 use Rattle.dms_instances.specs.Places.{instance_at}
-use Rattle.dms_instances.proofs.Places.{IsSearching, searching_starts, searching_lower, searching_raise, searching_ends}
+use Rattle.dms_instances.proofs.Places.{IsSearching, searching_starts, searching_lower, searching_raise}
 use Rattle.dms_instances.proofs.counts.Counts.place_after.Goals as goal
 
 pub loop-low-init : goal.loop-low-init

@@ -1,7 +1,7 @@
 use Rattle.std.proofs.Common.{◌≡◌, ◌≤◌, true, length}
 use Rattle.dms_ber.specs.NameReading.{sub_identifiers_after}
 use Rattle.dms_ber.specs.NameWalk.{fits_after}
-use Rattle.dms_ber.proofs.object_identifier.first_sub_identifier.Given as goal
+use Rattle.dms_ber.proofs.object_identifier.first_long_sub_identifier.Given as goal
 
 abbrev pub invariant-loop-rest : goal.invariant-loop-rest
 invariant-loop-rest l = record {
