@@ -56,11 +56,9 @@ def centre_answer(world, words):
     """The lines that answer a line to a centre."""
     centre, keyword = world.centre, words[0].decode("latin-1")
     if keyword in ("publish", "blank", "activate"):
-        event = text.event(words, world.sign.swapped)
-        was = centre.job
-        sent = centre.command(event)
-        if was is centre.job or centre.job is None:
-            return ["refused busy" if was else "refused numbers used up" if centre.next > 2 ** 31 - 1 else "refused bad command"]
+        sent = centre.command(text.event(words, world.sign.swapped))
+        if centre.refusal is not None:
+            return [f"refused {centre.refusal}"]
         return [f"send {sent.hex()}"] if sent else ["ok"]
     if keyword == "datagram":
         sent = centre.receive(text.octets(text.wants(words, b"datagram", 1)[0]))

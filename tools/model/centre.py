@@ -6,8 +6,10 @@ from . import wire
 from .codes import BLANK, CHANGEABLE, VOLATILE, Activation, MessageId, checksum
 from .sign import DMS
 
-STATUS, WRONG_STATUS, ODD, OTHER_CHECKSUM, STILL_VALIDATING, NO_REPLY, NUMBERS_USED_UP, RESTARTED, REFUSED = (
-    "status", "wrong status", "odd reply", "other checksum", "still validating", "no reply", "numbers used up", "restarted", "refused")
+BUSY, NO_NUMBER, BAD_COMMAND = "a job is not done yet", "no request number is left", "a value is out of its range"
+ODD, OTHER_CHECKSUM, STILL_VALIDATING, NO_REPLY, RESTARTED = (
+    "the reply does not answer what was asked", "the row has another checksum", "the row is still being validated", "no reply",
+    "the central system was restarted")
 LAST_NUMBER = 2_147_483_647
 POLLS, SENDS, PATIENCE = 10, 3, 3
 
@@ -19,7 +21,6 @@ class Job:
     publication: tuple | None = None  # memory, number, text, owner, beacon, pixel, priority
     polls: int = 0
     due: bool = False  # the step's request goes out at the next tick
-    refused: int | None = None
 
 
 class Centre:
@@ -27,15 +28,16 @@ class Centre:
         self.community, self.swapped, self.next = community, swapped, first
         self.job, self.waiting = None, None  # waiting: number, octets, age, sends
         self.ledger = []  # [number, code, outcome]
-        self.last = None
+        self.last = None  # how the last job ended, in words
+        self.refusal = None  # why the last command was refused, in words
 
     def command(self, event):
         """What goes out for a command; a refused one changes nothing."""
-        if self.job is not None:
-            return None
-        if self.next > LAST_NUMBER:
-            return None
         kind, held = event
+        self.refusal = BUSY if self.job is not None else NO_NUMBER if self.next > LAST_NUMBER else None
+        if self.refusal is not None:
+            return None
+        self.refusal = BAD_COMMAND
         if kind == "publish":
             memory, number, text, owner, beacon, pixel, run, minutes, priority, address = held
             if memory not in (CHANGEABLE, VOLATILE) or number == 0 or len(text) > 512 or len(owner) > 127 or beacon > 1 or pixel > 1 or run == 0:
@@ -49,6 +51,7 @@ class Centre:
             self.job = Job(7, Activation(minutes, priority, MessageId(BLANK, number, 0), address))
         else:
             self.job = Job(7, held)
+        self.refusal = None
         return self.send()
 
     def cell(self, column):
@@ -58,7 +61,7 @@ class Centre:
     def send(self):
         """The request of the job's step, under a new number."""
         if self.next > LAST_NUMBER:
-            return self.end(NUMBERS_USED_UP)
+            return self.fail(NO_NUMBER)
         job = self.job
         kind, bindings = wire.GET, []
         if job.step in (1, 4):
@@ -88,6 +91,9 @@ class Centre:
         self.last = how
         self.job = self.waiting = None
 
+    def fail(self, why, step=None):
+        self.end(f"failed at step {step or self.job.step}: {why}")
+
     def enter(self, number, outcome):
         for entry in self.ledger:
             if entry[0] == number:
@@ -110,23 +116,23 @@ class Centre:
         if step == 7:
             if message.status == wire.NO_ERROR:
                 self.enter(number, "accepted")
-                return self.end("succeeded")
+                return self.end("accepted")
             self.enter(number, f"refused {message.status}")
-            job.refused, job.step = message.status, 8
+            job.step = 8
             return self.send()
         if message.status != wire.NO_ERROR:
-            return self.end(STATUS)
+            return self.fail(f"error-status {message.status}")
         if step in (1, 3, 4):
             job.step += 1
             return self.send()
         if len(message.bindings) != 1 or message.bindings[0][0] != name or message.bindings[0][1][0] != wire.INTEGER:
-            return self.end(ODD)
+            return self.fail(ODD)
         held = message.bindings[0][1][1]
         if step == 8:
-            return self.end(REFUSED)
+            return self.fail(f"the sign refused the activation for cause {held}", 7)
         if step == 2:
             if held != 2:
-                return self.end(WRONG_STATUS)
+                return self.fail(f"the row has status {held}")
             job.step = 3
             return self.send()
         if step == 5:
@@ -135,16 +141,16 @@ class Centre:
                 return self.send()
             job.polls += 1
             if held != 3:
-                return self.end(WRONG_STATUS)
+                return self.fail(f"the row has status {held}")
             if job.polls == POLLS:
-                return self.end(STILL_VALIDATING)
+                return self.fail(STILL_VALIDATING)
             job.due = True
             return None
         crc = job.code.id.crc
         if self.swapped:
             crc = int.from_bytes(crc.to_bytes(2, "little"), "big")
         if held != crc:
-            return self.end(OTHER_CHECKSUM)
+            return self.fail(OTHER_CHECKSUM)
         job.step, job.due = 7, True
         return None
 
@@ -164,11 +170,11 @@ class Centre:
             return octets
         if self.job.step == 7:
             self.enter(number, "noreply")
-        self.end(NO_REPLY)
+        self.fail(NO_REPLY)
         return None
 
     def restart(self):
         if self.job is not None:
             if self.waiting is not None and self.job.step == 7:
                 self.enter(self.waiting[0], "unknown")
-            self.end(RESTARTED)
+            self.fail(RESTARTED)

@@ -1,0 +1,78 @@
+-- What a line makes of the central system, and the lines that answer it (this profile).
+use Rattle.std.specs.Prelude.{ℕ, Bool, true, false, List, ◌++◌, codes, flat_map, Option, Some, None}
+use Rattle.hex.specs.Hex.{encode_lower}
+use Rattle.dms_centre.specs.declared.fault.CommandFault.{CommandFault}
+use Rattle.dms_centre.specs.declared.ended.Ended.{Ended}
+use Rattle.dms_centre.specs.declared.ended.Ended.TheVariants.{Never, Accepted, Failed}
+use Rattle.dms_centre.specs.State.{CentreState, is_busy}
+use Rattle.dms_centre.specs.Commands.{CommandModel, refusal_of, commanded}
+use Rattle.dms_centre.specs.Inputs.{received, ticked, restarted}
+use Rattle.dms_centre.specs.Texts.{command_fault_text, ended_text}
+use Rattle.dms_replay.specs.Report.{ended, ledger_line}
+use Rattle.dms_centre_lines.specs.Calls.{CentreCall, command, datagram, tick, restart, status}
+use Rattle.dms_centre_lines.specs.CallReading.{call_of}
+
+-- ---- lines
+
+abbrev pub ok_line : List ℕ
+ok_line = ended (codes "ok")
+
+abbrev pub bad_line : List ℕ
+bad_line = ended (codes "bad line")
+
+-- the datagram that goes out, in small digits; or `ok`
+abbrev pub sent_line : Option (List ℕ) → List ℕ
+sent_line None = ok_line
+sent_line (Some octets) = ended (codes "send " ++ encode_lower octets)
+
+-- a command that is not taken says why
+abbrev pub refused_line : CommandFault → List ℕ
+refused_line fault = ended (codes "refused " ++ command_fault_text fault)
+
+abbrev pub command_line : CentreState → CommandModel → Option CommandFault → List ℕ
+command_line state asked None = sent_line (commanded state asked).sent
+command_line state asked (Some fault) = refused_line fault
+
+-- whether a job is on
+abbrev pub job_line : Bool → List ℕ
+job_line true = ended (codes "busy")
+job_line false = ended (codes "idle")
+
+abbrev pub last_text : Ended → List ℕ
+last_text Never = codes "none"
+last_text Accepted = ended_text Accepted
+last_text (Failed step why) = ended_text (Failed step why)
+
+-- how the last job ended
+abbrev pub last_line : Ended → List ℕ
+last_line last = ended (codes "last " ++ last_text last)
+
+-- how the central system stands: its job, the end of the last one, and its ledger, a line each as in a report
+abbrev pub status_lines : CentreState → List ℕ
+status_lines state =
+    job_line (is_busy state.phase) ++ last_line state.last ++ flat_map (ledger_line state.settings.order) state.ledger ++ ok_line
+
+-- ---- the answer to a line
+
+abbrev pub call_answer : CentreState → Option CentreCall → List ℕ
+call_answer state None = bad_line
+call_answer state (Some (command asked)) = command_line state asked (refusal_of state asked)
+call_answer state (Some (datagram octets)) = sent_line (received state octets).sent
+call_answer state (Some tick) = sent_line (ticked state).sent
+call_answer state (Some restart) = ok_line
+call_answer state (Some status) = status_lines state
+
+-- the central system after it
+abbrev pub after_call : CentreState → Option CentreCall → CentreState
+after_call state None = state
+after_call state (Some (command asked)) = (commanded state asked).state
+after_call state (Some (datagram octets)) = (received state octets).state
+after_call state (Some tick) = (ticked state).state
+after_call state (Some restart) = restarted state
+after_call state (Some status) = state
+
+abbrev pub answer_text : CentreState → List ℕ → List ℕ
+answer_text state line = call_answer state (call_of state.settings.order line)
+
+abbrev pub after_line : CentreState → List ℕ → CentreState
+after_line state line = after_call state (call_of state.settings.order line)

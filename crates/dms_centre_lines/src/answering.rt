@@ -1,0 +1,133 @@
+//! A line to a central system, and its answer.
+
+ghost use Rattle.std.specs.Prelude.{◌≡◌, IfOk, OnOk, OnErr, Some, None};
+ghost use Rattle.dms_centre.specs.CodeView.{command_model};
+ghost use Rattle.dms_centre.specs.Commands.{commanded, refusal_of};
+ghost use Rattle.dms_centre.specs.Inputs.{received, ticked, restarted};
+ghost use Rattle.dms_replay.specs.EventReading.{event_of};
+ghost use Rattle.dms_centre_lines.specs.Answers.{answer_text, after_line, call_answer, after_call, command_line, ok_line, sent_line};
+ghost use Rattle.dms_centre_lines.specs.CallReading.{or_command};
+ghost use Rattle.dms_centre_lines.specs.CodeView.{call_model};
+
+use crate::reading::{Call, plain_call};
+use crate::status::status;
+use crate::text::{bad, ok, put_sent, refused, room};
+use dms_centre::{Centre, Command};
+use dms_replay::event_line::read_event;
+use dms_wire::Out;
+use dms_world::Event;
+use std::alloc::{AllocError, Global};
+
+/// Does what a line asks of the central system, and answers it: one line or more, each with a newline at its end. The line comes without
+/// its newline; a carriage return at its end belongs to its last word.
+///
+/// - `publish ..`, `blank ..` and `activate ..`, as in a script, give it a command: `send OCTETS`, with what goes out in hexadecimal digits,
+///   or `refused` and why.
+/// - `datagram OCTETS` hands it a datagram, and `tick` is a tick of its clock: `send OCTETS`, or `ok` where nothing goes out.
+/// - `restart` begins it anew: `ok`.
+/// - `status`: `busy` or `idle`, `last` and how the last job ended, the ledger's lines of a report, and `ok`.
+/// - Any other line is a `bad line`, and changes nothing.
+///
+/// Where memory is wanting, nothing has changed: what an answer needs is had before the central system is called.
+#[tactic(auto, unfolding(crate::specs::CallReading::call_of))]
+pub fn answer(alloc: Global, centre: &mut Centre, line: &[u8]) -> Result<Vec<u8>, AllocError>
+    ensures text { IfOk result (λ text. text.items ≡ answer_text centre.old.state line.now) }
+    ensures state { OnOk result (centre.new.state ≡ after_line centre.old.state line.now) }
+    ensures unchanged { OnErr result (centre.new.state ≡ centre.old.state) }
+{
+    match plain_call(alloc, line)? {
+        Some(call) => answer_call(alloc, centre, call),
+        None => answer_command(alloc, centre, line),
+    }
+}
+
+/// A call that is no command.
+fn answer_call(alloc: Global, centre: &mut Centre, call: Call) -> Result<Vec<u8>, AllocError>
+    ensures text { IfOk result (λ text. text.items ≡ call_answer centre.old.state (Some (call_model call))) }
+    ensures state { OnOk result (centre.new.state ≡ after_call centre.old.state (Some (call_model call))) }
+    ensures unchanged { OnErr result (centre.new.state ≡ centre.old.state) }
+{
+    match call {
+        Call::Datagram(octets) => receive(alloc, centre, octets.as_slice()),
+        Call::Tick => tick(alloc, centre),
+        Call::Restart => restart(alloc, centre),
+        Call::Status => status(alloc, centre),
+    }
+}
+
+/// A line that is a command, or a bad line.
+fn answer_command(alloc: Global, centre: &mut Centre, line: &[u8]) -> Result<Vec<u8>, AllocError>
+    ensures text { IfOk result (λ text. text.items ≡ call_answer centre.old.state (or_command None (event_of centre.old.state.settings.order line.now))) }
+    ensures state { OnOk result (centre.new.state ≡ after_call centre.old.state (or_command None (event_of centre.old.state.settings.order line.now))) }
+    ensures unchanged { OnErr result (centre.new.state ≡ centre.old.state) }
+{
+    let Some(event) = read_event(alloc, centre.order(), line)? else {
+        return bad(alloc);
+    };
+    match event.lent() {
+        Event::Command(asked) => give(alloc, centre, asked),
+        _ => bad(alloc),
+    }
+}
+
+/// The operator gives a command.
+#[tactic(auto, unfolding(dms_centre::specs::Commands::commanded))]
+fn give(alloc: Global, centre: &mut Centre, asked: Command<'_>) -> Result<Vec<u8>, AllocError>
+    ensures text { IfOk result (λ text. text.items ≡ command_line centre.old.state (command_model asked.entry) (refusal_of centre.old.state (command_model asked.entry))) }
+    ensures state { OnOk result (centre.new.state ≡ (commanded centre.old.state (command_model asked.entry)).state) }
+    ensures unchanged { OnErr result (centre.new.state ≡ centre.old.state) }
+{
+    if let Some(fault) = centre.refusal(&asked) {
+        return refused(alloc, fault);
+    }
+    let mut text = room(alloc)?;
+    let mut request = Out::new();
+    match centre.command(asked, &mut request) {
+        Ok(()) => {
+            put_sent(&mut text, &request);
+            Ok(text)
+        }
+        Err(_) => Err(AllocError),
+    }
+}
+
+/// A datagram reaches it.
+fn receive(alloc: Global, centre: &mut Centre, datagram: &[u8]) -> Result<Vec<u8>, AllocError>
+    ensures text { IfOk result (λ text. text.items ≡ sent_line (received centre.old.state datagram.now).sent) }
+    ensures state { OnOk result (centre.new.state ≡ (received centre.old.state datagram.now).state) }
+    ensures unchanged { OnErr result (centre.new.state ≡ centre.old.state) }
+{
+    let mut text = room(alloc)?;
+    let mut request = Out::new();
+    centre.receive(datagram, &mut request);
+    put_sent(&mut text, &request);
+    Ok(text)
+}
+
+/// Its clock ticks.
+fn tick(alloc: Global, centre: &mut Centre) -> Result<Vec<u8>, AllocError>
+    ensures text { IfOk result (λ text. text.items ≡ sent_line (ticked centre.old.state).sent) }
+    ensures state { OnOk result (centre.new.state ≡ (ticked centre.old.state).state) }
+    ensures unchanged { OnErr result (centre.new.state ≡ centre.old.state) }
+{
+    let mut text = room(alloc)?;
+    let mut request = Out::new();
+    match centre.tick(&mut request) {
+        Ok(()) => {
+            put_sent(&mut text, &request);
+            Ok(text)
+        }
+        Err(_) => Err(AllocError),
+    }
+}
+
+/// It begins anew.
+fn restart(alloc: Global, centre: &mut Centre) -> Result<Vec<u8>, AllocError>
+    ensures text { IfOk result (λ text. text.items ≡ ok_line) }
+    ensures state { OnOk result (centre.new.state ≡ restarted centre.old.state) }
+    ensures unchanged { OnErr result (centre.new.state ≡ centre.old.state) }
+{
+    let text = ok(alloc)?;
+    centre.restart();
+    Ok(text)
+}

@@ -1,0 +1,59 @@
+//! The lines that are no commands.
+
+ghost use Rattle.std.specs.Prelude.{◌≡◌, IfOk, option_map};
+ghost use Rattle.dms_text.specs.Reading.{same_octets};
+ghost use Rattle.dms_text.specs.Words.{words_of};
+ghost use Rattle.dms_replay.specs.EventReading.{alone};
+ghost use Rattle.dms_centre_lines.specs.CallReading.{plain_call_at};
+ghost use Rattle.dms_centre_lines.specs.CodeView.{call_model};
+
+use dms_replay::fields::last_octets;
+use dms_text::Words;
+use std::alloc::{AllocError, Global};
+
+/// What a line asks of a central system, but for an operator's commands.
+#[derive(Debug, Drop)]
+pub(crate) enum Call {
+    /// A datagram reached it.
+    Datagram(Vec<u8>),
+    /// Its clock ticks.
+    Tick,
+    /// It begins anew.
+    Restart,
+    /// How does it stand?
+    Status,
+}
+
+/// The call that a line spells, or none where it spells none; a command is none.
+#[tactic(auto, unfolding(crate::specs::CallReading::plain_call_at))]
+pub(crate) fn plain_call(alloc: Global, line: &[u8]) -> Result<Option<Call>, AllocError>
+    ensures { IfOk result (λ found. option_map call_model found ≡ plain_call_at (words_of line.now)) }
+{
+    let Some((word, words)) = Words::of(line).next_word() else {
+        return Ok(None);
+    };
+    if is(word, b"datagram") {
+        Ok(last_octets(alloc, words)?.map(Call::Datagram))
+    } else if is(word, b"tick") {
+        Ok(alone(words, Call::Tick))
+    } else if is(word, b"restart") {
+        Ok(alone(words, Call::Restart))
+    } else if is(word, b"status") {
+        Ok(alone(words, Call::Status))
+    } else {
+        Ok(None)
+    }
+}
+
+/// The call, where no words are left.
+fn alone(words: Words<'_>, call: Call) -> Option<Call>
+    ensures { result ≡ alone call words.entry }
+{
+    if words.is_empty() { Some(call) } else { None }
+}
+
+fn is(word: &[u8], keyword: &[u8]) -> bool
+    ensures { result ≡ same_octets word.now keyword.now }
+{
+    word == keyword
+}

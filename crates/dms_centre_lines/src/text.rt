@@ -1,0 +1,86 @@
+//! The lines of answers.
+
+ghost use Rattle.std.specs.Prelude.{◌≡◌, ◌≤◌, ◌+◌, ◌*◌, [], IfOk, length, codes, vec_len, vec_capacity, ◌++◌};
+ghost use Rattle.hex.specs.Hex.{encode_lower};
+ghost use Rattle.dms_centre.specs.CodeView.{sent_in};
+ghost use Rattle.dms_centre_lines.specs.Answers.{ok_line, bad_line, refused_line, sent_line};
+
+use dms_centre::CommandFault;
+use dms_wire::{MAX_DATAGRAM, Out};
+use std::alloc::{AllocError, Global};
+use std::io::Write;
+
+/// The most octets of a line that says what is sent.
+const LONGEST_SENT: usize = 2 * MAX_DATAGRAM + 6;
+
+/// `ok`
+pub(crate) fn ok(alloc: Global) -> Result<Vec<u8>, AllocError>
+    ensures { IfOk result (λ text. text.items ≡ ok_line) }
+{
+    Vec::from_slice(alloc, b"ok\n")
+}
+
+/// `bad line`
+pub(crate) fn bad(alloc: Global) -> Result<Vec<u8>, AllocError>
+    ensures { IfOk result (λ text. text.items ≡ bad_line) }
+{
+    Vec::from_slice(alloc, b"bad line\n")
+}
+
+/// Why a command is not taken.
+pub(crate) fn refused(alloc: Global, fault: CommandFault) -> Result<Vec<u8>, AllocError>
+    ensures { IfOk result (λ text. text.items ≡ refused_line fault) }
+{
+    let mut text = Vec::new(alloc);
+    match writeln!(text, "refused {fault}") {
+        Ok(()) => Ok(text),
+        Err(_) => Err(AllocError),
+    }
+}
+
+/// An empty text with room for the line of any datagram.
+pub(crate) fn room(alloc: Global) -> Result<Vec<u8>, AllocError>
+    ensures empty { IfOk result (λ text. text.items ≡ []) }
+    ensures room { IfOk result (λ text. 2950 ≤ vec_capacity text) }
+{
+    Vec::with_capacity(alloc, LONGEST_SENT)
+}
+
+/// Writes the datagram that goes out, in small hexadecimal digits, or `ok` where none does, into a text that has room for it.
+pub(crate) fn put_sent(text: &mut Vec<u8>, datagram: &Out)
+    requires empty { text.old.items ≡ [] }
+    requires room { 2950 ≤ vec_capacity text.old }
+    ensures { text.new.items ≡ sent_line (sent_in datagram.now.items) }
+{
+    if datagram.is_empty() {
+        put(text, b"ok\n");
+    } else {
+        put(text, b"send ");
+        put_digits(text, datagram.as_slice());
+        put(text, b"\n");
+    }
+}
+
+/// Appends octets as pairs of hexadecimal digits, where there is room for them.
+fn put_digits(text: &mut Vec<u8>, octets: &[u8])
+    requires short { length octets.now ≤ 1472 }
+    requires room { vec_len text.old + 2 * length octets.now ≤ vec_capacity text.old }
+    ensures items { text.new.items ≡ text.old.items ++ encode_lower octets.now }
+    ensures len { vec_len text.new ≡ vec_len text.old + 2 * length octets.now }
+    ensures capacity { vec_capacity text.old ≤ vec_capacity text.new }
+{
+    let mut digits = [0; 2 * MAX_DATAGRAM];
+    let digits = &mut digits[..2 * octets.len()];
+    hex::encode_to_slice(octets, digits).unwrap();
+    put(text, digits);
+}
+
+/// Appends octets, where there is room for them.
+fn put(text: &mut Vec<u8>, octets: &[u8])
+    requires { vec_len text.old + length octets.now ≤ vec_capacity text.old }
+    ensures items { text.new.items ≡ text.old.items ++ octets.now }
+    ensures len { vec_len text.new ≡ vec_len text.old + length octets.now }
+    ensures capacity { vec_capacity text.old ≤ vec_capacity text.new }
+{
+    text.extend_from_slice(octets).unwrap();
+}
