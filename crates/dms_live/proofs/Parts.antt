@@ -7,7 +7,6 @@ use Rattle.std.proofs.lemmas.Bool.Decides.{nat_tests}
 use Rattle.std.proofs.lemmas.List.{take_more, drop_more}
 use Rattle.std.proofs.lemmas.List.Quantifiers.{position-Some}
 use Rattle.std.proofs.lemmas.List.Sums.{fails_before_first}
-use Rattle.std.proofs.Math.Seq.{drop-length}
 use Rattle.std.proofs.BufReadLemmas.{take_through-append, drop_through-append}
 use Rattle.dms_live.specs.Lines.{IsPart, IsLastPart}
 
@@ -56,14 +55,8 @@ no_newline piece none =
     λ k d below. other _ (fails_before_first is_newline piece k d (omega arith))
 
 pub part_goes_on : (piece : List ℕ) → position is_newline piece ≡ None → 0 < length piece → IsPart piece (length piece)
-part_goes_on piece none some rest =
-    let all = no_newline piece none in
-    let gone : drop (length piece) piece ++ rest ≡ rest = ap (λ l. l ++ rest) (drop-length piece) in (
-      take_through-append 10 piece rest all ∙ ap (λ l. l ++ take_through 10 rest) (sym (take_all (length piece) piece (omega arith)))
-          ∙ ap (λ l. take (length piece) piece ++ take_through 10 l) (sym gone),
-      drop_through-append 10 piece rest all ∙ ap (drop_through 10) (sym gone),
-      some,
-    )
+part_goes_on piece none some =
+    (subst (λ l. All (λ (octet : ℕ). octet ≢ 10) l) (sym (take_all (length piece) piece (omega arith))) (no_newline piece none), some)
 
 pub some_there : (piece : List ℕ) → (length piece == 0) ≡ false → 0 < length piece
 some_there piece tested = grind (arith, nat_tests)

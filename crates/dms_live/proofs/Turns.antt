@@ -1,15 +1,15 @@
 -- The turns of a conversation.
-use Rattle.std.proofs.Common.{◌≡◌, ℕ, ◌+◌, ◌<◌, ◌≤◌, List, [], ◌∷◌, ◌++◌, length, take, Option, Some, None, IfSome, refl, sym, ap, subst, ◌∙◌, arith, append_assoc, append-nil, length-take}
+use Rattle.std.proofs.Common.{◌≡◌, ℕ, ◌+◌, ◌<◌, ◌≤◌, List, [], ◌∷◌, ◌++◌, length, take, drop, Option, Some, None, IfSome, refl, sym, ap, subst, ◌∙◌, arith, append_assoc, append-nil, length-take}
 use Rattle.std.specs.Bool.{⊤}
 use Rattle.std.specs.Io.KnownBytes.{Appends}
 use Rattle.std.specs.Io.BufRead.{take_through}
 use Rattle.std.specs.Str.Lines.{lines}
 use Rattle.std.proofs.KnownBytes.{Appends-nil, Appends-trans}
 use Rattle.std.proofs.BufReadLemmas.{take_through-nil}
-use Rattle.std.proofs.Math.Seq.{take-append_seam}
+use Rattle.std.proofs.Math.Seq.{take-append_seam, drop-append_seam}
 use Rattle.dms_streams.specs.Prefixes.{AppendsPrefix}
-use Rattle.dms_live.specs.Lines.{Takes, line_of, held}
-use Rattle.dms_live.specs.Conversation.{answered, left_by, answers}
+use Rattle.dms_live.specs.Lines.{Breaks, Takes, line_of, held}
+use Rattle.dms_live.specs.Conversation.{AnswersWholeLines, answered, left_by, answers}
 use Rattle.dms_live.proofs.LineCuts.{first_line_is, shorter, cut_is_answered, cut_leaves}
 
 module _ {S : Type 0} (reply : S → List ℕ → List ℕ) (after : S → List ℕ → S) where
@@ -90,6 +90,20 @@ module _ {S : Type 0} (reply : S → List ℕ → List ℕ) (after : S → List 
   said_whole count start (Some octets) old state (Some rest) new said =
       (length said.0, subst (λ l. Appends old new (answers reply after start l)) (sym (ap (take (length said.0)) said.1 ∙ take-append_seam said.0 (lines rest))) said.3)
 
+  -- where a line breaks off, all before it are answered
+  pub said_so_far : (count : ℕ) (start : S) (first old : Option (List ℕ)) (state : S) (now left new : Option (List ℕ)) → Said count start first old state now new → Breaks now left
+      → IfSome first (λ octets. IfSome left (λ rest. AnswersWholeLines reply after start octets rest old new))
+  said_so_far count start None old state now left new said broken = tt
+  said_so_far count start (Some octets) old state None left new said broken = absurd said
+  said_so_far count start (Some octets) old state (Some rest) None new said broken = tt
+  said_so_far count start (Some octets) old state (Some rest) (Some behind) new said broken = (
+    length said.0,
+    broken.0,
+    subst (λ l. Appends old new (answers reply after start l)) (sym (ap (take (length said.0)) said.1 ∙ take-append_seam said.0 (lines rest))) said.3,
+    ap (drop (length said.0)) said.1 ∙ drop-append_seam said.0 (lines rest) ∙ ap lines broken.1,
+    broken.2,
+  )
+
   -- and of the next answer the first octets
   pub said_in_part : (count : ℕ) (start : S) (first old : Option (List ℕ)) (state : S) (now left new written : Option (List ℕ)) (line : List ℕ)
       → Said count start first old state now new → Takes held now line left → 0 < length line
@@ -120,4 +134,4 @@ module _ {S : Type 0} (reply : S → List ℕ → List ℕ) (after : S → List 
   said_as_many count start (Some octets) old state None new said = absurd said
   said_as_many count start (Some octets) old state (Some rest) new said = omega (arith, said.4)
 
-pub ruleset turns = (nothing_said, said_more, all_said, said_whole, said_in_part, said_as_many)
+pub ruleset turns = (nothing_said, said_more, all_said, said_whole, said_so_far, said_in_part, said_as_many)

@@ -1,6 +1,9 @@
 -- A conversation by lines (this profile): each line is answered, and the answer to a line may depend on those before
 -- it. Of a party, `reply` tells what it answers to a line, and `after` what it is after it.
-use Rattle.std.specs.Prelude.{ℕ, nat_lt, if◌then◌else◌, List, [], ◌∷◌, ◌++◌, length, codes}
+use Rattle.std.specs.Prelude.{ℕ, nat_lt, if◌then◌else◌, List, [], ◌∷◌, ◌++◌, take, drop, length, Option, codes, ◌≡◌}
+use Rattle.std.specs.Io.KnownBytes.{Appends}
+use Rattle.std.specs.Str.Lines.{lines}
+use Rattle.dms_live.specs.Lines.{IsInLine}
 
 -- the most octets of a line
 abbrev pub longest_line : ℕ
@@ -21,3 +24,9 @@ left_by after state line = if nat_lt longest_line (length line) then state else 
 abbrev pub answers : {S : Type 0} → (S → List ℕ → List ℕ) → (S → List ℕ → S) → S → List (List ℕ) → List ℕ
 answers reply after state [] = []
 answers reply after state (line ∷ more) = answered reply state line ++ answers reply after (left_by after state line) more
+
+-- The lines that came whole are answered: of the octets so much was taken that `rest` is left, and what is not answered
+-- are the lines of the part of a line that was taken, and of the rest.
+abbrev pub AnswersWholeLines : {S : Type 0} → (S → List ℕ → List ℕ) → (S → List ℕ → S) → S → List ℕ → List ℕ → Option (List ℕ) → Option (List ℕ) → Type 0
+AnswersWholeLines reply after state octets rest old new = (count : ℕ) × (part : List ℕ) × Appends old new (answers reply after state (take count (lines octets)))
+    × (drop count (lines octets) ≡ lines (part ++ rest)) × IsInLine part

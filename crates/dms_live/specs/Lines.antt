@@ -1,6 +1,6 @@
 -- An input that is taken line by line (this profile). Its lines are those of std's `lines`: each ends at a newline, the
 -- last perhaps at the end of the input, and one carriage return before a newline is no part of its line.
-use Rattle.std.specs.Prelude.{◌≡◌, ℕ, ◌+◌, ◌-◌, ◌<◌, ◌≤◌, ◌==◌, if◌then◌else◌, List, [], ◌++◌, take, drop, length, slice_index, slice_range, Option, None, Some, ⊤}
+use Rattle.std.specs.Prelude.{◌≡◌, ◌≢◌, ℕ, ◌-◌, ◌<◌, ◌≤◌, ◌==◌, if◌then◌else◌, List, [], ◌++◌, All, take, drop, length, slice_index, slice_range, Option, None, Some, ⊤}
 use Rattle.std.specs.Io.KnownBytes.{prepend_known}
 use Rattle.std.specs.Io.BufRead.{take_through, drop_through}
 use Rattle.std.specs.Str.Lines.{strip_carriage_return}
@@ -25,17 +25,25 @@ Takes limit None line after = ⊤
 Takes limit (Some octets) line None = ⊥
 Takes limit (Some octets) line (Some rest) = (line ≡ take limit (take_through 10 octets)) × (rest ≡ drop_through 10 octets)
 
--- some octets before the first newline are taken, in so many parts or fewer octets, and held up to a limit
+-- octets without a newline
+abbrev pub IsInLine : List ℕ → Type 0
+IsInLine octets = All (λ (octet : ℕ). octet ≢ 10) octets
+
+-- some octets before the first newline are taken, as many as parts or more, and held up to a limit
 abbrev pub Continues : ℕ → ℕ → Option (List ℕ) → List ℕ → Option (List ℕ) → Type 0
 Continues limit count None line after = ⊤
 Continues limit count (Some octets) line None = ⊥
-Continues limit count (Some octets) line (Some rest) = (take limit (line ++ take_through 10 rest) ≡ take limit (take_through 10 octets))
-    × (drop_through 10 rest ≡ drop_through 10 octets) × (count + length rest ≤ length octets)
+Continues limit count (Some octets) line (Some rest) = (part : List ℕ) × (octets ≡ part ++ rest) × IsInLine part × (line ≡ take limit part) × (count ≤ length part)
+
+-- some octets before the first newline are taken, or none
+abbrev pub Breaks : Option (List ℕ) → Option (List ℕ) → Type 0
+Breaks None after = ⊤
+Breaks (Some octets) None = ⊥
+Breaks (Some octets) (Some rest) = (part : List ℕ) × (octets ≡ part ++ rest) × IsInLine part
 
 -- the first octets of a piece stand before the first newline
 abbrev pub IsPart : List ℕ → ℕ → Type 0
-IsPart piece count = (rest : List ℕ) → (take_through 10 (piece ++ rest) ≡ take count piece ++ take_through 10 (drop count piece ++ rest))
-    × (drop_through 10 (piece ++ rest) ≡ drop_through 10 (drop count piece ++ rest)) × (0 < count)
+IsPart piece count = IsInLine (take count piece) × (0 < count)
 
 -- they end with the first newline, or the piece is empty, at the end of the input
 abbrev pub IsLastPart : List ℕ → ℕ → Type 0

@@ -5,8 +5,8 @@ ghost use Rattle.std.specs.Io.KnownBytes.{Appends, Keeps};
 ghost use Rattle.std.specs.Str.Lines.{lines, strip_carriage_return};
 ghost use Rattle.dms_streams.specs.Calls.{one_more};
 ghost use Rattle.dms_streams.specs.Prefixes.{AppendsPrefix};
-ghost use Rattle.dms_live.specs.Lines.{left, line_of, held, Takes};
-ghost use Rattle.dms_live.specs.Conversation.{bad_line, answered, left_by, answers};
+ghost use Rattle.dms_live.specs.Lines.{left, line_of, held, Breaks, Takes};
+ghost use Rattle.dms_live.specs.Conversation.{AnswersWholeLines, bad_line, answered, left_by, answers};
 ghost use Rattle.dms_live.specs.declared.fault.ConversationFault.TheVariants as faults;
 
 use crate::fault::ConversationFault;
@@ -34,7 +34,9 @@ pub fn converse<P: Party, S: Source, W: Sink>(
 ) -> Result<(), ConversationFault>
     ensures answers { OnOk result (IfSome (left S.remaining input.old) (λ octets.
         Appends (W.contents sink.old) (W.contents sink.new) (answers P.reply P.after (P.state party.old) (lines octets)))) }
-    ensures whole { OnErr result (result ≢ Err faults.Write → IfSome (left S.remaining input.old) (λ octets.
+    ensures prompt { result ≡ Err faults.Read → IfSome (left S.remaining input.old) (λ octets. IfSome (left S.remaining input.new) (λ rest.
+        AnswersWholeLines P.reply P.after (P.state party.old) octets rest (W.contents sink.old) (W.contents sink.new))) }
+    ensures whole { OnErr result (result ≢ Err faults.Write → result ≢ Err faults.Read → IfSome (left S.remaining input.old) (λ octets.
         (count : ℕ) × Appends (W.contents sink.old) (W.contents sink.new) (answers P.reply P.after (P.state party.old) (take count (lines octets))))) }
     ensures prefix { result ≡ Err faults.Write → IfSome (left S.remaining input.old) (λ octets.
         AppendsPrefix (W.contents sink.old) (W.contents sink.new) (answers P.reply P.after (P.state party.old) (lines octets))) }
@@ -46,7 +48,10 @@ pub fn converse<P: Party, S: Source, W: Sink>(
 {
     let mut line = Vec::new(alloc);
     for _ in 0..u64::MAX {
-        next_line(input, &mut line)?;
+        match next_line(input, &mut line) {
+            Ok(()) => {}
+            Err(fault) => return Err(fault),
+        }
         let octets = line.as_slice();
         if octets.is_empty() {
             return Ok(());
@@ -62,6 +67,7 @@ pub fn converse<P: Party, S: Source, W: Sink>(
 /// Takes the next line with its newline, or nothing at the end of the input.
 fn next_line<S: Source>(input: &mut Input<S>, line: &mut Vec<u8>) -> Result<(), ConversationFault>
     ensures line { OnOk result (Takes held (left S.remaining input.old) line.new.items (left S.remaining input.new)) }
+    ensures part { result ≡ Err faults.Read → Breaks (left S.remaining input.old) (left S.remaining input.new) }
     ensures too_long { result ≡ Err faults.TooLong → IfSome (left S.remaining input.old) (λ octets. 2 ^ 64 - 1 ≤ length octets) }
     ensures failed { result ≡ Err faults.Read → S.failed input.new.source ≡ one_more (S.failed input.old.source) }
     ensures unfailed { result ≢ Err faults.Read → S.failed input.new.source ≡ S.failed input.old.source }

@@ -4,7 +4,7 @@ ghost use Rattle.std.specs.Prelude.{◌≡◌, ◌≢◌, ◌+◌, ◌-◌, ◌^
 ghost use Rattle.std.specs.Io.KnownBytes.{Keeps, Consumes, IsAtEnd, prepend_known};
 ghost use Rattle.dms_streams.specs.Calls.{one_more};
 ghost use Rattle.dms_streams.specs.declared.reading.ReadFault.TheVariants as faults;
-ghost use Rattle.dms_live.specs.Lines.{left, Continues, Takes, IsPart, IsLastPart};
+ghost use Rattle.dms_live.specs.Lines.{left, Breaks, Continues, Takes, IsPart, IsLastPart};
 
 use crate::input::Input;
 use dms_streams::{Failed, ReadFault, Source};
@@ -35,6 +35,7 @@ impl<S: Source> Input<S> {
     /// place of what it held, but no more than `limit` of them. At the end of the input there are none.
     pub fn take_line(&mut self, line: &mut Vec<u8>, limit: usize) -> Result<(), ReadFault>
         ensures line { OnOk result (Takes limit (left S.remaining self.old) line.new.items (left S.remaining self.new)) }
+        ensures part { result ≡ Err faults.Read → Breaks (left S.remaining self.old) (left S.remaining self.new) }
         ensures short { length line.new.items ≤ limit }
         ensures too_long { result ≡ Err faults.TooLong → IfSome (left S.remaining self.old) (λ octets. 2 ^ 64 - 1 ≤ length octets) }
         ensures failed { result ≡ Err faults.Read → S.failed self.new.source ≡ one_more (S.failed self.old.source) }
@@ -42,8 +43,10 @@ impl<S: Source> Input<S> {
     {
         line.clear();
         for _ in 0..u64::MAX {
-            if self.take_part(line, limit)? {
-                return Ok(());
+            match self.take_part(line, limit) {
+                Ok(true) => return Ok(()),
+                Ok(false) => {}
+                Err(fault) => return Err(fault),
             }
         }
         Err(ReadFault::TooLong)
@@ -60,6 +63,7 @@ impl<S: Source> Input<S> {
         ensures failed { result ≡ Err faults.Read → S.failed self.new.source ≡ one_more (S.failed self.old.source) }
         ensures unfailed { result ≢ Err faults.Read → S.failed self.new.source ≡ S.failed self.old.source }
         ensures not_too_long { result ≢ Err faults.TooLong }
+        ensures kept { OnErr result (Keeps (left S.remaining self.old) (left S.remaining self.new)) }
     {
         if self.fill().is_err() {
             return Err(ReadFault::Read);

@@ -1,37 +1,40 @@
 use Rattle.std.proofs.Common.{◌∙◌, Err, sym, ap, subst, rules}
 use Rattle.dms_live.specs.Lines.{Takes, held, left}
 use Rattle.dms_live.proofs.Parts.{some_there, none_there}
-use Rattle.dms_live.proofs.Turns.{Said, said_more, all_said, said_in_part, said_whole}
+use Rattle.dms_live.proofs.Turns.{Said, said_more, all_said, said_in_part, said_so_far, said_whole}
 use Rattle.dms_live.proofs.conversation.converse.Goals as goal
 
 -- src/conversation.rt:50:13
 pub returns-then-is_empty-clause-answers : goal.returns-then-is_empty-clause-answers
 returns-then-is_empty-clause-answers g c =
     let taken = subst (λ l. Takes held (left g.S.Source.remaining c.loop.input) l (left g.S.Source.remaining c.next_line.new.input)) (sym c.as_slice-octets.ensures.value)
-    c.in_ok-next_line.ensures.line in
+    c.in-Ok.ensures.line in
     all_said g.P.Party.reply g.P.Party.after _ _ _ _ _ _ _ _ _ c.loop.invariant.said taken (none_there _ (sym c.is_empty.ensures ∙ c.if-is_empty.true))
 
-pub returns-in-Err-clause-whole : goal.returns-in-Err-clause-whole
-returns-in-Err-clause-whole g c = λ other.
-    let same = c.in-Err.ensures.nothing (ap Err (c.in-Err.ensures.memory (λ e. other (ap Err e)))) in
+pub returns-in-Err-answer_line-clause-whole : goal.returns-in-Err-answer_line-clause-whole
+returns-in-Err-answer_line-clause-whole g c = λ other _.
+    let same = c.in-Err-answer_line.ensures.nothing (ap Err (c.in-Err-answer_line.ensures.memory (λ e. other (ap Err e)))) in
     said_whole g.P.Party.reply g.P.Party.after _ _ _ _ _ _ _
     (subst (λ written. Said g.P.Party.reply g.P.Party.after c.loop.counter (g.P.Party.state c.args.party.now) (left g.S.Source.remaining c.args.input.now) (g.W.Sink.contents c.args.sink.now)
     (g.P.Party.state c.loop.party) (left g.S.Source.remaining c.loop.input) written) (sym same) c.loop.invariant.said)
 
-pub returns-in-Err-clause-prefix : goal.returns-in-Err-clause-prefix
-returns-in-Err-clause-prefix g c = λ failed.
+pub returns-in-Err-answer_line-clause-prefix : goal.returns-in-Err-answer_line-clause-prefix
+returns-in-Err-answer_line-clause-prefix g c = λ failed.
     let taken = subst (λ l. Takes held (left g.S.Source.remaining c.loop.input) l (left g.S.Source.remaining c.next_line.new.input)) (sym c.as_slice-octets.ensures.value)
-    c.in_ok-next_line.ensures.line in
+    c.in-Ok.ensures.line in
     said_in_part g.P.Party.reply g.P.Party.after _ _ _ _ _ _ _ _ _ _ c.loop.invariant.said taken (some_there _ (sym c.is_empty.ensures ∙ c.if-is_empty.false))
-    (c.in-Err.ensures.prefix failed)
+    (c.in-Err-answer_line.ensures.prefix failed)
 
 -- src/conversation.rt:46:5
 pub loop-preserved : goal.loop-preserved
 loop-preserved g c =
     let taken = subst (λ l. Takes held (left g.S.Source.remaining c.loop.input) l (left g.S.Source.remaining c.next_line.new.input)) (sym c.as_slice-octets.ensures.value)
-    c.in_ok-next_line.ensures.line in record {
+    c.in-Ok.ensures.line in record {
       said = said_more g.P.Party.reply g.P.Party.after _ _ _ _ _ _ _ _ _ _ _ c.loop.invariant.said taken (some_there _ (sym c.is_empty.ensures ∙ c.if-is_empty.false))
-          c.in-Ok.ensures.after c.in-Ok.ensures.answer;
+          c.in-Ok-answer_line.ensures.after c.in-Ok-answer_line.ensures.answer;
       all_read = search rules;
       all_written = search rules;
     }
+
+pub returns-in-Err-clause-prompt : goal.returns-in-Err-clause-prompt
+returns-in-Err-clause-prompt g c = λ failed. said_so_far g.P.Party.reply g.P.Party.after _ _ _ _ _ _ _ _ c.loop.invariant.said (c.in-Err.ensures.part failed)

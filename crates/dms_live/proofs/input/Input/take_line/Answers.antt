@@ -1,0 +1,12 @@
+use Rattle.std.proofs.Common.{◌≡◌, ◌≤◌, length, subst, IfSome, arith}
+use Rattle.dms_live.specs.Lines.{left}
+use Rattle.dms_live.proofs.Taken.{breaks, as_many}
+use Rattle.dms_live.proofs.input.Input.take_line.Goals as goal
+
+pub returns-in-Err-clause-part : goal.returns-in-Err-clause-part
+returns-in-Err-clause-part g c = λ _. breaks _ _ _ _ _ _ c.loop.invariant.going c.in-Err.ensures.kept
+
+pub returns-clause-too_long : goal.returns-clause-too_long
+returns-clause-too_long g c = λ _.
+    let all : c.loop.counter ≡ 18446744073709551615 = omega (arith, c.loop-test.false, c.loop.auto.counter-end) in
+    subst (λ n. IfSome (left g.S.Source.remaining c.args.self.now) (λ octets. n ≤ length octets)) all (as_many _ _ _ _ _ c.loop.invariant.going)
