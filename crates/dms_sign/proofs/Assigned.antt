@@ -45,7 +45,8 @@ use Rattle.dms_sign.proofs.InRangeLists.{if_found}
 use Rattle.dms_sign.proofs.InRangeShown.{showing_in_range, telling_in_range, with_table_in_range, activation_is, IsDecisionInRange, decided_in_range}
 use Rattle.dms_sign.proofs.InRangeSets.{IsWriteInRange, writes_in_range, assigned_in_range, asked_in_range, accepted_reports}
 use Rattle.dms_sign.proofs.StepDefaults.{writes_fit, assigned_fit}
-use Rattle.dms_sign.proofs.StepRows.{writes_keep, asked_keeps}
+use Rattle.dms_sign.proofs.KnownTexts.{known_kept}
+use Rattle.dms_sign.proofs.StepRows.{KeepsRows, writes_keep, asked_keeps}
 use Rattle.dms_sign.proofs.Replies.{set_unless_is, are_causes}
 use Rattle.dms_sign.proofs.Causes.{writes_append, with_writes_append}
 use Rattle.dms_sign.proofs.Writes.{writes_like, asked_alike, decided_alike}
@@ -127,6 +128,7 @@ assigned_whole old bindings settings table is within t are =
     record {
       kept = subst IsKept (sym (state_assigned old ws settings table t are)) kept;
       source = is.source ∙ ap (λ (o : Order). octets_of_id o old.shown.source) (sym order);
+      known = known_kept old.known old.face old.table table (subst (KeepsRows old.table) (sym t) (writes_keep old.table ws)) is.known;
     }
 
 -- ---- rows that are asked
@@ -138,6 +140,7 @@ asked_whole old table id ask is e =
     record {
       kept = record { in_range = with_table_in_range (state_of old) table is.kept.in_range range; fit = is.kept.fit; communities = is.kept.communities };
       source = is.source ∙ ap (λ (o : Order). octets_of_id o old.shown.source) (sym (asked_keeps old.table table id ask e).order);
+      known = known_kept old.known old.face old.table table (asked_keeps old.table table id ask e) is.known;
     }
 
 pub takes_after : (s : SignState) (ws : List Write) (id : RowId) (ask : Ask) → is_some (asked s.table id ask) ≡ is_some (asked (assigned s ws).table id ask)
@@ -175,6 +178,7 @@ accepted_whole old shown source octets reports is range twelve s r = record {
     communities = is.kept.communities;
   };
   source = s;
+  known = is.known;
 }
 
 pub decided_new : (s : SignState) (ws : List Write) (settings : Settings) (octets : List ℕ) (code : Activation) → AreSettings settings (assigned s ws)

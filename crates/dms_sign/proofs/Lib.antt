@@ -10,6 +10,7 @@ pub mod InRangeEvents
 pub mod InRangeSets
 pub mod InRangeStart
 pub mod StepRows
+pub mod KnownTexts
 pub mod StepShown
 pub mod StepEvents
 pub mod StepDefaults

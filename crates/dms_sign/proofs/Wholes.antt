@@ -15,7 +15,7 @@ use Rattle.dms_codes.specs.Codes.{octets_of_id, id_of, IsMessageId}
 use Rattle.dms_table.specs.declared.activation.Cause.{Cause}
 use Rattle.dms_table.specs.declared.validation.Verdict.{Verdict}
 use Rattle.dms_table.specs.Rows.{TableModel, after_power}
-use Rattle.dms_table.specs.Validation.{settled, verdict}
+use Rattle.dms_table.specs.Validation.{settled, verdict, AreValidTextsGood}
 use Rattle.dms_table.specs.Activation.{ShownModel, decided}
 use Rattle.dms_reports.specs.declared.reports.Reports.{Reports}
 use Rattle.dms_sign.specs.declared.sign.Sign.TheInside.{Inside}
@@ -34,8 +34,10 @@ use Rattle.dms_reports.specs.Reports.{IsCauseInRange}
 use Rattle.dms_access.specs.Ranges.{AreDefaultsInRange}
 use Rattle.dms_sign.specs.InRange.{IsStocked, AreOctets, IsTableInRange, IsShownInRange, IsTimeInRange, AreReportsInRange, IsSignInRange, most_minutes}
 use Rattle.dms_reports.specs.ReportsView.{reports_of}
-use Rattle.dms_sign.specs.SignView.{state_of, IsWhole}
+use Rattle.dms_sign.specs.SignView.{state_of, IsWhole, IsKnownAfter}
 use Rattle.dms_sign.proofs.InRangeShown.{showing_in_range, telling_in_range, with_table_in_range, with_mode, with_time, own_is, id_is, IsDecisionInRange, decided_in_range, refused_in_range}
+use Rattle.dms_sign.proofs.KnownTexts.{known_kept, known_settled}
+use Rattle.dms_sign.proofs.StepRows.{after_power_keeps}
 use Rattle.dms_sign.proofs.InRangeStart.{start_in_range, stocked_in_range}
 use Rattle.dms_sign.proofs.InRangeEvents.{IsVerdictInRange, settled_in_range, settled_verdict, verdict_told, with_silence, restored_in_range}
 
@@ -44,6 +46,7 @@ pub shown_whole : (old : Inside) (shown : ShownModel) (source : List ℕ) → Is
 shown_whole old shown source is range octets = record {
   kept = record { in_range = showing_in_range (state_of old) shown is.kept.in_range range; fit = is.kept.fit; communities = is.kept.communities };
   source = octets;
+  known = is.known;
 }
 
 pub staying_whole : (old : Inside) (mode : ℕ) → IsWhole old → mode ≤ 255
@@ -56,6 +59,7 @@ staying_whole old mode is small = record {
     communities = is.kept.communities;
   };
   source = is.source;
+  known = is.known;
 }
 
 pub remaining_whole : (old : Inside) (remaining : Option ℕ) → IsWhole old → IsTimeInRange remaining
@@ -68,6 +72,7 @@ remaining_whole old remaining is time = record {
     communities = is.kept.communities;
   };
   source = is.source;
+  known = is.known;
 }
 
 pub reports_whole : (old : Inside) (reports : Reports) → IsWhole old → AreReportsInRange (reports_of reports)
@@ -75,6 +80,7 @@ pub reports_whole : (old : Inside) (reports : Reports) → IsWhole old → AreRe
 reports_whole old reports is range = record {
   kept = record { in_range = telling_in_range (state_of old) (reports_of reports) is.kept.in_range range; fit = is.kept.fit; communities = is.kept.communities };
   source = is.source;
+  known = is.known;
 }
 
 pub refused_whole : (old : Inside) (cause : Cause) (code : List ℕ) (reports : Reports) → IsWhole old → IsCauseInRange cause → AreOctets 12 code
@@ -102,12 +108,14 @@ kept_whole old is = record {
     communities = is.kept.communities;
   };
   source = is.source;
+  known = is.known;
 }
 
 pub silent_whole : (old : Inside) (silent : ℕ) → IsWhole old → silent ≤ 60 * most_minutes → IsWhole (record old { silent = silent })
 silent_whole old silent is few = record {
   kept = record { in_range = with_silence (state_of old) silent is.kept.in_range few; fit = is.kept.fit; communities = is.kept.communities };
   source = is.source;
+  known = is.known;
 }
 
 placed : (o : Option Verdict) → IfSome o IsVerdictInRange → IfSome o (λ v. IfSome v.fault (λ f. f.place ≤ 512))
@@ -131,16 +139,18 @@ settled_as_told old table reports is t r =
     (with_table_in_range (state_of old) table range (subst (λ t. IsTableInRange t) (sym t) (settled_in_range face old.table range.table)))
     (subst AreReportsInRange (sym r) told)
 
-pub settled_whole : (old : Inside) (table : TableModel) (o : Option Verdict) (reports : Reports) → IsWhole old
+pub settled_whole : (old : Inside) (table : TableModel) (o : Option Verdict) (reports : Reports) (known : Option Defaults) → IsWhole old
     → table ≡ settled (under old.face old.settings.defaults) old.table → o ≡ verdict (under old.face old.settings.defaults) old.table
-    → reports_of reports ≡ settled_reports (reports_of old.reports) o → IsWhole (record old { table = table; reports = reports })
-settled_whole old table o reports is t v r = record {
+    → reports_of reports ≡ settled_reports (reports_of old.reports) o → IfSome known (IsKnownAfter old.known o old.settings.defaults)
+    → IsWhole (record old { table = table; reports = reports; known = known })
+settled_whole old table o reports known is t v r after = record {
   kept = record {
     in_range = settled_as_told old table reports is t (r ∙ ap (settled_reports (reports_of old.reports)) v);
     fit = is.kept.fit;
     communities = is.kept.communities;
   };
   source = is.source ∙ ap (λ (t : TableModel). octets_of_id t.order old.shown.source) (sym t);
+  known = known_settled old.known known o old.face old.settings.defaults old.table table is.known t v after;
 }
 
 pub restored_whole : (old : Inside) (table : TableModel) (shown : ShownModel) (source : List ℕ) → IsWhole old → table ≡ after_power old.table
@@ -156,6 +166,8 @@ restored_whole old table shown source is t e octets = record {
     communities = is.kept.communities;
   };
   source = octets;
+  known = subst (λ (t : TableModel). IfSome old.known (λ d. AreValidTextsGood (under old.face d) t)) (sym t)
+      (known_kept old.known old.face old.table (after_power old.table) (after_power_keeps old.table) is.known);
 }
 
 -- ---- codes of the sign's own

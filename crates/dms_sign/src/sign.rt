@@ -1,6 +1,6 @@
 //! The controller of a dynamic message sign.
 
-ghost use Rattle.std.specs.Prelude.{◌≡◌, ◌≤◌, ◌*◌, None, length, All, IsTrue, IfOk, IfErr, OnOk};
+ghost use Rattle.std.specs.Prelude.{◌≡◌, ◌≤◌, ◌*◌, None, length, All, IsTrue, IfOk, IfErr, IfSome, OnOk};
 ghost use Rattle.std.specs.Int.Digits.{AllBelowBase};
 ghost use Rattle.dms_codes.specs.Codes.{octets_of_id};
 ghost use Rattle.dms_table.specs.Stock.{table_of, PermanentRowsAreGood, HasOctets};
@@ -10,6 +10,11 @@ ghost use Rattle.dms_sign.specs.Configuration.{config_of, config_fault, IsFirstC
 ghost use Rattle.dms_reports.specs.Reports.{IsCauseInRange};
 ghost use Rattle.dms_sign.specs.InRange.{IsStocked, AreOctets, IsShownInRange, IsTimeInRange, IsSignInRange, AreFallbacksInRange, most_minutes};
 ghost use Rattle.dms_sign.specs.Transitions.{HasFitDefaults};
+ghost use Rattle.dms_sign.specs.SignView.{IsKnownAfter};
+ghost use Rattle.dms_face.specs.Face.{fit};
+ghost use Rattle.dms_face.specs.Layout.{under};
+ghost use Rattle.dms_table.specs.Validation.{AreValidTextsGood};
+ghost use Rattle.dms_table.specs.Activation.{decided};
 ghost use Rattle.dms_sign.specs.OwnCodes.{showing, staying, with_refused_code};
 ghost use Rattle.dms_sign.specs.Events.{after_settling, restored};
 ghost use Rattle.dms_sign.specs.FallbacksView.{fallbacks_of};
@@ -18,10 +23,10 @@ use crate::config::{Config, ConfigFault, are_communities};
 use crate::sign::events::mode;
 use arrayvec::ArrayVec;
 use dms_access::{Fallbacks, Settings};
-use dms_codes::Order;
+use dms_codes::{Activation, Order};
 use dms_face::{Defaults, Face};
 use dms_reports::Reports;
-use dms_table::{Cause, Shown, Table};
+use dms_table::{Cause, Shown, Table, Verdict};
 use std::alloc::Global;
 use std::marker::Model;
 
@@ -53,6 +58,8 @@ pub struct Sign {
     kept: Shown,
     reports: Reports,
     powered: bool,
+    /// The defaults under which the text of each valid row is good on the face, where that is known of some.
+    known: Option<Defaults>,
 }
 
 impl Model for Sign {
@@ -98,6 +105,7 @@ impl Sign {
         requires communities { IsTrue (are_communities reader.items writer.items) }
         requires stocked { IsStocked table }
         requires octets { All HasOctets table.permanent }
+        requires good { PermanentRowsAreGood face table }
         requires reader { AllBelowBase 256 reader.items }
         requires writer { AllBelowBase 256 writer.items }
         ensures { result ≡ start (record { face = face; reader = reader.items; writer = writer.items }) table }
@@ -116,6 +124,7 @@ impl Sign {
             kept: Shown::blank(&defaults, mode::POWER_RECOVERY),
             reports: Reports::new(),
             powered: true,
+            known: Some(defaults),
         }
     }
 
@@ -225,6 +234,7 @@ impl Sign {
     {
         let verdict = self.table.settle(&self.face, &self.settings.defaults);
         self.reports = self.reports.with_verdict(&verdict);
+        self.known = known_after(self.known, &verdict, &self.settings.defaults);
     }
 
     /// What is there as the power comes back: what was kept is shown, volatile rows are gone, and the silence begins anew.
@@ -249,6 +259,40 @@ fn community(octets: &[u8]) -> ArrayVec<u8, MAX_COMMUNITY>
     let mut copy = ArrayVec::new();
     let _ = copy.try_extend_from_slice(octets);
     copy
+}
+
+/// What stays known of valid texts where this was told under these defaults: nothing, where a row was settled under other ones.
+fn known_after(
+    known: Option<Defaults>,
+    told: &Option<Verdict>,
+    defaults: &Defaults,
+) -> Option<Defaults>
+    ensures { IfSome result (IsKnownAfter known told.now defaults.now) }
+{
+    match known {
+        Some(under) if told.is_none() || under == *defaults => Some(under),
+        _ => None,
+    }
+}
+
+/// What a code puts up under these defaults, or why it is refused: where the text of each valid row is known to be good under them, none
+/// is checked again.
+fn decide(
+    known: &Option<Defaults>,
+    table: &Table,
+    face: &Face,
+    defaults: &Defaults,
+    code: &Activation,
+    shown: &Shown,
+) -> Result<Shown, Cause>
+    requires fit { IsTrue (fit face.now.fonts defaults.now) }
+    requires good { IfSome known.now (λ d. AreValidTextsGood (under face.now d) table.now) }
+    ensures { result ≡ decided face.now defaults.now table.now shown.now code.now }
+{
+    match known {
+        Some(known) if *known == *defaults => table.decide_known(face, defaults, code, shown),
+        _ => table.decide(face, defaults, code, shown),
+    }
 }
 
 /// The octets of the code of what is shown.

@@ -12,10 +12,10 @@ ghost use Rattle.dms_sign.specs.SetView.{AreSettings, IsCommandInRange, Says, St
 ghost use Rattle.dms_sign.specs.SetRequest.{assigned};
 ghost use Rattle.dms_sign.specs.Requests.{activated, with_remaining, writes_of, commanded, commanded_if, set};
 
-use crate::sign::Sign;
 use crate::sign::events::mode;
 use crate::sign::own_codes::{BLANK, own_activation};
 use crate::sign::set_request::{Judged, Refusal, write_fields};
+use crate::sign::{Sign, decide};
 use dms_access::{Change, Settings};
 use dms_codes::{Activation, Ask, Order, RowId};
 use dms_table::Shown;
@@ -108,10 +108,15 @@ impl Sign {
         ensures says { Says result (commanded self.old (assigned self.old (writes_of self.old binds.now)) binds.now judged.now.index (Activate octets)) }
     {
         let code = activation_of(self.table.order(), &octets);
-        match self
-            .table
-            .decide(&self.face, &judged.settings.defaults, &code, &self.shown)
-        {
+        let defaults = &judged.settings.defaults;
+        match decide(
+            &self.known,
+            &self.table,
+            &self.face,
+            defaults,
+            &code,
+            &self.shown,
+        ) {
             Ok(shown) => {
                 self.assign(judged, binds);
                 self.accept(shown, octets);

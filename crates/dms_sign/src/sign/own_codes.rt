@@ -5,7 +5,7 @@ ghost use Rattle.std.specs.Int.Digits.{AllBelowBase};
 ghost use Rattle.dms_codes.specs.Codes.{id_of};
 ghost use Rattle.dms_sign.specs.OwnCodes.{own_activation, put_up_code};
 
-use crate::sign::Sign;
+use crate::sign::{Sign, decide};
 use dms_codes::{Activation, MessageId, Order, memory};
 use dms_table::Shown;
 
@@ -30,7 +30,14 @@ impl Sign {
         }
         let code = own_activation(id);
         let defaults = self.settings.defaults;
-        match self.table.decide(&self.face, &defaults, &code, &self.shown) {
+        match decide(
+            &self.known,
+            &self.table,
+            &self.face,
+            &defaults,
+            &code,
+            &self.shown,
+        ) {
             Ok(shown) => self.show(with_mode(shown, mode)),
             Err(cause) => {
                 let octets = code.to_bytes(self.table.order());

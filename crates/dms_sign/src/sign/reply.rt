@@ -118,8 +118,9 @@ impl Sign {
         requires { IsRead (snmp_message message.now) }
         ensures { out.new.items ≡ reply_to (snmp_message message.now) (get self.now message.now.binds) }
     {
-        match self.values_of(&message.binds) {
-            Ok(octets) => reply(message, &octets, out),
+        let mut octets = BindingOctets::new();
+        match self.values_of(&message.binds, &mut octets) {
+            Ok(()) => reply(message, &octets, out),
             Err(index) => repeat(message, ErrorStatus::NoSuchName, index, out),
         }
     }
@@ -130,8 +131,9 @@ impl Sign {
         requires { IsRead (snmp_message message.now) }
         ensures { out.new.items ≡ reply_to (snmp_message message.now) (get_next self.now message.now.binds) }
     {
-        match self.values_after(&message.binds) {
-            Ok(octets) => reply(message, &octets, out),
+        let mut octets = BindingOctets::new();
+        match self.values_after(&message.binds, &mut octets) {
+            Ok(()) => reply(message, &octets, out),
             Err(index) => repeat(message, ErrorStatus::NoSuchName, index, out),
         }
     }

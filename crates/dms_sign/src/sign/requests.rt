@@ -1,6 +1,6 @@
 //! What a Get and a GetNext read.
 
-ghost use Rattle.std.specs.Prelude.{◌≡◌, ◌≤◌, Some, None, length, map, option_map, IfOk, IfErr, OnOk};
+ghost use Rattle.std.specs.Prelude.{◌≡◌, ◌≤◌, [], Some, None, length, map, option_map, IfErr, OnOk};
 ghost use Rattle.std.specs.List.{position_from};
 ghost use Rattle.dms_wire.specs.Limits.{most_bindings};
 ghost use Rattle.dms_wire.specs.View.{object_value};
@@ -13,14 +13,14 @@ use dms_objects::Name;
 use dms_wire::{Bind, BindingOctets, Binds, Oid, Value};
 
 impl Sign {
-    /// The octets of these bindings with what their names read, or the index of the first name that is that of no instance.
-    pub(super) fn values_of(&self, binds: &Binds<'_>) -> Result<BindingOctets, u32>
-        requires { length binds.now ≤ most_bindings }
-        ensures found { IfOk result (λ octets. octets ≡ octets_of_bindings (map (with_value self.now) binds.now)) }
+    /// Appends these bindings with what their names read, or answers the index of the first name that is that of no instance.
+    pub(super) fn values_of(&self, binds: &Binds<'_>, octets: &mut BindingOctets) -> Result<(), u32>
+        requires few { length binds.now ≤ most_bindings }
+        requires none_yet { octets.old ≡ octets_of_bindings [] }
+        ensures found { OnOk result (octets.new ≡ octets_of_bindings (map (with_value self.now) binds.now)) }
         ensures none_missing { OnOk result (position_from (has_no_value self.now) 1 binds.now ≡ None) }
         ensures missing { IfErr result (λ index. position_from (has_no_value self.now) 1 binds.now ≡ Some index) }
     {
-        let mut octets = BindingOctets::new();
         let mut index = 0;
         let mut rest = binds.again();
         while let Some(binding) = rest.next() {
@@ -33,17 +33,21 @@ impl Sign {
                 value,
             });
         }
-        Ok(octets)
+        Ok(())
     }
 
-    /// The octets of the bindings that come after these names, or the index of the first name after which none comes.
-    pub(super) fn values_after(&self, binds: &Binds<'_>) -> Result<BindingOctets, u32>
-        requires { length binds.now ≤ most_bindings }
-        ensures found { IfOk result (λ octets. octets ≡ octets_of_bindings (map (next_after self.now) binds.now)) }
+    /// Appends the bindings that come after these names, or answers the index of the first name after which none comes.
+    pub(super) fn values_after(
+        &self,
+        binds: &Binds<'_>,
+        octets: &mut BindingOctets,
+    ) -> Result<(), u32>
+        requires few { length binds.now ≤ most_bindings }
+        requires none_yet { octets.old ≡ octets_of_bindings [] }
+        ensures found { OnOk result (octets.new ≡ octets_of_bindings (map (next_after self.now) binds.now)) }
         ensures none_last { OnOk result (position_from (is_last self.now) 1 binds.now ≡ None) }
         ensures last { IfErr result (λ index. position_from (is_last self.now) 1 binds.now ≡ Some index) }
     {
-        let mut octets = BindingOctets::new();
         let mut index = 0;
         let mut rest = binds.again();
         while let Some(binding) = rest.next() {
@@ -56,7 +60,7 @@ impl Sign {
                 value,
             });
         }
-        Ok(octets)
+        Ok(())
     }
 
     /// The first instance after a name, with what it reads.

@@ -12,8 +12,8 @@ use Rattle.dms_sign.specs.SignView.{state_of}
 use Rattle.dms_sign.proofs.Assigned.{fit_new, accepted_shown, refused_cause, activation_answer}
 use Rattle.dms_sign.proofs.sign.Sign.activate.Goals as goal
 
-pub decide-requires : goal.decide-requires
-decide-requires c =
+pub decide-requires-clause-fit : goal.decide-requires-clause-fit
+decide-requires-clause-fit c =
     let are = subst (λ (s : SignState). AreSettings c.args.judged.now.settings (assigned s (writes_of s c.args.binds.now))) (sym c.self.view_is) c.requires.settings in
     fit_new (state_of c.self.inside) c.args.binds.now c.args.judged.now.settings c.self.invariant.kept.fit are
 

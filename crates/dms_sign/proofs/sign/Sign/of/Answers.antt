@@ -1,7 +1,10 @@
-use Rattle.std.proofs.Common.{◌≤◌, subst}
+use Rattle.std.proofs.Common.{◌≤◌, sym, subst}
 use Rattle.std.specs.Prelude.{IsTrue}
 use Rattle.dms_face.specs.declared.defaults.Defaults.{Defaults}
 use Rattle.dms_face.specs.Face.{fit}
+use Rattle.dms_face.specs.Layout.{under}
+use Rattle.dms_table.specs.Validation.{AreValidTextsGood}
+use Rattle.dms_sign.proofs.KnownTexts.{texts_made}
 use Rattle.dms_access.specs.Ranges.{AreDefaultsInRange}
 use Rattle.dms_sign.specs.State.{ConfigModel}
 use Rattle.dms_sign.proofs.Wholes.{made_kept, made_state, made_source}
@@ -22,4 +25,6 @@ invariant_of-result c =
           c.defaults-defaults.ensures.value c.new.ensures.first c.new-2.ensures
           c.blank.ensures c.blank-2.ensures kept;
       source = made_source c.args.table.order c.defaults-defaults.result c.blank.result c.blank.ensures;
+      known = subst (λ (d : Defaults). AreValidTextsGood (under c.args.face d) c.args.table) (sym c.defaults-defaults.ensures.value)
+          (texts_made c.args.face c.args.table c.requires.good c.requires.stocked);
     }

@@ -7,5 +7,5 @@ with_verdict-self-inside-requires c = verdict_placed (state_of c.self.inside) c.
 
 pub invariant_of-self : goal.invariant_of-self
 invariant_of-self c =
-    settled_whole c.self.inside c.settle-verdict.new.self c.settle-verdict.result c.with_verdict-self-inside.result c.self.invariant
-    c.settle-verdict.ensures.rows c.settle-verdict.ensures.verdict c.with_verdict-self-inside.ensures
+    settled_whole c.self.inside c.settle-verdict.new.self c.settle-verdict.result c.with_verdict-self-inside.result c.known_after-self-inside.result c.self.invariant
+    c.settle-verdict.ensures.rows c.settle-verdict.ensures.verdict c.with_verdict-self-inside.ensures c.known_after-self-inside.ensures
