@@ -5,6 +5,7 @@
 #![tactic(auto)]
 
 pub mod answering;
+pub mod laws;
 mod reading;
 mod status;
 #[cfg(test)]

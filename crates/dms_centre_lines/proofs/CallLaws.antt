@@ -1,0 +1,127 @@
+-- The call that is read of a line is the one that the line spells.
+use Rattle.std.proofs.Common.{◌≡◌, ℕ, true, false, cond, List, [], ◌∷◌, Option, Some, None, option_map, refl, sym, ap, subst, ◌∙◌, inl, inr}
+use Rattle.std.specs.Prelude.{codes, ◌⊎◌}
+use Rattle.std.proofs.lemmas.Bool.{cases_Bool}
+use Rattle.std.proofs.lemmas.Option.{same_Some}
+use Rattle.dms_text.specs.Words.{words_of}
+use Rattle.dms_text.specs.Octets.{SpellsOctets}
+use Rattle.dms_text.specs.Reading.{same_octets, word_at}
+use Rattle.dms_text.proofs.WordLaws.{begun, word_found}
+use Rattle.dms_codes.specs.declared.codes.Order.{Order}
+use Rattle.dms_centre.specs.Commands.{CommandModel, Publish, Blank, Activate}
+use Rattle.dms_world.specs.Event as event
+use Rattle.dms_replay.specs.EventLine.{SpellsOne, SpellsCommand, SpellsEventWords}
+use Rattle.dms_replay.specs.EventReading.{alone, last_octets_at, event_of}
+use Rattle.dms_replay.proofs.EventLaws.{same_word, made_of, alone_found, last_octets_found, last_octets_only, event_found, event_only}
+use Rattle.dms_centre_lines.specs.Calls.{CentreCall, command, datagram, tick, restart, status}
+use Rattle.dms_centre_lines.specs.CallReading.{call_after, plain_call_at, command_of, or_command, call_of}
+use Rattle.dms_centre_lines.specs.SpelledCalls.{SpellsCallWords, SpellsCentreCall, SpellsNoCall}
+
+-- ---- what is read is spelled
+
+-- the word is this keyword, or another one is found
+hit_or : (word keyword : List ℕ) (this others : Option CentreCall) (call : CentreCall) → cond (same_octets word keyword) this others ≡ Some call
+    → ((word ≡ keyword) × (this ≡ Some call)) ⊎ (others ≡ Some call)
+hit_or word keyword this others call e =
+    elim (cases_Bool (same_octets word keyword)) [
+      | inl same ↦ inl (same_word _ _ same, ap (λ b. cond b this others) (sym same) ∙ e)
+      | inr other ↦ inr (ap (λ b. cond b this others) (sym other) ∙ e)
+    ]
+
+bare_found : (order : Order) (keyword word : List ℕ) (bare call : CentreCall) (words : List (List ℕ)) → word ≡ keyword → alone bare words ≡ Some call
+    → SpellsCallWords order bare (keyword ∷ []) → SpellsCallWords order call (word ∷ words)
+bare_found order keyword word bare call words is e spelled =
+    let end = alone_found bare call words e in
+    let line : word ∷ words ≡ keyword ∷ [] = ap (λ w. w ∷ words) is ∙ ap (λ rest. keyword ∷ rest) end.0 in
+    subst (λ call. SpellsCallWords order call (word ∷ words)) end.1 (subst (λ words. SpellsCallWords order bare words) (sym line) spelled)
+
+datagram_found : (order : Order) (word : List ℕ) (call : CentreCall) (words : List (List ℕ)) → word ≡ codes "datagram"
+    → option_map datagram (last_octets_at words) ≡ Some call → SpellsCallWords order call (word ∷ words)
+datagram_found order word call words is e =
+    let made = made_of datagram _ call e in
+    subst (λ call. SpellsCallWords order call (word ∷ words)) made.2
+    (subst (λ w. SpellsOne (codes "datagram") (SpellsOctets made.0) (w ∷ words)) (sym is) (last_octets_found (codes "datagram") words made.0 made.1))
+
+after_found : (order : Order) (word : List ℕ) (words : List (List ℕ)) (call : CentreCall) → call_after word words ≡ Some call
+    → SpellsCallWords order call (word ∷ words)
+after_found order word words call e =
+    elim (hit_or word (codes "datagram") _ _ call e) [
+      | inl hit ↦ datagram_found order word call words hit.0 hit.1
+      | inr e ↦
+          elim (hit_or word (codes "tick") _ _ call e) [
+            | inl hit ↦ bare_found order (codes "tick") word tick call words hit.0 hit.1 refl
+            | inr e ↦
+                elim (hit_or word (codes "restart") _ _ call e) [
+                  | inl hit ↦ bare_found order (codes "restart") word restart call words hit.0 hit.1 refl
+                  | inr e ↦
+                      elim (hit_or word (codes "status") _ _ call e) [
+                        | inl hit ↦ bare_found order (codes "status") word status call words hit.0 hit.1 refl
+                        | inr e ↦ absurd (let none : None ≡ Some call = e in cc)
+                      ]
+                ]
+          ]
+    ]
+
+plain_found : (order : Order) (words : List (List ℕ)) (call : CentreCall) → plain_call_at words ≡ Some call → SpellsCallWords order call words
+unfolding plain_call_at
+plain_found order words call e =
+    let read = begun _ _ _ e in
+    subst (λ words. SpellsCallWords order call words) (sym (word_found words read.0 read.1).0) (after_found order read.0.0 read.0.1 call read.2)
+
+command_found : (order : Order) (spelled : event.EventModel) (words : List (List ℕ)) (call : CentreCall) → command_of spelled ≡ Some call
+    → SpellsEventWords order spelled words → SpellsCallWords order call words
+command_found order (event.command asked) words call e is = subst (λ call. SpellsCallWords order call words) (same_Some _ _ e) is
+command_found order event.sign_tick words call e is = absurd (let none : None ≡ Some call = e in cc)
+command_found order event.centre_tick words call e is = absurd (let none : None ≡ Some call = e in cc)
+command_found order (event.to_sign place) words call e is = absurd (let none : None ≡ Some call = e in cc)
+command_found order (event.to_centre place) words call e is = absurd (let none : None ≡ Some call = e in cc)
+command_found order event.power_lost words call e is = absurd (let none : None ≡ Some call = e in cc)
+command_found order (event.power_back seconds) words call e is = absurd (let none : None ≡ Some call = e in cc)
+command_found order event.centre_restart words call e is = absurd (let none : None ≡ Some call = e in cc)
+command_found order (event.forge_sign octets) words call e is = absurd (let none : None ≡ Some call = e in cc)
+command_found order (event.forge_centre octets) words call e is = absurd (let none : None ≡ Some call = e in cc)
+
+found_in : (order : Order) (line : List ℕ) (call : CentreCall) (plain : Option CentreCall) (spelled : Option event.EventModel)
+    → plain_call_at (words_of line) ≡ plain → event_of order line ≡ spelled → or_command plain spelled ≡ Some call → SpellsCentreCall order call line
+found_in order line call (Some own) spelled is read e = plain_found order (words_of line) call (is ∙ e)
+found_in order line call None (Some spelled) is read e = command_found order spelled (words_of line) call e (event_found order line spelled read)
+found_in order line call None None is read e = absurd (let none : None ≡ Some call = e in cc)
+
+pub call_found : (order : Order) (line : List ℕ) (call : CentreCall) → call_of order line ≡ Some call → SpellsCentreCall order call line
+unfolding call_of
+call_found order line call e = found_in order line call _ _ refl refl e
+
+-- ---- what is spelled is read
+
+no_plain : (order : Order) (asked : CommandModel) (words : List (List ℕ)) → SpellsCommand order asked words → plain_call_at words ≡ None
+unfolding plain_call_at word_at
+no_plain order (Publish publication) words spelled = ap plain_call_at spelled.words_are
+no_plain order (Blank number minutes priority address) words spelled = ap plain_call_at spelled.words_are
+no_plain order (Activate code) words spelled = ap plain_call_at spelled.words_are
+
+plain_only : (order : Order) (line : List ℕ) (call : CentreCall) → plain_call_at (words_of line) ≡ Some call → call_of order line ≡ Some call
+unfolding call_of
+plain_only order line call e = ap (λ plain. or_command plain (event_of order line)) e
+
+pub call_only : (order : Order) (line : List ℕ) (call : CentreCall) → SpellsCentreCall order call line → call_of order line ≡ Some call
+unfolding call_of plain_call_at word_at
+call_only order line (command asked) spelled =
+    ap (λ plain. or_command plain (event_of order line)) (no_plain order asked (words_of line) spelled)
+    ∙ ap (or_command None) (event_only order line (event.command asked) spelled)
+call_only order line (datagram octets) spelled =
+    plain_only order line (datagram octets) (ap plain_call_at spelled.words_are ∙ ap (option_map datagram) (last_octets_only octets spelled.word spelled.spelled))
+call_only order line tick spelled = plain_only order line tick (ap plain_call_at spelled)
+call_only order line restart spelled = plain_only order line restart (ap plain_call_at spelled)
+call_only order line status spelled = plain_only order line status (ap plain_call_at spelled)
+
+-- ---- one call a line
+
+pub one_call : (order : Order) (line : List ℕ) (call other : CentreCall) → SpellsCentreCall order call line → SpellsCentreCall order other line → call ≡ other
+one_call order line call other this that = same_Some _ _ (sym (call_only order line call this) ∙ call_only order line other that)
+
+nothing_read : (order : Order) (line : List ℕ) (read : Option CentreCall) → call_of order line ≡ read → SpellsNoCall order line → read ≡ None
+nothing_read order line None is none = refl
+nothing_read order line (Some call) is none = absurd (none call (call_found order line call is))
+
+pub none_read : (order : Order) (line : List ℕ) → SpellsNoCall order line → call_of order line ≡ None
+none_read order line none = nothing_read order line _ refl none
