@@ -12,10 +12,12 @@ from model import layout, text
 from model.centre import Centre
 
 
-def lines_of_input():
-    """The lines of the standard input as they come, without their newlines."""
-    for line in sys.stdin.buffer:
-        yield line.removesuffix(b"\n")
+MOST_LINE = 65_536
+
+
+def without_newline(line):
+    """A line without its newline, and without a carriage return before that."""
+    return line[:-1].removesuffix(b"\r") if line.endswith(b"\n") else line
 
 
 def say(*lines):
@@ -76,26 +78,28 @@ def centre_answer(world, words):
 
 
 def main(words):
-    source = lines_of_input()
     described = text.bench()
     if "--sign" in words:
         lines = []
-        for line in source:
+        for line in sys.stdin.buffer:
             lines.append(line)
-            if line.rstrip(b"\r") == b"end":
+            if without_newline(line) == b"end":
                 break
         try:
-            described = text.described(b"\n".join(lines) + b"\n")
+            described = text.described(b"".join(lines))
         except text.Bad as bad:
             say(f"line {bad.line}")
+            return 1
+        except text.TooLong:
+            say("too long")
             return 1
     world = text.World(described)
     assert isinstance(world.centre, Centre)
     answer = {"sign": sign_answer, "centre": centre_answer}[words[0]]
-    for line in source:
+    for line in map(without_newline, sys.stdin.buffer):
         try:
             parts = line.split(b" ")
-            if b"" in parts:
+            if b"" in parts or len(line) > MOST_LINE:
                 raise ValueError
             say(*answer(world, parts))
         except ValueError:
