@@ -258,6 +258,7 @@ fn centre() {
 fn main() {
     measure_replay::scripts(&fonts());
     measure_sign::signs(&fonts(), text_of(8).as_bytes());
+    measure_sign::growth(&fonts(), &[1, 2, 4, 8].map(|pieces| text_of(pieces).into_bytes()));
     texts();
     checksums();
     centre();

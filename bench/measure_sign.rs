@@ -35,6 +35,11 @@ unsafe extern "C" {
 /// The first row of changeable memory, which the measures write.
 const ROW: (u8, u8) = (3, 1);
 
+/// What the columns of a row are, from 1 on.
+const COLUMNS: [&str; 9] = [
+    "a type of memory", "a number", "a text of 512 octets", "an owner", "a checksum", "a beacon", "a pixel service", "a priority", "a status",
+];
+
 const TEXT: u8 = 3;
 const STATUS: u8 = 9;
 
@@ -115,14 +120,14 @@ fn walk(sign: &mut Sign) -> Vec<Vec<u8>> {
 
 /// What is measured: what the sign is handed once, and then each time, and the error status of the last reply.
 struct Measure {
-    name: &'static str,
+    name: String,
     before: Vec<Vec<u8>>,
     script: Vec<Vec<u8>>,
     status: i64,
 }
 
-fn measure(name: &'static str, before: &[Vec<u8>], script: Vec<Vec<u8>>) -> Measure {
-    Measure { name, before: before.to_vec(), script, status: 0 }
+fn measure(name: &str, before: &[Vec<u8>], script: Vec<Vec<u8>>) -> Measure {
+    Measure { name: name.to_string(), before: before.to_vec(), script, status: 0 }
 }
 
 impl Measure {
@@ -153,10 +158,14 @@ fn measures(text: &[u8], most: bool, sign: &mut Sign) -> Vec<Measure> {
     let modified = [status_of(ROW, 6)];
     let written = [status_of(ROW, 6), fields(text)];
     let valid = [status_of(ROW, 6), fields(text), status_of(ROW, 7), TICK];
-    let mut measures = vec![
+    let up = [&valid[..], &[activation(ROW, crc(text, 1, 0))]].concat();
+    let mut measures: Vec<_> = COLUMNS.iter().zip(1..).map(|(column, number)| {
+        measure(&format!("Get of {column}"), &valid, one(Kind::Get, cell(number, ROW)))
+    }).collect();
+    measures.extend([
+        measure("Get of the checksum shown", &up, one(Kind::Get, cell(5, (5, 1)))),
         measure("Get of one", &[], one(Kind::Get, cell(STATUS, ROW))),
         measure("Get of 30", &[], vec![asking(Kind::Get, &thirty)]),
-        measure("Get of a text of 512 octets", &valid, one(Kind::Get, cell(TEXT, ROW))),
         measure("Get of the count of valid rows", &[], one(Kind::Get, object(5, 2))),
         measure("GetNext at the front", &[], one(Kind::GetNext, vec![0])),
         measure("GetNext in the table", &[], one(Kind::GetNext, cell(TEXT, ROW))),
@@ -171,7 +180,7 @@ fn measures(text: &[u8], most: bool, sign: &mut Sign) -> Vec<Measure> {
         measure("activation, 512 octets", &valid, vec![activation(ROW, crc(text, 1, 0))]),
         measure("activation refused, checksum", &valid, vec![activation(ROW, !crc(text, 1, 0))]).ending(5),
         measure("tick with nothing to do", &[], vec![TICK]),
-    ];
+    ]);
     if most {
         let modified: Vec<_> = (1..=20).map(|number| status_of((3, number), 6)).collect();
         measures.push(measure("SET of 60 fields", &modified, vec![sixty_fields()]));
@@ -213,6 +222,41 @@ fn best(measure: &Measure, fonts: &str, rows: (usize, usize, usize)) -> [f64; 2]
         }
     }
     [0, 1].map(|at| (best[at][1] - best[at][0]) / f64::from(times[at]))
+}
+
+/// What is measured at four sizes: of texts, of requests, and of the numbers of rows.
+fn grown(texts: &[Vec<u8>; 4]) -> Vec<Measure> {
+    let mut measures = Vec::new();
+    for text in texts {
+        let size = text.len();
+        let written = [status_of(ROW, 6), fields(text)];
+        let valid = [&written[..], &[status_of(ROW, 7), TICK]].concat();
+        let sized = |what: &str, before: &[Vec<u8>], script| measure(&format!("{what}, {size} octets"), before, script);
+        measures.push(sized("Get of a text", &valid, vec![asking(Kind::Get, &[cell(TEXT, ROW)])]));
+        measures.push(sized("SET of five fields", &written[..1], vec![fields(text)]));
+        measures.push(sized("validation", &written, vec![status_of(ROW, 6), status_of(ROW, 7), TICK]));
+        measures.push(sized("activation", &valid, vec![activation(ROW, crc(text, 1, 0))]));
+    }
+    for count in [1, 8, 16, 32] {
+        let names: Vec<_> = (1..=count).map(|number| cell(STATUS, (7, number))).collect();
+        measures.push(measure(&format!("Get of {count} names"), &[], vec![asking(Kind::Get, &names)]));
+        measures.push(measure(&format!("GetNext of {count} names"), &[], vec![asking(Kind::GetNext, &names)]));
+    }
+    for number in [1, 85, 170, 255] {
+        measures.push(measure(&format!("Get of blank row {number}"), &[], vec![asking(Kind::Get, &[cell(STATUS, (7, number))])]));
+        measures.push(measure(&format!("GetNext of blank row {number}"), &[], vec![asking(Kind::GetNext, &[cell(STATUS, (7, number))])]));
+    }
+    measures.sort_by_key(|measure| measure.name.split_once(|letter: char| letter.is_ascii_digit()).map(|parts| parts.0.to_string()));
+    measures
+}
+
+/// Prints how the times of the bench sign grow.
+pub fn growth(fonts: &str, texts: &[Vec<u8>; 4]) {
+    println!("{:<32} {:<10} {:>11} {:>11} {:>6}", "growth of the sign", "rows", "proved, ns", "by hand, ns", "ratio");
+    for measure in grown(texts) {
+        let [proved, by_hand] = best(&measure, fonts, ROWS[0]);
+        println!("{:<32} {:<10} {proved:>11.1} {by_hand:>11.1} {:>6.2}", measure.name, "1/2/1", proved / by_hand);
+    }
 }
 
 /// Prints the times of the sign with few rows and with the most.
