@@ -17,4 +17,4 @@ mod sign_call;
 mod tests;
 
 pub use answering::answer;
-pub use page_text::put_pages;
+pub use page_text::pages_text;

@@ -1,18 +1,29 @@
 //! Pages as text: a line of a page's times and its background, and a line for each row of the matrix.
 
-ghost use Rattle.std.specs.Prelude.{◌≡◌, ◌++◌, ◌<◌, OnOk};
+ghost use Rattle.std.specs.Prelude.{◌≡◌, ◌++◌, ◌<◌, IfOk, OnOk};
 ghost use Rattle.dms_sign_lines.specs.PageText.{cell_text, cells_text, row_text, page_line, rows_text, page_text, pages_text};
 
 use dms_face::Cell;
 use dms_pages::Page;
+use std::alloc::{AllocError, Global};
 use std::io;
 use std::io::Write;
 
-/// Appends pages, counted from 1: a line `page NUMBER on TENTHS off TENTHS back COLOUR` that tells a page's times, in
+/// Pages as text, counted from 1: a line `page NUMBER on TENTHS off TENTHS back COLOUR` that tells a page's times, in
 /// tenths of a second, and its background, and a line for each row of the matrix, from the top, with a dot for each
-/// cell that is unlit, else the digit of its colour. Each line ends in a newline. `Err` comes only where memory is
-/// wanting; a prefix may have been appended then.
-pub fn put_pages(text: &mut Vec<u8>, pages: &[Page]) -> io::Result<()>
+/// cell that is unlit, else the digit of its colour. Each line ends in a newline.
+pub fn pages_text(alloc: Global, pages: &[Page]) -> Result<Vec<u8>, AllocError>
+    ensures { IfOk result (λ text. text.items ≡ pages_text pages.now) }
+{
+    let mut text = Vec::new(alloc);
+    match put_pages(&mut text, pages) {
+        Ok(()) => Ok(text),
+        Err(_) => Err(AllocError),
+    }
+}
+
+/// Appends the text of pages.
+pub(crate) fn put_pages(text: &mut Vec<u8>, pages: &[Page]) -> io::Result<()>
     ensures { OnOk result (text.new.items ≡ text.old.items ++ pages_text pages.now) }
 {
     for (index, page) in pages.iter().enumerate() {

@@ -1,7 +1,7 @@
 //! The bench sign line by line, and the text of its pages.
 
 use crate::answering::answer;
-use crate::page_text::put_pages;
+use crate::page_text::pages_text;
 use dms_pages::pages;
 use dms_replay::bench;
 use std::io::Write;
@@ -97,9 +97,8 @@ page 1 on 30 off 0 back 0
 ok
 ";
 
-/// The pages of `[cb3][pt5o2]1[np][fo2][cf1]A`, behind a line.
-const TWO_PAGES: &str = "pages
-page 1 on 5 off 2 back 3
+/// The pages of `[cb3][pt5o2]1[np][fo2][cf1]A`.
+const TWO_PAGES: &str = "page 1 on 5 off 2 back 3
 ...........9...........
 ..........99...........
 ...........9...........
@@ -205,7 +204,7 @@ fn bad_lines(rt: HostRuntime) -> Result<(), Fail> {
     Ok(())
 }
 
-/// Two pages of different times, with two colours, and a page after others in a text that is not empty.
+/// Two pages of other times and another background than the defaults, in two colours.
 #[test]
 fn two_pages(rt: HostRuntime) -> Result<(), Fail> {
     let setup = bench(rt.alloc())?;
@@ -214,9 +213,7 @@ fn two_pages(rt: HostRuntime) -> Result<(), Fail> {
         setup.sign.face(),
         b"[cb3][pt5o2]1[np][fo2][cf1]A",
     )?;
-    let mut text = Vec::new(rt.alloc());
-    writeln!(text, "pages")?;
-    put_pages(&mut text, shown.as_slice())?;
+    let text = pages_text(rt.alloc(), shown.as_slice())?;
     assert!(rt; text.as_slice() == TWO_PAGES.as_bytes());
     Ok(())
 }
