@@ -1,6 +1,7 @@
 //! The central system against requests and replies in octets.
 
 mod cases;
+mod pairs;
 
 use crate::{
     Centre, CentreFault, Command, CommandFault, Ended, Entry, NoMemory, Outcome, Settings, Why,
