@@ -4,6 +4,7 @@ ghost use Rattle.std.specs.Prelude.{◌≡◌, ℕ, ◌+◌, ◌*◌, ◌/◌, �
 ghost use Rattle.std.specs.List.{list_all, flat_map};
 ghost use Rattle.dms_font.specs.Glyph.{lit_at};
 ghost use Rattle.dms_font.specs.Font.{FontModel};
+ghost use Rattle.dms_face.specs.declared.room.Block.{Block as BlockModel};
 ghost use Rattle.dms_face.specs.Layout.{Character, Line, PageModel};
 ghost use Rattle.dms_face.specs.Room.{begin, extent_at, placed_from, character_block, line_block, line_height, greatest, characters_fit, page_fits};
 ghost use Rattle.dms_face.specs.Cells.{PlacedCharacter, is_lit_by, line_characters};
@@ -106,11 +107,19 @@ fn draw_picture(cells: &mut Cells, face: &Face, x: u32, y: u32, glyph: &Glyph, n
     }
 }
 
-impl StyledGlyph<'_> {
-    /// What the character is to its line.
+/// What stands in a row with others of its kind: a character in its line, a line on its page.
+trait Placed {
+    ghost block_of: { Self → BlockModel };
+
+    /// What it is to the whole.
     fn block(&self) -> Block
-        ensures { result ≡ character_block self.now }
-    {
+        ensures { result ≡ block_of self.now };
+}
+
+impl Placed for StyledGlyph<'_> {
+    ghost block_of = { character_block };
+
+    fn block(&self) -> Block {
         Block {
             place: self.style.side.place(),
             size: self.glyph.width(),
@@ -120,11 +129,10 @@ impl StyledGlyph<'_> {
     }
 }
 
-impl TextLine<'_> {
-    /// What the line is to its page.
-    fn block(&self) -> Block
-        ensures { result ≡ line_block self.now }
-    {
+impl Placed for TextLine<'_> {
+    ghost block_of = { line_block };
+
+    fn block(&self) -> Block {
         Block {
             place: self.part.place(),
             size: self.height(),
@@ -132,7 +140,9 @@ impl TextLine<'_> {
             gap: self.gap,
         }
     }
+}
 
+impl TextLine<'_> {
     /// The greatest height of the line's fonts.
     fn height(&self) -> u8
         ensures { result ≡ line_height self.now }
@@ -170,34 +180,17 @@ fn begin(place: Place, whole: u32, size: u32) -> u32
     }
 }
 
-/// The room that the characters at a place of their line take.
-fn side_extent(characters: &[StyledGlyph<'_>], side: Place) -> u32
-    requires { extent_at side (map character_block characters.now) ≤ 256 }
-    ensures { result ≡ extent_at side (map character_block characters.now) }
+/// The room that the things at a place of their row take.
+fn extent<T: Placed>(things: &[T], place: Place) -> u32
+    requires { extent_at place (map T.block_of things.now) ≤ 256 }
+    ensures { result ≡ extent_at place (map T.block_of things.now) }
 {
     let mut run = Run::EMPTY;
-    for character in characters {
-        let block = character.block();
-        if !block.is_at(side) {
-            continue;
+    for thing in things {
+        let block = thing.block();
+        if block.is_at(place) {
+            run = run.with(block);
         }
-        run = run.with(block);
-    }
-    run.size
-}
-
-/// The room that the lines at a place of their page take.
-fn part_extent(lines: &[TextLine<'_>], part: Place) -> u32
-    requires { extent_at part (map line_block lines.now) ≤ 256 }
-    ensures { result ≡ extent_at part (map line_block lines.now) }
-{
-    let mut run = Run::EMPTY;
-    for line in lines {
-        let block = line.block();
-        if !block.is_at(part) {
-            continue;
-        }
-        run = run.with(block);
     }
     run.size
 }
@@ -249,15 +242,11 @@ fn draw_line(
     let width = u32::from(face.width());
     let bottom = top + u32::from(line.height());
     let characters = line.characters.as_slice();
-    let left = begin(Place::Start, width, side_extent(characters, Place::Start));
+    let left = begin(Place::Start, width, extent(characters, Place::Start));
     draw_side(cells, face, characters, Place::Start, left, bottom)?;
-    let centre = begin(
-        Place::Halfway,
-        width,
-        side_extent(characters, Place::Halfway),
-    );
+    let centre = begin(Place::Halfway, width, extent(characters, Place::Halfway));
     draw_side(cells, face, characters, Place::Halfway, centre, bottom)?;
-    let right = begin(Place::End, width, side_extent(characters, Place::End));
+    let right = begin(Place::End, width, extent(characters, Place::End));
     draw_side(cells, face, characters, Place::End, right, bottom)?;
     Ok(())
 }
@@ -303,11 +292,11 @@ pub(crate) fn draw_lines(
         → Shows face.now page (before ++ lines_characters face.now lines.now) cells.new.cells) }
 {
     let height = u32::from(face.height());
-    let top = begin(Place::Start, height, part_extent(lines, Place::Start));
+    let top = begin(Place::Start, height, extent(lines, Place::Start));
     draw_part(cells, face, lines, Place::Start, top)?;
-    let middle = begin(Place::Halfway, height, part_extent(lines, Place::Halfway));
+    let middle = begin(Place::Halfway, height, extent(lines, Place::Halfway));
     draw_part(cells, face, lines, Place::Halfway, middle)?;
-    let bottom = begin(Place::End, height, part_extent(lines, Place::End));
+    let bottom = begin(Place::End, height, extent(lines, Place::End));
     draw_part(cells, face, lines, Place::End, bottom)?;
     Ok(())
 }

@@ -1,8 +1,0 @@
-use Rattle.std.proofs.Common.{map}
-use Rattle.dms_face.specs.Room.{character_block}
-use Rattle.dms_face.specs.Totals.{Sums}
-use Rattle.dms_pages.proofs.PlacingLaws.{among}
-use Rattle.dms_pages.proofs.drawing.side_extent.Given as goal
-
-abbrev pub invariant-loop-character : goal.invariant-loop-character
-invariant-loop-character l = Sums l.run (map character_block (among character_block l.side l.character-index l.characters))
