@@ -16,7 +16,7 @@ use Rattle.dms_face.specs.Face.{FaceModel}
 use Rattle.dms_face.specs.Layout.{Character, Line, Layout, Style, styled, is_blank, standing, with_character, with_item}
 use Rattle.dms_face.specs.Room.{line_block, lines_fit}
 use Rattle.dms_face.specs.OnePass.{local_fault}
-use Rattle.dms_face.specs.Totals.{Tells, Holds, AreSmall, Takes}
+use Rattle.dms_face.specs.Totals.{Tells, AreSmall, Takes}
 use Rattle.dms_face.proofs.RoomLaws.{same_standing}
 
 -- the greatest number of the characters' fonts

@@ -12,7 +12,6 @@ use Rattle.dms_text.specs.Words.{words_of, parts_of}
 use Rattle.dms_text.specs.Numbers.{SpellsNumber}
 use Rattle.dms_text.specs.Octets.{SpellsOctets}
 use Rattle.dms_text.specs.Reading.{same_octets, word_at, decimal_at}
-use Rattle.dms_text.proofs.NumberLaws.{number_found, number_only, within_found, within_only}
 use Rattle.dms_text.proofs.WordLaws.{begun, goes_on, word_found, word_only, decimal_found, decimal_only, octets_found, octets_only, octets_some}
 use Rattle.dms_codes.specs.declared.codes.Order.{Order}
 use Rattle.dms_codes.specs.declared.codes.Order.TheVariants.{High, Swapped}
@@ -23,6 +22,7 @@ use Rattle.dms_centre.specs.State.{PublicationModel}
 use Rattle.dms_centre.specs.Commands.{Publish, Blank, Activate}
 use Rattle.dms_world.specs.Event.{EventModel, command, sign_tick, centre_tick, to_sign, to_centre, power_lost, power_back, centre_restart, forge_sign, forge_centre}
 use Rattle.dms_description.specs.Fields.{SpellsEach, SpellsOctet, SpellsTwoOctets, SpellsFourOctets}
+use Rattle.dms_description.proofs.WordReading.{numeral_found, numeral_only}
 use Rattle.dms_replay.specs.EventFields.{SpellsAddressPart, SpellsAddress, SpellsCode}
 use Rattle.dms_replay.specs.EventLine.{SpellsPublication, SpellsBlank, SpellsOne, SpellsEventWords, SpellsEvent}
 use Rattle.dms_replay.specs.EventReading.{alone, octet_at, two_octets_at, last_number_at, octets_at, last_octets_at, address_at, address_of, code_from, last_code_at, TermsModel, last_terms_at, publication_at, blank_at, keyword_of, later_keyword, event_after, event_of}
@@ -43,39 +43,6 @@ same_rest word other words others e = ap drop_first e
 pub alone_found : {A : Type 0} (value found : A) (words : List (List ℕ)) → alone value words ≡ Some found → (words ≡ []) × (value ≡ found)
 alone_found value found [] e = (refl, same_Some _ _ e)
 alone_found value found (word ∷ words) e = absurd (let none : None ≡ Some found = e in cc)
-
--- a number of one to `most` digits, from low to high
-record FoundNumeral (most low high : ℕ) (words : List (List ℕ)) (found : ℕ × List (List ℕ)) : Type 0 where
-  word : List ℕ
-  words_are : words ≡ word ∷ found.1
-  spelled : SpellsNumber 10 most found.0 word
-  greatest : found.0 ≤ high
-
-numeral_found : (most low high : ℕ) (words : List (List ℕ)) (found : ℕ × List (List ℕ)) → decimal_at most low high words ≡ Some found → FoundNumeral most low high words found
-unfolding decimal_at
-numeral_found most low high words found e =
-    let read = begun _ _ _ e in
-    let number = begun _ _ _ read.2 in
-    let inside = begun _ _ _ number.2 in
-    let after = word_found words read.0 read.1 in
-    let bounds = within_found low high number.0 inside.0 inside.1 in
-    let same : (inside.0, read.0.1) ≡ found = same_Some _ _ inside.2 in
-    let value : inside.0 ≡ found.0 = ap (λ (pair : ℕ × List (List ℕ)). pair.0) same in
-    let rest : read.0.1 ≡ found.1 = ap (λ (pair : ℕ × List (List ℕ)). pair.1) same in
-    record {
-      word = read.0.0;
-      words_are = after.0 ∙ ap (λ words. read.0.0 ∷ words) rest;
-      spelled = subst (λ n. SpellsNumber 10 most n read.0.0) (bounds.0 ∙ value) (number_found 10 most number.0 read.0.0 number.1);
-      greatest = omega (arith, bounds.0, bounds.2, value);
-    }
-
-numeral_only : (most high number : ℕ) (word : List ℕ) (rest : List (List ℕ)) → SpellsNumber 10 most number word → number ≤ high
-    → decimal_at most 0 high (word ∷ rest) ≡ Some (number, rest)
-unfolding decimal_at
-numeral_only most high number word rest spelled small =
-    goes_on _ _ _ (word_only word rest spelled.numeral.0)
-    ∙ goes_on _ _ _ (number_only 10 most number word spelled)
-    ∙ goes_on _ _ _ (within_only 0 high number (omega arith) small)
 
 record FoundOctets (words : List (List ℕ)) (found : List ℕ × List (List ℕ)) : Type 0 where
   word : List ℕ

@@ -1,6 +1,7 @@
 //! What a sign reports of its verdicts and decisions.
 
 ghost use Rattle.std.specs.Prelude.{◌≡◌, ◌≤◌, IfSome};
+ghost use Rattle.dms_codes.specs.Limits.{longest_text};
 ghost use Rattle.dms_reports.specs.Reports.{first_reports, with_fault, with_cause, text_reports, settled_reports, refused_reports, accepted_reports, IsCauseInRange};
 ghost use Rattle.dms_reports.specs.ReportsView.{reports_of};
 
@@ -44,7 +45,7 @@ impl Reports {
 
     /// With the verdict on the row that was settled, where one was: dmsValidateMessageError, and its text's fault or none.
     pub fn with_verdict(self, verdict: &Option<Verdict>) -> Reports
-        requires { IfSome verdict.now (λ verdict. IfSome verdict.fault (λ fault. fault.place ≤ 512)) }
+        requires { IfSome verdict.now (λ verdict. IfSome verdict.fault (λ fault. fault.place ≤ longest_text)) }
         ensures { reports_of result ≡ settled_reports (reports_of self) verdict.now }
     {
         match verdict {
@@ -81,7 +82,7 @@ impl Reports {
 
     /// With the fault of a text.
     fn with_fault(self, fault: &MultiFault) -> Reports
-        requires { fault.now.place ≤ 512 }
+        requires { fault.now.place ≤ longest_text }
         ensures { reports_of result ≡ with_fault (reports_of self) fault.now }
     {
         Reports {
@@ -93,7 +94,7 @@ impl Reports {
 
     /// With what was found of a text: its fault, or that it has none.
     fn with_text(self, found: &Option<MultiFault>) -> Reports
-        requires { IfSome found.now (λ fault. fault.place ≤ 512) }
+        requires { IfSome found.now (λ fault. fault.place ≤ longest_text) }
         ensures { reports_of result ≡ text_reports (reports_of self) found.now }
     {
         match found {

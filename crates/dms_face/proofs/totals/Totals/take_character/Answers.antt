@@ -1,6 +1,6 @@
 use Rattle.std.proofs.Common.{◌≡◌, Some, ap, sym, ◌∙◌}
-use Rattle.dms_face.specs.Layout.{Layout, standing, with_character}
-use Rattle.dms_face.specs.Room.{blocks_fit, lines_fit}
+use Rattle.dms_face.specs.Layout.{Layout, with_character}
+use Rattle.dms_face.specs.Room.{blocks_fit}
 use Rattle.dms_face.specs.OnePass.{room_fault, open_fits}
 use Rattle.dms_face.specs.Totals.{Holds}
 use Rattle.dms_face.proofs.Bools.{both}

@@ -1,4 +1,4 @@
-use Rattle.std.proofs.Common.{[], ap, sym, ◌∙◌, arith}
+use Rattle.std.proofs.Common.{[], sym, ◌∙◌, arith}
 use Rattle.dms_face.specs.Totals.{AreSmall}
 use Rattle.dms_face.proofs.RoomLaws.{nothing_fits}
 use Rattle.dms_face.proofs.TellsLaws.{tells_page, page_passes}
