@@ -238,20 +238,19 @@ fn check(alloc: Global, centre: &mut Centre, line: &[u8], wanted: &[u8]) -> Resu
 /// A new central system talks so.
 fn check_talk(alloc: Global, first: u32, talk: &str) -> Result<(), Fail> {
     let mut centre = centre(alloc, first)?;
-    let mut found = Vec::new(alloc);
+    let mut rest = talk.as_bytes();
     for line in talk.lines() {
-        if line.starts_with("> ") {
-            let line = line.as_bytes();
+        let line = line.as_bytes();
+        if line.starts_with(b"> ") {
+            rest = rest.get(line.len().saturating_add(1)..).ok_or("no answer")?;
             let text = answered(alloc, &mut centre, line.get(2..).ok_or("no line")?)?;
-            found.extend_from_slice(line)?;
-            found.extend_from_slice(b"\n")?;
-            found.extend_from_slice(text.as_slice())?;
+            rest = rest.strip_prefix(text.as_slice()).ok_or("another answer")?;
         }
     }
-    if found.as_slice() == talk.as_bytes() {
+    if rest.is_empty() {
         Ok(())
     } else {
-        Err("another talk".into())
+        Err("a shorter talk".into())
     }
 }
 
