@@ -6,10 +6,12 @@ use crate::command_line::{Call, CodeWords, SignWanted};
 use dms_codes::{Activation, MAX_TEXT, MessageId, Order, crc};
 use dms_description::Setup;
 use dms_face::{MultiFault, check};
+use dms_live::{ConversationFault, Input, Party, converse};
 use dms_pages::{Page, PagesFault, pages};
+use dms_parties::{LiveCentre, LiveSign};
 use dms_replay::{ReplayFault, address, bench, described, replay};
 use dms_sign::Receipt;
-use dms_streams::Counted;
+use dms_streams::{Counted, Source};
 use dms_wire::Out;
 use hex::FromHexError;
 use std::alloc::Global;
@@ -30,6 +32,74 @@ pub fn act<R: Read, W: Write>(
         Call::Pages { text, sign } => print_pages(alloc, text, sign, reader, writer),
         Call::Code(words) => code(alloc, &words, writer),
         Call::Replay => print_report(alloc, reader, writer),
+        Call::Sign { sign } => be_sign(alloc, sign, reader, writer),
+        Call::Centre { sign } => be_centre(alloc, sign, reader, writer),
+    }
+}
+
+/// Answers the lines to a sign that the standard input has, or has after the sign's description.
+fn be_sign<R: Read, W: Write>(
+    alloc: Global,
+    wanted: SignWanted,
+    reader: &mut R,
+    writer: &mut W,
+) -> u8 {
+    let Ok(mut input) = Input::new(alloc, Counted::new(&mut *reader)) else {
+        return tell(writer, "memory", 1);
+    };
+    match live_setup(alloc, wanted, &mut input) {
+        Ok(setup) => talk(alloc, LiveSign::new(setup.sign), &mut input, writer),
+        Err(fault) => tell_input_fault(writer, fault),
+    }
+}
+
+/// Answers the lines to a sign's central system that the standard input has, or has after the sign's description.
+fn be_centre<R: Read, W: Write>(
+    alloc: Global,
+    wanted: SignWanted,
+    reader: &mut R,
+    writer: &mut W,
+) -> u8 {
+    let Ok(mut input) = Input::new(alloc, Counted::new(&mut *reader)) else {
+        return tell(writer, "memory", 1);
+    };
+    let setup = match live_setup(alloc, wanted, &mut input) {
+        Ok(setup) => setup,
+        Err(fault) => return tell_input_fault(writer, fault),
+    };
+    match LiveCentre::new(alloc, &setup) {
+        Ok(centre) => talk(alloc, centre, &mut input, writer),
+        Err(_) => tell(writer, "memory", 1),
+    }
+}
+
+/// The sign that a conversation is about, which may be described before the conversation.
+fn live_setup<S: Source>(
+    alloc: Global,
+    wanted: SignWanted,
+    input: &mut Input<S>,
+) -> Result<Setup, ReplayFault> {
+    match wanted {
+        SignWanted::Bench => bench(alloc),
+        SignWanted::Described => dms_parties::described(alloc, input),
+    }
+}
+
+/// Answers the lines that are left of the input.
+fn talk<P: Party + Drop, S: Source, W: Write>(
+    alloc: Global,
+    mut party: P,
+    input: &mut Input<S>,
+    writer: &mut W,
+) -> u8 {
+    let mut sink = Counted::new(&mut *writer);
+    match converse(alloc, &mut party, input, &mut sink) {
+        Ok(()) => 0,
+        Err(ConversationFault::Write) => 1,
+        Err(fault) => {
+            let _ = writeln!(writer, "{fault}");
+            1
+        }
     }
 }
 

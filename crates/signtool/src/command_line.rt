@@ -20,6 +20,10 @@ pub enum Call<'a> {
     Code(CodeWords<'a>),
     /// The report of the script on the standard input.
     Replay,
+    /// The answers of a sign to the lines on the standard input, each before the next line is read.
+    Sign { sign: SignWanted },
+    /// The answers of a sign's central system to the lines on the standard input, each before the next line is read.
+    Centre { sign: SignWanted },
 }
 
 /// Which sign a call is about.
@@ -97,6 +101,12 @@ pub fn asked<S: AsStr>(alloc: Global, words: &[S]) -> Result<Call<'_>, Usage> {
         }
         Some(("code", code)) => code_words(code).map(Call::Code).ok_or(Usage::NoCall),
         Some(("replay", _)) => Ok(Call::Replay),
+        Some(("sign", words)) => Ok(Call::Sign {
+            sign: sign_wanted(words),
+        }),
+        Some(("centre", words)) => Ok(Call::Centre {
+            sign: sign_wanted(words),
+        }),
         _ => Err(Usage::NoCall),
     }
 }
@@ -139,7 +149,9 @@ fn command<'a>(alloc: Global) -> Result<Command<'a>, AllocError> {
         .subcommand(check_command(alloc)?)?
         .subcommand(pages_command(alloc)?)?
         .subcommand(code_command(alloc)?)?
-        .subcommand(replay_command(alloc))
+        .subcommand(replay_command(alloc))?
+        .subcommand(sign_command(alloc)?)?
+        .subcommand(centre_command(alloc)?)
 }
 
 fn answer_command<'a>(alloc: Global) -> Result<Command<'a>, AllocError> {
@@ -170,6 +182,20 @@ fn replay_command<'a>(alloc: Global) -> Command<'a> {
     Command::new(alloc, "replay").about(
         "Runs the script on the standard input, and prints the report",
     )
+}
+
+fn sign_command<'a>(alloc: Global) -> Result<Command<'a>, AllocError> {
+    Command::new(alloc, "sign")
+        .about("Is a sign: answers each line of the standard input, as `datagram HEX` or `tick`")
+        .arg(sign(alloc))
+}
+
+fn centre_command<'a>(alloc: Global) -> Result<Command<'a>, AllocError> {
+    Command::new(alloc, "centre")
+        .about(
+            "Is a sign's central system: answers each line of the standard input, as `publish ..` or `tick`",
+        )
+        .arg(sign(alloc))
 }
 
 /// The option that names the sign which the standard input describes.

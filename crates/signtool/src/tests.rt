@@ -256,6 +256,15 @@ fn reads_the_command_line(rt: HostRuntime) -> Result<(), Fail> {
         .is_err()
     );
     assert!(rt; asked(rt.alloc(), &["signtool", "help"]).is_err());
+    let Ok(Call::Sign { sign }) = asked(rt.alloc(), &["signtool", "sign", "--sign"]) else {
+        return Err(Fail::from("no call"));
+    };
+    assert!(rt; sign == SignWanted::Described);
+    let Ok(Call::Centre { sign }) = asked(rt.alloc(), &["signtool", "centre"]) else {
+        return Err(Fail::from("no call"));
+    };
+    assert!(rt; sign == SignWanted::Bench);
+    assert!(rt; asked(rt.alloc(), &["signtool", "sign", "tick"]).is_err());
     Ok(())
 }
 
@@ -302,8 +311,12 @@ fn bad_address_first(rt: HostRuntime) -> Result<(), Fail> {
 const SMALL_SIGN: &str =
     "size 5 7\ncommunities public admin\nrows 1 1\norder swapped\nhas 0 0\ndefaults 0 1 5 5 1 2 2 10 0\nfirst 1\nfont 1 height 7 space 1 line 1 version 0001\nglyph 65 5 7463f8c620\nend\n";
 
+/// Its description, and lines to it after that.
+const SMALL_TALK: &str =
+    "size 5 7\ncommunities public admin\nrows 1 1\norder swapped\nhas 0 0\ndefaults 0 1 5 5 1 2 2 10 0\nfirst 1\nfont 1 height 7 space 1 line 1 version 0001\nglyph 65 5 7463f8c620\nend\nshow\npower-lost\npower-back 5\nend";
+
 /// Calls with a standard input, and what they print with which exit status.
-const WITH_INPUT: [(&[&str], &str, &str, u8); 11] = [
+const WITH_INPUT: [(&[&str], &str, &str, u8); 18] = [
     (
         &["signtool", "check", "--sign", "A"],
         SMALL_SIGN,
@@ -360,6 +373,33 @@ const WITH_INPUT: [(&[&str], &str, &str, u8); 11] = [
     ),
     (&["signtool", "replay"], "bench\nsign-tock\n", "line 2\n", 1),
     (&["signtool", "replay"], "", "line 1\n", 1),
+    (
+        &["signtool", "sign"],
+        "tick\nstate\r\n\nticks\ndatagram 301802010004067075626c6963a00b0201010201000201003000\ndatagram -",
+        "ok\nshown 7 1 0000 mode 10 priority 1 remaining 65535 text -\nok\nbad line\nbad line\nreply 301802010004067075626c6963a20b0201010201000201003000\ndropped\n",
+        0,
+    ),
+    (&["signtool", "sign"], "", "", 0),
+    (
+        &["signtool", "sign", "--sign"],
+        SMALL_TALK,
+        "page 1 on 10 off 0 back 0\n.....\n.....\n.....\n.....\n.....\n.....\n.....\nok\nok\nok\nbad line\n",
+        0,
+    ),
+    (&["signtool", "sign", "--sign"], "size 5 7\n", "line 2\n", 1),
+    (
+        &["signtool", "centre"],
+        "status\npublish 3 1 41 - 0 0 100 65535 255 127.0.0.1\nblank 1 65535 255 0.0.0.0\nrestart\nstatus",
+        "idle\nlast none\nok\nsend 302e020100040561646d696ea3220201010201000201003017301506102b060104018936040203050801090301020106\nrefused a job is not done yet\nok\nidle\nlast failed at step 1: the central system was restarted\nok\n",
+        0,
+    ),
+    (
+        &["signtool", "centre", "--sign"],
+        SMALL_TALK,
+        "bad line\nbad line\nbad line\nbad line\n",
+        0,
+    ),
+    (&["signtool", "centre", "--sign"], "", "line 1\n", 1),
 ];
 
 #[test]
@@ -405,11 +445,12 @@ fn bad_inputs(rt: HostRuntime) -> Result<(), Fail> {
         Call::Pages { text: "A", sign },
         Call::Answer { hex: "30", sign },
         Call::Replay,
+        Call::Sign { sign },
+        Call::Centre { sign },
     ] {
         for (left, fails, printed) in [
             (0, true, "read\n"),
             (1_048_576, true, "read\n"),
-            (1_048_577, true, "too long\n"),
             (1_048_577, false, "too long\n"),
             (1_048_576, false, "line 2\n"),
         ] {
@@ -422,17 +463,58 @@ fn bad_inputs(rt: HostRuntime) -> Result<(), Fail> {
     Ok(())
 }
 
-/// An output that is full after each octet in turn has a prefix of the report, and the status says that it is not all.
+/// A long line is refused, the lines around it are answered, and a reader that fails within a line is told after them.
+#[test]
+fn long_lines_are_refused(rt: HostRuntime) -> Result<(), Fail> {
+    let sign = SignWanted::Bench;
+    for (call, fails, printed) in [
+        (Call::Sign { sign }, false, "bad line\n"),
+        (Call::Centre { sign }, false, "bad line\n"),
+        (Call::Sign { sign }, true, "read\n"),
+        (Call::Centre { sign }, true, "read\n"),
+    ] {
+        let mut input = Filler {
+            left: 200_000,
+            fails,
+        };
+        let mut output = Vec::new(rt.alloc());
+        let found = act(rt.alloc(), &call, &mut input, &mut output);
+        assert_eq!(rt; found, u8::from(fails));
+        assert!(rt; output.as_slice() == printed.as_bytes());
+    }
+    Ok(())
+}
+
+/// An output that is full after each octet in turn has a prefix of what is to be printed, and the status says that it is not all.
 #[test]
 fn full_after_each_octet(rt: HostRuntime) {
-    let report = b"events 0\nsent 0 0\nshown 7 1 0000 mode 10 priority 1 remaining 65535 text -\n";
-    for room in 0..=report.len() {
-        let mut buffer = [0_u8; 128];
-        let mut output: &mut [u8] = &mut buffer[..room];
-        let mut input: &[u8] = b"bench";
-        let found = act(rt.alloc(), &Call::Replay, &mut input, &mut output);
-        assert_eq!(rt; found, u8::from(room < report.len()));
-        assert!(rt; buffer[..room] == report[..room]);
+    let sign = SignWanted::Bench;
+    for (call, input, printed) in [
+        (
+            Call::Replay,
+            "bench",
+            "events 0\nsent 0 0\nshown 7 1 0000 mode 10 priority 1 remaining 65535 text -\n",
+        ),
+        (
+            Call::Sign { sign },
+            "tick\nstate",
+            "ok\nshown 7 1 0000 mode 10 priority 1 remaining 65535 text -\nok\n",
+        ),
+        (
+            Call::Centre { sign },
+            "status\n\nrestart",
+            "idle\nlast none\nok\nbad line\nok\n",
+        ),
+    ] {
+        let printed = printed.as_bytes();
+        for room in 0..=printed.len() {
+            let mut buffer = [0_u8; 128];
+            let mut output: &mut [u8] = &mut buffer[..room];
+            let mut input = input.as_bytes();
+            let found = act(rt.alloc(), &call, &mut input, &mut output);
+            assert_eq!(rt; found, u8::from(room < printed.len()));
+            assert!(rt; buffer[..room] == printed[..room]);
+        }
     }
 }
 
@@ -471,6 +553,8 @@ fn printed_or_out_of_memory(rt: HostRuntime) {
             "events 1\nsent 0 0\nshown 7 1 0000 mode 10 priority 1 remaining 65535 text -\n",
             0,
         ),
+        (Call::Sign { sign: bench }, "tick", "ok\n", 0),
+        (Call::Centre { sign: bench }, "tick", "ok\n", 0),
     ] {
         let mut refused = false;
         for _ in 0..2 {
