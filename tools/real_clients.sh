@@ -16,7 +16,8 @@ trap 'kill "${doors[@]}" 2> /dev/null; rm -rf "$folder"' EXIT
 passed=0
 failed=0
 port=$((20000 + RANDOM % 20000))
-export LC_ALL=C
+export LC_ALL=C SNMP_PERSISTENT_DIR=$folder/snmp
+mkdir -p "$SNMP_PERSISTENT_DIR/mib_indexes" "$SNMP_PERSISTENT_DIR/cert_indexes"
 
 # is NAME FOUND WANTED
 is() {
@@ -146,7 +147,7 @@ door --sign "$top/signs/roadside.sign" --lose 5
 text=$(printf 'LANE CLOSED[nl]1 KM' | od -An -tx1 | tr -d ' \n')
 printf 'publish 3 1 %s - 0 0 100 65535 255 127.0.0.1\n' "$text" |
     timeout 100 python3 "$top/tools/udp_centre.py" --to "127.0.0.1:$port" --signtool "$program" --sign "$top/signs/roadside.sign" > "$folder/centre" 2>&1
-is "the ledger" "$(grep -oE 'accepted|noreply' "$folder/centre")" accepted
+is "the ledger" "$(sed -n 's/^ledger .* //p' "$folder/centre")" accepted
 is "the text that the centre published" "$(snmp snmpget -c public -Oqv "127.0.0.1:$port" dmsMessageMultiString.5.1 dmsMsgSourceMode.0 | tr '\n' ' ')" '"LANE CLOSED[nl]1 KM" central '
 
 # --- what went over the wire ------------------------------------------------------------------------------------------------------
