@@ -1,22 +1,99 @@
 #!/usr/bin/env python3
 """Runs the program over vectors/*.jsonl: `tools/check_vectors.py [--program PATH]` prints `N passed, N failed`.
 
-Texts go through `check` and `pages`, codes through `code`, requests through `answer`, scripts through `replay`. Of datagrams
-the program tells only whether they are dropped: one that spells no message is.
+Datagrams go through `decode`, texts through `items`, `check` and `pages`, codes through `code`, requests through `answer`, scripts
+through `replay`. Names of objects are those of mibs/DMS-PROFILE-MIB.
 """
 
 import argparse
 import json
 import pathlib
+import re
 import subprocess
 import sys
 
 TOP = pathlib.Path(__file__).resolve().parent.parent
 
 
+FAULTS = {
+    "Truncated": "truncated",
+    "BadTag": "unexpected tag",
+    "BadLength": "bad length",
+    "LengthPast": "content passes its element",
+    "BadInteger": "bad integer",
+    "BadName": "bad object identifier",
+    "BadVersion": "version is not 0",
+    "TrailingBytes": "trailing octets",
+    "TooLong": "datagram over 1472 octets",
+}
+
+
+def objects_of_mib():
+    """The names of the MIB's objects by their dotted numbers."""
+    text = "".join(path.read_text(encoding="ascii") for path in (TOP / "mibs").glob("DMS-PROFILE-MIB*"))
+    found = {"enterprises": "1.3.6.1.4.1"}
+    names = {}
+    for name, kind, parent, number in re.findall(r"(?ms)^(\w+)\s+OBJECT(-TYPE| IDENTIFIER).*?::=\s*\{\s*(\w+)\s+(\d+)\s*\}", text):
+        found[name] = f"{found[parent]}.{number}"
+        if kind == "-TYPE" and name not in ("dmsMessageTable", "dmsMessageEntry"):
+            names[found[name]] = name
+    return names
+
+
+OBJECTS = objects_of_mib()
+
+
+def named(dotted):
+    """A name as `decode` prints it: the object and its instance follow in parentheses. A scalar's instance is 0, a cell's its row."""
+    for places in (1, 2):
+        name, *instance = dotted.rsplit(".", places)
+        is_cell = name.count(".") == 13
+        if name in OBJECTS and is_cell == (places == 2) and (is_cell or instance == ["0"]):
+            return f"{dotted} ({OBJECTS[name]}.{'.'.join(instance)})"
+    return dotted
+
+
+def octets_printed(digits):
+    octets = bytes.fromhex(digits)
+    text = f' "{octets.decode("ascii")}"' if octets and all(32 <= octet <= 126 for octet in octets) else ""
+    return (digits or "-") + text
+
+
+def value_printed(kind, value):
+    if kind in ("OCTET STRING", "Opaque"):
+        return f"{kind} {octets_printed(value)}"
+    if kind == "OBJECT IDENTIFIER":
+        return f"{kind} {named(value)}"
+    if kind == "IpAddress":
+        return f"{kind} {'.'.join(str(octet) for octet in bytes.fromhex(value))}"
+    return "NULL" if kind == "NULL" else f"{kind} {value}"
+
+
+def fields(message):
+    """A message as `decode` prints it."""
+    yield f"kind {message['kind']}"
+    yield f"community {octets_printed(message['community'])}"
+    for field in ("request-id", "error-status", "error-index"):
+        yield f"{field} {message[field]}"
+    for binding in message["bindings"]:
+        yield f"binding {named(binding['name'])}: {value_printed(binding['type'], binding['value'])}"
+
+
+def item_printed(item):
+    """An item as `items` prints it."""
+    offset, kind, *values = item
+    if kind == "font":
+        number, version = values
+        values = ["default" if number is None else number] + ([] if version is None else ["version", version])
+    return " ".join(str("default" if word is None else word) for word in [offset, kind, *values])
+
+
 def calls(kind, case):
     """The words of each call for a case, its standard input, the output that is wanted and the status."""
     if kind == "texts":
+        markup = case["markup"]
+        items = "".join(item_printed(item) + "\n" for item in case["items"])
+        yield ["items", "--", case["text"]], "", items + (f"fault {markup['code']} at {markup['offset']}\n" if markup else ""), 1 if markup else 0
         fault = case.get("fault")
         refused = fault and f"fault {fault['code']} at {fault['offset']}\n"
         pages = [line for line in case.get("pages", []) if line.startswith("page ")]
@@ -34,7 +111,10 @@ def calls(kind, case):
         wanted = f"line {case['line']}\n" if "line" in case else "\n".join(case["report"]) + "\n"
         yield ["replay"], case["script"], wanted, 1 if "line" in case else 0
     elif "fault" in case:
+        yield ["decode", case["octets"]], "", f"fault {FAULTS[case['fault']]} at octet {case['offset']}\n", 1
         yield ["answer", case["octets"]], "", "dropped\n", 1
+    else:
+        yield ["decode", case["octets"]], "", "\n".join(fields(case["message"])) + "\n", 0
 
 
 def main():

@@ -2,21 +2,27 @@
 
 ghost use Rattle.std.specs.Prelude.{◌<◌};
 
-use crate::command_line::{Call, CodeWords, SignWanted};
+use crate::command_line::{Call, CodeWords, Drawing, SignWanted};
+use crate::fields::write_message;
+use crate::item_lines::write_items;
 use dms_codes::{Activation, MAX_TEXT, MessageId, Order, crc};
 use dms_description::Setup;
-use dms_face::{MultiFault, check};
+use dms_face::{Face, MultiFault, check};
 use dms_live::{ConversationFault, Input, Party, converse};
 use dms_pages::{Page, PagesFault, pages};
 use dms_parties::{LiveCentre, LiveSign};
+use dms_picture::{picture, still};
 use dms_replay::{ReplayFault, address, bench, described, replay};
 use dms_sign::Receipt;
 use dms_streams::{Counted, Source};
-use dms_wire::Out;
+use dms_wire::{Out, read};
 use hex::FromHexError;
-use std::alloc::Global;
+use std::alloc::{AllocError, Global};
 use std::io;
 use std::io::{Read, Write};
+
+/// The program's name and version.
+const VERSION: &str = "signtool 1.0.0";
 
 /// Carries out the call over the program's standard input and output, and gives the exit status: 0 where it was done, 1
 /// where it was refused or the output failed, 2 where the words are at fault.
@@ -26,10 +32,31 @@ pub fn act<R: Read, W: Write>(
     reader: &mut R,
     writer: &mut W,
 ) -> u8 {
+    act_saying(alloc, call, reader, writer, &mut Vec::new(alloc))
+}
+
+/// The same, and says in words on the standard error why an input was refused or dropped.
+pub fn act_saying<R: Read, W: Write, E: Write>(
+    alloc: Global,
+    call: &Call<'_>,
+    reader: &mut R,
+    writer: &mut W,
+    errors: &mut E,
+) -> u8 {
     match *call {
-        Call::Answer { hex, sign } => answer(alloc, hex, sign, reader, writer),
-        Call::Check { text, sign } => check_text(alloc, text, sign, reader, writer),
-        Call::Pages { text, sign } => print_pages(alloc, text, sign, reader, writer),
+        Call::Answer { hex, sign } => answer(alloc, hex, sign, reader, writer, errors),
+        Call::Check { text, sign } => check_text(alloc, text, sign, reader, writer, errors),
+        Call::Pages {
+            text,
+            sign,
+            drawing,
+        } => match setup(alloc, sign, reader) {
+            Ok(setup) => print_pages(alloc, text, setup.sign.face(), drawing, writer, errors),
+            Err(fault) => tell_input_fault(writer, fault),
+        },
+        Call::Decode { hex } => decode(alloc, hex, writer),
+        Call::Items { text } => list_items(text, writer, errors),
+        Call::Version => tell(writer, VERSION, 0),
         Call::Code(words) => code(alloc, &words, writer),
         Call::Replay => print_report(alloc, reader, writer),
         Call::Sign { sign } => be_sign(alloc, sign, reader, writer),
@@ -123,17 +150,17 @@ fn print_report<R: Read, W: Write>(alloc: Global, reader: &mut R, writer: &mut W
 }
 
 /// Prints the sign's reply to a datagram, in lower case hexadecimal digits.
-fn answer<R: Read, W: Write>(
+fn answer<R: Read, W: Write, E: Write>(
     alloc: Global,
     digits: &str,
     sign: SignWanted,
     reader: &mut R,
     writer: &mut W,
+    errors: &mut E,
 ) -> u8 {
-    let datagram = match hex::decode(alloc, digits) {
+    let datagram = match octets(alloc, digits) {
         Ok(datagram) => datagram,
-        Err(FromHexError::OutOfMemory) => return tell(writer, "memory", 1),
-        Err(_) => return tell(writer, "not hex", 2),
+        Err(fault) => return tell_hex_fault(writer, fault),
     };
     let mut setup = match setup(alloc, sign, reader) {
         Ok(setup) => setup,
@@ -141,7 +168,10 @@ fn answer<R: Read, W: Write>(
     };
     let mut reply = Out::new();
     match setup.sign.receive(datagram.as_slice(), &mut reply) {
-        Receipt::Dropped => tell(writer, "dropped", 1),
+        Receipt::Dropped => {
+            say_why_dropped(datagram.as_slice(), errors);
+            tell(writer, "dropped", 1)
+        }
         Receipt::Replied | Receipt::Accepted(_) => match hex::encode(alloc, reply.as_slice()) {
             Ok(text) => tell(writer, text.as_str(), 0),
             Err(_) => tell(writer, "memory", 1),
@@ -150,12 +180,13 @@ fn answer<R: Read, W: Write>(
 }
 
 /// Prints the number of a text's pages on the sign, or its fault.
-fn check_text<R: Read, W: Write>(
+fn check_text<R: Read, W: Write, E: Write>(
     alloc: Global,
     text: &str,
     sign: SignWanted,
     reader: &mut R,
     writer: &mut W,
+    errors: &mut E,
 ) -> u8 {
     let setup = match setup(alloc, sign, reader) {
         Ok(setup) => setup,
@@ -163,7 +194,7 @@ fn check_text<R: Read, W: Write>(
     };
     match check(setup.sign.face(), text.as_bytes()) {
         Ok(pages) => tell_done(writer, pages),
-        Err(fault) => tell_fault(writer, fault),
+        Err(fault) => tell_fault(writer, errors, fault),
     }
 }
 
@@ -204,42 +235,128 @@ fn code<W: Write>(alloc: Global, words: &CodeWords<'_>, writer: &mut W) -> u8 {
     }
 }
 
-/// Prints the pages of a text on the sign, or its fault.
-fn print_pages<R: Read, W: Write>(
+/// Prints the pages of a text on a face, or its fault.
+fn print_pages<W: Write, E: Write>(
     alloc: Global,
     text: &str,
-    sign: SignWanted,
-    reader: &mut R,
+    face: &Face,
+    drawing: Drawing,
     writer: &mut W,
+    errors: &mut E,
 ) -> u8 {
-    let setup = match setup(alloc, sign, reader) {
-        Ok(setup) => setup,
-        Err(fault) => return tell_input_fault(writer, fault),
+    let pages = match pages(alloc, face, text.as_bytes()) {
+        Ok(pages) => pages,
+        Err(PagesFault::Multi(fault)) => return tell_fault(writer, errors, fault),
+        Err(PagesFault::Memory) => return tell(writer, "memory", 1),
     };
-    match pages(alloc, setup.sign.face(), text.as_bytes()) {
-        Ok(pages) => match write_pages(pages.as_slice(), writer) {
-            Ok(()) => 0,
-            Err(_) => 1,
+    match drawing.page {
+        None if drawing.svg => {
+            let document = picture(alloc, face.width(), face.height(), pages.as_slice());
+            print_document(document, writer)
+        }
+        None => status(write_pages(pages.as_slice(), writer)),
+        Some(number) => match pages.get(usize::from(number).saturating_sub(1)) {
+            Some(page) if drawing.svg => print_document(still(alloc, page), writer),
+            Some(page) => status(write_page(usize::from(number), page, writer)),
+            None => tell(writer, "no such page", 1),
         },
-        Err(PagesFault::Multi(fault)) => tell_fault(writer, fault),
-        Err(PagesFault::Memory) => tell(writer, "memory", 1),
     }
 }
 
-/// Writes each page: a line that tells its times and its background, and a line for each row of the matrix.
+/// Prints a picture.
+fn print_document<W: Write>(document: Result<Vec<u8>, AllocError>, writer: &mut W) -> u8 {
+    match document {
+        Ok(document) => status(writer.write_all(document.as_slice())),
+        Err(_) => tell(writer, "memory", 1),
+    }
+}
+
+/// Prints the fields of a datagram, or its fault.
+fn decode<W: Write>(alloc: Global, digits: &str, writer: &mut W) -> u8 {
+    let datagram = match octets(alloc, digits) {
+        Ok(datagram) => datagram,
+        Err(fault) => return tell_hex_fault(writer, fault),
+    };
+    match read(datagram.as_slice()) {
+        Ok(message) => status(write_message(alloc, message, writer)),
+        Err(fault) => {
+            let _ = writeln!(writer, "fault {fault}");
+            1
+        }
+    }
+}
+
+/// Prints the items of a text before its fault, and its fault, if it has one.
+fn list_items<W: Write, E: Write>(text: &str, writer: &mut W, errors: &mut E) -> u8 {
+    match write_items(text.as_bytes(), writer) {
+        Ok(None) => 0,
+        Ok(Some(fault)) => {
+            let _ = writeln!(errors, "{fault}");
+            let _ = writeln!(writer, "fault {} at {}", fault.code.number(), fault.place);
+            1
+        }
+        Err(_) => 1,
+    }
+}
+
+/// The octets that pairs of digits are. Between two pairs spaces and colons may stand.
+fn octets(alloc: Global, digits: &str) -> Result<Vec<u8>, FromHexError> {
+    let mut pairs = Vec::new(alloc);
+    for digit in digits.as_bytes() {
+        let is_between = (*digit == b' ' || *digit == b':') && pairs.len() % 2 == 0;
+        if !is_between && pairs.push(*digit).is_err() {
+            return Err(FromHexError::OutOfMemory);
+        }
+    }
+    hex::decode(alloc, pairs.as_slice())
+}
+
+/// Prints that digits are no octets, or that there is no memory.
+fn tell_hex_fault<W: Write>(writer: &mut W, fault: FromHexError) -> u8 {
+    match fault {
+        FromHexError::OutOfMemory => tell(writer, "memory", 1),
+        _ => tell(writer, "not hex", 2),
+    }
+}
+
+/// Says why a sign does not answer a datagram.
+fn say_why_dropped<E: Write>(datagram: &[u8], errors: &mut E) {
+    let _ = match read(datagram) {
+        Ok(_) => writeln!(
+            errors,
+            "no request, or not of a community that may ask this"
+        ),
+        Err(fault) => writeln!(errors, "{fault}"),
+    };
+}
+
+/// The status of a call of which all was written, or not.
+fn status(written: io::Result<()>) -> u8 {
+    match written {
+        Ok(()) => 0,
+        Err(_) => 1,
+    }
+}
+
+/// Writes each page.
 fn write_pages<W: Write>(pages: &[Page], writer: &mut W) -> io::Result<()> {
     for (index, page) in pages.iter().enumerate() {
-        writeln!(
-            writer,
-            "page {} on {} off {} back {}",
-            index + 1,
-            page.on(),
-            page.off(),
-            page.back()
-        )?;
-        for y in 0..page.height() {
-            write_row(page, y, writer)?;
-        }
+        write_page(index + 1, page, writer)?;
+    }
+    Ok(())
+}
+
+/// Writes a page: a line that says its number, its times and its background, and a line for each row of the matrix.
+fn write_page<W: Write>(number: usize, page: &Page, writer: &mut W) -> io::Result<()> {
+    writeln!(
+        writer,
+        "page {number} on {} off {} back {}",
+        page.on(),
+        page.off(),
+        page.back()
+    )?;
+    for y in 0..page.height() {
+        write_row(page, y, writer)?;
     }
     Ok(())
 }
@@ -266,8 +383,9 @@ fn tell_done<W: Write>(writer: &mut W, pages: usize) -> u8 {
     }
 }
 
-/// Prints the fault of a text, which is refused.
-fn tell_fault<W: Write>(writer: &mut W, fault: MultiFault) -> u8 {
+/// Prints the fault of a text, which is refused, and says it in words.
+fn tell_fault<W: Write, E: Write>(writer: &mut W, errors: &mut E, fault: MultiFault) -> u8 {
+    let _ = writeln!(errors, "{fault}");
     let _ = writeln!(writer, "fault {} at {}", fault.code.number(), fault.place);
     1
 }

@@ -11,19 +11,43 @@ use std::fmt;
 #[derive(Clone, Copy, Debug)]
 pub enum Call<'a> {
     /// The sign's reply to a datagram in hexadecimal digits.
-    Answer { hex: &'a str, sign: SignWanted },
+    Answer {
+        hex: &'a str,
+        sign: SignWanted,
+    },
     /// The number of a text's pages, or its fault.
-    Check { text: &'a str, sign: SignWanted },
-    /// The pages of a text, cell by cell, or its fault.
-    Pages { text: &'a str, sign: SignWanted },
+    Check {
+        text: &'a str,
+        sign: SignWanted,
+    },
+    /// The pages of a text, or its fault.
+    Pages {
+        text: &'a str,
+        sign: SignWanted,
+        drawing: Drawing,
+    },
+    /// The fields of a datagram in hexadecimal digits, or its fault.
+    Decode {
+        hex: &'a str,
+    },
+    /// The items of a text, or its fault.
+    Items {
+        text: &'a str,
+    },
+    /// The program's name and version.
+    Version,
     /// The checksum of a message, and the code that activates it.
     Code(CodeWords<'a>),
     /// The report of the script on the standard input.
     Replay,
     /// The answers of a sign to the lines on the standard input, each before the next line is read.
-    Sign { sign: SignWanted },
+    Sign {
+        sign: SignWanted,
+    },
     /// The answers of a sign's central system to the lines on the standard input, each before the next line is read.
-    Centre { sign: SignWanted },
+    Centre {
+        sign: SignWanted,
+    },
 }
 
 /// Which sign a call is about.
@@ -33,6 +57,15 @@ pub enum SignWanted {
     Bench,
     /// The sign that the standard input describes.
     Described,
+}
+
+/// How pages are drawn, and which.
+#[derive(Clone, Copy, Debug, PartialEq, Eq)]
+pub struct Drawing {
+    /// As a picture (SVG), and not cell by cell.
+    pub svg: bool,
+    /// One page alone, counted from 1; a picture of it does not move.
+    pub page: Option<u8>,
 }
 
 /// A message of the table, and how it is to be activated.
@@ -80,6 +113,11 @@ impl From<clap::Error> for Usage {
 
 /// Reads the command line, of which the first word is the program's name.
 pub fn asked<S: AsStr>(alloc: Global, words: &[S]) -> Result<Call<'_>, Usage> {
+    if let [_, word] = words
+        && word.as_str() == "--version"
+    {
+        return Ok(Call::Version);
+    }
     let matches = command(alloc)
         .map_err(clap::Error::from)?
         .try_get_matches_from(words)?;
@@ -97,9 +135,22 @@ pub fn asked<S: AsStr>(alloc: Global, words: &[S]) -> Result<Call<'_>, Usage> {
         Some(("pages", pages)) => {
             let text = pages.get_str("TEXT").ok_or(Usage::NoCall)?;
             let sign = sign_wanted(pages);
-            Ok(Call::Pages { text, sign })
+            let drawing = wanted_drawing(pages);
+            Ok(Call::Pages {
+                text,
+                sign,
+                drawing,
+            })
         }
         Some(("code", code)) => code_words(code).map(Call::Code).ok_or(Usage::NoCall),
+        Some(("decode", words)) => {
+            let hex = words.get_str("HEX").ok_or(Usage::NoCall)?;
+            Ok(Call::Decode { hex })
+        }
+        Some(("items", words)) => {
+            let text = words.get_str("TEXT").ok_or(Usage::NoCall)?;
+            Ok(Call::Items { text })
+        }
         Some(("replay", _)) => Ok(Call::Replay),
         Some(("sign", words)) => Ok(Call::Sign {
             sign: sign_wanted(words),
@@ -117,6 +168,14 @@ fn sign_wanted(words: &ArgMatches<'_>) -> SignWanted {
         SignWanted::Described
     } else {
         SignWanted::Bench
+    }
+}
+
+/// How the words of `pages` want them drawn.
+fn wanted_drawing(words: &ArgMatches<'_>) -> Drawing {
+    Drawing {
+        svg: words.get_flag("svg"),
+        page: words.get_one::<u8>("page"),
     }
 }
 
@@ -149,19 +208,25 @@ fn command<'a>(alloc: Global) -> Result<Command<'a>, AllocError> {
         .subcommand(check_command(alloc)?)?
         .subcommand(pages_command(alloc)?)?
         .subcommand(code_command(alloc)?)?
+        .subcommand(decode_command(alloc)?)?
+        .subcommand(items_command(alloc)?)?
         .subcommand(replay_command(alloc))?
         .subcommand(sign_command(alloc)?)?
         .subcommand(centre_command(alloc)?)
 }
 
 fn answer_command<'a>(alloc: Global) -> Result<Command<'a>, AllocError> {
-    let hex = Arg::new(alloc, "HEX")
-        .required(true)
-        .help("the datagram, in hexadecimal digits");
     Command::new(alloc, "answer")
         .about("Prints the sign's reply to a datagram")
         .arg(sign(alloc))?
-        .arg(hex)
+        .arg(datagram(alloc))
+}
+
+/// A datagram, as a word.
+fn datagram<'a>(alloc: Global) -> Arg<'a> {
+    Arg::new(alloc, "HEX").required(true).help(
+        "the datagram, in hexadecimal digits; spaces and colons may stand between octets",
+    )
 }
 
 fn check_command<'a>(alloc: Global) -> Result<Command<'a>, AllocError> {
@@ -172,9 +237,31 @@ fn check_command<'a>(alloc: Global) -> Result<Command<'a>, AllocError> {
 }
 
 fn pages_command<'a>(alloc: Global) -> Result<Command<'a>, AllocError> {
+    let page = Arg::new(alloc, "page")
+        .long("page")
+        .value_parser(value_parser!(u8).range(1..=6))
+        .help("one page alone, 1 to 6; a picture of it does not move");
     Command::new(alloc, "pages")
         .about("Prints the pages of a text on the sign, cell by cell, or the text's fault")
         .arg(sign(alloc))?
+        .arg(flag(
+            alloc,
+            "svg",
+            "a picture (SVG), which a browser plays as the sign does",
+        ))?
+        .arg(page)?
+        .arg(text(alloc))
+}
+
+fn decode_command<'a>(alloc: Global) -> Result<Command<'a>, AllocError> {
+    Command::new(alloc, "decode")
+        .about("Prints the fields of a datagram, or its fault")
+        .arg(datagram(alloc))
+}
+
+fn items_command<'a>(alloc: Global) -> Result<Command<'a>, AllocError> {
+    Command::new(alloc, "items")
+        .about("Prints the items of a text with their offsets in octets, or the text's fault")
         .arg(text(alloc))
 }
 
@@ -203,7 +290,7 @@ fn sign<'a>(alloc: Global) -> Arg<'a> {
     flag(
         alloc,
         "sign",
-        "the sign that the standard input describes, in place of the bench sign",
+        "the sign that the standard input describes, in place of the bench sign, which is 23 by 14 and has the characters 1 A B [ ]",
     )
 }
 

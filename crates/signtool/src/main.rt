@@ -3,8 +3,11 @@
 
 pub mod act;
 pub mod command_line;
+mod fields;
+mod item_lines;
+mod names;
 
-use crate::act::act;
+use crate::act::act_saying;
 use crate::command_line::asked;
 use std::io;
 use std::process::ExitCode;
@@ -21,7 +24,13 @@ fn main(rt: HostRuntime) -> ExitCode {
         }
     };
     match asked(rt.alloc(), words.as_slice()) {
-        Ok(call) => ExitCode::from(act(rt.alloc(), &call, &mut rt.stdin(), &mut rt.stdout())),
+        Ok(call) => ExitCode::from(act_saying(
+            rt.alloc(),
+            &call,
+            &mut rt.stdin(),
+            &mut rt.stdout(),
+            &mut rt.stderr(),
+        )),
         Err(usage) => {
             let _ = eprint!(rt; "{usage}");
             ExitCode::from(MISUSED)

@@ -1,5 +1,5 @@
-use crate::act::act;
-use crate::command_line::{Call, SignWanted, asked};
+use crate::act::{act, act_saying};
+use crate::command_line::{Call, Drawing, SignWanted, asked};
 use std::io;
 use std::io::Read;
 use std::test::Fail;
@@ -340,7 +340,7 @@ const WITH_INPUT: [(&[&str], &str, &str, u8); 18] = [
             "signtool",
             "answer",
             "--sign",
-            "302b02010004067075626c6963a01e0201010201000201003013301106 0d2b0601040189360402030202000500",
+            "302b02010004067075626c6963a01e020101020100020100301330110 60d2b0601040189360402030202000500",
         ],
         SMALL_SIGN,
         "not hex\n",
@@ -442,7 +442,11 @@ fn bad_inputs(rt: HostRuntime) -> Result<(), Fail> {
     let sign = SignWanted::Described;
     for call in [
         Call::Check { text: "A", sign },
-        Call::Pages { text: "A", sign },
+        Call::Pages {
+            text: "A",
+            sign,
+            drawing: CELLS,
+        },
         Call::Answer { hex: "30", sign },
         Call::Replay,
         Call::Sign { sign },
@@ -532,7 +536,11 @@ fn printed_or_out_of_memory(rt: HostRuntime) {
             0,
         ),
         (
-            Call::Pages { text: "A", sign },
+            Call::Pages {
+                text: "A",
+                sign,
+                drawing: CELLS,
+            },
             SMALL_SIGN,
             "page 1 on 10 off 0 back 0\n.111.\n1...1\n1...1\n11111\n1...1\n1...1\n1...1\n",
             0,
@@ -575,4 +583,137 @@ fn printed_or_out_of_memory(rt: HostRuntime) {
             refused = true;
         }
     }
+}
+
+/// All pages, cell by cell.
+const CELLS: Drawing = Drawing {
+    svg: false,
+    page: None,
+};
+
+/// Words, what they print, the status, and what is said on the standard error.
+const READERS: [(&[&str], &str, u8, &str); 14] = [
+    (&["signtool", "--version"], "signtool 1.0.0\n", 0, ""),
+    (
+        &[
+            "signtool",
+            "decode",
+            "30:2e:02:01:00 04067075626c6963a0210201010201000201003016301406102b0601040189360402030508010903010500",
+        ],
+        "kind Get\ncommunity 7075626c6963 \"public\"\nrequest-id 1\nerror-status 0\nerror-index 0\nbinding 1.3.6.1.4.1.1206.4.2.3.5.8.1.9.3.1 (dmsMessageStatus.3.1): NULL\n",
+        0,
+        "",
+    ),
+    // a Response with a value of each type
+    (
+        &[
+            "signtool",
+            "decode",
+            "3081900201000400a28188020101020102020103307d3012060d2b060104018936040203040500020101300806022907040241313008060229070402ff0030060602290704003006060229070500301306022907060d2b060104018936040203040500300a0602290740040a000001300706022907410105300706022907420106300706022907430107300706022907440100",
+        ],
+        "kind Response\ncommunity -\nrequest-id 1\nerror-status 2\nerror-index 3\nbinding 1.3.6.1.4.1.1206.4.2.3.4.5.0 (defaultFont.0): INTEGER 1\nbinding 1.1.7: OCTET STRING 4131 \"A1\"\nbinding 1.1.7: OCTET STRING ff00\nbinding 1.1.7: OCTET STRING -\nbinding 1.1.7: NULL\nbinding 1.1.7: OBJECT IDENTIFIER 1.3.6.1.4.1.1206.4.2.3.4.5.0 (defaultFont.0)\nbinding 1.1.7: IpAddress 10.0.0.1\nbinding 1.1.7: Counter 5\nbinding 1.1.7: Gauge 6\nbinding 1.1.7: TimeTicks 7\nbinding 1.1.7: Opaque 00\n",
+        0,
+        "",
+    ),
+    (
+        &["signtool", "decode", "30"],
+        "fault truncated at octet 1\n",
+        1,
+        "",
+    ),
+    (&["signtool", "decode", "3 0"], "not hex\n", 2, ""),
+    (&["signtool", "decode", "3"], "not hex\n", 2, ""),
+    (
+        &[
+            "signtool",
+            "items",
+            "[cb][cf1]A[[[fo][fo2,1a2b][flo5]B[/fl][jl3][jp][nl2][np][pt30o][sc1]",
+        ],
+        "0 background default\n4 foreground 1\n9 character 65\n10 character 91\n12 font default\n16 font 2 version 6699\n26 flash dark default 5\n32 character 66\n33 end of flash\n38 line 3\n43 page default\n47 new line 2\n52 new page\n56 page time 30 default\nfault 3 at 63\n",
+        1,
+        "unsupported tag at octet 63\n",
+    ),
+    (&["signtool", "items", ""], "", 0, ""),
+    (
+        &["signtool", "pages", "--page", "2", "A"],
+        "no such page\n",
+        1,
+        "",
+    ),
+    (
+        &["signtool", "pages", "--page", "2", "--svg", "A"],
+        "no such page\n",
+        1,
+        "",
+    ),
+    (
+        &["signtool", "check", "A[sc1]"],
+        "fault 3 at 1\n",
+        1,
+        "unsupported tag at octet 1\n",
+    ),
+    (
+        &["signtool", "pages", "--svg", "C"],
+        "fault 7 at 0\n",
+        1,
+        "character not defined at octet 0\n",
+    ),
+    (
+        &["signtool", "answer", "30 00"],
+        "dropped\n",
+        1,
+        "truncated at octet 2\n",
+    ),
+    (
+        &[
+            "signtool",
+            "answer",
+            "301802010004067075626c6963a20b0201010201000201003000",
+        ],
+        "dropped\n",
+        1,
+        "no request, or not of a community that may ask this\n",
+    ),
+];
+
+#[test]
+fn readers(rt: HostRuntime) -> Result<(), Fail> {
+    for (words, printed, status, said) in READERS {
+        let Ok(call) = asked(rt.alloc(), words) else {
+            return Err(Fail::from("no call"));
+        };
+        let mut output = Vec::new(rt.alloc());
+        let mut errors = Vec::new(rt.alloc());
+        let mut input: &[u8] = &[];
+        let found = act_saying(rt.alloc(), &call, &mut input, &mut output, &mut errors);
+        assert!(rt; output.as_slice() == printed.as_bytes(), "for {words:?}");
+        assert!(rt; errors.as_slice() == said.as_bytes(), "for {words:?}");
+        assert_eq!(rt; found, status, "for {words:?}");
+    }
+    Ok(())
+}
+
+/// A picture begins and ends as a document; a page alone is as many rows as the sign has, and the line before them.
+#[test]
+fn pictures(rt: HostRuntime) -> Result<(), Fail> {
+    let sign = SignWanted::Bench;
+    for (svg, page) in [(true, None), (true, Some(2)), (false, Some(2))] {
+        let drawing = Drawing { svg, page };
+        let call = Call::Pages {
+            text: "A[np]B",
+            sign,
+            drawing,
+        };
+        let mut output = Vec::new(rt.alloc());
+        let mut input: &[u8] = &[];
+        assert_eq!(rt; act(rt.alloc(), &call, &mut input, &mut output), 0);
+        let text = output.as_slice();
+        if svg {
+            assert!(rt; text.starts_with(b"<svg ") && text.ends_with(b"</svg>\n"));
+        } else {
+            assert!(rt; text.starts_with(b"page 2 on 30 off 0 back 0\n"));
+            assert_eq!(rt; text.iter().filter(|octet| **octet == b'\n').count(), 15);
+        }
+    }
+    Ok(())
 }
