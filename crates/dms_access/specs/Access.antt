@@ -57,7 +57,7 @@ is_settable (Cell column id) = is_settable_column column && has_writable_rows id
 -- The last three are commands.
 pub data Write : Type 0 where
   SetNumber : Scalar → ℕ → Write
-  -- the code of a message that the sign puts up by itself
+  -- the code of a message that the sign activates by itself
   SetCode : Scalar → List ℕ → Write
   SetField : RowId → FieldModel → Write
   AskRow : RowId → Ask → Write

@@ -16,7 +16,7 @@ use dms_wire::Value;
 #[derive(Clone, Copy, Debug, PartialEq, Eq)]
 pub enum Change<'a> {
     Number(Scalar, u16),
-    /// The code of a message that the sign puts up by itself.
+    /// The code of a message that the sign activates by itself.
     Code(Scalar, [u8; 5]),
     Field(RowId, Field<'a>),
     Ask(RowId, Ask),

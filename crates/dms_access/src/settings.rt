@@ -12,7 +12,7 @@ use dms_codes::memory;
 use dms_face::Defaults;
 use dms_objects::Scalar;
 
-/// The codes of the messages that a sign puts up by itself, each the five octets that were written (MessageIDCode).
+/// The codes of the messages that a sign activates by itself, each the five octets that were written (MessageIDCode).
 #[derive(Clone, Copy, Debug, PartialEq, Eq)]
 pub struct Fallbacks {
     /// dmsShortPowerRecoveryMessage

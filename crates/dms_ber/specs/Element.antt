@@ -11,7 +11,7 @@ pub record IsElement (tag : ℕ) (Content : List ℕ → Type 0) (bytes : List �
   pub spelled : Content content
   pub parts : bytes ≡ tag ∷ (len ++ content)
 
--- the one and behind it the other
+-- the one and after it the other
 infixr 5 ◌⨾◌
 pub record ◌⨾◌ (First Second : List ℕ → Type 0) (bytes : List ℕ) : Type 0 where
   pub front : List ℕ

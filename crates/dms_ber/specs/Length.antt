@@ -4,7 +4,7 @@ use Rattle.std.specs.Int.Digits.{number_from_digits}
 use Rattle.std.specs.Prelude.{nat_lt, if◌then◌else◌}
 use Rattle.std.specs.Int.Digits.{digits_of}
 
--- One octet below 128 is the length (short form, 8.1.3.4). Or 128 plus the number of octets behind it, one to four,
+-- One octet below 128 is the length (short form, 8.1.3.4). Or 128 plus the number of octets after it, one to four,
 -- which are the length, high octet first, leading zeros allowed (long form, 8.1.3.5; four is the profile's own limit).
 abbrev pub IsLength : List ℕ → ℕ → Type 0
 IsLength [] n = ⊥

@@ -36,7 +36,7 @@ integer_value bs =
     else if is_shortest bs then (if in_range (signed_value bs) then Some (signed_value bs) else None)
     else None
 
--- behind a tag: the content, and the octets after it
+-- after a tag: the content, and the octets after it
 unfoldable pub content_at : ℕ → List ℕ → Result (List ℕ × List ℕ) WireFault
 content_at end bytes = do
   n ← length_at end bytes

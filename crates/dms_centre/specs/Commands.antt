@@ -12,7 +12,7 @@ use Rattle.dms_centre.specs.declared.step.Step.TheVariants.{Opening, Activating}
 use Rattle.dms_centre.specs.State.{PublicationModel, Publishing, Showing, Job, CentreState, is_busy}
 use Rattle.dms_centre.specs.Sending.{Move, rests, last_number, sends}
 
--- To write a message into a row and put it up; to put up a blank message; to put up a message that is there.
+-- To write a message into a row and activate it; to activate a blank message; to activate a message that is there.
 pub data CommandModel : Type 0 where
   Publish : PublicationModel → CommandModel
   Blank : (number minutes priority : ℕ) (address : List ℕ) → CommandModel

@@ -22,7 +22,7 @@ pub record Answers (settings : SettingsModel) (number : ℕ) (message : SnmpMess
   pub community : message.community ≡ settings.community
   pub request : message.request ≡ pos number
 
--- What an input makes of the outcome of a number's entry. An outcome once told stays.
+-- What an input makes of the outcome of a number's entry. An outcome once known stays.
 pub data Becomes (settings : SettingsModel) (number : ℕ) : Input → Outcome → Outcome → Type 0 where
   Stays : (input : Input) (outcome : Outcome) → Becomes settings number input outcome outcome
   IsAccepted : (octets : List ℕ) (reply : SnmpMessage) → message_of octets ≡ Some reply → Answers settings number reply → reply.status ≡ pos 0
@@ -86,7 +86,7 @@ NumbersPutUpTheirCodes settings ledger sent =
 
 -- ---- whose code it is
 
--- the input at this place is a command that is taken, and this is what its job puts up
+-- the input at this place is a command that is taken, and this is what its job activates
 pub record IsOrdered (settings : SettingsModel) (first : ℕ) (inputs : List Input) (work : Work) : Type 0 where
   pub place : ℕ
   pub command : CommandModel

@@ -47,7 +47,7 @@ is_status n status = int_eq n (pos status)
 abbrev pub own_checksum : Order → Work → ℕ
 own_checksum order work = in_order order (code_of work).id.crc
 
--- The row must be modifying; it must become valid; its checksum must be the operator's. What dmsActivateMsgError reads is told.
+-- The row must be modifying; it must become valid; its checksum must be the operator's. What dmsActivateMsgError reads is kept as the reason.
 abbrev pub on_number : CentreState → Job → Step → ℤ → Move
 on_number state job Opened n =
     if is_status n (status_number statuses.Modifying) then sends state (at_step job Filling)

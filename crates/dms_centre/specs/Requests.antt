@@ -8,7 +8,7 @@ use Rattle.dms_centre.specs.State.{SettingsModel, PublicationModel, Work, Publis
 use Rattle.dms_centre.specs.Steps.{request_of}
 use Rattle.dms_centre.specs.Commands.{IsPublication, is_publishable}
 
--- the values of what a job is to put up
+-- the values of what a job is to activate
 pub data IsWork : Work → Type 0 where
   OfPublishing : (p : PublicationModel) → IsPublication p → is_publishable p ≡ true → IsWork (Publishing p)
   OfShowing : (code : Activation) → IsActivation code → IsWork (Showing code)

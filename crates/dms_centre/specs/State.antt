@@ -13,7 +13,7 @@ pub record SettingsModel : Type 0 where
   pub community : List ℕ
   pub order : Order
 
--- A message to be written into a row and put up: the row, its fields (NTCIP 1203, dmsMessageTable), and how it is put up
+-- A message to be written into a row and activated: the row, its fields (NTCIP 1203, dmsMessageTable), and how it is activated
 -- (MessageActivationCode).
 pub record PublicationModel : Type 0 where
   pub memory : ℕ
@@ -27,7 +27,7 @@ pub record PublicationModel : Type 0 where
   pub priority : ℕ
   pub address : List ℕ
 
--- what a job is to put up: a message that it writes first, or one that the sign has
+-- what a job is to activate: a message that it writes first, or one that the sign has
 pub data Work : Type 0 where
   Publishing : PublicationModel → Work
   Showing : Activation → Work

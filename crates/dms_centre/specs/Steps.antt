@@ -29,7 +29,7 @@ abbrev pub is_activating : Step → Bool
 is_activating Activating = true
 is_activating step = false
 
--- ---- what the job puts up
+-- ---- what the job activates
 
 -- The code of a publication carries the checksum of the operator's text, beacon and pixel service.
 abbrev pub code_of : Work → Activation

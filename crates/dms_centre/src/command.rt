@@ -12,7 +12,7 @@ const LAST_BLANK: u16 = 255;
 /// What an operator orders.
 #[derive(Clone, Copy, Debug)]
 pub enum Command<'a> {
-    /// To write a message into a row, and to put it up.
+    /// To write a message into a row, and to activate it.
     Publish {
         /// The type of memory: changeable (3) or volatile (4).
         memory: u8,
@@ -30,23 +30,23 @@ pub enum Command<'a> {
         run_priority: u8,
         /// How long it is shown; 65535 is without end.
         minutes: u16,
-        /// The priority with which it is put up.
+        /// The priority with which it is activated.
         priority: u8,
         /// The network address of the one who puts it up.
         address: [u8; 4],
     },
-    /// To put up a blank message.
+    /// To activate a blank message.
     Blank {
         /// Its number, 1 to 255.
         number: u16,
         /// How long it is shown; 65535 is without end.
         minutes: u16,
-        /// The priority with which it is put up.
+        /// The priority with which it is activated.
         priority: u8,
         /// The network address of the one who puts it up.
         address: [u8; 4],
     },
-    /// To put up a message that the sign has: the sign judges the code.
+    /// To activate a message that the sign has: the sign judges the code.
     Activate(Activation),
 }
 

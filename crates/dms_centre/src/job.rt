@@ -1,4 +1,4 @@
-//! A job: what is to be put up, and how far it is.
+//! A job: what is to be activated, and how far it is.
 
 ghost use Rattle.std.specs.Prelude.{◌≡◌, ◌≤◌, ◌<◌, ◌^◌, true, length};
 ghost use Rattle.std.specs.Int.Digits.{AllBelowBase};
@@ -14,7 +14,7 @@ use crate::step::Step;
 use arrayvec::ArrayVec;
 use dms_codes::{Activation, MAX_OWNER, MAX_TEXT, MessageId, RowId, crc, memory};
 
-/// A message to be written into a row and put up.
+/// A message to be written into a row and activated.
 #[derive(Drop)]
 pub(crate) struct Publication {
     pub(crate) memory: u8,
@@ -29,7 +29,7 @@ pub(crate) struct Publication {
     pub(crate) address: [u8; 4],
 }
 
-/// What a job is to put up.
+/// What a job is to activate.
 #[derive(Drop)]
 pub(crate) enum Work {
     /// A message that it writes first.
@@ -38,7 +38,7 @@ pub(crate) enum Work {
     Showing(Activation),
 }
 
-/// A job: what is to be put up, and how far it is.
+/// A job: what is to be activated, and how far it is.
 #[derive(Drop)]
 pub(crate) struct Job {
     pub(crate) work: Work,
@@ -108,7 +108,7 @@ impl Job {
         })
     }
 
-    /// The job that puts up a message that the sign has.
+    /// The job that activates a message that the sign has.
     fn showing(code: Activation) -> Job
         ensures { job_model result ≡ showing code }
     {

@@ -1,6 +1,6 @@
 //! The steps of a job.
 
-/// A step of a job: the request that it sends. Publishing takes all eight, putting up a message that is there the last two.
+/// A step of a job: the request that it sends. Publishing takes all eight, activating a message that is there the last two.
 #[derive(Clone, Copy, Debug, PartialEq, Eq)]
 pub enum Step {
     /// 1: asks that the row may be modified.
@@ -17,7 +17,7 @@ pub enum Step {
     Comparing,
     /// 7: puts the message up.
     Activating,
-    /// 8: reads why it was not put up.
+    /// 8: reads why it was not activated.
     Explaining,
 }
 

@@ -14,7 +14,7 @@ pub enum Status {
     Modifying,
     /// It is being validated.
     Validating,
-    /// It can be put up.
+    /// It can be activated.
     Valid,
     /// Its validation failed.
     Error,

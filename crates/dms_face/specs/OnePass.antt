@@ -1,4 +1,4 @@
--- One walk over the items of a text: whether a prefix of one turn more fits is told by the open line and the open page alone.
+-- One walk over the items of a text: whether a prefix of one turn more fits is known by the open line and the open page alone.
 use Rattle.std.specs.Prelude.{ℕ, ◌+◌, ◌&&◌, Bool, if◌then◌else◌, List, [], ◌∷◌, ◌++◌, length, map, Option, Some, None, unwrap_or, nat_le, Result, Ok, Err}
 use Rattle.dms_multi.specs.declared.item.Item.TheVariants.{Char, JustPage, NewLine, NewPage}
 use Rattle.dms_multi.specs.declared.spots.Spot.{Spot}

@@ -54,7 +54,7 @@ pub enum Scalar {
     MsgTableSource,
     /// dmsMsgRequesterID: an address
     MsgRequesterId,
-    /// dmsMsgSourceMode: what put up the message that is shown
+    /// dmsMsgSourceMode: what activated the message that is shown
     MsgSourceMode,
     /// dmsShortPowerRecoveryMessage: the code of a message, 5 octets
     ShortPowerRecoveryMessage,

@@ -14,7 +14,7 @@ use Rattle.dms_face.specs.Cells.{PlacedCharacter, line_characters, is_lit_by, ce
 abbrev pub lit_cell : Style → Cell
 lit_cell style = record { lit = true; colour = style.foreground; flash = style.flash }
 
--- a cell behind one character more, which may light it: what is lit stays
+-- a cell after one character more, which may light it: what is lit stays
 abbrev pub covered : Bool → Cell → Cell → Cell
 covered on lit cell = if on then (if cell.lit then cell else lit) else cell
 

@@ -84,7 +84,7 @@ impl Page {
         self.on
     }
 
-    /// How long nothing is shown behind it, in tenths of a second.
+    /// How long nothing is shown after it, in tenths of a second.
     pub fn off(&self) -> u8
         ensures { result ≡ self.now.off }
     {

@@ -44,7 +44,7 @@ impl<'a> Styling<'a> {
         }
     }
 
-    /// What holds behind an item. A value that is missing is the default.
+    /// What holds after an item. A value that is missing is the default.
     fn behind(self, face: &'a Face, defaults: &Defaults, item: Item) -> Styling<'a>
         ensures { style_of result ≡ styled (under face.now defaults.now) (style_of self.entry) item }
     {

@@ -70,7 +70,7 @@ last_code_at order words = do
 
 -- ---- commands
 
--- how long, with which priority and for whom a message is put up
+-- how long, with which priority and for whom a message is activated
 pub record TermsModel : Type 0 where
   pub minutes : ℕ
   pub priority : ℕ

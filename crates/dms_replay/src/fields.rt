@@ -10,7 +10,7 @@ use dms_text::{Words, octets};
 use hex::FromHexError;
 use std::alloc::{AllocError, Global};
 
-/// How long, with which priority and for whom a message is put up.
+/// How long, with which priority and for whom a message is activated.
 #[derive(Clone, Copy, Debug)]
 pub(crate) struct Terms {
     pub minutes: u16,
@@ -91,7 +91,7 @@ pub fn address(word: &[u8]) -> Option<[u8; 4]>
     }
 }
 
-/// The terms on which a message is put up, and nothing after them.
+/// The terms on which a message is activated, and nothing after them.
 #[tactic(auto, unfolding(crate::specs::EventReading::last_terms_at))]
 pub(crate) fn last_terms(words: Words<'_>) -> Option<Terms>
     ensures { option_map terms_model result ≡ last_terms_at words.entry }

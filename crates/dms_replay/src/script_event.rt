@@ -4,7 +4,7 @@ use dms_centre::Command;
 use dms_codes::Activation;
 use dms_world::Event;
 
-/// A message to be written into a row and put up.
+/// A message to be written into a row and activated.
 #[derive(Debug, Drop)]
 pub struct Publication {
     /// The type of memory.
@@ -23,7 +23,7 @@ pub struct Publication {
     pub run_priority: u8,
     /// How long it is shown; 65535 is without end.
     pub minutes: u16,
-    /// The priority with which it is put up.
+    /// The priority with which it is activated.
     pub priority: u8,
     /// The network address of the one who puts it up.
     pub address: [u8; 4],
@@ -32,7 +32,7 @@ pub struct Publication {
 /// What a line of a script says.
 #[derive(Debug, Drop)]
 pub enum ScriptEvent {
-    /// The operator orders that a message be written and put up.
+    /// The operator orders that a message be written and activated.
     Publish(Publication),
     /// The operator orders a blank message.
     Blank {
@@ -40,12 +40,12 @@ pub enum ScriptEvent {
         number: u16,
         /// How long it is shown; 65535 is without end.
         minutes: u16,
-        /// The priority with which it is put up.
+        /// The priority with which it is activated.
         priority: u8,
         /// The network address of the one who puts it up.
         address: [u8; 4],
     },
-    /// The operator orders that a message be put up which the sign has.
+    /// The operator orders that a message be activated which the sign has.
     Activate(Activation),
     /// A second passes at the sign.
     SignTick,

@@ -15,7 +15,7 @@ after_settling s =
     let face = under s.config.face s.defaults in
     record s { table = settled face s.table; reports = settled_reports s.reports (verdict face s.table) }
 
--- The message has a second less, with so many seconds left: at its end the code of the end of a duration is put up.
+-- The message has a second less, with so many seconds left: at its end the code of the end of a duration is activated.
 abbrev pub counted_down : SignState → Option ℕ → SignState
 counted_down s None = s
 counted_down s (Some seconds) =
@@ -33,7 +33,7 @@ longest_silence s = 60 * s.time_comm_loss
 abbrev pub quieter : SignState → SignState
 quieter s = record s { silent = s.silent + 1 }
 
--- Silence is counted up to its limit, where the code of a communications loss is put up: once, until a datagram is answered.
+-- Silence is counted up to its limit, where the code of a communications loss is activated: once, until a datagram is answered.
 unfoldable pub after_silence : SignState → SignState
 after_silence s =
     if nat_lt s.silent (longest_silence s)
@@ -46,7 +46,7 @@ after_tick s = if s.powered then after_silence (after_duration (after_settling s
 
 -- ---- power
 
--- The power is lost: what is shown is kept, and the code of a power loss is put up.
+-- The power is lost: what is shown is kept, and the code of a power loss is activated.
 unfoldable pub after_power_loss : SignState → SignState
 after_power_loss s =
     if s.powered then record (put_up_code (record s { kept = s.shown }) s.fallbacks.power_loss power_loss_mode) { powered = false }
@@ -62,6 +62,6 @@ recovery_code s seconds =
 abbrev pub restored : SignState → SignState
 restored s = record s { table = after_power s.table; shown = s.kept; powered = true; silent = 0 }
 
--- The power is back after so many seconds, and the code of the recovery is put up.
+-- The power is back after so many seconds, and the code of the recovery is activated.
 unfoldable pub after_power_return : SignState → ℕ → SignState
 after_power_return s seconds = if s.powered then s else put_up_code (restored s) (recovery_code s seconds) power_recovery_mode

@@ -45,7 +45,7 @@ pub record SetCause : Type 0 where
   pub index : ℕ
   pub status : ErrorStatus
 
--- What is wrong with a binding behind others, in order (this profile): the name is not there or not to be set, for the community that
+-- What is wrong with a binding after others, in order (this profile): the name is not there or not to be set, for the community that
 -- reads none is; the value; the name was given before; a second command; a field of a row that is not being modified.
 abbrev pub tests_at : SignState → Bool → List VarBind → VarBind → List (Bool × ErrorStatus)
 tests_at s may_write before binding =
@@ -62,12 +62,12 @@ cause_if index test = if test.0 then Some (record { index = index; status = test
 abbrev pub causes_at : SignState → Bool → List VarBind → VarBind → List SetCause
 causes_at s may_write before binding = filter_map (cause_if (length before + 1)) (tests_at s may_write before binding)
 
--- why these bindings are refused behind others, all of it in order; each is judged on the state before the SET
+-- why these bindings are refused after others, all of it in order; each is judged on the state before the SET
 abbrev pub causes_behind : SignState → Bool → List VarBind → List VarBind → List SetCause
 causes_behind s may_write before [] = []
 causes_behind s may_write before (binding ∷ more) = causes_at s may_write before binding ++ causes_behind s may_write (before ++ binding ∷ []) more
 
--- All that a SET is refused for; the first of it is told.
+-- All that a SET is refused for; the first of it is reported.
 unfoldable pub causes : SignState → Bool → List VarBind → List SetCause
 causes s may_write bindings = causes_behind s may_write [] bindings
 

@@ -165,7 +165,7 @@ impl Sign {
         let _ = &self.powered;
     }
 
-    /// The codes of the messages that the sign puts up by itself.
+    /// The codes of the messages that the sign activates by itself.
     fn fallbacks(&self) -> Fallbacks
         ensures value { fallbacks_of result ≡ self.now.fallbacks }
         ensures in_range { AreFallbacksInRange (fallbacks_of result) }
@@ -275,7 +275,7 @@ fn known_after(
     }
 }
 
-/// What a code puts up under these defaults, or why it is refused: where the text of each valid row is known to be good under them, none
+/// What a code activates under these defaults, or why it is refused: where the text of each valid row is known to be good under them, none
 /// is checked again.
 fn decide(
     known: &Option<Defaults>,

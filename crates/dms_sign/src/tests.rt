@@ -329,7 +329,7 @@ fn picture(alloc: Global, sign: &Sign) -> Result<String, Fail> {
     Ok(text)
 }
 
-/// A message keeps the font under which it came up, until it is put up again.
+/// A message keeps the font under which it came up, until it is activated again.
 #[test]
 fn pictures(rt: HostRuntime) -> Result<(), Fail> {
     let alloc = rt.alloc();

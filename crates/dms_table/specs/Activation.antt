@@ -42,7 +42,7 @@ blank_id = record { memory = blank_memory; number = 1; crc = 0 }
 abbrev pub blank_code : List ℕ
 blank_code = 7 ∷ 0 ∷ 1 ∷ 0 ∷ 0 ∷ []
 
--- blank message 1, put up by nobody under these defaults, without an end
+-- blank message 1, activated by nobody under these defaults, without an end
 abbrev pub blank_shown : Defaults → ℕ → ShownModel
 blank_shown defaults mode = record {
   text = [];

@@ -13,7 +13,7 @@ table_fault_text faults.Counts = codes "too many rows"
 table_fault_text (faults.Permanent number) = codes "permanent row " ++ (decimal number ++ codes " is not valid")
 table_fault_text faults.Memory = codes "out of memory"
 
--- Of a text, its fault prints what it says of itself, which is not told here.
+-- Of a text, its fault prints what it says of itself, which is not said here.
 abbrev pub cause_text : Cause → Option (List ℕ)
 cause_text causes.MemoryType = Some (codes "no type of memory")
 cause_text causes.Number = Some (codes "no such row")

@@ -74,7 +74,7 @@ impl fmt::Display for Cause {
 impl Error for Cause {}
 
 impl Table {
-    /// What a code puts up, or why it is refused. Nothing changes.
+    /// What a code activates, or why it is refused. Nothing changes.
     pub fn decide(
         &self,
         face: &Face,
@@ -103,7 +103,7 @@ impl Table {
         self.decide_where(true, face, defaults, code, shown)
     }
 
-    /// What a code puts up, or why it is refused; texts that are known to be good are not checked.
+    /// What a code activates, or why it is refused; texts that are known to be good are not checked.
     fn decide_where(
         &self,
         known: bool,

@@ -10,7 +10,7 @@ use dms_codes::{Activation, MAX_OWNER, MAX_TEXT, MessageId, Status, crc, memory}
 use dms_face::Defaults;
 use std::marker::Model;
 
-/// The mode of a message that a code put up (dmsMsgSourceMode).
+/// The mode of a message that a code activated (dmsMsgSourceMode).
 pub const CENTRAL: u8 = 8;
 
 /// What is shown: a copy of a row, so that later changes of the row do not show.
@@ -30,7 +30,7 @@ pub struct Shown {
     pub source: MessageId,
     /// How it came up (dmsMsgSourceMode).
     pub mode: u8,
-    /// The network address of the one who put it up.
+    /// The network address of the one who activate it.
     pub address: [u8; 4],
     /// The seconds until it ends; none without an end.
     pub remaining: Option<u32>,
@@ -47,7 +47,7 @@ impl Model for Shown {
 }
 
 impl Shown {
-    /// Blank message 1, put up by nobody under these defaults, without an end; the mode says how it came up (dmsMsgSourceMode).
+    /// Blank message 1, activated by nobody under these defaults, without an end; the mode says how it came up (dmsMsgSourceMode).
     pub fn blank(defaults: &Defaults, mode: u8) -> Shown
         ensures { result ≡ blank_shown defaults.now mode }
     {
@@ -129,7 +129,7 @@ impl Shown {
         }
     }
 
-    /// What is shown once a code has put up this row.
+    /// What is shown once a code has activated this row.
     pub(crate) fn after(&self, code: &Activation, row: &RowView<'_>, defaults: &Defaults) -> Shown
         requires { IsShort row.now }
         ensures { result ≡ put_up defaults.now self.now code.now (reading_of row.now) }

@@ -120,7 +120,7 @@ inside_at end bytes = do
   _ ← ended end p.1
   Ok (record { community = community.0; kind = p.0.0; request = p.0.1.request; status = p.0.1.status; index = p.0.1.index; bindings = p.0.1.bindings })
 
--- the outermost element's content behind its tag, and what follows it
+-- the outermost element's content after its tag, and what follows it
 unfoldable pub outer_content : ℕ → List ℕ → Result (List ℕ × List ℕ) WireFault
 outer_content end bytes = do
   n ← length_at end bytes

@@ -1,4 +1,4 @@
--- What a sign shows is blank, or a message that was validated and whose checksum stands in the code that put it up (this profile).
+-- What a sign shows is blank, or a message that was validated and whose checksum stands in the code that activate it (this profile).
 use Rattle.std.specs.Prelude.{◌≡◌, ◌⊎◌, ℕ, ◌≤◌, List, [], length, slice_get, Option, Some}
 use Rattle.dms_face.specs.declared.defaults.Defaults.{Defaults}
 use Rattle.dms_face.specs.Layout.{under}
@@ -25,7 +25,7 @@ pub record IsBlank (shown : ShownModel) : Type 0 where
   pub beacon : shown.beacon ≡ 0
   pub pixel : shown.pixel ≡ 0
 
--- ---- the code that put it up
+-- ---- the code that activate it
 
 -- after the first events, so many of them, an activation with this code had been accepted
 abbrev pub WasPutUp : WorldModel → List EventModel → ℕ → MessageId → Type 0
@@ -67,7 +67,7 @@ WereDefaults world events count defaults =
 
 -- ---- what is shown
 
--- It is good under the copy of the defaults that was made as it was put up, and the sign has what it needs; its checksum is that of its
+-- It is good under the copy of the defaults that was made as it was activated, and the sign has what it needs; its checksum is that of its
 -- source; the source is the code of an accepted activation or was one of the sign's own; and the source's row held it.
 pub record IsValidated (world : WorldModel) (events : List EventModel) (count : ℕ) (shown : ShownModel) : Type 0 where
   pub good : IsShowable world.sign.table.services (under world.sign.config.face shown.defaults) (shown_row shown)

@@ -73,7 +73,7 @@ abbrev pub shown_checksum : ShownModel → ℕ
 shown_checksum shown = message_checksum shown.text shown.beacon shown.pixel
 
 -- The sign accepted the code of the entry as it answered its request: the same octets, whatever the orders of the two ends. Where they
--- have one order, and the code names a row, what was put up then has the code's checksum.
+-- have one order, and the code names a row, what was activated then has the code's checksum.
 pub record WasAccepted (world : WorldModel) (events : List EventModel) (entry : Entry) : Type 0 where
   pub before : ℕ
   pub answered : WasAnswered world events entry.number before

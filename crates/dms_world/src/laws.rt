@@ -4,7 +4,7 @@ ghost use Rattle.dms_world.specs.Headline.{HeadlineHolds};
 
 /// From two ends as they are made, after every list of commands, ticks, losses of power, restarts and deliveries, with datagrams lost,
 /// repeated and reordered: no number is given to two requests, and a request that is sent again is the same one; what is shown is blank, or
-/// a validated message whose checksum stands in the code that put it up; and, where nothing is forged, a code is recorded as accepted only
+/// a validated message whose checksum stands in the code that activate it; and, where nothing is forged, a code is recorded as accepted only
 /// after the sign accepted it.
 pub fn headline_holds()
     ensures { HeadlineHolds }

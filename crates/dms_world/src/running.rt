@@ -39,7 +39,7 @@ impl Error for Stopped {}
 /// memory. A command that the centre refuses for another reason changes nothing.
 ///
 /// What holds of the events that happened, from a fresh world on, is said beside: no request number is given to two requests; what is shown
-/// is blank, or a validated message whose checksum stands in the code that put it up; and, where nothing is forged, the centre records a
+/// is blank, or a validated message whose checksum stands in the code that activate it; and, where nothing is forged, the centre records a
 /// code as accepted only after the sign accepted it.
 pub fn run(world: &mut World, events: &[Event<'_>]) -> Result<(), Stopped>
     ensures world { seen world.new ≡ world_after (seen world.old) (happened result events.now) }

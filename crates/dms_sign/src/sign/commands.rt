@@ -93,7 +93,7 @@ impl Sign {
         }
     }
 
-    /// A code is to be put up (dmsActivateMessage): one that is refused changes only what is told of it.
+    /// A code is to be activated (dmsActivateMessage): one that is refused changes only what is reported of it.
     fn activate(
         &mut self,
         octets: [u8; 12],

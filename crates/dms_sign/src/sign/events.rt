@@ -31,7 +31,7 @@ impl Sign {
         }
     }
 
-    /// The message has a second less; at its end the code of the end of a duration is put up.
+    /// The message has a second less; at its end the code of the end of a duration is activated.
     #[tactic(auto, unfolding(crate::specs::Events::after_duration))]
     fn count_down(&mut self)
         ensures { self.new ≡ after_duration self.old }
@@ -45,7 +45,7 @@ impl Sign {
         }
     }
 
-    /// Silence is counted up to its limit, where the code of a communications loss is put up: once, until a datagram is answered.
+    /// Silence is counted up to its limit, where the code of a communications loss is activated: once, until a datagram is answered.
     #[tactic(auto, unfolding(crate::specs::Events::after_silence))]
     fn grow_silent(&mut self)
         ensures { self.new ≡ after_silence self.old }
@@ -63,7 +63,7 @@ impl Sign {
         }
     }
 
-    /// The power is lost: what is shown is kept, and the code of a power loss is put up. A sign without power does nothing.
+    /// The power is lost: what is shown is kept, and the code of a power loss is activated. A sign without power does nothing.
     #[tactic(auto, unfolding(crate::specs::Events::after_power_loss))]
     pub fn power_lost(&mut self)
         ensures { self.new ≡ after_power_loss self.old }

@@ -1,4 +1,4 @@
-//! The codes that a sign puts up by itself.
+//! The codes that a sign activates by itself.
 
 ghost use Rattle.std.specs.Prelude.{◌≡◌};
 ghost use Rattle.std.specs.Int.Digits.{AllBelowBase};
@@ -17,7 +17,7 @@ pub(super) const BLANK: MessageId = MessageId {
 };
 
 impl Sign {
-    /// Puts up the message that these five octets name: what is shown stays for a code of the current buffer; any other code is
+    /// Activates the message that these five octets name: what is shown stays for a code of the current buffer; any other code is
     /// decided on, and where it is refused the blank message is up.
     #[tactic(auto, unfolding(crate::specs::OwnCodes::put_up_code))]
     pub(super) fn put_up(&mut self, octets: [u8; 5], mode: u8)
