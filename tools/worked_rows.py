@@ -1,6 +1,7 @@
 #!/usr/bin/env python3
 """The worked rows that proofs compute, by name: `worked_rows.py` lists them; `worked_rows.py --check` says which names of the
-table "Worked rows" in docs/MAP.md stand in no file of proofs/, and ends with 1 where there are such."""
+table "Worked rows" in docs/MAP.md stand in no file of proofs/, and which of the table "From a rule to its code" not in the file that
+it names, and ends with 1 where there are such."""
 import pathlib
 import re
 import sys
@@ -24,9 +25,24 @@ def listed():
             yield from ((path, name) for name in re.findall(r"`([a-z][a-z0-9_]*)`", cells[2]))
 
 
+def places():
+    """The names of the table of rules, each with the file that it is to stand in."""
+    text = (TOP / "docs/MAP.md").read_text()
+    part = text[text.index("## From a rule to its code"):]
+    part = part[: part.index("\n## ", 3)]
+    for path, names in re.findall(r"`([a-z_]+/[\w/]+\.(?:antt|rt))`: ((?:`\w+`(?:, )?)+)", part):
+        yield from ((path, name) for name in re.findall(r"`(\w+)`", names))
+
+
+def stands(path, name):
+    file = TOP / "crates" / path
+    return file.is_file() and re.search(rf"\b{name}\b", file.read_text()) is not None
+
+
 def main():
     if sys.argv[1:] == ["--check"]:
         missing = [(path, name) for path, name in listed() if name not in rows(TOP / "crates" / path)]
+        missing += [(path, name) for path, name in places() if not stands(path, name)]
         for path, name in missing:
             print(f"{path}: {name}")
         return 1 if missing else 0
