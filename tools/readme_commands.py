@@ -2,8 +2,9 @@
 """Runs README's commands: `tools/readme_commands.py [--program PATH]` prints `N passed, N failed`.
 
 Each block of `sh` that begins with `./signtool` or `cp` is run at a copy of signs/ and the built program, line by line (a
-here-document is one line). A block without a language right after it is what its last command prints. The two commands
-that prove, `rt run` and the gate, are left to the gate.
+here-document is one line). The block of the SNMP tools is run whole, without its `apt-get`, where they are installed. A block
+without a language right after it is what its last command, or the whole block, prints. The two commands that prove, `rt run`
+and the gate, are left to the gate.
 """
 
 import argparse
@@ -41,6 +42,14 @@ def main():
         shutil.copy(asked.program, f"{folder}/signtool")
         shutil.copytree(TOP / "signs", f"{folder}/signs")
         for block, after in re.findall(r"```sh\n(.*?)```\n(?:\n```\n(.*?)```)?", text, re.DOTALL):
+            if block.startswith("apt-get") and shutil.which("snmpget"):
+                whole = "shopt -s expand_aliases\n" + block.split("\n", 1)[1].replace("tools/udp_sign.py", f"tools/udp_sign.py --signtool {asked.program}").replace(
+                    "tools/udp_centre.py", f"tools/udp_centre.py --signtool {asked.program}").replace("&    #", "& sleep 1    #")
+                ended = subprocess.run(["bash", "-c", whole], cwd=TOP, capture_output=True, text=True, timeout=120, check=False)
+                well = ended.stdout == after
+                passed, failed = passed + bool(well), failed + (not well)
+                if not well:
+                    print(f"{block}exit {ended.returncode}\n{ended.stdout}{ended.stderr}")
             if not block.startswith(("./signtool", "cp ")):
                 continue
             made = list(commands(block))
