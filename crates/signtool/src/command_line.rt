@@ -239,6 +239,7 @@ fn check_command<'a>(alloc: Global) -> Result<Command<'a>, AllocError> {
 fn pages_command<'a>(alloc: Global) -> Result<Command<'a>, AllocError> {
     let page = Arg::new(alloc, "page")
         .long("page")
+        .value_name("K")
         .value_parser(value_parser!(u8).range(1..=6))
         .help("one page alone, 1 to 6; a picture of it does not move");
     Command::new(alloc, "pages")
@@ -298,7 +299,7 @@ fn sign<'a>(alloc: Global) -> Arg<'a> {
 fn text<'a>(alloc: Global) -> Arg<'a> {
     Arg::new(alloc, "TEXT")
         .required(true)
-        .help("the message's text")
+        .help("the message's text, at most 512 octets")
 }
 
 fn code_command<'a>(alloc: Global) -> Result<Command<'a>, AllocError> {
@@ -309,7 +310,7 @@ fn code_command<'a>(alloc: Global) -> Result<Command<'a>, AllocError> {
     let number = Arg::new(alloc, "NUMBER")
         .required(true)
         .value_parser(value_parser!(u16).range(1..))
-        .help("the message's number");
+        .help("the message's number, 1 to 65535");
     let command = Command::new(alloc, "code")
         .about("Prints a message's checksum and the code that activates it")
         .arg(memory)?
@@ -322,16 +323,19 @@ fn code_command<'a>(alloc: Global) -> Result<Command<'a>, AllocError> {
 fn code_options<'a>(alloc: Global, command: Command<'a>) -> Result<Command<'a>, AllocError> {
     let duration = Arg::new(alloc, "duration")
         .long("duration")
+        .value_name("MINUTES")
         .value_parser(value_parser!(u16))
         .default_value("65535")
-        .help("minutes; 65535 is without end");
+        .help("how long it is shown, 0 to 65535 minutes; 65535 is without end");
     let priority = Arg::new(alloc, "priority")
         .long("priority")
+        .value_name("PRIORITY")
         .value_parser(value_parser!(u8))
         .default_value("255")
-        .help("the activation priority");
+        .help("the activation priority, 0 to 255");
     let address = Arg::new(alloc, "address")
         .long("address")
+        .value_name("A.B.C.D")
         .default_value("0.0.0.0")
         .help("the source address");
     command

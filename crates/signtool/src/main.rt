@@ -19,7 +19,9 @@ fn main(rt: HostRuntime) -> ExitCode {
     let words = match words(&rt) {
         Ok(words) => words,
         Err(error) => {
-            let _ = eprintln!(rt; "{error}");
+            let _ = eprintln!(rt;
+                "a word of the command line is no text, or there is no memory for the words: {error}"
+            );
             return ExitCode::from(MISUSED);
         }
     };

@@ -467,6 +467,31 @@ fn bad_inputs(rt: HostRuntime) -> Result<(), Fail> {
     Ok(())
 }
 
+/// Where a whole input is read first, an octet past the limit decides before a call that would fail after it.
+#[test]
+fn too_long_before_a_failure(rt: HostRuntime) -> Result<(), Fail> {
+    let sign = SignWanted::Described;
+    for call in [
+        Call::Check { text: "A", sign },
+        Call::Pages {
+            text: "A",
+            sign,
+            drawing: CELLS,
+        },
+        Call::Answer { hex: "30", sign },
+        Call::Replay,
+    ] {
+        let mut input = Filler {
+            left: 1_048_577,
+            fails: true,
+        };
+        let mut output = Vec::new(rt.alloc());
+        assert_eq!(rt; act(rt.alloc(), &call, &mut input, &mut output), 1);
+        assert!(rt; output.as_slice() == b"too long\n".as_slice());
+    }
+    Ok(())
+}
+
 /// A long line is refused, the lines around it are answered, and a reader that fails within a line is told after them.
 #[test]
 fn long_lines_are_refused(rt: HostRuntime) -> Result<(), Fail> {
