@@ -52,7 +52,7 @@ def checked(base, edits):
             file.write_text(text, encoding="utf-8")
     said = ran.stdout + ran.stderr
     if len(edits) == 1:
-        return applied if ran.returncode and re.search(r"(?m)^fn \S+: no proof", said) else []
+        return applied if ran.returncode and re.search(r"(?m)^fn \S+: (?:no proof|not proved)", said) else []
     wrong = {path.split("::")[-1] for path, what in re.findall(r"(?m)^fn (\S+): (.*)$", said)
              if not what.startswith(("no holes", "proved", "no proof: it calls"))}
     wrong |= {path.split("/")[-1] for path in re.findall(r"(?m)^\./proofs/(\S+)/Answers\.antt:\S+ error", said)}
