@@ -121,7 +121,7 @@ split a b = elim (leb_tells b a) [
 record Cover (first size c n : ℕ) : Type 0 where
   one : n ≤ 1
   before : c < first → n ≡ 0
-  behind : first + size ≤ c → n ≡ 0
+  after : first + size ≤ c → n ≡ 0
 
 abbrev covers : {A : Type 0} → (A → Block) → ℕ → ℕ × A → Bool
 covers block c placed = nat_le placed.0 c && nat_lt c (placed.0 + (block placed.1).size)
@@ -138,22 +138,22 @@ alone : (first size c : ℕ) → Cover first size c (cond (nat_le first c && nat
 alone first size c = record {
   one = at_most_one (nat_le first c && nat_lt c (first + size));
   before = λ less. let less_is : nat_le first c ≡ false = grind (arith, nat_tests) in ap (λ b. cond (b && nat_lt c (first + size)) 1 0) less_is;
-  behind = λ past. let past_is : nat_lt c (first + size) ≡ false = grind (arith, nat_tests) in ap (λ b. cond (nat_le first c && b) 1 0) past_is ∙ and_none (nat_le first c);
+  after = λ past. let past_is : nat_lt c (first + size) ≡ false = grind (arith, nat_tests) in ap (λ b. cond (nat_le first c && b) 1 0) past_is ∙ and_none (nat_le first c);
 }
 
 joined : (first size gap more c m n : ℕ) → Cover first size c m → Cover (first + size + gap) more c n → Cover first (size + gap + more) c (m + n)
 joined first size gap more c m n a b = record {
   one = elim (split c (first + size + gap)) [
     | inl less ↦ let none : n ≡ 0 = b.before less in let few : m ≤ 1 = a.one in omega (arith, none, few)
-    | inr past ↦ let none : m ≡ 0 = a.behind (omega (arith, past)) in let few : n ≤ 1 = b.one in omega (arith, none, few)
+    | inr past ↦ let none : m ≡ 0 = a.after (omega (arith, past)) in let few : n ≤ 1 = b.one in omega (arith, none, few)
   ];
   before = λ less. let left : m ≡ 0 = a.before less in let right : n ≡ 0 = b.before (omega (arith, less)) in omega (arith, left, right);
-  behind = λ past. let left : m ≡ 0 = a.behind (omega (arith, past)) in let right : n ≡ 0 = b.behind (omega (arith, past)) in omega (arith, left, right);
+  after = λ past. let left : m ≡ 0 = a.after (omega (arith, past)) in let right : n ≡ 0 = b.after (omega (arith, past)) in omega (arith, left, right);
 }
 
 placed_cover : {A : Type 0} (block : A → Block) (first : ℕ) (xs : List A) (c : ℕ)
     → Cover first (extent (map block xs)) c (tally (covers block c) (placed_from block first xs))
-placed_cover block first [] c = record { one = omega arith; before = λ less. refl; behind = λ past. refl }
+placed_cover block first [] c = record { one = omega arith; before = λ less. refl; after = λ past. refl }
 placed_cover block first (x ∷ []) c =
     let n : ℕ = cond (nat_le first c && nat_lt c (first + (block x).size)) 1 0 in
     let same : n ≡ n + 0 = omega arith in
@@ -190,11 +190,11 @@ apart : (c : ℕ) (a b : Span) (m n : ℕ) → overlap a b ≡ false → Cover a
 apart c a b m n free left right = elim (split c a.first) [
   | inl less ↦ inl (left.before less)
   | inr from_a ↦ elim (split c (a.first + a.size)) [
-    | inr past ↦ inl (left.behind past)
+    | inr past ↦ inl (left.after past)
     | inl to_a ↦ elim (split c b.first) [
       | inl less ↦ inr (right.before less)
       | inr from_b ↦ elim (split c (b.first + b.size)) [
-        | inr past ↦ inr (right.behind past)
+        | inr past ↦ inr (right.after past)
         | inl to_b ↦ absurd (let met : overlap a b ≡ true = grind (arith, nat_tests) in let wrong : true ≡ false = sym met ∙ free in cc)
       ]
     ]
@@ -287,8 +287,8 @@ lit_covers x y top line placed pictured low lit =
     let outer = both (nat_le placed.0 x && nat_le bottom y) _ lit in
     let inner = both (nat_le placed.0 x) (nat_le bottom y) outer.0 in
     let inside = row_there width (x - placed.0) placed.1.glyph.rows (y - bottom) pictured.width_is outer.1 in
-    let right : placed.0 ≤ x = (let told = inner.0 in grind (arith, nat_tests)) in
-    let below : bottom ≤ y = (let told = inner.1 in grind (arith, nat_tests)) in
+    let right : placed.0 ≤ x = (let test = inner.0 in grind (arith, nat_tests)) in
+    let below : bottom ≤ y = (let test = inner.1 in grind (arith, nat_tests)) in
     let column : x - placed.0 < width = inside.0 in
     let row : y - bottom < placed.1.style.font.height = (let rows : length placed.1.glyph.rows ≡ placed.1.style.font.height = pictured.height_is in let less = inside.1 in omega (arith, rows, less)) in
     let least_x : nat_le placed.0 x ≡ true = inner.0 in

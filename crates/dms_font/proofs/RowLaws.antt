@@ -15,11 +15,11 @@ length-bits_of (octet ∷ octets) = omega (arith, length-append (octet_bits octe
 rows_and_rest : (width height : ℕ) (bits : List Bool) → bits ≡ joined (rows_of width height bits) ++ drop (height * width) bits
 rows_and_rest width zero bits = ap (λ k. drop k bits) (let e : 0 ≡ 0 * width = omega arith in e)
 rows_and_rest width (suc height) bits =
-    let behind : drop (height * width) (drop width bits) ≡ drop (suc height * width) bits =
+    let dropped : drop (height * width) (drop width bits) ≡ drop (suc height * width) bits =
     drop-drop (height * width) width bits ∙ ap (λ k. drop k bits) (let e : width + height * width ≡ suc height * width = omega arith in e) in
     sym (take-append-drop width bits) ∙ ap (λ rest. take width bits ++ rest) (rows_and_rest width height (drop width bits))
     ∙ sym (append_assoc (take width bits) (joined (rows_of width height (drop width bits))) (drop (height * width) (drop width bits)))
-    ∙ ap (λ rest. (take width bits ++ joined (rows_of width height (drop width bits))) ++ rest) behind
+    ∙ ap (λ rest. (take width bits ++ joined (rows_of width height (drop width bits))) ++ rest) dropped
 
 pub widths_of : (width height : ℕ) (bits : List Bool) → height * width ≤ length bits → AllByRecursion (λ row. length row ≡ width) (rows_of width height bits)
 widths_of width zero bits room = tt

@@ -15,8 +15,8 @@ labelled_at label low high words = keyword_at label words >>= decimal_at 5 low h
 
 unfoldable pub version_at : List (List ℕ) → Option ℕ
 version_at words = do
-  behind ← keyword_at (codes "version") words
-  found ← word_at behind
+  rest ← keyword_at (codes "version") words
+  found ← word_at rest
   if is_end found.1 then version_of found.0 else None
 
 -- the font of a first line, as yet without characters
@@ -37,8 +37,8 @@ pub record GlyphWords : Type 0 where
 
 unfoldable pub glyph_words : List (List ℕ) → Option GlyphWords
 glyph_words words = do
-  behind ← keyword_at (codes "glyph") words
-  character ← decimal_at 5 1 65535 behind
+  rest ← keyword_at (codes "glyph") words
+  character ← decimal_at 5 1 65535 rest
   width ← decimal_at 5 1 32 character.1
   bits ← word_at width.1
   if is_end bits.1 then Some (record { character = character.0; width = width.0; bits = bits.0 }) else None

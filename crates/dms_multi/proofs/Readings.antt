@@ -70,8 +70,8 @@ shorter text x e =
     omega arith
 
 divided_with : (end : ℕ) (text : List ℕ) (more : List ℕ → List Outcome) (r : Result (Item × List ℕ) FaultCode) → 0 < length text → length text ≤ end → item_at text ≡ r → ((x : Item × List ℕ) → r ≡ Ok x → IsDivided end x.1 (more x.1)) → IsDivided end text (with_outcome end text r more)
-divided_with end text more (Ok x) some within e behind = one_more end text x (more x.1) e within (behind x refl)
-divided_with end text more (Err code) some within e behind = at_fault end text code some e
+divided_with end text more (Ok x) some within e divides = one_more end text x (more x.1) e within (divides x refl)
+divided_with end text more (Err code) some within e divides = at_fault end text code some e
 
 divided : (k end : ℕ) (text : List ℕ) → length text ≤ k → length text ≤ end → IsDivided end text (outcomes_within k end text)
 unfolding outcomes_within
@@ -100,7 +100,7 @@ longest (x ∷ xs) (y ∷ ys) front rest front' rest' code first stuck second sa
     let heads = same_item x y (first.back ++ rest) (second.back ++ rest') (item_at (front ++ rest)) (text_first x xs front rest first) (ap item_at same ∙ text_first y ys front' rest' second) in
     let more : length second.back ≤ length first.back = longest xs ys first.back rest second.back rest' code first.second stuck second.second heads.1 in
     let whole : length front + length rest ≡ length front' + length rest' = sym (length-append front rest) ∙ ap length same ∙ length-append front' rest' in
-    let behind : length first.back + length rest ≡ length second.back + length rest' = sym (length-append first.back rest) ∙ ap length heads.1 ∙ length-append second.back rest' in
+    let backs : length first.back + length rest ≡ length second.back + length rest' = sym (length-append first.back rest) ∙ ap length heads.1 ∙ length-append second.back rest' in
     let size : length front ≡ length first.front + length first.back = ap length first.parts ∙ length-append first.front first.back in
     let size' : length front' ≡ length second.front + length second.back = ap length second.parts ∙ length-append second.front second.back in
     omega arith

@@ -63,7 +63,7 @@ more_in_row first columns glyph row place on is = same_test _ _
     let high : place < first + (columns + 1) = ltb-true _ _ tests.1 in
     elim (cases_lt place (first + columns)) [
       | inl before ↦ or_right _ _ (and_from _ _ (and_from _ _ tests.0 (lt-ltb place (first + columns) before)) parts.1)
-      | inr behind ↦
+      | inr past ↦
           or_left _ _ (and_from _ _ (is ∙ ap (λ k. lit_at glyph k row) (let e : columns ≡ place - first = omega arith in e) ∙ parts.1)
           (eq-eqb place (first + columns) (omega arith)))
     ])

@@ -45,7 +45,7 @@ impl<'a> Styling<'a> {
     }
 
     /// What holds after an item. A value that is missing is the default.
-    fn behind(self, face: &'a Face, defaults: &Defaults, item: Item) -> Styling<'a>
+    fn after(self, face: &'a Face, defaults: &Defaults, item: Item) -> Styling<'a>
         ensures { style_of result ≡ styled (under face.now defaults.now) (style_of self.entry) item }
     {
         let mut style = self;
@@ -250,11 +250,11 @@ impl<'a> TextLayout<'a> {
             Item::NewLine(gap) => self.close_line(alloc, gap),
             Item::NewPage => self.close_page(alloc),
             Item::JustPage(_) => {
-                let style = self.style.behind(face, defaults, item);
+                let style = self.style.after(face, defaults, item);
                 self.change_part(alloc, style)
             }
             _ => {
-                self.style = self.style.behind(face, defaults, item);
+                self.style = self.style.after(face, defaults, item);
                 Ok(())
             }
         }

@@ -78,7 +78,8 @@ unfolding word_at
 word_only [] words some = absurd (omega arith)
 word_only (octet ∷ octets) words some = refl
 
-same_found : (xs ys : List ℕ) → same_octets xs ys ≡ true → xs ≡ ys
+-- octets that are found the same are the same
+pub same_found : (xs ys : List ℕ) → same_octets xs ys ≡ true → xs ≡ ys
 same_found [] [] e = refl
 same_found [] (y ∷ ys) e = absurd (let never : false ≡ true = e in cc)
 same_found (x ∷ xs) [] e = absurd (let never : false ≡ true = e in cc)

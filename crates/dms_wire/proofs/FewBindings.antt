@@ -70,8 +70,8 @@ bindings_octets (b ∷ bs) = record {
 }
 
 -- the last member of a sequence with anything before it
-behind : {First Second : List ℕ → Type 0} (n : ℕ) → AtLeast n Second → AtLeast n (First ⨾ Second)
-behind {First} {Second} n second = record {
+after_first : {First Second : List ℕ → Type 0} (n : ℕ) → AtLeast n Second → AtLeast n (First ⨾ Second)
+after_first {First} {Second} n second = record {
   octets = λ bytes s. omega (arith, (sequence_octets 0 n (anything First) second).octets bytes s);
 }
 
@@ -82,8 +82,8 @@ around {Content} tag n inside = record { octets = λ bytes e. omega (arith, (ele
 pub few_bindings : (m : SnmpMessage) (octets : List ℕ) → Spells m octets → 7 * length m.bindings ≤ length octets
 few_bindings m octets s =
     let n : ℕ = 7 * length m.bindings in
-    let pdu : AtLeast n (IsPdu m) = behind n (behind n (behind n (around 48 n (bindings_octets m.bindings)))) in
-    let message : AtLeast n (IsMessage m) = around 48 n (behind n (behind n (around (tag_of m.kind) n pdu))) in
+    let pdu : AtLeast n (IsPdu m) = after_first n (after_first n (after_first n (around 48 n (bindings_octets m.bindings)))) in
+    let message : AtLeast n (IsMessage m) = around 48 n (after_first n (after_first n (around (tag_of m.kind) n pdu))) in
     message.octets octets s.message
 
 -- so there are at most as many as the longest datagram has room for

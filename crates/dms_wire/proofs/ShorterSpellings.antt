@@ -28,9 +28,9 @@ unfolding element
 element_length tag any Content short bytes shorter below e =
     let inside : AllBelowBase 256 (tag ∷ (e.len ++ e.content)) = subst (AllBelowBase 256) e.parts below in
     let parts = below_parts e.len e.content inside.1 in
-    let behind : length short ≤ length e.content = shorter.than e.content parts.1 e.spelled in
+    let content : length short ≤ length e.content = shorter.than e.content parts.1 e.spelled in
     let before : length (short_length (length short)) ≤ length e.len =
-    le_trans (short_length_monotone (length short) (length e.content) behind) (length_no_longer e.len (length e.content) parts.0 e.form) in
+    le_trans (short_length_monotone (length short) (length e.content) content) (length_no_longer e.len (length e.content) parts.0 e.form) in
     omega (arith, ap length e.parts, length-append e.len e.content, length-append (short_length (length short)) short)
 
 -- the tag may differ, since each is one octet
