@@ -184,16 +184,16 @@ keeps_read : (state : CentreState) (sent : List (List ℕ)) (job : Job) (o : Opt
 keeps_read state sent job None n work = keeps_fail state state.phase sent job.step reasons.OddReply n
 keeps_read state sent job (Some number) n work = keeps_number state sent job job.step number n work
 
-keeps_success : (state : CentreState) (sent : List (List ℕ)) (job : Job) (number : ℕ) (told : List VarBind) (step : Step)
-    → IsNumbered state.settings state.next state.phase sent → IsWork job.work → KeepsAt state sent (on_success state job number told step)
-keeps_success state sent job number told Opening n work = keeps_sends state state.phase sent (at_step job Opened) n work
-keeps_success state sent job number told Filling n work = keeps_sends state state.phase sent (at_step job Validating) n work
-keeps_success state sent job number told Validating n work = keeps_sends state state.phase sent (at_step job Polling) n work
-keeps_success state sent job number told Activating n work = keeps_rest (ends (decided state number outcomes.Accepted) endings.Accepted) state.phase sent n tt tt
-keeps_success state sent job number told Opened n work = keeps_read state sent job (number_read (asked state job) told) n work
-keeps_success state sent job number told Polling n work = keeps_read state sent job (number_read (asked state job) told) n work
-keeps_success state sent job number told Comparing n work = keeps_read state sent job (number_read (asked state job) told) n work
-keeps_success state sent job number told Explaining n work = keeps_read state sent job (number_read (asked state job) told) n work
+keeps_success : (state : CentreState) (sent : List (List ℕ)) (job : Job) (number : ℕ) (answered : List VarBind) (step : Step)
+    → IsNumbered state.settings state.next state.phase sent → IsWork job.work → KeepsAt state sent (on_success state job number answered step)
+keeps_success state sent job number answered Opening n work = keeps_sends state state.phase sent (at_step job Opened) n work
+keeps_success state sent job number answered Filling n work = keeps_sends state state.phase sent (at_step job Validating) n work
+keeps_success state sent job number answered Validating n work = keeps_sends state state.phase sent (at_step job Polling) n work
+keeps_success state sent job number answered Activating n work = keeps_rest (ends (decided state number outcomes.Accepted) endings.Accepted) state.phase sent n tt tt
+keeps_success state sent job number answered Opened n work = keeps_read state sent job (number_read (asked state job) answered) n work
+keeps_success state sent job number answered Polling n work = keeps_read state sent job (number_read (asked state job) answered) n work
+keeps_success state sent job number answered Comparing n work = keeps_read state sent job (number_read (asked state job) answered) n work
+keeps_success state sent job number answered Explaining n work = keeps_read state sent job (number_read (asked state job) answered) n work
 
 keeps_failure : (state : CentreState) (sent : List (List ℕ)) (job : Job) (number : ℕ) (status : ℤ)
     → IsNumbered state.settings state.next state.phase sent → IsWork job.work → KeepsAt state sent (on_failure state job number status)

@@ -67,7 +67,7 @@ KeptAt state input move = LedgerKept state.settings state.next state.ledger inpu
 -- ---- entries in their places
 
 -- the same entries, with what the input tells of them
-record Told (settings : SettingsModel) (input : Input) (before ledger : List Entry) : Type 0 where
+record EntriesMove (settings : SettingsModel) (input : Input) (before ledger : List Entry) : Type 0 where
   same_length : length ledger ≡ length before
   kept : (k : ℕ) (entry : Entry) → slice_get before k ≡ Some entry → (later : Entry) × (slice_get ledger k ≡ Some later) × EntryMoves settings input entry later
   each : (k : ℕ) (later : Entry) → slice_get ledger k ≡ Some later → (entry : Entry) × (slice_get before k ≡ Some entry) × EntryMoves settings input entry later
@@ -75,8 +75,8 @@ record Told (settings : SettingsModel) (input : Input) (before ledger : List Ent
 entry_stays : (settings : SettingsModel) (input : Input) (entry : Entry) → EntryMoves settings input entry entry
 entry_stays settings input entry = record { number = refl; code = refl; outcome = Stays input entry.outcome }
 
-told_same : (settings : SettingsModel) (input : Input) (before : List Entry) → Told settings input before before
-told_same settings input before = record {
+moves_same : (settings : SettingsModel) (input : Input) (before : List Entry) → EntriesMove settings input before before
+moves_same settings input before = record {
   same_length = refl;
   kept = λ k entry e. (entry, e, entry_stays settings input entry);
   each = λ k later e. (later, e, entry_stays settings input later);
@@ -86,9 +86,9 @@ mapped : {A : Type 0} (change : A → A) (o : Option A) (later : A) → option_m
 mapped change None later e = absurd (none-some later e)
 mapped change (Some entry) later e = (entry, refl, same_Some (change entry) later e)
 
-told_map : (settings : SettingsModel) (input : Input) (before : List Entry) (change : Entry → Entry)
-    → ((k : ℕ) (entry : Entry) → slice_get before k ≡ Some entry → EntryMoves settings input entry (change entry)) → Told settings input before (map change before)
-told_map settings input before change moves = record {
+moves_map : (settings : SettingsModel) (input : Input) (before : List Entry) (change : Entry → Entry)
+    → ((k : ℕ) (entry : Entry) → slice_get before k ≡ Some entry → EntryMoves settings input entry (change entry)) → EntriesMove settings input before (map change before)
+moves_map settings input before change moves = record {
   same_length = length-map before change;
   kept = λ k entry e. (change entry, slice_get-map change before k ∙ ap (option_map change) e, moves k entry e);
   each = λ k later e.
@@ -99,17 +99,17 @@ told_map settings input before change moves = record {
 -- ---- moves
 
 -- no new entry
-kept_told : (settings : SettingsModel) (next : ℕ) (before : List Entry) (input : Input) (move : Move) → Told settings input before move.state.ledger
+kept_moved : (settings : SettingsModel) (next : ℕ) (before : List Entry) (input : Input) (move : Move) → EntriesMove settings input before move.state.ledger
     → IsOpen move.state.phase move.state.ledger → LedgerKept settings next before input move
-kept_told settings next before input move told is_open = record {
-  moves = record { kept = told.kept; each = λ k later e. inl (told.each k later e) };
+kept_moved settings next before input move moved is_open = record {
+  moves = record { kept = moved.kept; each = λ k later e. inl (moved.each k later e) };
   open_entry = is_open;
 }
 
 -- the ledger as it was
 kept_same : (state : CentreState) (input : Input) (move : Move) → move.state.ledger ≡ state.ledger → IsOpen move.state.phase state.ledger → KeptAt state input move
 kept_same state input move same is_open =
-    kept_told state.settings state.next state.ledger input move (subst (Told state.settings input state.ledger) (sym same) (told_same state.settings input state.ledger))
+    kept_moved state.settings state.next state.ledger input move (subst (EntriesMove state.settings input state.ledger) (sym same) (moves_same state.settings input state.ledger))
     (subst (IsOpen move.state.phase) (sym same) is_open)
 
 abbrev with_ledger : Move → List Entry → Move
@@ -131,26 +131,26 @@ puts_up : (settings : SettingsModel) (number : ℕ) (work : Work) (step : Step) 
 unfolding request_of
 puts_up settings number work step octets e is = subst (λ s. message_of octets ≡ Some (request_of settings number work s)) is e
 
--- the entries that were told have numbers below the next one
-told_below : (settings : SettingsModel) (input : Input) (next : ℕ) (before ledger : List Entry) → Told settings input before ledger → AreBelow next before → AreBelow next ledger
-told_below settings input next before ledger told below k later e =
-    let was = told.each k later e in
+-- the entries that moved have numbers below the next one
+moved_below : (settings : SettingsModel) (input : Input) (next : ℕ) (before ledger : List Entry) → EntriesMove settings input before ledger → AreBelow next before → AreBelow next ledger
+moved_below settings input next before ledger moved below k later e =
+    let was = moved.each k later e in
     omega (arith, below k was.0 was.1, was.2.number)
 
 -- an activation goes out, and enters the ledger
-kept_entered : (state : CentreState) (before : List Entry) (input : Input) (job : Job) (octets : List ℕ) → Told state.settings input before state.ledger
+kept_entered : (state : CentreState) (before : List Entry) (input : Input) (job : Job) (octets : List ℕ) → EntriesMove state.settings input before state.ledger
     → AreBelow state.next before → PutsUp state.settings state.next (code_of job.work) octets
     → LedgerKept state.settings state.next before input
     (with_ledger (sends_octets state job octets) (state.ledger ++ record { number = state.next; code = code_of job.work; outcome = Waiting } ∷ []))
-kept_entered state before input job octets told below puts =
+kept_entered state before input job octets moved below puts =
     let new : Entry = record { number = state.next; code = code_of job.work; outcome = Waiting } in
-    let small = told_below state.settings input state.next before state.ledger told below in
+    let small = moved_below state.settings input state.next before state.ledger moved below in
     record {
       moves = record {
-        kept = λ k entry e. (let was = told.kept k entry e in (was.0, on_left state.ledger (new ∷ []) k was.0 was.1, was.2));
+        kept = λ k entry e. (let was = moved.kept k entry e in (was.0, on_left state.ledger (new ∷ []) k was.0 was.1, was.2));
         each = λ k later e.
             elim (in_push state.ledger new k later e) [
-              | inl old ↦ inl (told.each k later old)
+              | inl old ↦ inl (moved.each k later old)
               | inr last ↦
                   (let is_new : IsNewEntry state.settings state.next (with_ledger (sends_octets state job octets) (state.ledger ++ new ∷ [])) new =
                   record {
@@ -164,7 +164,7 @@ kept_entered state before input job octets told below puts =
                     sent = refl;
                     puts_up = puts;
                   } in
-                  inr (last.0 ∙ told.same_length, subst (IsNewEntry state.settings state.next (with_ledger (sends_octets state job octets) (state.ledger ++ new ∷ []))) last.1 is_new))
+                  inr (last.0 ∙ moved.same_length, subst (IsNewEntry state.settings state.next (with_ledger (sends_octets state job octets) (state.ledger ++ new ∷ []))) last.1 is_new))
             ];
       };
       open_entry = λ act k entry e same.
@@ -174,15 +174,15 @@ kept_entered state before input job octets told below puts =
           ];
     }
 
--- a job that fails after the entries were told
-kept_fail : (state : CentreState) (before : List Entry) (input : Input) (step : Step) (why : Why) → Told state.settings input before state.ledger
+-- a job that fails after the entries moved
+kept_fail : (state : CentreState) (before : List Entry) (input : Input) (step : Step) (why : Why) → EntriesMove state.settings input before state.ledger
     → LedgerKept state.settings state.next before input (fails state step why)
-kept_fail state before input step why told = kept_told state.settings state.next before input (fails state step why) told tt
+kept_fail state before input step why moved = kept_moved state.settings state.next before input (fails state step why) moved tt
 
-kept_sends : (state : CentreState) (before : List Entry) (input : Input) (job : Job) → Told state.settings input before state.ledger → AreBelow state.next before
+kept_sends : (state : CentreState) (before : List Entry) (input : Input) (job : Job) → EntriesMove state.settings input before state.ledger → AreBelow state.next before
     → AreSettings state.settings → IsWork job.work → LedgerKept state.settings state.next before input (sends state job)
 unfolding sends
-kept_sends state before input job told below fine work =
+kept_sends state before input job moved below fine work =
     let octets = request_octets state job in
     let new : Entry = record { number = state.next; code = code_of job.work; outcome = Waiting } in
     by_test (LedgerKept state.settings state.next before input) (nat_le state.next last_number) (sends_octets state job octets) (fails state job.step reasons.NumbersUsedUp)
@@ -190,11 +190,11 @@ kept_sends state before input job told below fine work =
     by_test (λ ledger. LedgerKept state.settings state.next before input (with_ledger (sends_octets state job octets) ledger)) (is_activating job.step)
     (state.ledger ++ new ∷ []) state.ledger
     (λ act.
-    kept_entered state before input job octets told below
+    kept_entered state before input job octets moved below
     (puts_up state.settings state.next job.work job.step octets
     (request_reads state.settings state.next job.work job.step fine (grind (arith, nat_tests, left)) work) (activating job.step act)))
-    (λ other. kept_told state.settings state.next before input (with_ledger (sends_octets state job octets) state.ledger) told (λ act. absurd (cc (act, other)))))
-    (λ none. kept_fail state before input job.step reasons.NumbersUsedUp told)
+    (λ other. kept_moved state.settings state.next before input (with_ledger (sends_octets state job octets) state.ledger) moved (λ act. absurd (cc (act, other)))))
+    (λ none. kept_fail state before input job.step reasons.NumbersUsedUp moved)
 
 -- ---- the moves of a state whose ledger is as it was
 
@@ -208,7 +208,7 @@ wait : (state : CentreState) (input : Input) (job : Job) → KeptAt state input 
 wait state input job = kept_same state input (waits state job) refl tt
 
 send : (state : CentreState) (input : Input) (job : Job) → Ready state → IsWork job.work → KeptAt state input (sends state job)
-send state input job ready work = kept_sends state state.ledger input job (told_same state.settings input state.ledger) ready.below ready.settings work
+send state input job ready work = kept_sends state state.ledger input job (moves_same state.settings input state.ledger) ready.below ready.settings work
 
 -- ---- a reply
 
@@ -263,10 +263,10 @@ entry_decided settings input number outcome entry waiting becomes =
     })
     (λ other. entry_stays settings input entry)
 
-told_decided : (state : CentreState) (input : Input) (number : ℕ) (outcome : Outcome) → AreWaiting number state.ledger → Becomes state.settings number input Waiting outcome
-    → Told state.settings input state.ledger (decided state number outcome).ledger
-told_decided state input number outcome waiting becomes =
-    told_map state.settings input state.ledger (with_outcome number outcome)
+moves_decided : (state : CentreState) (input : Input) (number : ℕ) (outcome : Outcome) → AreWaiting number state.ledger → Becomes state.settings number input Waiting outcome
+    → EntriesMove state.settings input state.ledger (decided state number outcome).ledger
+moves_decided state input number outcome waiting becomes =
+    moves_map state.settings input state.ledger (with_outcome number outcome)
     (λ k entry e. entry_decided state.settings input number outcome entry (waiting k entry e) becomes)
 
 -- a reply that answers the request of a number was heard
@@ -281,8 +281,8 @@ kept_success state job number octets reply Opening ready work heard good waiting
 kept_success state job number octets reply Filling ready work heard good waiting = send state (Hears octets) (at_step job Validating) ready work
 kept_success state job number octets reply Validating ready work heard good waiting = send state (Hears octets) (at_step job Polling) ready work
 kept_success state job number octets reply Activating ready work heard good waiting =
-    kept_told state.settings state.next state.ledger (Hears octets) (rests (ends (decided state number Accepted) endings.Accepted))
-    (told_decided state (Hears octets) number Accepted (waiting refl) (IsAccepted octets reply heard.spelled heard.answers good)) tt
+    kept_moved state.settings state.next state.ledger (Hears octets) (rests (ends (decided state number Accepted) endings.Accepted))
+    (moves_decided state (Hears octets) number Accepted (waiting refl) (IsAccepted octets reply heard.spelled heard.answers good)) tt
 kept_success state job number octets reply Opened ready work heard good waiting = kept_read state (Hears octets) job (number_read (asked state job) reply.bindings) ready work
 kept_success state job number octets reply Polling ready work heard good waiting = kept_read state (Hears octets) job (number_read (asked state job) reply.bindings) ready work
 kept_success state job number octets reply Comparing ready work heard good waiting = kept_read state (Hears octets) job (number_read (asked state job) reply.bindings) ready work
@@ -296,7 +296,7 @@ kept_failure state job number octets reply ready work heard bad waiting =
     (fails state job.step (reasons.Status reply.status))
     (λ act.
     kept_sends (decided state number (Refused reply.status)) state.ledger (Hears octets) (at_step job Explaining)
-    (told_decided state (Hears octets) number (Refused reply.status) (waiting act) (IsRefused octets reply heard.spelled heard.answers bad))
+    (moves_decided state (Hears octets) number (Refused reply.status) (waiting act) (IsRefused octets reply heard.spelled heard.answers bad))
     ready.below ready.settings work)
     (λ other. fail state (Hears octets) job.step (reasons.Status reply.status))
 
@@ -387,10 +387,10 @@ entry_given_up settings input outcome entry becomes =
     })
     (λ other. entry_stays settings input entry)
 
-told_given_up : (state : CentreState) (input : Input) (outcome : Outcome) → ((number : ℕ) → Becomes state.settings number input Waiting outcome)
-    → Told state.settings input state.ledger (gives_up state outcome).ledger
-told_given_up state input outcome becomes =
-    told_map state.settings input state.ledger (given_up outcome) (λ k entry e. entry_given_up state.settings input outcome entry becomes)
+moves_given_up : (state : CentreState) (input : Input) (outcome : Outcome) → ((number : ℕ) → Becomes state.settings number input Waiting outcome)
+    → EntriesMove state.settings input state.ledger (gives_up state outcome).ledger
+moves_given_up state input outcome becomes =
+    moves_map state.settings input state.ledger (given_up outcome) (λ k entry e. entry_given_up state.settings input outcome entry becomes)
 
 kept_silence : (state : CentreState) (job : Job) (pending : Pending) → IsOpen (Awaits job pending) state.ledger → KeptAt state Ticks (on_silence state job pending)
 kept_silence state job pending is_open =
@@ -399,7 +399,7 @@ kept_silence state job pending is_open =
     (kept_same state Ticks (rests (record state { phase = Awaits job (older pending) })) refl is_open)
     (either_way (KeptAt state Ticks) (nat_lt pending.sends 3) (sends_again state job pending) (fails (gives_up state NoReply) job.step reasons.NoReply)
     (kept_same state Ticks (sends_again state job pending) refl is_open)
-    (kept_fail (gives_up state NoReply) state.ledger Ticks job.step reasons.NoReply (told_given_up state Ticks NoReply (λ number. IsUnheard))))
+    (kept_fail (gives_up state NoReply) state.ledger Ticks job.step reasons.NoReply (moves_given_up state Ticks NoReply (λ number. IsUnheard))))
 
 kept_tick : (state : CentreState) (phase : Phase) → Ready state → IsAtWork phase → IsOpen phase state.ledger → KeptAt state Ticks (on_tick state phase)
 kept_tick state Idle ready work is_open = still state Ticks ready
@@ -414,13 +414,13 @@ kept_ticked state ready work = kept_tick state state.phase ready work ready.open
 
 kept_forgotten : (state : CentreState) (phase : Phase) → phase ≡ state.phase → KeptAt state Restarts (rests (forgets (gives_up state Unknown) phase))
 kept_forgotten state Idle e =
-    kept_told state.settings state.next state.ledger Restarts (rests (gives_up state Unknown)) (told_given_up state Restarts Unknown (λ number. IsForgotten))
+    kept_moved state.settings state.next state.ledger Restarts (rests (gives_up state Unknown)) (moves_given_up state Restarts Unknown (λ number. IsForgotten))
     (subst (λ p. IsOpen p (gives_up state Unknown).ledger) e tt)
 kept_forgotten state (Due job) e =
-    kept_told state.settings state.next state.ledger Restarts (rests (forgets (gives_up state Unknown) (Due job))) (told_given_up state Restarts Unknown (λ number. IsForgotten)) tt
+    kept_moved state.settings state.next state.ledger Restarts (rests (forgets (gives_up state Unknown) (Due job))) (moves_given_up state Restarts Unknown (λ number. IsForgotten)) tt
 kept_forgotten state (Awaits job pending) e =
-    kept_told state.settings state.next state.ledger Restarts (rests (forgets (gives_up state Unknown) (Awaits job pending)))
-    (told_given_up state Restarts Unknown (λ number. IsForgotten)) tt
+    kept_moved state.settings state.next state.ledger Restarts (rests (forgets (gives_up state Unknown) (Awaits job pending)))
+    (moves_given_up state Restarts Unknown (λ number. IsForgotten)) tt
 
 kept_restarted : (state : CentreState) → KeptAt state Restarts (rests (restarted state))
 unfolding restarted

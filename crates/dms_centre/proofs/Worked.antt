@@ -59,8 +59,8 @@ reply number status = Hears (
     ∷ 0x01 ∷ number ∷ 0x02 ∷ 0x01 ∷ status ∷ 0x02 ∷ 0x01 ∷ 0x00 ∷ 0x30 ∷ 0x00 ∷ [])
 
 -- a Response with noError and one binding: a column of the row changeable 1, and a value
-abbrev told : (number column value : ℕ) → Input
-told number column value = Hears (
+abbrev reported : (number column value : ℕ) → Input
+reported number column value = Hears (
     0x30 ∷ 0x2e ∷ 0x02 ∷ 0x01 ∷ 0x00 ∷ 0x04 ∷ 0x05 ∷ 0x61 ∷ 0x64 ∷ 0x6d ∷ 0x69 ∷ 0x6e ∷ 0xa2 ∷ 0x22 ∷ 0x02
     ∷ 0x01 ∷ number ∷ 0x02 ∷ 0x01 ∷ 0x00 ∷ 0x02 ∷ 0x01 ∷ 0x00 ∷ 0x30 ∷ 0x17 ∷ 0x30 ∷ 0x15 ∷ 0x06 ∷ 0x10
     ∷ 0x2b ∷ 0x06 ∷ 0x01 ∷ 0x04 ∷ 0x01 ∷ 0x89 ∷ 0x36 ∷ 0x04 ∷ 0x02 ∷ 0x03 ∷ 0x05 ∷ 0x08 ∷ 0x01 ∷ column
@@ -121,11 +121,11 @@ no_reply = refl
 
 -- up to the first poll: a SET is done, the row is modifying, its fields are written, it is being validated
 abbrev polling : List Input → List Input
-polling inputs = publish ∷ reply 1 0 ∷ told 2 9 2 ∷ reply 3 0 ∷ reply 4 0 ∷ inputs
+polling inputs = publish ∷ reply 1 0 ∷ reported 2 9 2 ∷ reply 3 0 ∷ reply 4 0 ∷ inputs
 
 -- its checksum, 9A66
-abbrev told_checksum : Input
-told_checksum = Hears (
+abbrev reported_checksum : Input
+reported_checksum = Hears (
     0x30 ∷ 0x30 ∷ 0x02 ∷ 0x01 ∷ 0x00 ∷ 0x04 ∷ 0x05 ∷ 0x61 ∷ 0x64 ∷ 0x6d ∷ 0x69 ∷ 0x6e ∷ 0xa2 ∷ 0x24 ∷ 0x02
     ∷ 0x01 ∷ 0x06 ∷ 0x02 ∷ 0x01 ∷ 0x00 ∷ 0x02 ∷ 0x01 ∷ 0x00 ∷ 0x30 ∷ 0x19 ∷ 0x30 ∷ 0x17 ∷ 0x06 ∷ 0x10 ∷ 0x2b
     ∷ 0x06 ∷ 0x01 ∷ 0x04 ∷ 0x01 ∷ 0x89 ∷ 0x36 ∷ 0x04 ∷ 0x02 ∷ 0x03 ∷ 0x05 ∷ 0x08 ∷ 0x01 ∷ 0x05 ∷ 0x03 ∷ 0x01
@@ -133,7 +133,7 @@ told_checksum = Hears (
 
 -- the row is valid and its checksum the operator's; the seventh request puts it up
 abbrev accepted : List Input
-accepted = polling (told 5 9 4 ∷ told_checksum ∷ Ticks ∷ reply 7 0 ∷ [])
+accepted = polling (reported 5 9 4 ∷ reported_checksum ∷ Ticks ∷ reply 7 0 ∷ [])
 
 published : summary accepted ≡ record { last = endings.Accepted; next = 8 }
 unfolding canonical pdu_octets numbers_octets binding_octets element integer_octets name_octets octet_bits message_of request_of sends commanded received ticked restarted
@@ -144,14 +144,14 @@ unfolding canonical pdu_octets numbers_octets binding_octets element integer_oct
 published_code = refl
 
 -- the seventh waits for the tick
-due : map (λ inputs. length (after inputs).sent) (polling (told 5 9 4 ∷ told_checksum ∷ []) ∷ polling (told 5 9 4 ∷ told_checksum ∷ Ticks ∷ []) ∷ []) ≡ 6 ∷ 7 ∷ []
+due : map (λ inputs. length (after inputs).sent) (polling (reported 5 9 4 ∷ reported_checksum ∷ []) ∷ polling (reported 5 9 4 ∷ reported_checksum ∷ Ticks ∷ []) ∷ []) ≡ 6 ∷ 7 ∷ []
 unfolding canonical pdu_octets numbers_octets binding_octets element integer_octets name_octets octet_bits message_of request_of sends commanded received ticked restarted
 due = refl
 
 -- so many polls, from the fifth request on, are answered that the row is still being validated
 abbrev still_validating : ℕ → ℕ → List Input
 still_validating zero number = []
-still_validating (suc polls) number = told number 9 3 ∷ Ticks ∷ still_validating polls (number + 1)
+still_validating (suc polls) number = reported number 9 3 ∷ Ticks ∷ still_validating polls (number + 1)
 
 nine_polls : summary (polling (still_validating 9 5)) ≡ record { last = endings.Never; next = 15 }
 unfolding canonical pdu_octets numbers_octets binding_octets element integer_octets name_octets octet_bits message_of request_of sends commanded received ticked restarted
@@ -167,25 +167,25 @@ unfolding canonical pdu_octets numbers_octets binding_octets element integer_oct
 refused_row = refl
 
 -- the row is not used
-wrong_status : summary (publish ∷ reply 1 0 ∷ told 2 9 1 ∷ []) ≡ record { last = endings.Failed 2 (reasons.WrongStatus (pos 1)); next = 3 }
+wrong_status : summary (publish ∷ reply 1 0 ∷ reported 2 9 1 ∷ []) ≡ record { last = endings.Failed 2 (reasons.WrongStatus (pos 1)); next = 3 }
 unfolding canonical pdu_octets numbers_octets binding_octets element integer_octets name_octets octet_bits message_of request_of sends commanded received ticked restarted
 wrong_status = refl
 
 -- the status is told twice
-abbrev told_twice : Input
-told_twice = Hears (
+abbrev reported_twice : Input
+reported_twice = Hears (
     0x30 ∷ 0x45 ∷ 0x02 ∷ 0x01 ∷ 0x00 ∷ 0x04 ∷ 0x05 ∷ 0x61 ∷ 0x64 ∷ 0x6d ∷ 0x69 ∷ 0x6e ∷ 0xa2 ∷ 0x39 ∷ 0x02
     ∷ 0x01 ∷ 0x02 ∷ 0x02 ∷ 0x01 ∷ 0x00 ∷ 0x02 ∷ 0x01 ∷ 0x00 ∷ 0x30 ∷ 0x2e ∷ 0x30 ∷ 0x15 ∷ 0x06 ∷ 0x10 ∷ 0x2b
     ∷ 0x06 ∷ 0x01 ∷ 0x04 ∷ 0x01 ∷ 0x89 ∷ 0x36 ∷ 0x04 ∷ 0x02 ∷ 0x03 ∷ 0x05 ∷ 0x08 ∷ 0x01 ∷ 0x09 ∷ 0x03 ∷ 0x01
     ∷ 0x02 ∷ 0x01 ∷ 0x02 ∷ 0x30 ∷ 0x15 ∷ 0x06 ∷ 0x10 ∷ 0x2b ∷ 0x06 ∷ 0x01 ∷ 0x04 ∷ 0x01 ∷ 0x89 ∷ 0x36 ∷ 0x04
     ∷ 0x02 ∷ 0x03 ∷ 0x05 ∷ 0x08 ∷ 0x01 ∷ 0x09 ∷ 0x03 ∷ 0x01 ∷ 0x02 ∷ 0x01 ∷ 0x02 ∷ [])
 
-odd_reply : summary (publish ∷ reply 1 0 ∷ told_twice ∷ []) ≡ record { last = endings.Failed 2 reasons.OddReply; next = 3 }
+odd_reply : summary (publish ∷ reply 1 0 ∷ reported_twice ∷ []) ≡ record { last = endings.Failed 2 reasons.OddReply; next = 3 }
 unfolding canonical pdu_octets numbers_octets binding_octets element integer_octets name_octets octet_bits message_of request_of sends commanded received ticked restarted
 odd_reply = refl
 
 -- another name, and no binding
-odd_name : summary (publish ∷ reply 1 0 ∷ told 2 5 2 ∷ []) ≡ record { last = endings.Failed 2 reasons.OddReply; next = 3 }
+odd_name : summary (publish ∷ reply 1 0 ∷ reported 2 5 2 ∷ []) ≡ record { last = endings.Failed 2 reasons.OddReply; next = 3 }
 unfolding canonical pdu_octets numbers_octets binding_octets element integer_octets name_octets octet_bits message_of request_of sends commanded received ticked restarted
 odd_name = refl
 
@@ -236,8 +236,8 @@ abbrev activation_octets : List ℕ
 activation_octets = 0xff ∷ 0xff ∷ 0xff ∷ 0x03 ∷ 0x00 ∷ 0x01 ∷ 0x9a ∷ 0x66 ∷ 0x00 ∷ 0x00 ∷ 0x00 ∷ 0x00 ∷ []
 
 -- dmsActivateMsgError is 7, in reply to request 2
-abbrev told_cause : Input
-told_cause = Hears (
+abbrev reported_cause : Input
+reported_cause = Hears (
     0x30 ∷ 0x2b ∷ 0x02 ∷ 0x01 ∷ 0x00 ∷ 0x04 ∷ 0x05 ∷ 0x61 ∷ 0x64 ∷ 0x6d ∷ 0x69 ∷ 0x6e ∷ 0xa2 ∷ 0x1f ∷ 0x02
     ∷ 0x01 ∷ 0x02 ∷ 0x02 ∷ 0x01 ∷ 0x00 ∷ 0x02 ∷ 0x01 ∷ 0x00 ∷ 0x30 ∷ 0x14 ∷ 0x30 ∷ 0x12 ∷ 0x06 ∷ 0x0d ∷ 0x2b
     ∷ 0x06 ∷ 0x01 ∷ 0x04 ∷ 0x01 ∷ 0x89 ∷ 0x36 ∷ 0x04 ∷ 0x02 ∷ 0x03 ∷ 0x06 ∷ 0x11 ∷ 0x00 ∷ 0x02 ∷ 0x01 ∷ 0x07
@@ -262,12 +262,12 @@ forged : ledger (activate ∷ reply 1 0 ∷ []) ≡ record { number = 1; code = 
 unfolding canonical pdu_octets numbers_octets binding_octets element integer_octets name_octets octet_bits message_of request_of sends commanded received ticked restarted
 forged = refl
 
--- the cause of a refusal is asked, and told
-refused : ledger (activate ∷ reply 1 5 ∷ told_cause ∷ []) ≡ record { number = 1; code = activation_octets; outcome = outcomes.Refused (pos 5) } ∷ []
+-- the cause of a refusal is asked, and reported
+refused : ledger (activate ∷ reply 1 5 ∷ reported_cause ∷ []) ≡ record { number = 1; code = activation_octets; outcome = outcomes.Refused (pos 5) } ∷ []
 unfolding canonical pdu_octets numbers_octets binding_octets element integer_octets name_octets octet_bits message_of request_of sends commanded received ticked restarted
 refused = refl
 
-refused_end : summary (activate ∷ reply 1 5 ∷ told_cause ∷ []) ≡ record { last = endings.Failed 7 (reasons.Cause (pos 7)); next = 3 }
+refused_end : summary (activate ∷ reply 1 5 ∷ reported_cause ∷ []) ≡ record { last = endings.Failed 7 (reasons.Cause (pos 7)); next = 3 }
 unfolding canonical pdu_octets numbers_octets binding_octets element integer_octets name_octets octet_bits message_of request_of sends commanded received ticked restarted
 refused_end = refl
 
@@ -317,38 +317,38 @@ cause_refused = refl
 -- ---- more of publishing
 
 -- the sign reads another checksum, 7502
-abbrev told_other : Input
-told_other = Hears (
+abbrev reported_other : Input
+reported_other = Hears (
     0x30 ∷ 0x2f ∷ 0x02 ∷ 0x01 ∷ 0x00 ∷ 0x04 ∷ 0x05 ∷ 0x61 ∷ 0x64 ∷ 0x6d ∷ 0x69 ∷ 0x6e ∷ 0xa2 ∷ 0x23 ∷ 0x02 ∷ 0x01
     ∷ 0x06 ∷ 0x02 ∷ 0x01 ∷ 0x00 ∷ 0x02 ∷ 0x01 ∷ 0x00 ∷ 0x30 ∷ 0x18 ∷ 0x30 ∷ 0x16 ∷ 0x06 ∷ 0x10 ∷ 0x2b ∷ 0x06 ∷ 0x01
     ∷ 0x04 ∷ 0x01 ∷ 0x89 ∷ 0x36 ∷ 0x04 ∷ 0x02 ∷ 0x03 ∷ 0x05 ∷ 0x08 ∷ 0x01 ∷ 0x05 ∷ 0x03 ∷ 0x01 ∷ 0x02 ∷ 0x02 ∷ 0x75
     ∷ 0x02 ∷ [])
 
-other_checksum : summary (polling (told 5 9 4 ∷ told_other ∷ [])) ≡ record { last = endings.Failed 6 reasons.OtherChecksum; next = 7 }
+other_checksum : summary (polling (reported 5 9 4 ∷ reported_other ∷ [])) ≡ record { last = endings.Failed 6 reasons.OtherChecksum; next = 7 }
 unfolding canonical pdu_octets numbers_octets binding_octets element integer_octets name_octets octet_bits message_of request_of sends commanded received ticked restarted
 other_checksum = refl
 
 -- the other order of a checksum's octets: 669A is read, and stands in the code
-abbrev told_swapped : Input
-told_swapped = Hears (
+abbrev reported_swapped : Input
+reported_swapped = Hears (
     0x30 ∷ 0x2f ∷ 0x02 ∷ 0x01 ∷ 0x00 ∷ 0x04 ∷ 0x05 ∷ 0x61 ∷ 0x64 ∷ 0x6d ∷ 0x69 ∷ 0x6e ∷ 0xa2 ∷ 0x23 ∷ 0x02 ∷ 0x01
     ∷ 0x06 ∷ 0x02 ∷ 0x01 ∷ 0x00 ∷ 0x02 ∷ 0x01 ∷ 0x00 ∷ 0x30 ∷ 0x18 ∷ 0x30 ∷ 0x16 ∷ 0x06 ∷ 0x10 ∷ 0x2b ∷ 0x06 ∷ 0x01
     ∷ 0x04 ∷ 0x01 ∷ 0x89 ∷ 0x36 ∷ 0x04 ∷ 0x02 ∷ 0x03 ∷ 0x05 ∷ 0x08 ∷ 0x01 ∷ 0x05 ∷ 0x03 ∷ 0x01 ∷ 0x02 ∷ 0x02 ∷ 0x66
     ∷ 0x9a ∷ [])
 
 abbrev swapped : History
-swapped = after_inputs (made (record settings { order = Swapped }) 1) (polling (told 5 9 4 ∷ told_swapped ∷ Ticks ∷ []))
+swapped = after_inputs (made (record settings { order = Swapped }) 1) (polling (reported 5 9 4 ∷ reported_swapped ∷ Ticks ∷ []))
 
 swapped_code : map (λ (entry : Entry). octets_of_activation Swapped entry.code) swapped.state.ledger ≡ (0xff ∷ 0xff ∷ 0xff ∷ 0x03 ∷ 0x00 ∷ 0x01 ∷ 0x66 ∷ 0x9a ∷ 0xc0 ∷ 0x00 ∷ 0x02 ∷ 0x01 ∷ []) ∷ []
 unfolding canonical pdu_octets numbers_octets binding_octets element integer_octets name_octets octet_bits message_of request_of sends commanded received ticked restarted
 swapped_code = refl
 
 -- a restart while the next poll is due, and while the activation is
-restarted_polling : summary (polling (told 5 9 3 ∷ Restarts ∷ [])) ≡ record { last = endings.Failed 5 reasons.Restarted; next = 6 }
+restarted_polling : summary (polling (reported 5 9 3 ∷ Restarts ∷ [])) ≡ record { last = endings.Failed 5 reasons.Restarted; next = 6 }
 unfolding canonical pdu_octets numbers_octets binding_octets element integer_octets name_octets octet_bits message_of request_of sends commanded received ticked restarted
 restarted_polling = refl
 
-restarted_due : summary (polling (told 5 9 4 ∷ told_checksum ∷ Restarts ∷ [])) ≡ record { last = endings.Failed 7 reasons.Restarted; next = 7 }
+restarted_due : summary (polling (reported 5 9 4 ∷ reported_checksum ∷ Restarts ∷ [])) ≡ record { last = endings.Failed 7 reasons.Restarted; next = 7 }
 unfolding canonical pdu_octets numbers_octets binding_octets element integer_octets name_octets octet_bits message_of request_of sends commanded received ticked restarted
 restarted_due = refl
 

@@ -63,16 +63,16 @@ module _ (P : Work → Type 0) where
   of_read state job None old p = tt
   of_read state job (Some number) old p = of_number state job job.step number old p
 
-  of_success : (state : CentreState) (job : Job) (number : ℕ) (told : List VarBind) (step : Step) → OfJob P state.phase → P job.work
-      → OfMove P (on_success state job number told step)
-  of_success state job number told Opening old p = of_sends state (at_step job Opened) p
-  of_success state job number told Filling old p = of_sends state (at_step job Validating) p
-  of_success state job number told Validating old p = of_sends state (at_step job Polling) p
-  of_success state job number told Activating old p = tt
-  of_success state job number told Opened old p = of_read state job (number_read (asked state job) told) old p
-  of_success state job number told Polling old p = of_read state job (number_read (asked state job) told) old p
-  of_success state job number told Comparing old p = of_read state job (number_read (asked state job) told) old p
-  of_success state job number told Explaining old p = of_read state job (number_read (asked state job) told) old p
+  of_success : (state : CentreState) (job : Job) (number : ℕ) (answered : List VarBind) (step : Step) → OfJob P state.phase → P job.work
+      → OfMove P (on_success state job number answered step)
+  of_success state job number answered Opening old p = of_sends state (at_step job Opened) p
+  of_success state job number answered Filling old p = of_sends state (at_step job Validating) p
+  of_success state job number answered Validating old p = of_sends state (at_step job Polling) p
+  of_success state job number answered Activating old p = tt
+  of_success state job number answered Opened old p = of_read state job (number_read (asked state job) answered) old p
+  of_success state job number answered Polling old p = of_read state job (number_read (asked state job) answered) old p
+  of_success state job number answered Comparing old p = of_read state job (number_read (asked state job) answered) old p
+  of_success state job number answered Explaining old p = of_read state job (number_read (asked state job) answered) old p
 
   of_reply : (state : CentreState) (job : Job) (number : ℕ) (reply : SnmpMessage) → OfJob P state.phase → P job.work → OfMove P (on_reply state job number reply)
   of_reply state job number reply old p =

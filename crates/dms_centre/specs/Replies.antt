@@ -69,9 +69,9 @@ integer_of (integer n) = Some n
 integer_of value = None
 
 -- what a GET of one object read: one binding, with the name that was asked, and an INTEGER
-abbrev pub number_read : (asked told : List VarBind) → Option ℤ
-number_read (asked ∷ []) (told ∷ []) = if pointwise nat_eq told.name asked.name then integer_of told.value else None
-number_read asked told = None
+abbrev pub number_read : (asked answered : List VarBind) → Option ℤ
+number_read (asked ∷ []) (answered ∷ []) = if pointwise nat_eq answered.name asked.name then integer_of answered.value else None
+number_read asked answered = None
 
 abbrev pub on_read : CentreState → Job → Option ℤ → Move
 on_read state job None = fails state job.step OddReply
@@ -82,11 +82,11 @@ asked state job = bindings_of state.settings.order job.work job.step
 
 -- A SET goes on whatever the reply's bindings are, a GET by what was read. An activation is accepted.
 abbrev pub on_success : CentreState → Job → ℕ → List VarBind → Step → Move
-on_success state job number told Opening = sends state (at_step job Opened)
-on_success state job number told Filling = sends state (at_step job Validating)
-on_success state job number told Validating = sends state (at_step job Polling)
-on_success state job number told Activating = rests (ends (decided state number Accepted) endings.Accepted)
-on_success state job number told step = on_read state job (number_read (asked state job) told)
+on_success state job number answered Opening = sends state (at_step job Opened)
+on_success state job number answered Filling = sends state (at_step job Validating)
+on_success state job number answered Validating = sends state (at_step job Polling)
+on_success state job number answered Activating = rests (ends (decided state number Accepted) endings.Accepted)
+on_success state job number answered step = on_read state job (number_read (asked state job) answered)
 
 -- ---- another status came
 
