@@ -109,8 +109,8 @@ unfolding octet_bits fault_of outcomes_within item_at item_after_opening item_af
 answer s kind bindings = primary s (request kind bindings)
 
 -- the status and the index that a SET is answered
-abbrev pub told : SignState → List VarBind → ℕ × ℕ
-told s bindings = (error_status_number (answer s Set bindings).status, (answer s Set bindings).index)
+abbrev pub status_and_index : SignState → List VarBind → ℕ × ℕ
+status_and_index s bindings = (error_status_number (answer s Set bindings).status, (answer s Set bindings).index)
 
 abbrev pub after_set : SignState → List VarBind → SignState
 after_set s bindings = (answer s Set bindings).after

@@ -12,7 +12,7 @@ use Rattle.dms_table.specs.Rows.{TableModel}
 use Rattle.dms_sign.specs.State.{SignState}
 use Rattle.dms_access.specs.Access.{Write, SetNumber, SetCode, SetField, AskRow, Activate, SetRemaining, is_command}
 use Rattle.dms_access.specs.Assignment.{given}
-use Rattle.dms_sign.specs.SetRequest.{SetCause, write_at, is_command_at, causes_at, causes_behind, causes, with_write, with_writes}
+use Rattle.dms_sign.specs.SetRequest.{SetCause, write_at, is_command_at, causes_at, causes_after, causes, with_write, with_writes}
 use Rattle.dms_sign.specs.SetView.{is_field, StaysWithout}
 use Rattle.dms_sign.specs.Requests.{writes_of, command_index}
 use Rattle.dms_access.proofs.TakenSlots.{any_push}
@@ -94,7 +94,7 @@ pub record HasJudged (s : SignState) (may : Bool) (all : List VarBind) (old : Se
   pub done : List VarBind
   pub whole : done ++ rest ≡ all
   pub count : length done ≡ index
-  pub left : causes_behind s may done rest ≡ causes_behind s may [] all
+  pub left : causes_after s may done rest ≡ causes_after s may [] all
   pub set : settings ≡ set_by old (writes_of s done)
   pub found : command ≡ find is_command (writes_of s done)
   pub place : at ≡ command_index s done
@@ -105,7 +105,7 @@ judged_starts s may all rest settings e = record {
   done = [];
   whole = e;
   count = refl;
-  left = ap (causes_behind s may []) e;
+  left = ap (causes_after s may []) e;
   set = set_empty settings;
   found = refl;
   place = refl;
@@ -154,7 +154,7 @@ judged_more s may all old index settings at command rest more b w settings_new a
       done = done ++ b ∷ [];
       whole = append_assoc done (b ∷ []) more ∙ ap (λ r. done ++ r) (sym e) ∙ is.whole;
       count = let size : length (done ++ b ∷ []) ≡ length done + 1 = length-append done (b ∷ []) in let c = is.count in omega arith;
-      left = sym (ap (λ cs. cs ++ causes_behind s may (done ++ b ∷ []) more) no_cause) ∙ ap (causes_behind s may done) (sym e) ∙ is.left;
+      left = sym (ap (λ cs. cs ++ causes_after s may (done ++ b ∷ []) more) no_cause) ∙ ap (causes_after s may done) (sym e) ∙ is.left;
       set = set_new ∙ ap (λ t. set_by t (w ∷ [])) is.set ∙ sym (set_append old (writes_of s done) (w ∷ [])) ∙ ap (set_by old) (sym all_writes);
       found = found_new ∙ ap (cond (is_command w) (Some w)) is.found ∙ sym (find_push is_command (writes_of s done) w first)
           ∙ ap (find is_command) (sym all_writes);
@@ -179,7 +179,7 @@ unfolding causes
 judged_all s may all old index settings at command rest is e =
     let done : is.done ≡ all = sym (append-nil is.done) ∙ ap (λ r. is.done ++ r) (sym e) ∙ is.whole in
     record {
-      none = sym is.left ∙ ap (causes_behind s may is.done) e;
+      none = sym is.left ∙ ap (causes_after s may is.done) e;
       set = is.set ∙ ap (λ d. set_by old (writes_of s d)) done;
       found = is.found ∙ ap (λ d. find is_command (writes_of s d)) done;
       place = is.place ∙ ap (command_index s) done;
@@ -204,8 +204,8 @@ judged_refused s may all old index settings at command rest more b status is e f
     ap (λ d. slice_get (causes_at s may d b) 0) (sym before) ∙ first
     ∙ ap (a_cause status) place
     in
-    ap (λ cs. slice_get cs 0) (sym is.left ∙ ap (causes_behind s may is.done) e)
-    ∙ first_of (causes_at s may is.done b) (causes_behind s may (is.done ++ b ∷ []) more) (record { index = index + 1; status = status }) here
+    ap (λ cs. slice_get cs 0) (sym is.left ∙ ap (causes_after s may is.done) e)
+    ∙ first_of (causes_at s may is.done b) (causes_after s may (is.done ++ b ∷ []) more) (record { index = index + 1; status = status }) here
 
 -- the bindings up to the next one
 pub one_more : (s : SignState) (may : Bool) (all : List VarBind) (old : Settings) (index : ℕ) (settings : Settings) (at : ℕ) (command : Option Write) (rest more : List VarBind)

@@ -49,9 +49,9 @@ any_if P f (Some x) each = each x
 pub settled_verdict : (face : FaceModel) (table : TableModel) → IfSome (verdict face table) IsVerdictInRange
 settled_verdict face table = any_if IsVerdictInRange (verdict_of table.services face) (settling_row table) (verdict_in_range table.services face)
 
-text_told : (reports : ReportsModel) (o : Option MultiFault) → AreReportsInRange reports → IsFaultPlaced o
+text_reported : (reports : ReportsModel) (o : Option MultiFault) → AreReportsInRange reports → IsFaultPlaced o
     → AreReportsInRange (text_reports reports o)
-text_told reports None are placed = record {
+text_reported reports None are placed = record {
   validate_error = are.validate_error;
   activate_error = are.activate_error;
   syntax_error = omega arith;
@@ -59,13 +59,13 @@ text_told reports None are placed = record {
   accepted_code = are.accepted_code;
   failed_code = are.failed_code;
 }
-text_told reports (Some fault) are placed = fault_in_range reports fault are placed
+text_reported reports (Some fault) are placed = fault_in_range reports fault are placed
 
-pub verdict_told : (reports : ReportsModel) (o : Option Verdict) → AreReportsInRange reports → IfSome o IsVerdictInRange
+pub verdict_reported : (reports : ReportsModel) (o : Option Verdict) → AreReportsInRange reports → IfSome o IsVerdictInRange
     → AreReportsInRange (settled_reports reports o)
-verdict_told reports None are verdict = are
-verdict_told reports (Some found) are verdict =
-    let new = text_told reports found.fault are verdict.fault in
+verdict_reported reports None are verdict = are
+verdict_reported reports (Some found) are verdict =
+    let new = text_reported reports found.fault are verdict.fault in
     record {
       validate_error = verdict.error;
       activate_error = new.activate_error;
@@ -111,7 +111,7 @@ settling_in_range s is =
     let face = under s.config.face s.defaults in
     telling_in_range (record s { table = settled face s.table }) (settled_reports s.reports (verdict face s.table))
     (with_table_in_range s (settled face s.table) is (settled_in_range face s.table is.table))
-    (verdict_told s.reports (verdict face s.table) is.reports (settled_verdict face s.table))
+    (verdict_reported s.reports (verdict face s.table) is.reports (settled_verdict face s.table))
 
 -- ---- a second
 

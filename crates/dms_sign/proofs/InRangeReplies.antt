@@ -26,7 +26,7 @@ use Rattle.dms_table.specs.Activation.{ShownModel, decided}
 use Rattle.dms_sign.specs.State.{SignState}
 use Rattle.dms_sign.specs.Values.{value_of, value_after}
 use Rattle.dms_access.specs.Access.{Write, SetNumber, SetCode, SetField, AskRow, Activate, SetRemaining, is_command}
-use Rattle.dms_sign.specs.SetRequest.{SetCause, is_command_at, tests_at, cause_if, causes_at, causes_behind, causes, assigned}
+use Rattle.dms_sign.specs.SetRequest.{SetCause, is_command_at, tests_at, cause_if, causes_at, causes_after, causes, assigned}
 use Rattle.dms_sign.specs.Reply.{too_big}
 use Rattle.dms_sign.specs.Requests.{Answer, refused, granted, found_unless, has_no_value, with_value, get, is_last, next_after, get_next, as_decided, as_asked, with_remaining, commanded, commanded_if, writes_of, command_index, set_unless, may_write, answer_by, primary}
 use Rattle.dms_sign.specs.Reply.{response_of, most_octets, reply_to, is_heard, dropped, heard, on_message_if, received}
@@ -126,18 +126,18 @@ causes_at_small s may before binding most few =
     (λ test small. cause_small most (length before + 1) test few small)
     (omega arith, (omega arith, (omega arith, (omega arith, (omega arith, tt)))))
 
-causes_behind_small : (s : SignState) (may : Bool) (before bindings : List VarBind) (most : ℕ) → length before + length bindings ≤ most
-    → AllByRecursion (IsSmallCause most) (causes_behind s may before bindings)
-causes_behind_small s may before [] most few = tt
-causes_behind_small s may before (b ∷ bs) most few =
+causes_after_small : (s : SignState) (may : Bool) (before bindings : List VarBind) (most : ℕ) → length before + length bindings ≤ most
+    → AllByRecursion (IsSmallCause most) (causes_after s may before bindings)
+causes_after_small s may before [] most few = tt
+causes_after_small s may before (b ∷ bs) most few =
     let longer : length (before ++ b ∷ []) + length bs ≤ most = omega (arith, length-append before (b ∷ [])) in
-    all_append (IsSmallCause most) (causes_at s may before b) (causes_behind s may (before ++ b ∷ []) bs)
+    all_append (IsSmallCause most) (causes_at s may before b) (causes_after s may (before ++ b ∷ []) bs)
     (causes_at_small s may before b most (omega arith))
-    (causes_behind_small s may (before ++ b ∷ []) bs most longer)
+    (causes_after_small s may (before ++ b ∷ []) bs most longer)
 
 causes_small : (s : SignState) (may : Bool) (bindings : List VarBind) → AllByRecursion (IsSmallCause (length bindings)) (causes s may bindings)
 unfolding causes
-causes_small s may bindings = causes_behind_small s may [] bindings (length bindings) (omega arith)
+causes_small s may bindings = causes_after_small s may [] bindings (length bindings) (omega arith)
 
 command_few : (s : SignState) (bindings : List VarBind) → command_index s bindings ≤ length bindings
 command_few s bindings =

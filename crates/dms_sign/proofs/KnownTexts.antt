@@ -71,8 +71,8 @@ not_settled face table none =
     none_mapped table.services face (find row_is_validating (table.changeable ++ table.volatile)) none in
     nothing_settled face table (sym (any_append table.changeable table.volatile) ∙ none_any (table.changeable ++ table.volatile) found)
 
-known_by : (told : Option Verdict) (d defaults : Defaults) (face : FaceModel) (old table : TableModel) → AreValidTextsGood (under face d) old
-    → table ≡ settled (under face defaults) old → told ≡ verdict (under face defaults) old → ((told ≡ None → ⊥) → d ≡ defaults)
+known_by : (reported : Option Verdict) (d defaults : Defaults) (face : FaceModel) (old table : TableModel) → AreValidTextsGood (under face d) old
+    → table ≡ settled (under face defaults) old → reported ≡ verdict (under face defaults) old → ((reported ≡ None → ⊥) → d ≡ defaults)
     → AreValidTextsGood (under face d) table
 known_by None d defaults face old table before t v same =
     subst (AreValidTextsGood (under face d)) (not_settled (under face defaults) old (sym v) ∙ sym t) before
@@ -80,13 +80,13 @@ known_by (Some verdict) d defaults face old table before t v same =
     let e : d ≡ defaults = same (λ none. cc) in
     subst (AreValidTextsGood (under face d)) (ap (λ (x : Defaults). settled (under face x) old) e ∙ sym t) (texts_settled (under face d) old before)
 
-pub known_settled : (known new : Option Defaults) (told : Option Verdict) (face : FaceModel) (defaults : Defaults) (old table : TableModel)
-    → IfSome known (λ d. AreValidTextsGood (under face d) old) → table ≡ settled (under face defaults) old → told ≡ verdict (under face defaults) old
-    → IfSome new (IsKnownAfter known told defaults) → IfSome new (λ d. AreValidTextsGood (under face d) table)
-known_settled known None told face defaults old table good t v after = tt
-known_settled known (Some d) told face defaults old table good t v after =
+pub known_settled : (known new : Option Defaults) (reported : Option Verdict) (face : FaceModel) (defaults : Defaults) (old table : TableModel)
+    → IfSome known (λ d. AreValidTextsGood (under face d) old) → table ≡ settled (under face defaults) old → reported ≡ verdict (under face defaults) old
+    → IfSome new (IsKnownAfter known reported defaults) → IfSome new (λ d. AreValidTextsGood (under face d) table)
+known_settled known None reported face defaults old table good t v after = tt
+known_settled known (Some d) reported face defaults old table good t v after =
     let before : AreValidTextsGood (under face d) old = subst (λ (o : Option Defaults). IfSome o (λ d. AreValidTextsGood (under face d) old)) after.was good in
-    known_by told d defaults face old table before t v after.same
+    known_by reported d defaults face old table before t v after.same
 
 -- ---- a table as it is made
 

@@ -22,7 +22,7 @@ use Rattle.dms_codes.specs.Codes.{activation_of}
 use Rattle.dms_table.specs.Activation.{ShownModel, decided}
 use Rattle.dms_sign.specs.State.{SignState}
 use Rattle.dms_access.specs.Access.{Write, SetNumber, SetCode, SetField, AskRow, Activate, SetRemaining, is_command}
-use Rattle.dms_sign.specs.SetRequest.{SetCause, is_command_at, tests_at, cause_if, causes_at, causes_behind, causes, assigned}
+use Rattle.dms_sign.specs.SetRequest.{SetCause, is_command_at, tests_at, cause_if, causes_at, causes_after, causes, assigned}
 use Rattle.dms_sign.specs.Reply.{too_big}
 use Rattle.dms_sign.specs.Requests.{Answer, refused, granted, as_decided, as_asked, commanded, commanded_if, with_remaining, command_index, writes_of, set_unless, may_write, answer_by, primary}
 use Rattle.dms_sign.specs.Reply.{response_of, most_octets, reply_to, is_heard, heard, dropped, on_message_if, received}
@@ -140,20 +140,20 @@ are_causes_at s writing before binding most within =
     held most (length before + 1) (tests_at s writing before binding) within
     ((λ none. cc, omega arith), ((λ none. cc, omega arith), ((λ none. cc, omega arith), ((λ none. cc, omega arith), ((λ none. cc, omega arith), tt)))))
 
-are_causes_behind : (s : SignState) (writing : Bool) (before bindings : List VarBind) (most : ℕ) → length before + length bindings ≤ most
-    → AllByRecursion (IsCause most) (causes_behind s writing before bindings)
-are_causes_behind s writing before [] most within = tt
-are_causes_behind s writing before (binding ∷ more) most within =
+are_causes_after : (s : SignState) (writing : Bool) (before bindings : List VarBind) (most : ℕ) → length before + length bindings ≤ most
+    → AllByRecursion (IsCause most) (causes_after s writing before bindings)
+are_causes_after s writing before [] most within = tt
+are_causes_after s writing before (binding ∷ more) most within =
     both
     (IsCause most)
     (causes_at s writing before binding)
-    (causes_behind s writing (before ++ binding ∷ []) more)
+    (causes_after s writing (before ++ binding ∷ []) more)
     (are_causes_at s writing before binding most (omega arith))
-    (are_causes_behind s writing (before ++ binding ∷ []) more most (omega (arith, length-append before (binding ∷ []))))
+    (are_causes_after s writing (before ++ binding ∷ []) more most (omega (arith, length-append before (binding ∷ []))))
 
 pub are_causes : (s : SignState) (writing : Bool) (bindings : List VarBind) → AllByRecursion (IsCause (length bindings)) (causes s writing bindings)
 unfolding causes
-are_causes s writing bindings = are_causes_behind s writing [] bindings (length bindings) (omega arith)
+are_causes s writing bindings = are_causes_after s writing [] bindings (length bindings) (omega arith)
 
 -- ---- the answer to a SET
 

@@ -33,7 +33,7 @@ use Rattle.dms_sign.specs.Reply.{is_heard, heard, dropped, on_message_if, receiv
 use Rattle.dms_sign.specs.Events.{after_settling, counted_down, after_duration, longest_silence, quieter, after_silence, after_tick, recovery_code, restored, after_power_loss, after_power_return}
 use Rattle.dms_sign.specs.Transitions.{HasFitDefaults}
 use Rattle.dms_sign.proofs.InRangeLists.{if_or, all_filtered, all_any}
-use Rattle.dms_sign.proofs.StepShown.{StaysBehind, code_puts_up}
+use Rattle.dms_sign.proofs.StepShown.{KeepsRest, code_puts_up}
 
 -- ---- what a binding writes
 
@@ -237,9 +237,9 @@ assigned_fit s writes all is =
 
 code_fits : (s : SignState) (octets : List ℕ) (mode : ℕ) → HasFitDefaults s → HasFitDefaults (put_up_code s octets mode)
 code_fits s octets mode is =
-    let behind : StaysBehind s (put_up_code s octets mode) = (code_puts_up s octets mode).behind in
-    subst (λ (c : ConfigModel). IsTrue (fit c.face.fonts (put_up_code s octets mode).defaults)) (sym behind.config)
-    (subst (λ (d : Defaults). IsTrue (fit s.config.face.fonts d)) (sym behind.defaults) is)
+    let kept_rest : KeepsRest s (put_up_code s octets mode) = (code_puts_up s octets mode).kept_rest in
+    subst (λ (c : ConfigModel). IsTrue (fit c.face.fonts (put_up_code s octets mode).defaults)) (sym kept_rest.config)
+    (subst (λ (d : Defaults). IsTrue (fit s.config.face.fonts d)) (sym kept_rest.defaults) is)
 
 fits_if : (b : Bool) (x y : SignState) → HasFitDefaults x → HasFitDefaults y → HasFitDefaults (cond b x y)
 fits_if true x y first second = first

@@ -22,54 +22,54 @@ use Rattle.dms_sign.specs.Reply.{is_heard, heard, dropped, on_message_if, receiv
 use Rattle.dms_sign.specs.Events.{after_settling, counted_down, after_duration, longest_silence, quieter, after_silence, after_tick, recovery_code, restored, after_power_loss, after_power_return}
 use Rattle.dms_sign.specs.Transitions.{TableStep, IsSameMessage, IsBlankedUnder, IsRowOf, IsOwnCode, ShowsNow, stayed, came_back, blanked, activated, fell_back, IsSignStep}
 use Rattle.dms_sign.proofs.StepRows.{KeepsRows, rows_same, rows_then, step_kept, asked_keeps, writes_keep, after_power_keeps, settled_step}
-use Rattle.dms_sign.proofs.StepShown.{same_as, same_then, blank_as, row_as, Displays, still, empty, of_row, decided_displays, StaysBehind, PutsUp, code_puts_up}
+use Rattle.dms_sign.proofs.StepShown.{same_as, same_then, blank_as, row_as, Displays, still, empty, of_row, decided_displays, KeepsRest, PutsUp, code_puts_up}
 
 -- ---- a step, and then one that leaves all but what is shown
 
-row_moved : (mid new : SignState) (shown : ShownModel) → StaysBehind mid new → IsRowOf mid.config.face mid.defaults mid.table shown
+row_moved : (mid new : SignState) (shown : ShownModel) → KeepsRest mid new → IsRowOf mid.config.face mid.defaults mid.table shown
     → IsRowOf new.config.face new.defaults new.table shown
-row_moved mid new shown behind is =
-    subst (λ (c : ConfigModel). IsRowOf c.face new.defaults new.table shown) (sym behind.config)
-    (subst (λ (d : Defaults). IsRowOf mid.config.face d new.table shown) (sym behind.defaults)
-    (subst (λ (t : TableModel). IsRowOf mid.config.face mid.defaults t shown) (sym behind.table) is))
+row_moved mid new shown kept_rest is =
+    subst (λ (c : ConfigModel). IsRowOf c.face new.defaults new.table shown) (sym kept_rest.config)
+    (subst (λ (d : Defaults). IsRowOf mid.config.face d new.table shown) (sym kept_rest.defaults)
+    (subst (λ (t : TableModel). IsRowOf mid.config.face mid.defaults t shown) (sym kept_rest.table) is))
 
-code_moved : (mid new : SignState) (a b : MessageId) → StaysBehind mid new → b ≡ a → IsOwnCode mid.table.order mid.fallbacks a
+code_moved : (mid new : SignState) (a b : MessageId) → KeepsRest mid new → b ≡ a → IsOwnCode mid.table.order mid.fallbacks a
     → IsOwnCode new.table.order new.fallbacks b
-code_moved mid new a b behind same own =
-    subst (λ (t : TableModel). IsOwnCode t.order new.fallbacks b) (sym behind.table)
-    (subst (λ (f : FallbacksModel). IsOwnCode mid.table.order f b) (sym behind.fallbacks)
+code_moved mid new a b kept_rest same own =
+    subst (λ (t : TableModel). IsOwnCode t.order new.fallbacks b) (sym kept_rest.table)
+    (subst (λ (f : FallbacksModel). IsOwnCode mid.table.order f b) (sym kept_rest.fallbacks)
     (subst (IsOwnCode mid.table.order mid.fallbacks) (sym same) own))
 
-shows_on : (old mid new : SignState) (a : Option Activation) → StaysBehind mid new → IsSameMessage mid.shown new.shown → ShowsNow old mid a → ShowsNow old new a
-shows_on old mid new a behind same (stayed is) = stayed (same_then old.shown mid.shown new.shown is same)
-shows_on old mid new a behind same (came_back is) = came_back (same_then old.kept mid.shown new.shown is same)
-shows_on old mid new a behind same (blanked is) =
-    blanked (subst (λ d. IsBlankedUnder d new.shown) (sym behind.defaults) (blank_as mid.defaults mid.shown new.shown same is))
-shows_on old mid new a behind same (activated code accepted source is) =
+shows_on : (old mid new : SignState) (a : Option Activation) → KeepsRest mid new → IsSameMessage mid.shown new.shown → ShowsNow old mid a → ShowsNow old new a
+shows_on old mid new a kept_rest same (stayed is) = stayed (same_then old.shown mid.shown new.shown is same)
+shows_on old mid new a kept_rest same (came_back is) = came_back (same_then old.kept mid.shown new.shown is same)
+shows_on old mid new a kept_rest same (blanked is) =
+    blanked (subst (λ d. IsBlankedUnder d new.shown) (sym kept_rest.defaults) (blank_as mid.defaults mid.shown new.shown same is))
+shows_on old mid new a kept_rest same (activated code accepted source is) =
     activated code accepted (same.source ∙ source)
-    (row_moved mid new new.shown behind (row_as mid.config.face mid.defaults mid.table mid.shown new.shown same is))
-shows_on old mid new a behind same (fell_back own is) =
-    fell_back (code_moved mid new mid.shown.source new.shown.source behind same.source own)
-    (row_moved mid new new.shown behind (row_as mid.config.face mid.defaults mid.table mid.shown new.shown same is))
+    (row_moved mid new new.shown kept_rest (row_as mid.config.face mid.defaults mid.table mid.shown new.shown same is))
+shows_on old mid new a kept_rest same (fell_back own is) =
+    fell_back (code_moved mid new mid.shown.source new.shown.source kept_rest same.source own)
+    (row_moved mid new new.shown kept_rest (row_as mid.config.face mid.defaults mid.table mid.shown new.shown same is))
 
-step_with : (old mid new : SignState) (a : Option Activation) → IsSignStep old mid a → StaysBehind mid new → ShowsNow old new a → IsSignStep old new a
-step_with old mid new a step behind shows = record {
-  config = behind.config ∙ step.config;
-  table = subst (TableStep (under old.config.face old.defaults) old.table) (sym behind.table) step.table;
+step_with : (old mid new : SignState) (a : Option Activation) → IsSignStep old mid a → KeepsRest mid new → ShowsNow old new a → IsSignStep old new a
+step_with old mid new a step kept_rest shows = record {
+  config = kept_rest.config ∙ step.config;
+  table = subst (TableStep (under old.config.face old.defaults) old.table) (sym kept_rest.table) step.table;
   shown = shows;
-  kept = subst (λ k. (k ≡ old.kept) ⊎ (k ≡ old.shown)) (sym behind.kept) step.kept;
+  kept = subst (λ k. (k ≡ old.kept) ⊎ (k ≡ old.shown)) (sym kept_rest.kept) step.kept;
 }
 
 -- the message stays
-step_on : (old mid new : SignState) (a : Option Activation) → IsSignStep old mid a → StaysBehind mid new → IsSameMessage mid.shown new.shown → IsSignStep old new a
-step_on old mid new a step behind same = step_with old mid new a step behind (shows_on old mid new a behind same step.shown)
+step_on : (old mid new : SignState) (a : Option Activation) → IsSignStep old mid a → KeepsRest mid new → IsSameMessage mid.shown new.shown → IsSignStep old new a
+step_on old mid new a step kept_rest same = step_with old mid new a step kept_rest (shows_on old mid new a kept_rest same step.shown)
 
-shows_code : (old mid new : SignState) (id : MessageId) → ShowsNow old mid None → IsOwnCode mid.table.order mid.fallbacks id → StaysBehind mid new
+shows_code : (old mid new : SignState) (id : MessageId) → ShowsNow old mid None → IsOwnCode mid.table.order mid.fallbacks id → KeepsRest mid new
     → Displays mid.config.face mid.defaults mid.table mid.shown id new.shown → ShowsNow old new None
-shows_code old mid new id shows own behind (still same) = shows_on old mid new None behind same shows
-shows_code old mid new id shows own behind (empty is) = blanked (subst (λ d. IsBlankedUnder d new.shown) (sym behind.defaults) is)
-shows_code old mid new id shows own behind (of_row source is) =
-    fell_back (code_moved mid new id new.shown.source behind source own) (row_moved mid new new.shown behind is)
+shows_code old mid new id shows own kept_rest (still same) = shows_on old mid new None kept_rest same shows
+shows_code old mid new id shows own kept_rest (empty is) = blanked (subst (λ d. IsBlankedUnder d new.shown) (sym kept_rest.defaults) is)
+shows_code old mid new id shows own kept_rest (of_row source is) =
+    fell_back (code_moved mid new id new.shown.source kept_rest source own) (row_moved mid new new.shown kept_rest is)
 
 -- a code of the sign's own is put up
 step_code : (old mid : SignState) (octets : List ℕ) (mode : ℕ) → IsSignStep old mid None
@@ -77,8 +77,8 @@ step_code : (old mid : SignState) (octets : List ℕ) (mode : ℕ) → IsSignSte
 step_code old mid octets mode step own =
     let id = id_of mid.table.order octets in
     let puts : PutsUp mid id (put_up_code mid octets mode) = code_puts_up mid octets mode in
-    step_with old mid (put_up_code mid octets mode) None step puts.behind
-    (shows_code old mid (put_up_code mid octets mode) id step.shown own puts.behind puts.shown)
+    step_with old mid (put_up_code mid octets mode) None step puts.kept_rest
+    (shows_code old mid (put_up_code mid octets mode) id step.shown own puts.kept_rest puts.shown)
 
 -- nothing happens
 pub step_none : (s : SignState) → IsSignStep s s None

@@ -212,7 +212,7 @@ decided_displays face defaults table shown code new e = known_displays (is_memor
 -- ---- codes of the sign's own
 
 -- all but what is shown and what is told stays
-pub record StaysBehind (old new : SignState) : Type 0 where
+pub record KeepsRest (old new : SignState) : Type 0 where
   pub config : new.config ≡ old.config
   pub table : new.table ≡ old.table
   pub fallbacks : new.fallbacks ≡ old.fallbacks
@@ -220,25 +220,25 @@ pub record StaysBehind (old new : SignState) : Type 0 where
   pub kept : new.kept ≡ old.kept
 
 pub record PutsUp (old : SignState) (id : MessageId) (new : SignState) : Type 0 where
-  pub behind : StaysBehind old new
+  pub kept_rest : KeepsRest old new
   pub shown : Displays old.config.face old.defaults old.table old.shown id new.shown
 
 by_decision : (s : SignState) (id : MessageId) (mode : ℕ) (r : Result ShownModel Cause)
     → decided s.config.face s.defaults s.table s.shown (own_activation id) ≡ r → PutsUp s id (put_up_as_decided s id mode r)
 by_decision s id mode (Ok shown) e = record {
-  behind = record { config = refl; table = refl; fallbacks = refl; defaults = refl; kept = refl };
+  kept_rest = record { config = refl; table = refl; fallbacks = refl; defaults = refl; kept = refl };
   shown = displays_as s.config.face s.defaults s.table s.shown id shown (record shown { mode = mode })
       (record { text = refl; owner = refl; beacon = refl; pixel = refl; priority = refl; source = refl; defaults = refl })
       (decided_displays s.config.face s.defaults s.table s.shown (own_activation id) shown e);
 }
 by_decision s id mode (Err cause) e = record {
-  behind = record { config = refl; table = refl; fallbacks = refl; defaults = refl; kept = refl };
+  kept_rest = record { config = refl; table = refl; fallbacks = refl; defaults = refl; kept = refl };
   shown = empty (record { memory = refl; text = refl; beacon = refl; pixel = refl; copied = refl });
 }
 
 by_staying : (s : SignState) (id : MessageId) (mode : ℕ) → PutsUp s id (staying s mode)
 by_staying s id mode = record {
-  behind = record { config = refl; table = refl; fallbacks = refl; defaults = refl; kept = refl };
+  kept_rest = record { config = refl; table = refl; fallbacks = refl; defaults = refl; kept = refl };
   shown = still (record { text = refl; owner = refl; beacon = refl; pixel = refl; priority = refl; source = refl; defaults = refl });
 }
 

@@ -39,7 +39,7 @@ use Rattle.dms_sign.proofs.InRangeShown.{showing_in_range, telling_in_range, wit
 use Rattle.dms_sign.proofs.KnownTexts.{known_kept, known_settled}
 use Rattle.dms_sign.proofs.StepRows.{after_power_keeps}
 use Rattle.dms_sign.proofs.InRangeStart.{start_in_range, stocked_in_range}
-use Rattle.dms_sign.proofs.InRangeEvents.{IsVerdictInRange, settled_in_range, settled_verdict, verdict_told, with_silence, restored_in_range}
+use Rattle.dms_sign.proofs.InRangeEvents.{IsVerdictInRange, settled_in_range, settled_verdict, verdict_reported, with_silence, restored_in_range}
 
 pub shown_whole : (old : Inside) (shown : ShownModel) (source : List ℕ) → IsWhole old → IsShownInRange shown
     → source ≡ octets_of_id old.table.order shown.source → IsWhole (record old { shown = shown; source = source })
@@ -127,17 +127,17 @@ pub verdict_placed : (s : SignState) (o : Option Verdict) → o ≡ verdict (und
 verdict_placed s o e =
     placed o (subst (λ o. IfSome o IsVerdictInRange) (sym e) (settled_verdict (under s.config.face s.defaults) s.table))
 
-settled_as_told : (old : Inside) (table : TableModel) (reports : Reports) → IsWhole old
+settled_as_reported : (old : Inside) (table : TableModel) (reports : Reports) → IsWhole old
     → table ≡ settled (under old.face old.settings.defaults) old.table
     → reports_of reports ≡ settled_reports (reports_of old.reports) (verdict (under old.face old.settings.defaults) old.table)
     → IsSignInRange (state_of (record old { table = table; reports = reports }))
-settled_as_told old table reports is t r =
+settled_as_reported old table reports is t r =
     let face = under old.face old.settings.defaults in
     let range = is.kept.in_range in
-    let told = verdict_told (reports_of old.reports) (verdict face old.table) range.reports (settled_verdict face old.table) in
+    let reported = verdict_reported (reports_of old.reports) (verdict face old.table) range.reports (settled_verdict face old.table) in
     telling_in_range (record (state_of old) { table = table }) (reports_of reports)
     (with_table_in_range (state_of old) table range (subst (λ t. IsTableInRange t) (sym t) (settled_in_range face old.table range.table)))
-    (subst AreReportsInRange (sym r) told)
+    (subst AreReportsInRange (sym r) reported)
 
 pub settled_whole : (old : Inside) (table : TableModel) (o : Option Verdict) (reports : Reports) (known : Option Defaults) → IsWhole old
     → table ≡ settled (under old.face old.settings.defaults) old.table → o ≡ verdict (under old.face old.settings.defaults) old.table
@@ -145,7 +145,7 @@ pub settled_whole : (old : Inside) (table : TableModel) (o : Option Verdict) (re
     → IsWhole (record old { table = table; reports = reports; known = known })
 settled_whole old table o reports known is t v r after = record {
   kept = record {
-    in_range = settled_as_told old table reports is t (r ∙ ap (settled_reports (reports_of old.reports)) v);
+    in_range = settled_as_reported old table reports is t (r ∙ ap (settled_reports (reports_of old.reports)) v);
     fit = is.kept.fit;
     communities = is.kept.communities;
   };

@@ -8,7 +8,7 @@ use Rattle.dms_face.proofs.Bench.{bench}
 use Rattle.dms_objects.specs.declared.scalar.Scalar.TheVariants.{MessageTimeRemaining, ShortPowerLossTime, ActivateMessage, ActivateMsgError, ActivateErrorMsgCode, EndDurationMessage}
 use Rattle.dms_objects.specs.declared.instance.Instance.TheVariants.{The}
 use Rattle.dms_sign.specs.State.{SignState}
-use Rattle.dms_sign.proofs.BenchSign.{octets_of, lettered_sign, number, octets, code, answer, told, after_set, reads, later, seen, letter_a, blank_one}
+use Rattle.dms_sign.proofs.BenchSign.{octets_of, lettered_sign, number, octets, code, answer, status_and_index, after_set, reads, later, seen, letter_a, blank_one}
 
 -- ---- one code twice: five minutes of changeable row 1, with the priority 10
 
@@ -45,14 +45,14 @@ unfolding answer
 first_is_accepted = refl
 
 -- and answered with noError
-first_is_told : told lettered_sign (code five_minutes ∷ []) ≡ (0, 0)
+first_reply : status_and_index lettered_sign (code five_minutes ∷ []) ≡ (0, 0)
 unfolding answer
-first_is_told = refl
+first_reply = refl
 
 -- the second is refused, since the run-time priority of "A" is 200: genErr
-second_is_told : told lettered (code five_minutes ∷ []) ≡ (5, 1)
+second_reply : status_and_index lettered (code five_minutes ∷ []) ≡ (5, 1)
 unfolding answer
-second_is_told = refl
+second_reply = refl
 
 -- it is not among what was accepted
 second_is_not_accepted : (answer lettered Set (code five_minutes ∷ [])).accepted ≡ None
@@ -106,7 +106,7 @@ unfolding answer later
 no_minutes_end = refl
 
 -- no time is to remain: noError, and blank 1 is up at once
-ended_at_once : told lettered (number (The MessageTimeRemaining) 0 ∷ []) ≡ (0, 0)
+ended_at_once : status_and_index lettered (number (The MessageTimeRemaining) 0 ∷ []) ≡ (0, 0)
 unfolding answer
 ended_at_once = refl
 
@@ -204,7 +204,7 @@ unfolding answer reads
 accepted_code_is_kept = refl
 
 -- a code that would be refused and a time in one SET: a second command, genErr, index 2
-two_commands : told lettered (code (codes "ffffff0300039a6600000000") ∷ number (The MessageTimeRemaining) 9 ∷ []) ≡ (5, 2)
+two_commands : status_and_index lettered (code (codes "ffffff0300039a6600000000") ∷ number (The MessageTimeRemaining) 9 ∷ []) ≡ (5, 2)
 unfolding answer
 two_commands = refl
 
@@ -214,9 +214,9 @@ unfolding answer
 two_commands_change_nothing = refl
 
 -- a value that is wrong behind a code that would be refused: badValue, index 2
-wrong_value_behind_a_code : told lettered (code (codes "ffffff0300039a6600000000") ∷ number (The ShortPowerLossTime) 65536 ∷ []) ≡ (3, 2)
+wrong_value_after_a_code : status_and_index lettered (code (codes "ffffff0300039a6600000000") ∷ number (The ShortPowerLossTime) 65536 ∷ []) ≡ (3, 2)
 unfolding answer
-wrong_value_behind_a_code = refl
+wrong_value_after_a_code = refl
 
 -- the code is not judged
 wrong_value_hides_the_code : (after_set lettered (code (codes "ffffff0300039a6600000000") ∷ number (The ShortPowerLossTime) 65536 ∷ [])).reports.activate_error ≡ 2
@@ -231,7 +231,7 @@ unfolding answer
 ten_more_minutes = refl
 
 -- while a blank is up its checksum is 0
-blank_has_no_checksum : told lettered_sign (code (codes "ffffff050001000000000000") ∷ []) ≡ (0, 0)
+blank_has_no_checksum : status_and_index lettered_sign (code (codes "ffffff050001000000000000") ∷ []) ≡ (0, 0)
 unfolding answer
 blank_has_no_checksum = refl
 

@@ -7,7 +7,7 @@ use Rattle.dms_objects.specs.declared.column.Column.TheVariants.{Crc}
 use Rattle.dms_objects.specs.declared.scalar.Scalar.TheVariants.{ShortPowerLossTime}
 use Rattle.dms_objects.specs.declared.instance.Instance.TheVariants.{The}
 use Rattle.dms_sign.specs.Reply.{dropped}
-use Rattle.dms_sign.proofs.BenchSign.{octets_of, bench_table, bench_sign, cell, number, datagram, answer, told, after_set, reads}
+use Rattle.dms_sign.proofs.BenchSign.{octets_of, bench_table, bench_sign, cell, number, datagram, answer, status_and_index, after_set, reads}
 
 -- ---- datagrams
 
@@ -92,7 +92,7 @@ nothing_asked = refl
 -- ---- messages
 
 -- one name twice: genErr, index 2
-named_twice : told bench_sign (number (The ShortPowerLossTime) 5 ∷ number (The ShortPowerLossTime) 5 ∷ []) ≡ (5, 2)
+named_twice : status_and_index bench_sign (number (The ShortPowerLossTime) 5 ∷ number (The ShortPowerLossTime) 5 ∷ []) ≡ (5, 2)
 unfolding answer
 named_twice = refl
 
@@ -102,7 +102,7 @@ unfolding answer
 named_twice_sets_nothing = refl
 
 -- the first of the two is out of range: badValue, index 1
-first_is_out_of_range : told bench_sign (number (The ShortPowerLossTime) 65536 ∷ number (The ShortPowerLossTime) 5 ∷ []) ≡ (3, 1)
+first_is_out_of_range : status_and_index bench_sign (number (The ShortPowerLossTime) 65536 ∷ number (The ShortPowerLossTime) 5 ∷ []) ≡ (3, 1)
 unfolding answer
 first_is_out_of_range = refl
 

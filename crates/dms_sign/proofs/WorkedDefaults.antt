@@ -10,7 +10,7 @@ use Rattle.dms_table.specs.Rows.{unused}
 use Rattle.dms_objects.specs.declared.scalar.Scalar.TheVariants.{DefaultBackgroundColor, DefaultForegroundColor, DefaultFlashOn, DefaultFlashOff, DefaultFont, DefaultJustificationLine, DefaultJustificationPage, DefaultPageOnTime, DefaultPageOffTime, ActivateMsgError, MultiSyntaxError, MultiSyntaxErrorPosition, LongPowerRecoveryMessage}
 use Rattle.dms_objects.specs.declared.instance.Instance.TheVariants.{The}
 use Rattle.dms_sign.specs.State.{SignState}
-use Rattle.dms_sign.proofs.BenchSign.{octets_of, bench_sign, with_changeable_rows, lettered_sign, valid_row, cell, number, octets, code, datagram, answer, told, after_set, reads, later, without_power, with_power, seen, blank_one}
+use Rattle.dms_sign.proofs.BenchSign.{octets_of, bench_sign, with_changeable_rows, lettered_sign, valid_row, cell, number, octets, code, datagram, answer, status_and_index, after_set, reads, later, without_power, with_power, seen, blank_one}
 
 -- defaultFont is set to 2, which has the letter "A" alone
 abbrev font_two : List ℕ
@@ -33,7 +33,7 @@ abbrev refused_sign : SignState
 refused_sign = after_set small_sign (code permanent_one ∷ [])
 
 -- genErr
-activation_is_refused : told small_sign (code permanent_one ∷ []) ≡ (5, 1)
+activation_is_refused : status_and_index small_sign (code permanent_one ∷ []) ≡ (5, 1)
 unfolding datagram answer
 activation_is_refused = refl
 
@@ -87,7 +87,7 @@ unfolding datagram answer
 sign_has_font_two = refl
 
 -- put up again it is accepted
-again_accepted : told copied_sign (code changeable_one ∷ []) ≡ (0, 0)
+again_accepted : status_and_index copied_sign (code changeable_one ∷ []) ≡ (0, 0)
 unfolding datagram answer
 again_accepted = refl
 
@@ -121,7 +121,7 @@ abbrev font_and_code : List VarBind
 font_and_code = number (The DefaultFont) 2 ∷ code permanent_one ∷ []
 
 -- genErr, index 2
-code_is_refused : told bench_sign font_and_code ≡ (5, 2)
+code_is_refused : status_and_index bench_sign font_and_code ≡ (5, 2)
 unfolding answer
 code_is_refused = refl
 

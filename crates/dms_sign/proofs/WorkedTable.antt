@@ -8,7 +8,7 @@ use Rattle.dms_table.specs.Rows.{RowModel, unused}
 use Rattle.dms_objects.specs.declared.scalar.Scalar.TheVariants.{ValidateMessageError, MultiSyntaxError, MultiSyntaxErrorPosition}
 use Rattle.dms_objects.specs.declared.instance.Instance.TheVariants.{The}
 use Rattle.dms_sign.specs.State.{SignState}
-use Rattle.dms_sign.proofs.BenchSign.{bench_sign, with_changeable_rows, lettered_sign, valid_row, cell, number, octets, code, answer, told, after_set, reads, later, seen, letter_a}
+use Rattle.dms_sign.proofs.BenchSign.{bench_sign, with_changeable_rows, lettered_sign, valid_row, cell, number, octets, code, answer, status_and_index, after_set, reads, later, seen, letter_a}
 
 -- a row of this text that is being modified
 abbrev open_row : List ℕ → RowModel
@@ -21,7 +21,7 @@ opened_sign = with_changeable_rows (open_row [] ∷ unused ∷ [])
 -- ---- filling
 
 -- modifyReq and a text in one SET: the row was not being modified before it, genErr, index 2
-opened_and_filled : told bench_sign (number (cell Status 3 1) 6 ∷ octets (cell MultiString 3 1) (codes "A") ∷ []) ≡ (5, 2)
+opened_and_filled : status_and_index bench_sign (number (cell Status 3 1) 6 ∷ octets (cell MultiString 3 1) (codes "A") ∷ []) ≡ (5, 2)
 unfolding answer
 opened_and_filled = refl
 
@@ -31,7 +31,7 @@ unfolding answer
 opened_and_filled_sets_nothing = refl
 
 -- the text "B" and validateReq on a row that is being modified: noError
-filled_and_validated : told opened_sign (octets (cell MultiString 3 1) (codes "B") ∷ number (cell Status 3 1) 7 ∷ []) ≡ (0, 0)
+filled_and_validated : status_and_index opened_sign (octets (cell MultiString 3 1) (codes "B") ∷ number (cell Status 3 1) 7 ∷ []) ≡ (0, 0)
 unfolding answer
 filled_and_validated = refl
 
@@ -89,7 +89,7 @@ unfolding answer reads
 is_validating = refl
 
 -- changeable row 2 may not be: genErr
-one_at_a_time : told validating_sign (number (cell Status 3 2) 7 ∷ []) ≡ (5, 1)
+one_at_a_time : status_and_index validating_sign (number (cell Status 3 2) 7 ∷ []) ≡ (5, 1)
 unfolding answer
 one_at_a_time = refl
 

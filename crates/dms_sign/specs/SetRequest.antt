@@ -63,13 +63,13 @@ abbrev pub causes_at : SignState → Bool → List VarBind → VarBind → List 
 causes_at s may_write before binding = filter_map (cause_if (length before + 1)) (tests_at s may_write before binding)
 
 -- why these bindings are refused after others, all of it in order; each is judged on the state before the SET
-abbrev pub causes_behind : SignState → Bool → List VarBind → List VarBind → List SetCause
-causes_behind s may_write before [] = []
-causes_behind s may_write before (binding ∷ more) = causes_at s may_write before binding ++ causes_behind s may_write (before ++ binding ∷ []) more
+abbrev pub causes_after : SignState → Bool → List VarBind → List VarBind → List SetCause
+causes_after s may_write before [] = []
+causes_after s may_write before (binding ∷ more) = causes_at s may_write before binding ++ causes_after s may_write (before ++ binding ∷ []) more
 
 -- All that a SET is refused for; the first of it is reported.
 unfoldable pub causes : SignState → Bool → List VarBind → List SetCause
-causes s may_write bindings = causes_behind s may_write [] bindings
+causes s may_write bindings = causes_after s may_write [] bindings
 
 -- ---- assignment
 

@@ -34,6 +34,6 @@ pub record IsWhole (s : Inside) : Type 0 where
   pub known : IfSome s.known (λ d. AreValidTextsGood (under s.face d) s.table)
 
 -- What is known after a second is what was, and where a row was settled it was so under the same defaults.
-pub record IsKnownAfter (known : Option Defaults) (told : Option Verdict) (defaults d : Defaults) : Type 0 where
+pub record IsKnownAfter (known : Option Defaults) (reported : Option Verdict) (defaults d : Defaults) : Type 0 where
   pub was : known ≡ Some d
-  pub same : (told ≡ None → ⊥) → d ≡ defaults
+  pub same : (reported ≡ None → ⊥) → d ≡ defaults

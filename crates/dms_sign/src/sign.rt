@@ -261,16 +261,16 @@ fn community(octets: &[u8]) -> ArrayVec<u8, MAX_COMMUNITY>
     copy
 }
 
-/// What stays known of valid texts where this was told under these defaults: nothing, where a row was settled under other ones.
+/// What stays known of valid texts where this was reported under these defaults: nothing, where a row was settled under other ones.
 fn known_after(
     known: Option<Defaults>,
-    told: &Option<Verdict>,
+    reported: &Option<Verdict>,
     defaults: &Defaults,
 ) -> Option<Defaults>
-    ensures { IfSome result (IsKnownAfter known told.now defaults.now) }
+    ensures { IfSome result (IsKnownAfter known reported.now defaults.now) }
 {
     match known {
-        Some(under) if told.is_none() || under == *defaults => Some(under),
+        Some(under) if reported.is_none() || under == *defaults => Some(under),
         _ => None,
     }
 }
