@@ -2,15 +2,17 @@
 use Rattle.std.proofs.Common.{◌≡◌, ◌-◌, ◌<◌, ◌≤◌, ℕ, zero, suc, ◌++◌, List, [], ◌∷◌, length, Ok, Err, Result, refl, sym, ap, ◌∙◌, subst, arith, append_assoc, append-nil, length-append}
 use Rattle.std.proofs.lemmas.List.{nil_from_length}
 use Rattle.dms_ber.specs.declared.fault.WireFault.{WireFault}
-use Rattle.dms_ber.specs.declared.fault.FaultKind.TheVariants.{TrailingBytes}
-use Rattle.dms_wire.specs.Message.{VarBind}
+use Rattle.dms_ber.specs.declared.fault.FaultKind.TheVariants.{BadName, TrailingBytes}
+use Rattle.dms_wire.specs.Message.{ObjectValue, VarBind}
 use Rattle.dms_ber.specs.Element.{IsElement, ◌⨾◌}
 use Rattle.dms_ber.specs.ObjectIdentifier.{IsName}
 use Rattle.dms_wire.specs.Spelling.{IsValue, IsBinding, AreBindings}
-use Rattle.dms_ber.specs.Reading.{◌>>=◌, fault, element_at, name_at, ended}
+use Rattle.dms_ber.specs.Reading.{◌>>=◌, fault, element_at, name_of, name_at, place_of, ended}
 use Rattle.dms_wire.specs.Reading.{value_at, members_at, binding_at, bindings_up_to, bindings_at}
-use Rattle.dms_wire.specs.Walk.{or_none, bindings_within, bindings_of}
-use Rattle.dms_ber.proofs.Elements.{bind_ok, done, ok_is, not_ok}
+use Rattle.dms_wire.specs.Walk.{or_none, bindings_within, bindings_of, AreWhole}
+use Rattle.dms_ber.proofs.Elements.{bind_ok, done, ok_is, not_ok, tested}
+use Rattle.dms_ber.proofs.Names.{name_found}
+use Rattle.dms_ber.specs.NameReading.{is_name, numbers_of}
 use Rattle.dms_ber.proofs.Members.{Front, after, joined, last, with_found, with_only, name_at_found, name_at_only}
 use Rattle.dms_wire.proofs.Values.{value_found, value_only}
 
@@ -215,3 +217,93 @@ walk_stops (suc k) bytes f h = rw h refl
 
 pub walk_end : (bytes : List ℕ) (f : WireFault) → binding_at (length bytes) bytes ≡ Err f → bindings_of bytes ≡ []
 walk_end bytes f h = walk_stops (length bytes) bytes f h
+
+-- bindings that were read are spelled
+pub whole_found : (end : ℕ) (bytes : List ℕ) → bindings_at end bytes ≡ Ok (bindings_of bytes) → AreWhole bytes
+whole_found end bytes h = bindings_found (length bytes) end bytes (bindings_of bytes) (omega arith) h
+
+-- the content of an element that begins bindings is a binding's
+known_first_of : (bs : List VarBind) (end : ℕ) (bytes : List ℕ) (c : List ℕ × List ℕ) → AreBindings bs bytes → element_at 48 end bytes ≡ Ok c
+    → (b : VarBind) × (members_at (end - length c.1) c.0 ≡ Ok b)
+unfolding binding_at element_at
+known_first_of [] end bytes c nil h = absurd (cc (h, ap (element_at 48 end) nil))
+known_first_of (b ∷ bs) end bytes c are h =
+    let read : binding_at end bytes ≡ Ok (b, are.back) = ap (binding_at end) are.parts ∙ binding_only end b are.front are.back are.first in
+    let x = bind_ok (element_at 48 end bytes) (λ c. members_at (end - length c.1) c.0 >>= λ m. done (m, c.1)) (b, are.back) read in
+    let m = bind_ok (members_at (end - length x.0.1) x.0.0) (λ m. done (m, x.0.1)) (b, are.back) x.2 in
+    let same : x.0 ≡ c = ok_is x.0 c (sym x.1 ∙ h) in
+    subst (λ c. (b : VarBind) × (members_at (end - length c.1) c.0 ≡ Ok b)) same (m.0, m.1)
+
+pub known_first : (bytes : List ℕ) (c : List ℕ × List ℕ) → AreWhole bytes → element_at 48 (length bytes) bytes ≡ Ok c
+    → (b : VarBind) × (members_at (length bytes - length c.1) c.0 ≡ Ok b)
+known_first bytes c whole h = known_first_of (bindings_of bytes) (length bytes) bytes c whole h
+
+-- a binding of which the parts were read
+pub binding_joined : (end : ℕ) (bytes : List ℕ) (c : List ℕ × List ℕ) (b : VarBind) → element_at 48 end bytes ≡ Ok c
+    → members_at (end - length c.1) c.0 ≡ Ok b → binding_at end bytes ≡ Ok (b, c.1)
+unfolding binding_at
+binding_joined end bytes c b h m = rw (h, m) refl
+
+-- what follows the first of bindings is bindings
+pub whole_more : (bytes rest : List ℕ) (b : VarBind) → AreWhole bytes → binding_at (length bytes) bytes ≡ Ok (b, rest) → AreWhole rest
+whole_more bytes rest b whole h =
+    let are : AreBindings (b ∷ bindings_of rest) bytes = subst (λ bs. AreBindings bs bytes) (walk_more bytes rest b h) whole in
+    let read : binding_at (length bytes) bytes ≡ Ok (b, are.back) = ap (binding_at (length bytes)) are.parts ∙ binding_only (length bytes) b are.front are.back are.first in
+    let same : (b, are.back) ≡ (b, rest) = ok_is (b, are.back) (b, rest) (sym read ∙ h) in
+    subst (λ bytes. AreBindings (bindings_of rest) bytes) (ap (λ x. x.1) same) are.second
+
+-- where no element begins bindings, there are none
+pub no_first : (bytes : List ℕ) (f : WireFault) → element_at 48 (length bytes) bytes ≡ Err f → bindings_of bytes ≡ []
+unfolding binding_at
+no_first bytes f h = walk_end bytes f (rw h refl)
+
+name_of_found : (place : ℕ) (content numbers : List ℕ) → name_of place content ≡ Ok numbers → IsName numbers content
+name_of_found place content numbers h =
+    let t = tested (is_name content) (fault BadName place) (Ok (numbers_of content)) numbers h in
+    subst (λ ns. IsName ns content) (ok_is (numbers_of content) numbers t.1) (name_found content t.0)
+
+-- the members of a binding that is known to be one, read one after the other
+pub known_name : (end : ℕ) (bytes : List ℕ) (b : VarBind) (c : List ℕ × List ℕ) → members_at end bytes ≡ Ok b → element_at 6 end bytes ≡ Ok c
+    → IsName b.name c.0
+unfolding members_at name_at
+known_name end bytes b c h e =
+    after (name_at end bytes) _ b h λ name name_read h.
+    after (value_at end name.1) _ b h λ value value_read h.
+    after (ended end value.1) (λ _. done (record { name = name.0; value = value.0 })) b h λ nothing nothing_read h.
+    after (element_at 6 end bytes) _ name name_read λ x x_read h2.
+    after (name_of (place_of end x.0 x.1) x.0) (λ n. done (n, x.1)) name h2 λ n n_read h3.
+    let made : VarBind = record { name = name.0; value = value.0 } in
+    let numbers : n ≡ b.name = ap (λ x. x.0) (ok_is (n, x.1) name h3) ∙ ap (λ b. b.name) (ok_is made b h) in
+    let same : x ≡ c = ok_is x c (sym x_read ∙ e) in
+    subst (λ c. IsName b.name c.0) same (subst (λ ns. IsName ns x.0) numbers (name_of_found (place_of end x.0 x.1) x.0 n n_read))
+
+pub known_value : (end : ℕ) (bytes : List ℕ) (b : VarBind) (c : List ℕ × List ℕ) (r : Result (ObjectValue × List ℕ) WireFault)
+    → members_at end bytes ≡ Ok b → element_at 6 end bytes ≡ Ok c
+    → value_at end c.1 ≡ r → (rest : List ℕ) × (r ≡ Ok (b.value, rest))
+unfolding members_at name_at
+known_value end bytes b c r h e v =
+    after (name_at end bytes) _ b h λ name name_read h.
+    after (value_at end name.1) _ b h λ value value_read h.
+    after (ended end value.1) (λ _. done (record { name = name.0; value = value.0 })) b h λ nothing nothing_read h.
+    after (element_at 6 end bytes) _ name name_read λ x x_read h2.
+    after (name_of (place_of end x.0 x.1) x.0) (λ n. done (n, x.1)) name h2 λ n n_read h3.
+    let made : VarBind = record { name = name.0; value = value.0 } in
+    let is_value : value.0 ≡ b.value = ap (λ b. b.value) (ok_is made b h) in
+    let back : x.1 ≡ name.1 = ap (λ x. x.1) (ok_is (n, x.1) name h3) in
+    let same : x ≡ c = ok_is x c (sym x_read ∙ e) in
+    let at : c.1 ≡ name.1 = sym (ap (λ x. x.1) same) ∙ back in
+    (value.1, sym v ∙ ap (value_at end) at ∙ value_read ∙ ap (λ v. Ok (v, value.1)) is_value)
+
+pub some_element : (end : ℕ) (bytes : List ℕ) (b : VarBind) (f : WireFault) → members_at end bytes ≡ Ok b → element_at 6 end bytes ≡ Err f → ⊥
+unfolding members_at name_at
+some_element end bytes b f h e =
+    let fails : members_at end bytes ≡ Err f = rw e refl in
+    not_ok f b (sym fails ∙ h)
+
+pub known_members_are : (end : ℕ) (bytes : List ℕ) (b : VarBind) (c : List ℕ × List ℕ) (name : List ℕ) (value : ObjectValue) (rest : List ℕ)
+    → members_at end bytes ≡ Ok b → element_at 6 end bytes ≡ Ok c → value_at end c.1 ≡ Ok (value, rest) → name ≡ b.name
+    → members_at end bytes ≡ Ok (record { name = name; value = value })
+known_members_are end bytes b c name value rest h e v named =
+    let known = known_value end bytes b c (Ok (value, rest)) h e v in
+    let valued : value ≡ b.value = ap (λ x. x.0) (ok_is (value, rest) (b.value, known.0) known.1) in
+    rw (named, valued) h

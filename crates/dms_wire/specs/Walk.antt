@@ -2,6 +2,7 @@
 use Rattle.std.specs.Prelude.{ℕ, zero, suc, List, [], ◌∷◌, length, Result, Ok, Err}
 use Rattle.dms_ber.specs.declared.fault.WireFault.{WireFault}
 use Rattle.dms_wire.specs.Message.{VarBind}
+use Rattle.dms_wire.specs.Spelling.{AreBindings}
 use Rattle.dms_wire.specs.Reading.{binding_at}
 
 abbrev pub or_none : {A : Type 0} → List A → (A → List ℕ → List A) → Result (A × List ℕ) WireFault → List A
@@ -15,3 +16,7 @@ bindings_within (suc k) bytes = or_none [] (λ b rest. b ∷ bindings_within k r
 
 abbrev pub bindings_of : List ℕ → List VarBind
 bindings_of bytes = bindings_within (length bytes) bytes
+
+-- octets that bindings fill
+abbrev pub AreWhole : List ℕ → Type 0
+AreWhole bytes = AreBindings (bindings_of bytes) bytes

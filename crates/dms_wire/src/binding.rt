@@ -1,12 +1,12 @@
 //! Variable bindings: their walk, their reading and their writing (RFC 1157, 4.1.1).
 
-ghost use Rattle.std.specs.Prelude.{◌≡◌, ◌↔◌, ℕ, ◌+◌, ◌^◌, ◌<◌, ◌≤◌, ◌++◌, List, [], ◌∷◌, pos, length, map, IsOk, IfOk, OnOk, OnErr, IfSome, IfNone};
+ghost use Rattle.std.specs.Prelude.{◌≡◌, ◌↔◌, ℕ, ◌+◌, ◌^◌, ◌<◌, ◌≤◌, ◌++◌, List, [], ◌∷◌, pos, length, map, Ok, IsOk, IfOk, OnOk, OnErr, IsSome, IfSome, IfNone};
 ghost use Rattle.arrayvec.specs.ArrayVec.{array_vec_len};
 ghost use Rattle.std.specs.List.{flat_map};
 ghost use Rattle.dms_wire.specs.Message.{VarBind};
 ghost use Rattle.dms_ber.specs.Reading.{Gives};
 ghost use Rattle.dms_wire.specs.Reading.{members_at, binding_at, bindings_at, list_at};
-ghost use Rattle.dms_wire.specs.Walk.{bindings_of};
+ghost use Rattle.dms_wire.specs.Walk.{bindings_of, AreWhole};
 ghost use Rattle.dms_wire.specs.View.{object_value, var_bind};
 ghost use Rattle.dms_ber.specs.Element.{element};
 ghost use Rattle.dms_ber.specs.ObjectIdentifier.{name_octets};
@@ -43,11 +43,13 @@ pub struct Binds<'a> {
 impl<'a> Model for Binds<'a> {
     ghost use Rattle.std.specs.Prelude.{List};
     ghost use Rattle.dms_wire.specs.Message.{VarBind};
-    ghost use Rattle.dms_wire.specs.Walk.{bindings_of};
+    ghost use Rattle.dms_wire.specs.Walk.{bindings_of, AreWhole};
 
     ghost Value = { List VarBind };
 
     ghost view = { λ a. bindings_of a.content.now };
+
+    ghost invariant = { λ a. AreWhole a.content.now };
 }
 
 impl<'a> Binds<'a> {
@@ -104,15 +106,39 @@ fn read_binding(octets: &[u8], end: usize) -> Result<(Bind<'_>, &[u8]), WireFaul
     Ok((bind, rest))
 }
 
-/// The first binding of a list's octets, and the octets after it, if the octets begin with a binding.
+/// The name and the value of a binding that is known to be one: its name is not checked again.
+#[inline(always)]
+fn known_members(octets: &[u8], end: usize) -> Option<Bind<'_>>
+    requires within { length octets.now ≤ end }
+    requires known { (b : VarBind) × (members_at end octets.now ≡ Ok b) }
+    ensures some { IfSome result (λ b. members_at end octets.now ≡ Ok (var_bind b)) }
+    ensures always { IsSome result }
+{
+    let Ok((content, rest)) = read_element(tag::OBJECT_IDENTIFIER, octets, end) else {
+        return None;
+    };
+    let Ok((value, _)) = read_value(rest, end) else {
+        return None;
+    };
+    Some(Bind {
+        name: Oid::known(content),
+        value,
+    })
+}
+
+/// The first binding of octets that are bindings, and the octets after it.
+#[inline(always)]
 fn first_binding(octets: &[u8]) -> Option<(Bind<'_>, &[u8])>
+    requires { AreWhole octets.now }
     ensures some { IfSome result (λ x. bindings_of octets.now ≡ var_bind x.0 ∷ bindings_of x.1.now) }
+    ensures whole { IfSome result (λ x. AreWhole x.1.now) }
     ensures none { IfNone result (bindings_of octets.now ≡ []) }
 {
-    match read_binding(octets, octets.len()) {
-        Ok(first) => Some(first),
-        Err(_) => None,
-    }
+    let Ok((content, rest)) = read_element(tag::SEQUENCE, octets, octets.len()) else {
+        return None;
+    };
+    let bind = known_members(content, offset_of(rest, octets.len()))?;
+    Some((bind, rest))
 }
 
 /// Checks the bindings up to the end of the octets, each of them once.
