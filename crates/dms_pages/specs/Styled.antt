@@ -1,5 +1,5 @@
 -- Cells as the numbers of their styles.
-use Rattle.std.specs.Prelude.{◌≡◌, ℕ, ◌<◌, Bool, true, false, List, length, map, slice_index_or}
+use Rattle.std.specs.Prelude.{◌≡◌, ℕ, ◌<◌, Bool, true, false, List, length, slice_index_or}
 use Rattle.dms_face.specs.declared.cell.Cell.{Cell}
 use Rattle.dms_pages.specs.Drawn.{unlit}
 use Rattle.dms_pages.specs.Drawing.{covered}

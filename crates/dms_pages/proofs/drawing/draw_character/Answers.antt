@@ -1,7 +1,6 @@
-use Rattle.std.proofs.Common.{◌≡◌, ◌∙◌, ◌/◌, ◌%◌, length, ap, subst, arith}
+use Rattle.std.proofs.Common.{◌≡◌, ◌∙◌, ◌/◌, ◌%◌, length, ap, arith}
 use Rattle.std.specs.Prelude.{slice_index_or}
 use Rattle.dms_face.specs.Layout.{Character}
-use Rattle.dms_face.specs.Cells.{is_lit_by, PlacedCharacter}
 use Rattle.dms_pages.specs.Styled.{style}
 use Rattle.dms_pages.specs.Drawing.{covered, is_in_picture, lit_cell}
 use Rattle.dms_pages.proofs.drawing.draw_character.Goals as goal

@@ -1,4 +1,4 @@
-use Rattle.std.proofs.Common.{◌≡◌, ◌∙◌, ◌+◌, ◌-◌, ◌*◌, ◌<◌, ap, subst, arith, min}
+use Rattle.std.proofs.Common.{◌≡◌, ◌∙◌, ◌+◌, ◌-◌, ◌*◌, ◌<◌, subst, arith, min}
 use Rattle.dms_pages.specs.Drawing.{is_lit_in_row, is_lit_on_row}
 use Rattle.dms_pages.specs.Styled.{style, Lights}
 use Rattle.dms_pages.proofs.DrawingLaws.{wide, on_row, lights_same}

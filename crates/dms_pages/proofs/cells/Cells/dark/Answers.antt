@@ -1,7 +1,4 @@
-use Rattle.std.proofs.Common.{◌≡◌, ◌∙◌, ℕ, List, [], ◌∷◌, length, map, replicate, ap, arith}
-use Rattle.std.proofs.lemmas.List.{length-map, length-replicate}
-use Rattle.dms_face.specs.declared.cell.Cell.{Cell}
-use Rattle.dms_pages.specs.Drawn.{unlit}
+use Rattle.std.proofs.Common.{◌≡◌, ◌∙◌, map, replicate, ap}
 use Rattle.dms_pages.specs.Styled.{style}
 use Rattle.dms_pages.proofs.StyleLaws.{dark_cells}
 use Rattle.dms_pages.proofs.cells.Cells.dark.Goals as goal

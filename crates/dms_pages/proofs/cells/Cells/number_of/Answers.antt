@@ -1,4 +1,4 @@
-use Rattle.std.proofs.Common.{◌≡◌, ◌∙◌, ◌<◌, List, length, map, get_or, ap, arith}
+use Rattle.std.proofs.Common.{◌∙◌, List, map, ap}
 use Rattle.dms_face.specs.declared.cell.Cell.{Cell}
 use Rattle.dms_pages.specs.Styled.{StyledCells, style}
 use Rattle.dms_pages.proofs.StyleLaws.{same_cells}

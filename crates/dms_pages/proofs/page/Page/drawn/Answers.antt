@@ -1,4 +1,4 @@
-use Rattle.std.proofs.Common.{◌≡◌, ◌∙◌, ◌*◌, [], length, replicate, ap, subst, arith}
+use Rattle.std.proofs.Common.{◌≡◌, ◌∙◌, ◌*◌, [], length, replicate, ap, subst}
 use Rattle.dms_face.specs.Layout.{PageModel}
 use Rattle.dms_pages.specs.Drawn.{unlit}
 use Rattle.dms_pages.specs.Drawing.{lines_characters, Shows}
