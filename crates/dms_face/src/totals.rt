@@ -61,6 +61,7 @@ impl<'a> Totals<'a> {
     }
 
     /// The open page's lines with the open line closed.
+    #[inline(always)]
     fn lines_with_open(&self) -> Places
         requires within { AreWithin 256 self.now.lines }
         ensures tells { (layout : Layout) → Tells self.now layout → TellsBlocks result (map line_block (layout.lines ++ open_line layout ∷ [])) }

@@ -8,7 +8,7 @@ ghost use Rattle.dms_multi.specs.TagReading.{Gives, item_with_rest, tag_at, item
 use crate::fault::{FaultCode, SyntaxFault};
 use crate::item::Item;
 use crate::tag::body_item;
-use crate::value::cut;
+use crate::value::cut_at;
 use std::marker::Model;
 
 /// An item, and the octets of the text that spell it.
@@ -48,7 +48,7 @@ impl<'a> Model for Spots<'a> {
 fn tag_at(text: &[u8]) -> Result<(Item, &[u8]), FaultCode>
     ensures { Gives item_with_rest result (tag_at text.now) }
 {
-    let (body, rest) = cut(text, b']').ok_or(FaultCode::UnsupportedTag)?;
+    let (body, rest) = cut_at(text, b']').ok_or(FaultCode::UnsupportedTag)?;
     Ok((body_item(body)?, rest))
 }
 

@@ -1,5 +1,6 @@
 //! The values of tags: numbers, times and fonts.
-ghost use Rattle.std.specs.Prelude.{◌≡◌, option_map, position};
+ghost use Rattle.std.specs.Prelude.{◌≡◌, option_map, position, false};
+ghost use Rattle.std.specs.Char.{is_ascii_alphabetic};
 ghost use Rattle.dms_text.specs.Reading.{number_of};
 ghost use Rattle.dms_multi.specs.Reading.{decimal_of, value_of, is_letter, cut, halves};
 ghost use Rattle.dms_multi.specs.TagReading.{times_of, font_of};
@@ -53,6 +54,24 @@ fn place_of(text: &[u8], letter: u8) -> Option<usize>
         .position(|octet| octet.to_ascii_lowercase() == letter)
 }
 
+/// What stands before and after the first octet that is `mark`, which is no letter and so has one case.
+#[tactic(auto, unfolding(crate::specs::Reading::cut))]
+pub(crate) fn cut_at(text: &[u8], mark: u8) -> Option<(&[u8], &[u8])>
+    requires { is_ascii_alphabetic mark ≡ false }
+    ensures { option_map halves result ≡ cut mark text.now }
+{
+    let place = place_of_mark(text, mark)?;
+    Some((&text[..place], &text[place + 1..]))
+}
+
+#[inline]
+fn place_of_mark(text: &[u8], mark: u8) -> Option<usize>
+    requires { is_ascii_alphabetic mark ≡ false }
+    ensures { result ≡ position (is_letter mark) text.now }
+{
+    text.iter().position(|octet| *octet == mark)
+}
+
 /// A time up to `high`, and perhaps another after the letter.
 #[tactic(auto, unfolding(crate::specs::TagReading::times_of))]
 pub(crate) fn times(text: &[u8], letter: u8, high: u8) -> Option<TwoTimes>
@@ -80,7 +99,7 @@ pub(crate) fn font(text: &[u8]) -> Option<Option<(u8, Option<u16>)>>
     if text.is_empty() {
         return Some(None);
     }
-    match cut(text, b',') {
+    match cut_at(text, b',') {
         Some((digits, code)) => Some(Some((decimal(digits, 1, 255)?, Some(version(code)?)))),
         None => decimal(text, 1, 255).map(|number| Some((number, None))),
     }
