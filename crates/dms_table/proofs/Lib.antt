@@ -3,3 +3,4 @@ pub mod KnownTexts
 pub mod Stands
 pub mod Settlement
 pub mod OneRow
+pub mod Places

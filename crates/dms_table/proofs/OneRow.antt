@@ -2,6 +2,7 @@
 use Rattle.std.proofs.Common.{◌≡◌, ℕ, zero, suc, ◌+◌, ◌-◌, ◌<◌, ◌≤◌, ◌==◌, ◌&&◌, ◌||◌, Bool, true, false, not, cond, if◌then◌else◌, List, [], ◌∷◌, ◌++◌, map, replicate, length, get_or, set, take, slice_set, Option, Some, None, slice_get, Result, Ok, Err, find, refl, ap, sym, ◌∙◌, arith}
 use Rattle.std.specs.Prelude.{OnOk, OnErr, option_map, option_and_then, count_by}
 use Rattle.std.specs.List.{list_any}
+use Rattle.std.specs.Option.{is_some}
 use Rattle.std.proofs.lemmas.List.Sums.{sum_by-set, sum_by-cons}
 use Rattle.std.proofs.Math.Seq.{take-append_seam}
 use Rattle.std.proofs.lemmas.Option.{slice_get_within, get_or_from_slice_get}
@@ -20,10 +21,10 @@ use Rattle.dms_table.specs.Rows.{RowModel, TableModel, FieldModel, Text, Owner, 
 abbrev pub count : List RowModel → ℕ
 count rows = count_by row_is_validating rows
 
-abbrev weight : RowModel → ℕ
+abbrev pub weight : RowModel → ℕ
 weight row = cond (row_is_validating row) 1 0
 
-count-cons : (row : RowModel) (rows : List RowModel) → count (row ∷ rows) ≡ weight row + count rows
+pub count-cons : (row : RowModel) (rows : List RowModel) → count (row ∷ rows) ≡ weight row + count rows
 count-cons row rows = sum_by-cons weight row rows
 
 count-set : (rows : List RowModel) (i : ℕ) (old new : RowModel) → slice_get rows i ≡ Some old → count (set rows i new) + weight old ≡ count rows + weight new
@@ -66,7 +67,7 @@ changed_one_row rows more number extra change each changed = changed_by (number 
 
 -- ---- asking
 
-abbrev extra_of : Ask → ℕ
+abbrev pub extra_of : Ask → ℕ
 extra_of ask = cond (is_validate ask) 1 0
 
 same_weight : (row new : RowModel) → Some row ≡ Some new → weight row ≡ weight new
@@ -95,12 +96,30 @@ next_weight row new Error asks.Validate e = grown Error asks.Validate (with_stat
 next_weight row new Error asks.NotUsed e = grown Error asks.NotUsed unused new refl refl e
 next_weight row new Validating ask e = cc
 
-asked_weight : (ask : Ask) (row new : RowModel) → asked_row ask row ≡ Some new → weight new ≡ weight row + extra_of ask
+pub asked_weight : (ask : Ask) (row new : RowModel) → asked_row ask row ≡ Some new → weight new ≡ weight row + extra_of ask
 asked_weight ask row new e =
     let grows = next_weight row new row.status ask e in
     let before : weight row ≡ 0 = ap (λ b. cond {A = ℕ} b 1 0) grows.before in
     let now : weight new ≡ extra_of ask = grows.now in
     omega (arith, before, now)
+
+-- what takes what it is asked is not being validated
+pub asked_before : (ask : Ask) (row : RowModel) → is_some (asked_row ask row) ≡ true → row_is_validating row ≡ false
+asked_before ask row taken = by_taken (asked_row ask row) ask row refl taken
+  where
+    by_taken : (o : Option RowModel) (ask : Ask) (row : RowModel) → asked_row ask row ≡ o → is_some o ≡ true → row_is_validating row ≡ false
+    by_taken None ask row e taken = absurd (cc)
+    by_taken (Some new) ask row e taken = (next_weight row new row.status ask e).before
+
+weighs_one : (b : Bool) → cond {A = ℕ} b 1 0 ≡ 1 → b ≡ true
+weighs_one true e = refl
+weighs_one false e = absurd (omega (arith, e))
+
+-- and is, where it was asked to be
+pub asked_now : (ask : Ask) (row new : RowModel) → is_validate ask ≡ true → asked_row ask row ≡ Some new → row_is_validating new ≡ true
+asked_now ask row new asks e =
+    let one : extra_of ask ≡ 1 = ap (λ b. cond {A = ℕ} b 1 0) asks in
+    weighs_one (row_is_validating new) ((next_weight row new row.status ask e).now ∙ one)
 
 none_in : (b : Bool) (row : RowModel) (rows : List RowModel) → (list_any row_is_validating rows ≡ false → count rows ≡ 0)
     → row_is_validating row ≡ b → (b || list_any row_is_validating rows) ≡ false → count (row ∷ rows) ≡ 0
@@ -164,7 +183,7 @@ some_in true row rows more is none =
     absurd (let one : weight row ≡ 1 = ap (λ b. cond {A = ℕ} b 1 0) is in omega (arith, count-cons row rows, one, none))
 some_in false row rows more is none = more (omega (arith, count-cons row rows, none))
 
-any_validating : (rows : List RowModel) → count rows ≡ 0 → list_any row_is_validating rows ≡ false
+pub any_validating : (rows : List RowModel) → count rows ≡ 0 → list_any row_is_validating rows ≡ false
 any_validating [] none = refl
 any_validating (row ∷ rows) none = some_in (row_is_validating row) row rows (any_validating rows) refl none
 
@@ -213,8 +232,24 @@ written_if : (b : Bool) (row other new : RowModel) → weight other ≡ weight r
 written_if true row other new same e = let is : weight other ≡ weight new = (let k : other ≡ new = cc in ap weight k) in omega arith
 written_if false row other new same e = cc
 
-written_weight : (field : FieldModel) (row new : RowModel) → written_row field row ≡ Some new → weight new ≡ weight row + 0
+pub written_weight : (field : FieldModel) (row new : RowModel) → written_row field row ≡ Some new → weight new ≡ weight row + 0
 written_weight field row new e = written_if (is_modifying row.status && is_in_range field) row (with_field row field) new (field_weight row field) e
+
+modifying_free : (status : Status) (b : Bool) → is_some (if is_modifying status && b then Some status else None) ≡ true → is_validating status ≡ false
+modifying_free NotUsed b e = refl
+modifying_free Modifying b e = refl
+modifying_free Validating b e = absurd (cc)
+modifying_free Valid b e = refl
+modifying_free Error b e = refl
+
+some_of : {A B : Type 0} (b : Bool) (x : A) (y : B) → is_some (if b then Some x else None) ≡ true → is_some (if b then Some y else None) ≡ true
+some_of true x y e = refl
+some_of false x y e = absurd (cc)
+
+-- what is written is not being validated
+pub written_before : (field : FieldModel) (row : RowModel) → is_some (written_row field row) ≡ true → row_is_validating row ≡ false
+written_before field row taken =
+    modifying_free row.status (is_in_range field) (some_of (is_modifying row.status && is_in_range field) (with_field row field) row.status taken)
 
 -- writing a row validates none
 pub none_more_written : (field : FieldModel) (rows new : List RowModel) (number : ℕ) (result : Result Unit Refused)

@@ -8,3 +8,4 @@ pub mod FaultTexts
 pub mod RowsView
 -- what only proofs go through
 pub mod ValidatorView
+pub mod PlaceView

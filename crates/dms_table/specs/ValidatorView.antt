@@ -1,5 +1,5 @@
 -- What messages are validated against, and what comes of it.
-use Rattle.std.specs.Prelude.{◌≡◌, true, if◌then◌else◌, Option, Some, None}
+use Rattle.std.specs.Prelude.{◌≡◌, true}
 use Rattle.dms_face.specs.Face.{FaceModel}
 use Rattle.dms_face.specs.Layout.{under}
 use Rattle.dms_face.specs.Fit.{IsGood}
@@ -17,10 +17,6 @@ settled_by validator row = settled_row validator.services (face_of validator) ro
 
 abbrev pub verdict_by : Validator → RowModel → Verdict
 verdict_by validator row = verdict_of validator.services (face_of validator) row
-
--- the verdict on a row that is being validated
-abbrev pub verdict_if : Validator → RowModel → Option Verdict
-verdict_if validator row = if row_is_validating row then Some (verdict_by validator row) else None
 
 -- a row that passes has a good text
 abbrev pub IsJudged : Validator → RowModel → Type 0

@@ -1,11 +1,11 @@
 //! Rows of the table.
 
-ghost use Rattle.std.specs.Prelude.{◌≡◌, false, ◌≤◌, [], Some, None, OnOk, OnErr, IfSome, IsTrue, length, option_map, is_some};
+ghost use Rattle.std.specs.Prelude.{◌≡◌, false, true, ◌≤◌, [], Some, None, OnOk, OnErr, IfSome, IsTrue, length, option_map, is_some};
 ghost use Rattle.std.specs.Int.Digits.{AllBelowBase};
 ghost use Rattle.dms_table.specs.Rows.{unused, interrupted, is_in_range, with_field, with_status, asked_row, written_row, blank_at, blank_reading, reading, row_is_validating};
 ghost use Rattle.dms_codes.specs.Status.{is_valid, is_not_used};
 ghost use Rattle.dms_face.specs.Face.{fit};
-ghost use Rattle.dms_table.specs.ValidatorView.{settled_by, verdict_if, IsJudged};
+ghost use Rattle.dms_table.specs.ValidatorView.{settled_by, verdict_by, IsJudged};
 ghost use Rattle.dms_table.specs.Stock.{permanent_row, has_ranges, HasOctets};
 ghost use Rattle.dms_table.specs.RowsView.{field_of, reading_of, IsShort};
 
@@ -233,16 +233,14 @@ impl Row {
         }
     }
 
-    /// Ends a validation; the verdict is that on a row that is being validated.
-    pub(crate) fn settle(&mut self, validator: &Validator<'_>) -> Option<Verdict>
-        requires { IsTrue (fit validator.now.face.now.fonts validator.now.defaults.now) }
+    /// Ends the validation of the row.
+    pub(crate) fn settle(&mut self, validator: &Validator<'_>) -> Verdict
+        requires fit { IsTrue (fit validator.now.face.now.fonts validator.now.defaults.now) }
+        requires validating { row_is_validating self.old ≡ true }
         ensures row { self.new ≡ settled_by validator.now self.old }
-        ensures verdict { result ≡ verdict_if validator.now self.old }
+        ensures verdict { result ≡ verdict_by validator.now self.old }
         ensures judged { IsJudged validator.now self.old }
     {
-        if self.status != Status::Validating {
-            return None;
-        }
         let verdict = validator.verdict(self.text.as_slice(), self.beacon, self.pixel);
         if verdict.passes() {
             self.checksum = crc(self.text.as_slice(), self.beacon, self.pixel);
@@ -250,7 +248,7 @@ impl Row {
         } else {
             self.status = Status::Error;
         }
-        Some(verdict)
+        verdict
     }
 
     /// Writes a field of the row.

@@ -11,6 +11,7 @@ ghost use Rattle.dms_codes.specs.Status.{is_validate};
 ghost use Rattle.dms_face.specs.Face.{FaceModel, fit};
 ghost use Rattle.dms_face.specs.Layout.{under};
 ghost use Rattle.dms_table.specs.Validation.{settled, verdict, ValidRowsAreGood};
+ghost use Rattle.dms_table.specs.PlaceView.{IsOnly, validating_after};
 ghost use Rattle.dms_table.specs.ValidatorView.{settled_by, verdict_by, IsJudged};
 ghost use Rattle.dms_table.specs.Stock.{permanent_row, has_ranges, stock_fault, table_of, IsFirstFault, PermanentRowsAreGood, KeepsPermanentRows, HasOctets};
 ghost use Rattle.dms_table.specs.Activation.{is_memory, named, activation_error, unless_refused, decided};
@@ -33,19 +34,28 @@ pub struct Table {
     volatile: Vec<Row>,
     services: Services,
     order: Order,
-    /// Whether a row is being validated.
-    validating: bool,
+    /// The row that is being validated.
+    validating: Option<Place>,
+}
+
+/// Where a row stands that can be changed.
+#[derive(Clone, Copy)]
+pub(crate) enum Place {
+    /// Among the changeable rows.
+    Changeable(usize),
+    /// Among the volatile rows.
+    Volatile(usize),
 }
 
 impl Model for Table {
-    ghost use Rattle.std.specs.Prelude.{◌≡◌, if◌then◌else◌};
-    ghost use Rattle.dms_table.specs.Rows.{TableModel, validating_count};
+    ghost use Rattle.dms_table.specs.Rows.{TableModel};
+    ghost use Rattle.dms_table.specs.PlaceView.{IsPlaced};
 
     ghost Value = { TableModel };
 
     ghost view = { λ t. record { permanent = t.permanent.items; changeable = t.changeable.items; volatile = t.volatile.items; services = t.services; order = t.order } };
 
-    ghost invariant = { λ t. validating_count (record { permanent = t.permanent.items; changeable = t.changeable.items; volatile = t.volatile.items; services = t.services; order = t.order }) ≡ (if t.validating then 1 else 0) };
+    ghost invariant = { λ t. IsPlaced t.validating t.changeable.items t.volatile.items };
 }
 
 impl Table {
@@ -77,7 +87,7 @@ impl Table {
             volatile: unused_rows(alloc, stock.volatile)?,
             services: stock.services(),
             order: stock.order,
-            validating: false,
+            validating: None,
         })
     }
 
@@ -153,7 +163,7 @@ impl Table {
     fn is_settling(&self) -> bool
         ensures { result ≡ is_settling self.now }
     {
-        self.validating
+        self.validating.is_some()
     }
 
     /// One row is validated at a time.
@@ -186,13 +196,13 @@ impl Table {
         }
         match id.memory {
             memory::CHANGEABLE => {
-                ask_in(self.changeable.as_mut_slice(), id.number, ask)?;
-                self.validating |= is_validate(ask);
+                let place = ask_in(self.changeable.as_mut_slice(), id.number, ask)?;
+                self.validating = validating_after(self.validating, ask, Place::Changeable(place));
                 Ok(())
             }
             memory::VOLATILE => {
-                ask_in(self.volatile.as_mut_slice(), id.number, ask)?;
-                self.validating |= is_validate(ask);
+                let place = ask_in(self.volatile.as_mut_slice(), id.number, ask)?;
+                self.validating = validating_after(self.validating, ask, Place::Volatile(place));
                 Ok(())
             }
             _ => Err(Refused),
@@ -220,18 +230,24 @@ impl Table {
         ensures verdict { result ≡ verdict (under face.now defaults.now) self.old }
         ensures good { ValidRowsAreGood (under face.now defaults.now) self.old self.new }
     {
-        if !self.is_settling() {
-            return None;
-        }
         let validator = Validator {
             services: self.services,
             face,
             defaults,
         };
-        let changeable = settle_all(self.changeable.as_mut_slice(), &validator);
-        let volatile = settle_all(self.volatile.as_mut_slice(), &validator);
-        self.validating = false;
-        changeable.or(volatile)
+        match self.validating {
+            None => None,
+            Some(Place::Changeable(place)) => {
+                let verdict = settle_in(self.changeable.as_mut_slice(), place, &validator);
+                self.validating = None;
+                Some(verdict)
+            }
+            Some(Place::Volatile(place)) => {
+                let verdict = settle_in(self.volatile.as_mut_slice(), place, &validator);
+                self.validating = None;
+                Some(verdict)
+            }
+        }
     }
 
     /// What a loss of power leaves: volatile rows are not used, and a validation has to be asked for again.
@@ -240,7 +256,7 @@ impl Table {
     {
         interrupt_all(self.changeable.as_mut_slice());
         release_all(self.volatile.as_mut_slice());
-        self.validating = false;
+        self.validating = None;
     }
 }
 
@@ -248,6 +264,17 @@ fn is_validate(ask: Ask) -> bool
     ensures { result ≡ is_validate ask }
 {
     ask == Ask::Validate
+}
+
+/// The row that is being validated once a row at a place has taken this.
+fn validating_after(validating: Option<Place>, ask: Ask, place: Place) -> Option<Place>
+    ensures { result ≡ validating_after validating ask place }
+{
+    if is_validate(ask) {
+        Some(place)
+    } else {
+        validating
+    }
 }
 
 /// The row of a number, from 1.
@@ -275,8 +302,10 @@ fn takes_in(rows: &[Row], number: u16, ask: Ask) -> bool
     }
 }
 
-fn ask_in(rows: &mut [Row], number: u16, ask: Ask) -> Result<(), Refused>
+/// Asks the row of a number, from 1, and says where it stands.
+fn ask_in(rows: &mut [Row], number: u16, ask: Ask) -> Result<usize, Refused>
     ensures ok { OnOk result (changed_in rows.old number (asked_row ask) ≡ Some rows.new) }
+    ensures place { IfOk result (λ place. place + 1 ≡ number) }
     ensures refused { OnErr result (changed_in rows.old number (asked_row ask) ≡ None) }
     ensures unchanged { OnErr result (rows.new ≡ rows.old) }
 {
@@ -284,7 +313,8 @@ fn ask_in(rows: &mut [Row], number: u16, ask: Ask) -> Result<(), Refused>
         return Err(Refused);
     };
     let row = &mut rows[place];
-    row.ask(ask)
+    row.ask(ask)?;
+    Ok(place)
 }
 
 fn write_in(rows: &mut [Row], number: u16, field: Field<'_>) -> Result<(), Refused>
@@ -315,17 +345,14 @@ fn release_all(rows: &mut [Row])
     }
 }
 
-/// Ends the validation of each of these rows; the verdict is that on the first.
-fn settle_all(rows: &mut [Row], validator: &Validator<'_>) -> Option<Verdict>
-    requires { IsTrue (fit validator.now.face.now.fonts validator.now.defaults.now) }
+/// Ends the validation of the row at this place, the only one of these rows that is being validated.
+fn settle_in(rows: &mut [Row], place: usize, validator: &Validator<'_>) -> Verdict
+    requires fit { IsTrue (fit validator.now.face.now.fonts validator.now.defaults.now) }
+    requires only { IsOnly place rows.old }
     ensures rows { rows.new ≡ map (settled_by validator.now) rows.old }
-    ensures verdict { result ≡ option_map (verdict_by validator.now) (find row_is_validating rows.old) }
+    ensures verdict { Some result ≡ option_map (verdict_by validator.now) (find row_is_validating rows.old) }
     ensures judged { All (IsJudged validator.now) rows.old }
 {
-    let mut verdict = None;
-    for row in rows.iter_mut() {
-        let next = row.settle(validator);
-        verdict = verdict.or(next);
-    }
-    verdict
+    let row = &mut rows[place];
+    row.settle(validator)
 }

@@ -1,0 +1,271 @@
+-- The row that is being validated is known by its place.
+use Rattle.std.proofs.Common.{◌≡◌, ℕ, zero, suc, ◌+◌, ◌-◌, ◌≤◌, ◌==◌, ◌&&◌, not, Result, Ok, Err, Bool, true, false, cond, List, [], ◌∷◌, map, get_or, set, slice_set, Option, Some, None, slice_get, find, All, refl, ap, sym, subst, ◌∙◌, arith}
+use Rattle.std.specs.Prelude.{OnOk, OnErr, option_map, option_and_then}
+use Rattle.std.specs.Option.{is_some}
+use Rattle.std.proofs.lemmas.List.Elements.{All-cons}
+use Rattle.std.proofs.lemmas.Option.{get_or_from_slice_get}
+use Rattle.dms_face.specs.Face.{FaceModel}
+use Rattle.dms_table.specs.declared.row.Services.{Services}
+use Rattle.dms_table.specs.Rows.{RowModel, FieldModel, TableModel, row_is_validating, changed_in, asked_row, written_row, is_settling, may_ask}
+use Rattle.dms_table.specs.Validation.{settled_row}
+use Rattle.dms_table.specs.declared.row.Refused.{Refused}
+use Rattle.dms_table.specs.declared.table.Place.{Place}
+use Rattle.dms_table.specs.declared.table.Place.TheVariants.{Changeable, Volatile}
+use Rattle.dms_codes.specs.declared.status.Ask.{Ask}
+use Rattle.dms_codes.specs.Status.{is_validate}
+use Rattle.dms_table.specs.PlaceView.{IsOnly, IsAt, IsPlaced, validating_after}
+use Rattle.dms_table.proofs.OneRow.{count, weight, extra_of, count-cons, any_validating, unsettled, settling_is, changed_one_row, asked_weight, asked_before, asked_now, written_weight, written_before}
+
+-- ---- the first row, and those behind it
+
+is_row : (b : Bool) → Some b ≡ Some true → b ≡ true
+is_row true e = refl
+is_row false e = cc
+
+-- a row that is being validated is counted
+counted : (rows : List RowModel) (place : ℕ) → option_map row_is_validating (slice_get rows place) ≡ Some true → 1 ≤ count rows
+counted [] place e = absurd (cc)
+counted (row ∷ rows) zero e =
+    let one : weight row ≡ 1 = ap (λ b. cond {A = ℕ} b 1 0) (is_row (row_is_validating row) e) in omega (arith, count-cons row rows, one)
+counted (row ∷ rows) (suc place) e = omega (arith, count-cons row rows, counted rows place e)
+
+free_by : (b : Bool) → cond {A = ℕ} b 1 0 ≡ 0 → b ≡ false
+free_by true e = absurd (omega (arith, e))
+free_by false e = refl
+
+-- the others are not being validated
+first_alone : (row : RowModel) (rows : List RowModel) → IsOnly 0 (row ∷ rows) → count rows ≡ 0
+first_alone row rows is =
+    let one : weight row ≡ 1 = ap (λ b. cond {A = ℕ} b 1 0) (is_row (row_is_validating row) is.there) in omega (arith, count-cons row rows, one, is.one)
+
+first_free : (row : RowModel) (rows : List RowModel) (place : ℕ) → IsOnly (suc place) (row ∷ rows) → row_is_validating row ≡ false
+first_free row rows place is = free_by (row_is_validating row) (omega (arith, count-cons row rows, counted rows place is.there, is.one))
+
+behind : (row : RowModel) (rows : List RowModel) (place : ℕ) → IsOnly (suc place) (row ∷ rows) → IsOnly place rows
+behind row rows place is = record {
+  there = is.there;
+  one = let none : weight row ≡ 0 = ap (λ b. cond {A = ℕ} b 1 0) (first_free row rows place is) in omega (arith, count-cons row rows, none, is.one);
+}
+
+-- ---- what settling the row at the place makes of all rows
+
+same_row : (row other : RowModel) → Some row ≡ Some other → row ≡ other
+same_row row other e = cc
+
+free_settled : (b : Bool) (row settled : RowModel) → b ≡ false → cond b settled row ≡ row
+free_settled true row settled e = cc
+free_settled false row settled e = refl
+
+pub only_settled : (services : Services) (face : FaceModel) (rows : List RowModel) (place : ℕ) (row : RowModel) → IsOnly place rows → slice_get rows place ≡ Some row
+    → set rows place (settled_row services face row) ≡ map (settled_row services face) rows
+only_settled services face [] place row is e = absurd (cc)
+only_settled services face (first ∷ rows) zero row is e =
+    let same : first ≡ row = same_row first row e in
+    let rest : map (settled_row services face) rows ≡ rows = unsettled services face rows (any_validating rows (first_alone first rows is)) in
+    ap (λ (r : RowModel). settled_row services face r ∷ rows) (sym same) ∙ ap (λ rest. settled_row services face first ∷ rest) (sym rest)
+only_settled services face (first ∷ rows) (suc place) row is e =
+    ap (λ rest. first ∷ rest) (only_settled services face rows place row (behind first rows place is) e)
+    ∙ ap (λ (r : RowModel). r ∷ map (settled_row services face) rows) (sym (free_settled (row_is_validating first) first _ (first_free first rows place is)))
+
+find_by : (b : Bool) (row : RowModel) (o found : Option RowModel) → b ≡ true → found ≡ Some row → found ≡ cond b (Some row) o
+find_by true row o found is e = e
+find_by false row o found is e = cc
+
+find_behind : (b : Bool) (row : RowModel) (o found : Option RowModel) → b ≡ false → found ≡ o → found ≡ cond b (Some row) o
+find_behind true row o found is e = cc
+find_behind false row o found is e = e
+
+pub only_found : (rows : List RowModel) (place : ℕ) (row : RowModel) → IsOnly place rows → slice_get rows place ≡ Some row → find row_is_validating rows ≡ Some row
+only_found [] place row is e = absurd (cc)
+only_found (first ∷ rows) zero row is e =
+    sym (find_by (row_is_validating first) first (find row_is_validating rows) (Some row) (is_row (row_is_validating first) is.there) (sym e))
+only_found (first ∷ rows) (suc place) row is e =
+    sym (find_behind (row_is_validating first) first (find row_is_validating rows) (Some row) (first_free first rows place is)
+    (sym (only_found rows place row (behind first rows place is) e)))
+
+-- ---- what holds of the row that is being validated, for each row
+
+pub none_all : (P : RowModel → Type 0) (rows : List RowModel) → count rows ≡ 0 → All (λ row. row_is_validating row ≡ true → P row) rows
+none_all P [] none = λ k d within. absurd (omega arith)
+none_all P (row ∷ rows) none =
+    let free : row_is_validating row ≡ false = free_by (row_is_validating row) (omega (arith, count-cons row rows, none)) in
+    All-cons (λ row. row_is_validating row ≡ true → P row) row rows (λ is. absurd (cc)) (none_all P rows (omega (arith, count-cons row rows, none)))
+
+pub only_all : (P : RowModel → Type 0) (rows : List RowModel) (place : ℕ) (row : RowModel) → IsOnly place rows → slice_get rows place ≡ Some row
+    → (row_is_validating row ≡ true → P row) → All (λ row. row_is_validating row ≡ true → P row) rows
+only_all P [] place row is e holds = absurd (cc)
+only_all P (first ∷ rows) zero row is e holds =
+    let same : first ≡ row = same_row first row e in
+    All-cons (λ row. row_is_validating row ≡ true → P row) first rows (subst (λ row. row_is_validating row ≡ true → P row) (sym same) holds)
+    (none_all P rows (first_alone first rows is))
+only_all P (first ∷ rows) (suc place) row is e holds =
+    let free : row_is_validating first ≡ false = first_free first rows place is in
+    All-cons (λ row. row_is_validating row ≡ true → P row) first rows (λ is. absurd (cc)) (only_all P rows place row (behind first rows place is) e holds)
+
+-- the row at the place is being validated
+pub only_is : (rows : List RowModel) (place : ℕ) (row : RowModel) → IsOnly place rows → slice_get rows place ≡ Some row → row_is_validating row ≡ true
+only_is rows place row is e = is_row (row_is_validating row) (sym (ap (option_map row_is_validating) e) ∙ is.there)
+
+-- the row that a place of a slice gives
+pub only_there : (rows : List RowModel) (place : ℕ) (row : RowModel) → IsOnly place rows → row ≡ get_or rows place row → slice_get rows place ≡ Some row
+only_there rows place row is e = there_by (slice_get rows place) rows place row refl is.there e
+  where
+    there_by : (o : Option RowModel) (rows : List RowModel) (place : ℕ) (row : RowModel) → slice_get rows place ≡ o → option_map row_is_validating o ≡ Some true
+        → row ≡ get_or rows place row → slice_get rows place ≡ Some row
+    there_by None rows place row is validating e = absurd (cc)
+    there_by (Some found) rows place row is validating e = is ∙ ap Some (sym (e ∙ get_or_from_slice_get rows place found row is))
+
+-- ---- a change of one row
+
+-- the row at a place keeps its status where another row is changed
+kept_set : (rows : List RowModel) (i place : ℕ) (row new : RowModel) → slice_get rows i ≡ Some row → row_is_validating row ≡ false
+    → option_map row_is_validating (slice_get rows place) ≡ Some true → option_map row_is_validating (slice_get (set rows i new) place) ≡ Some true
+kept_set [] i place row new e free there = absurd (cc)
+kept_set (first ∷ rows) zero zero row new e free there =
+    let same : row_is_validating first ≡ row_is_validating row = ap row_is_validating (same_row first row e) in
+    let is : row_is_validating first ≡ true = is_row (row_is_validating first) there in
+    absurd (cc)
+kept_set (first ∷ rows) zero (suc place) row new e free there = there
+kept_set (first ∷ rows) (suc i) zero row new e free there = there
+kept_set (first ∷ rows) (suc i) (suc place) row new e free there = kept_set rows i place row new e free there
+
+set_there : (rows : List RowModel) (i : ℕ) (row new : RowModel) → slice_get rows i ≡ Some row → slice_get (set rows i new) i ≡ Some new
+set_there [] i row new e = absurd (cc)
+set_there (first ∷ rows) zero row new e = refl
+set_there (first ∷ rows) (suc i) row new e = set_there rows i row new e
+
+kept_one : (rows more : List RowModel) (i place : ℕ) (row : RowModel) (o : Option RowModel) → (is_some o ≡ true → row_is_validating row ≡ false)
+    → slice_get rows i ≡ Some row → option_map (slice_set rows i) o ≡ Some more
+    → option_map row_is_validating (slice_get rows place) ≡ Some true → option_map row_is_validating (slice_get more place) ≡ Some true
+kept_one rows more i place row None free e changed there = absurd (cc)
+kept_one rows more i place row (Some new) free e changed there =
+    let same : set rows i new ≡ more = cc in
+    subst (λ (rows : List RowModel). option_map row_is_validating (slice_get rows place) ≡ Some true) same (kept_set rows i place row new e (free refl) there)
+
+put_one : (rows more : List RowModel) (i : ℕ) (row : RowModel) (o : Option RowModel) → ((new : RowModel) → o ≡ Some new → row_is_validating new ≡ true)
+    → slice_get rows i ≡ Some row → option_map (slice_set rows i) o ≡ Some more → option_map row_is_validating (slice_get more i) ≡ Some true
+put_one rows more i row None is e changed = absurd (cc)
+put_one rows more i row (Some new) is e changed =
+    let same : set rows i new ≡ more = cc in
+    subst (λ (rows : List RowModel). option_map row_is_validating (slice_get rows i) ≡ Some true) same
+    (ap (option_map row_is_validating) (set_there rows i row new e) ∙ ap Some (is new refl))
+
+-- what a change takes is not being validated
+abbrev Frees : (RowModel → Option RowModel) → Type 0
+Frees change = (row : RowModel) → is_some (change row) ≡ true → row_is_validating row ≡ false
+
+kept_by : (b : Bool) (o : Option RowModel) (rows more : List RowModel) (i place : ℕ) (change : RowModel → Option RowModel) → Frees change → slice_get rows i ≡ o
+    → option_and_then (λ row. option_map (slice_set rows i) (change row)) (cond b None o) ≡ Some more
+    → option_map row_is_validating (slice_get rows place) ≡ Some true → option_map row_is_validating (slice_get more place) ≡ Some true
+kept_by true o rows more i place change frees e changed there = absurd (cc)
+kept_by false None rows more i place change frees e changed there = absurd (cc)
+kept_by false (Some row) rows more i place change frees e changed there = kept_one rows more i place row (change row) (frees row) e changed there
+
+put_by : (b : Bool) (o : Option RowModel) (rows more : List RowModel) (i : ℕ) (change : RowModel → Option RowModel)
+    → ((row new : RowModel) → change row ≡ Some new → row_is_validating new ≡ true) → slice_get rows i ≡ o
+    → option_and_then (λ row. option_map (slice_set rows i) (change row)) (cond b None o) ≡ Some more
+    → option_map row_is_validating (slice_get more i) ≡ Some true
+put_by true o rows more i change are e changed = absurd (cc)
+put_by false None rows more i change are e changed = absurd (cc)
+put_by false (Some row) rows more i change are e changed = put_one rows more i row (change row) (are row) e changed
+
+-- a change that validates no row leaves the place
+kept_at : (validating : Option ℕ) (rows more : List RowModel) (number : ℕ) (change : RowModel → Option RowModel) → Frees change
+    → changed_in rows number change ≡ Some more → count more ≡ count rows → IsAt validating rows → IsAt validating more
+kept_at None rows more number change frees changed same is = same ∙ is
+kept_at (Some place) rows more number change frees changed same is = record {
+  there = kept_by (number == 0) (slice_get rows (number - 1)) rows more (number - 1) place change frees refl changed is.there;
+  one = same ∙ is.one;
+}
+
+-- ---- asking
+
+asked_kept : (validating : Option ℕ) (rows more : List RowModel) (number : ℕ) (ask : Ask) → is_validate ask ≡ false
+    → changed_in rows number (asked_row ask) ≡ Some more → IsAt validating rows → IsAt validating more
+asked_kept validating rows more number ask other changed is =
+    let none : extra_of ask ≡ 0 = ap (λ b. cond {A = ℕ} b 1 0) other in
+    let same : count more ≡ count rows = omega (arith, none, changed_one_row rows more number (extra_of ask) (asked_row ask) (asked_weight ask) changed) in
+    kept_at validating rows more number (asked_row ask) (asked_before ask) changed same is
+
+asked_put : (rows more : List RowModel) (number place : ℕ) (ask : Ask) → is_validate ask ≡ true → place + 1 ≡ number
+    → changed_in rows number (asked_row ask) ≡ Some more → count rows ≡ 0 → IsOnly place more
+asked_put rows more number place ask asks numbered changed none = record {
+  there = (let here : number - 1 ≡ place = omega (arith, numbered) in
+      subst (λ (i : ℕ). option_map row_is_validating (slice_get more i) ≡ Some true) here
+      (put_by (number == 0) (slice_get rows (number - 1)) rows more (number - 1) (asked_row ask) (λ row new e. asked_now ask row new asks e) refl changed));
+  one = (let extra : extra_of ask ≡ 1 = ap (λ b. cond {A = ℕ} b 1 0) asks in
+      omega (arith, extra, none, changed_one_row rows more number (extra_of ask) (asked_row ask) (asked_weight ask) changed));
+}
+
+asked_changeable_by : (asks : Bool) (validating : Option Place) (ask : Ask) (changeable volatile more : List RowModel) (number place : ℕ) → is_validate ask ≡ asks
+    → (asks && is_some validating) ≡ false → place + 1 ≡ number → changed_in changeable number (asked_row ask) ≡ Some more
+    → IsPlaced validating changeable volatile → IsPlaced (cond asks (Some (Changeable place)) validating) more volatile
+asked_changeable_by true (Some other) ask changeable volatile more number place asks free numbered changed is = absurd (cc)
+asked_changeable_by true None ask changeable volatile more number place asks free numbered changed is =
+    record { in_changeable = asked_put changeable more number place ask asks numbered changed is.in_changeable; in_volatile = is.in_volatile }
+asked_changeable_by false validating ask changeable volatile more number place asks free numbered changed is =
+    record { in_changeable = asked_kept _ changeable more number ask asks changed is.in_changeable; in_volatile = is.in_volatile }
+
+asked_volatile_by : (asks : Bool) (validating : Option Place) (ask : Ask) (changeable volatile more : List RowModel) (number place : ℕ) → is_validate ask ≡ asks
+    → (asks && is_some validating) ≡ false → place + 1 ≡ number → changed_in volatile number (asked_row ask) ≡ Some more
+    → IsPlaced validating changeable volatile → IsPlaced (cond asks (Some (Volatile place)) validating) changeable more
+asked_volatile_by true (Some other) ask changeable volatile more number place asks free numbered changed is = absurd (cc)
+asked_volatile_by true None ask changeable volatile more number place asks free numbered changed is =
+    record { in_changeable = is.in_changeable; in_volatile = asked_put volatile more number place ask asks numbered changed is.in_volatile }
+asked_volatile_by false validating ask changeable volatile more number place asks free numbered changed is =
+    record { in_changeable = is.in_changeable; in_volatile = asked_kept _ volatile more number ask asks changed is.in_volatile }
+
+-- ---- whether a row is being validated
+
+placed_count : (validating : Option Place) (changeable volatile : List RowModel) → IsPlaced validating changeable volatile
+    → count changeable + count volatile ≡ cond (is_some validating) 1 0
+placed_count None changeable volatile is = omega (arith, is.in_changeable, is.in_volatile)
+placed_count (Some (Changeable place)) changeable volatile is = omega (arith, is.in_changeable.one, is.in_volatile)
+placed_count (Some (Volatile place)) changeable volatile is = omega (arith, is.in_changeable, is.in_volatile.one)
+
+pub placed_most : (validating : Option Place) (changeable volatile : List RowModel) → IsPlaced validating changeable volatile
+    → count changeable + count volatile ≤ 1
+placed_most None changeable volatile is = omega (arith, is.in_changeable, is.in_volatile)
+placed_most (Some (Changeable place)) changeable volatile is = omega (arith, is.in_changeable.one, is.in_volatile)
+placed_most (Some (Volatile place)) changeable volatile is = omega (arith, is.in_changeable, is.in_volatile.one)
+
+pub placed_settling : (validating : Option Place) (table : TableModel) → IsPlaced validating table.changeable table.volatile → is_settling table ≡ is_some validating
+placed_settling validating table is =
+    settling_is (is_some validating) table.changeable table.volatile (placed_count validating table.changeable table.volatile is)
+
+free_after : (asks has settling : Bool) → settling ≡ has → not (asks && settling) ≡ true → (asks && has) ≡ false
+free_after true true settling is may = cc
+free_after true false settling is may = refl
+free_after false has settling is may = refl
+
+may_place : (validating : Option Place) (table : TableModel) (ask : Ask) → IsPlaced validating table.changeable table.volatile → may_ask table ask ≡ true
+    → (is_validate ask && is_some validating) ≡ false
+may_place validating table ask is may = free_after (is_validate ask) (is_some validating) (is_settling table) (placed_settling validating table is) may
+
+-- a changeable row has taken what it was asked
+pub asked_changeable : (validating after : Option Place) (table : TableModel) (ask : Ask) (more : List RowModel) (number place : ℕ)
+    → IsPlaced validating table.changeable table.volatile → may_ask table ask ≡ true → place + 1 ≡ number
+    → changed_in table.changeable number (asked_row ask) ≡ Some more → after ≡ validating_after validating ask (Changeable place)
+    → IsPlaced after more table.volatile
+asked_changeable validating after table ask more number place is may numbered changed e =
+    subst (λ (v : Option Place). IsPlaced v more table.volatile) (sym e)
+    (asked_changeable_by (is_validate ask) validating ask table.changeable table.volatile more number place refl (may_place validating table ask is may) numbered changed is)
+
+-- a volatile row has taken what it was asked
+pub asked_volatile : (validating after : Option Place) (table : TableModel) (ask : Ask) (more : List RowModel) (number place : ℕ)
+    → IsPlaced validating table.changeable table.volatile → may_ask table ask ≡ true → place + 1 ≡ number
+    → changed_in table.volatile number (asked_row ask) ≡ Some more → after ≡ validating_after validating ask (Volatile place)
+    → IsPlaced after table.changeable more
+asked_volatile validating after table ask more number place is may numbered changed e =
+    subst (λ (v : Option Place). IsPlaced v table.changeable more) (sym e)
+    (asked_volatile_by (is_validate ask) validating ask table.changeable table.volatile more number place refl (may_place validating table ask is may) numbered changed is)
+
+-- ---- writing
+
+-- a row was written, or not
+pub written_at : (validating : Option ℕ) (field : FieldModel) (rows more : List RowModel) (number : ℕ) (result : Result Unit Refused)
+    → OnOk result (changed_in rows number (written_row field) ≡ Some more) → OnErr result (more ≡ rows) → IsAt validating rows → IsAt validating more
+written_at validating field rows more number (Ok done) ok unchanged is =
+    let same : count more ≡ count rows = omega (arith, changed_one_row rows more number 0 (written_row field) (written_weight field) ok) in
+    kept_at validating rows more number (written_row field) (written_before field) ok same is
+written_at validating field rows more number (Err refused) ok unchanged is = subst (IsAt validating) (sym unchanged) is
