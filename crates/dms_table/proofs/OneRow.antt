@@ -198,27 +198,6 @@ settling_is false xs ys sum =
     let none : list_any row_is_validating xs ≡ false = any_validating xs (omega (arith, sum)) in
     ap (λ b. b || list_any row_is_validating ys) none ∙ any_validating ys (omega (arith, sum))
 
-pub at_most_one : (b : Bool) (n : ℕ) → n ≡ cond b 1 0 → n ≤ 1
-at_most_one true n is = omega (arith, is)
-at_most_one false n is = omega (arith, is)
-
--- after a row took what it was asked
-pub one_more : (table : TableModel) (ask : Ask) (asks before : Bool) (xs ys new : List RowModel) (number : ℕ)
-    → may_ask table ask ≡ true → asks ≡ is_validate ask → before ≡ is_settling table → count xs + count ys ≡ cond before 1 0
-    → changed_in xs number (asked_row ask) ≡ Some new → count new + count ys ≡ cond (before || asks) 1 0
-one_more table ask asks before xs ys new number may asks_is known sum changed =
-    let grows : count new ≡ count xs + extra_of ask = changed_one_row xs new number (extra_of ask) (asked_row ask) (asked_weight ask) changed in
-    let extra : extra_of ask ≡ cond {A = ℕ} asks 1 0 = ap (λ b. cond {A = ℕ} b 1 0) (sym asks_is) in
-    let both : count new + count ys ≡ cond {A = ℕ} before 1 0 + cond {A = ℕ} asks 1 0 = omega (arith, grows, extra, sum) in
-    let free : not (asks && before) ≡ true = ap (λ b. not (b && before)) asks_is ∙ ap (λ b. not (is_validate ask && b)) known ∙ may in
-    both ∙ by_bits asks before free
-  where
-    by_bits : (asks before : Bool) → not (asks && before) ≡ true → cond {A = ℕ} before 1 0 + cond {A = ℕ} asks 1 0 ≡ cond (before || asks) 1 0
-    by_bits true true may = cc
-    by_bits true false may = omega arith
-    by_bits false true may = omega arith
-    by_bits false false may = omega arith
-
 -- ---- writing
 
 field_weight : (row : RowModel) (field : FieldModel) → weight (with_field row field) ≡ weight row

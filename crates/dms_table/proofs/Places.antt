@@ -223,12 +223,6 @@ placed_count None changeable volatile is = omega (arith, is.in_changeable, is.in
 placed_count (Some (Changeable place)) changeable volatile is = omega (arith, is.in_changeable.one, is.in_volatile)
 placed_count (Some (Volatile place)) changeable volatile is = omega (arith, is.in_changeable, is.in_volatile.one)
 
-pub placed_most : (validating : Option Place) (changeable volatile : List RowModel) → IsPlaced validating changeable volatile
-    → count changeable + count volatile ≤ 1
-placed_most None changeable volatile is = omega (arith, is.in_changeable, is.in_volatile)
-placed_most (Some (Changeable place)) changeable volatile is = omega (arith, is.in_changeable.one, is.in_volatile)
-placed_most (Some (Volatile place)) changeable volatile is = omega (arith, is.in_changeable, is.in_volatile.one)
-
 pub placed_settling : (validating : Option Place) (table : TableModel) → IsPlaced validating table.changeable table.volatile → is_settling table ≡ is_some validating
 placed_settling validating table is =
     settling_is (is_some validating) table.changeable table.volatile (placed_count validating table.changeable table.volatile is)
