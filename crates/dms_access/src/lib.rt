@@ -7,5 +7,5 @@ pub mod met_names;
 pub mod settings;
 
 pub use access::{Change, is_settable, write_of};
-pub use met_names::{Slots, was_given, with_name};
-pub use settings::{Fallbacks, Settings, with_change};
+pub use met_names::{Slots, mark_name, was_given};
+pub use settings::{Fallbacks, Settings};

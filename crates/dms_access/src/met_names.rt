@@ -65,12 +65,10 @@ fn is_taken(slots: &Slots, name: &Oid<'_>) -> bool
 }
 
 /// Marks the slot of a binding's name.
-pub fn with_name(slots: Slots, name: &Oid<'_>) -> Slots
-    ensures { (bindings : List VarBind) (binding : VarBind) → binding.name ≡ name.now → AreTaken slots bindings
-        → AreTaken result (bindings ++ binding ∷ []) }
+pub fn mark_name(slots: &mut Slots, name: &Oid<'_>)
+    ensures { (bindings : List VarBind) (binding : VarBind) → binding.name ≡ name.now → AreTaken slots.old bindings
+        → AreTaken slots.new (bindings ++ binding ∷ []) }
 {
     let slot = content_slot(name.content());
-    let mut slots = slots;
     slots[slot / 64] |= 1 << (slot % 64);
-    slots
 }

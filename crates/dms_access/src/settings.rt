@@ -59,31 +59,26 @@ impl Settings {
             defaults,
         }
     }
-}
 
-/// With what a binding writes beside the fields of rows.
-#[tactic(auto, unfolding(crate::specs::SettingsView::set_by, crate::specs::SettingsView::codes_by))]
-pub fn with_change(settings: Settings, change: &Change<'_>) -> Settings
-    requires { IsChange change.now }
-    ensures { result ≡ set_by settings (write_by change.now ∷ []) }
-{
-    match change {
-        Change::Number(object, number) => with_number(settings, *object, *number),
-        Change::Code(object, code) => Settings {
-            fallbacks: with_code(settings.fallbacks, *object, code),
-            ..settings
-        },
-        Change::Field(..) | Change::Ask(..) | Change::Activate(_) | Change::Remaining(_) =>
-            settings,
+    /// Assigns what a binding writes beside the fields of rows.
+    #[tactic(auto, unfolding(crate::specs::SettingsView::set_by, crate::specs::SettingsView::codes_by))]
+    pub fn assign(&mut self, change: &Change<'_>)
+        requires { IsChange change.now }
+        ensures { self.new ≡ set_by self.old (write_by change.now ∷ []) }
+    {
+        match change {
+            Change::Number(object, number) => assign_number(self, *object, *number),
+            Change::Code(object, code) => assign_code(&mut self.fallbacks, *object, code),
+            Change::Field(..) | Change::Ask(..) | Change::Activate(_) | Change::Remaining(_) => {}
+        }
     }
 }
 
 #[tactic(auto, unfolding(crate::specs::SettingsView::set_by, crate::specs::SettingsView::codes_by))]
-fn with_number(settings: Settings, object: Scalar, number: u16) -> Settings
+fn assign_number(settings: &mut Settings, object: Scalar, number: u16)
     requires { IsChange (changes.Number object number) }
-    ensures { result ≡ set_by settings (SetNumber object number ∷ []) }
+    ensures { settings.new ≡ set_by settings.old (SetNumber object number ∷ []) }
 {
-    let mut settings = settings;
     match object {
         Scalar::ShortPowerLossTime => settings.short_power_loss_time = number,
         Scalar::TimeCommLoss => settings.time_comm_loss = number,
@@ -98,24 +93,20 @@ fn with_number(settings: Settings, object: Scalar, number: u16) -> Settings
         Scalar::DefaultPageOffTime => settings.defaults.off = number as u8,
         _ => {}
     }
-    settings
 }
 
 #[tactic(auto, unfolding(crate::specs::SettingsView::codes_by))]
-fn with_code(fallbacks: Fallbacks, object: Scalar, code: &[u8; 5]) -> Fallbacks
-    ensures { result ≡ codes_by fallbacks (SetCode object code.now ∷ []) }
+fn assign_code(fallbacks: &mut Fallbacks, object: Scalar, code: &[u8; 5])
+    ensures { fallbacks.new ≡ codes_by fallbacks.old (SetCode object code.now ∷ []) }
 {
-    let code = *code;
-    let mut fallbacks = fallbacks;
     match object {
-        Scalar::ShortPowerRecoveryMessage => fallbacks.short_power_recovery = code,
-        Scalar::LongPowerRecoveryMessage => fallbacks.long_power_recovery = code,
-        Scalar::PowerLossMessage => fallbacks.power_loss = code,
-        Scalar::EndDurationMessage => fallbacks.end_duration = code,
-        Scalar::CommunicationsLossMessage => fallbacks.communications_loss = code,
+        Scalar::ShortPowerRecoveryMessage => fallbacks.short_power_recovery = *code,
+        Scalar::LongPowerRecoveryMessage => fallbacks.long_power_recovery = *code,
+        Scalar::PowerLossMessage => fallbacks.power_loss = *code,
+        Scalar::EndDurationMessage => fallbacks.end_duration = *code,
+        Scalar::CommunicationsLossMessage => fallbacks.communications_loss = *code,
         _ => {}
     }
-    fallbacks
 }
 
 /// Each default is an octet.

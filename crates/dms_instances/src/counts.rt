@@ -3,6 +3,7 @@
 ghost use Rattle.std.specs.Prelude.{◌≡◌, ◌≤◌, ◌<◌, ℕ, true, length, IfSome};
 ghost use Rattle.dms_table.specs.Rows.{TableModel};
 ghost use Rattle.dms_objects.specs.Names.{name_of};
+ghost use Rattle.dms_objects.specs.declared.instance.Instance.TheVariants.{The, Cell};
 ghost use Rattle.dms_instances.specs.Objects.{has_name, comes_after, instance_named, next_instance, IsInstance};
 ghost use Rattle.dms_instances.specs.Places.{HasCounts, last_number, row_total, place_total, row_at, instance_at, IsBetween};
 
@@ -280,8 +281,37 @@ fn comes_after(name: &Oid<'_>, instance: Instance) -> bool
     oid_cmp(name, &Name::of(instance).oid()) == Ordering::Less
 }
 
+/// Whether the instance has this name, which is compared with octets that stand on the stack where it is short.
 fn has_name(name: &Oid<'_>, instance: Instance) -> bool
     ensures { result ≡ has_name name.now instance }
 {
-    Name::of(instance).oid() == *name
+    match instance {
+        Instance::The(object) => has_object_name(name, object),
+        Instance::Cell(column, row) if row.memory < 128 && row.number < 128 => {
+            has_cell_name(name, column, row.memory, row.number as u8)
+        }
+        _ => Name::of(instance).oid() == *name,
+    }
+}
+
+#[inline]
+fn has_object_name(name: &Oid<'_>, object: Scalar) -> bool
+    ensures { result ≡ has_name name.now (The object) }
+{
+    let (group, number) = object.number();
+    let octets = [43, 6, 1, 4, 1, 137, 54, 4, 2, 3, group, number, 0];
+    Oid::known(&octets) == *name
+}
+
+#[inline]
+fn has_cell_name(name: &Oid<'_>, column: Column, memory: u8, number: u8) -> bool
+    requires memory { memory < 128 }
+    requires number { number < 128 }
+    ensures { result ≡ has_name name.now (Cell column (record { memory = memory; number = number })) }
+{
+    let column = column.number();
+    let octets = [
+        43, 6, 1, 4, 1, 137, 54, 4, 2, 3, 5, 8, 1, column, memory, number,
+    ];
+    Oid::known(&octets) == *name
 }

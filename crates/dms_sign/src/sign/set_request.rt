@@ -17,9 +17,7 @@ ghost use Rattle.dms_access.specs.Slots.{AreTaken};
 ghost use Rattle.dms_sign.specs.Requests.{writes_of, command_index};
 
 use crate::sign::Sign;
-use dms_access::{
-    Change, Settings, Slots, is_settable, was_given, with_change, with_name, write_of,
-};
+use dms_access::{Change, Settings, Slots, is_settable, mark_name, was_given, write_of};
 use dms_codes::Status;
 use dms_face::Face;
 use dms_instances::Counts;
@@ -141,8 +139,8 @@ impl Sign {
             match self.change_at(may_write, binds, index, &slots, commanded, &binding) {
                 Ok(change) => {
                     index += 1;
-                    slots = with_name(slots, &binding.name);
-                    judged = with(judged, index, change);
+                    mark_name(&mut slots, &binding.name);
+                    judged.note(index, change);
                 }
                 Err(status) => {
                     return Err(Refusal {
@@ -156,29 +154,20 @@ impl Sign {
     }
 }
 
-/// With what the binding of this index writes.
-fn with<'a>(judged: Judged<'a>, index: u32, change: Change<'a>) -> Judged<'a>
-    requires { IsChange change }
-    ensures settings { result.settings ≡ set_by judged.entry.settings (write_by change.entry ∷ []) }
-    ensures fields { result.fields ≡ judged.entry.fields || is_field (write_by change.entry) }
-    ensures command { option_map write_by result.command ≡ (if is_command (write_by change.entry) then Some (write_by change.entry) else option_map write_by judged.entry.command) }
-    ensures index { result.index ≡ (if is_command (write_by change.entry) then index else judged.entry.index) }
-{
-    let settings = with_change(judged.settings, &change);
-    let fields = judged.fields || matches!(change, Change::Field(..));
-    if change.is_command() {
-        Judged {
-            settings,
-            fields,
-            index,
-            command: Some(change),
-        }
-    } else {
-        Judged {
-            settings,
-            fields,
-            index: judged.index,
-            command: judged.command,
+impl<'a> Judged<'a> {
+    /// Notes what the binding of this index writes.
+    fn note(&mut self, index: u32, change: Change<'a>)
+        requires { IsChange change }
+        ensures settings { self.new.settings ≡ set_by self.old.settings (write_by change.entry ∷ []) }
+        ensures fields { self.new.fields ≡ self.old.fields || is_field (write_by change.entry) }
+        ensures command { option_map write_by self.new.command ≡ (if is_command (write_by change.entry) then Some (write_by change.entry) else option_map write_by self.old.command) }
+        ensures index { self.new.index ≡ (if is_command (write_by change.entry) then index else self.old.index) }
+    {
+        self.settings.assign(&change);
+        self.fields = self.fields || matches!(change, Change::Field(..));
+        if change.is_command() {
+            self.index = index;
+            self.command = Some(change);
         }
     }
 }

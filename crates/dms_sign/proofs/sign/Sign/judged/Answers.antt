@@ -30,12 +30,12 @@ loop-binding-preserved c =
     c.loop-binding.rest c.next.new.self b c.loop-binding.invariant.0 c.in-Some.ensures.steps
     in (
       judged_more c.args.self.now c.args.may_write c.args.binds.now c.args.settings index c.loop-binding.judged.settings c.loop-binding.judged.index
-          command c.loop-binding.rest c.next.new.self b w c.with-judged.result.settings c.with-judged.result.index
-          (option_map write_by c.with-judged.result.command) c.loop-binding.invariant.0 c.in-Some.ensures.steps c.in-Ok.ensures.none c.in-Ok.ensures.change
-          alone c.with-judged.ensures.settings c.with-judged.ensures.command c.with-judged.ensures.index,
-      subst (AreTaken c.with_name-slots.result) next (c.with_name-slots.ensures (take index c.args.binds.now) b refl c.loop-binding.invariant.1),
+          command c.loop-binding.rest c.next.new.self b w c.note.new.self.settings c.note.new.self.index
+          (option_map write_by c.note.new.self.command) c.loop-binding.invariant.0 c.in-Some.ensures.steps c.in-Ok.ensures.none c.in-Ok.ensures.change
+          alone c.note.ensures.settings c.note.ensures.command c.note.ensures.index,
+      subst (AreTaken c.mark_name.new.slots) next (c.mark_name.ensures (take index c.args.binds.now) b refl c.loop-binding.invariant.1),
       stays_more c.args.self.now (take index c.args.binds.now) (take (index + 1) c.args.binds.now) b w c.loop-binding.judged.fields
-          c.with-judged.result.fields c.in-Ok.ensures.change next c.with-judged.ensures.fields c.loop-binding.invariant.2,
+          c.note.new.self.fields c.in-Ok.ensures.change next c.note.ensures.fields c.loop-binding.invariant.2,
     )
 
 pub returns-in-Err-clause-first : goal.returns-in-Err-clause-first

@@ -2,16 +2,16 @@ use Rattle.std.proofs.Common.{◌≡◌, ◌<◌, ◌/◌, ◌%◌, true, length
 use Rattle.dms_ber.specs.ObjectIdentifier.{name_octets}
 use Rattle.dms_access.specs.Slots.{content_slot, slot_of, is_taken}
 use Rattle.dms_access.proofs.TakenSlots.{marked, taken_stays, marked_taken, more_taken}
-use Rattle.dms_access.proofs.met_names.with_name.Goals as goal
+use Rattle.dms_access.proofs.met_names.mark_name.Goals as goal
 
 pub returns : goal.returns
 returns c = λ bindings b e taken.
     let slot = c.content_slot-slot.result in
     let few = c.content_slot-slot.ensures.few in
     let small : slot % 64 < 64 = omega arith in
-    let there : slot / 64 < length c.args.slots = omega arith in
+    let there : slot / 64 < length c.args.slots.now = omega arith in
     let is : slot ≡ slot_of b.name =
     c.content_slot-slot.ensures.slot ∙ ap content_slot c.content.ensures ∙ ap (λ n. content_slot (name_octets n)) (sym e)
     in
-    more_taken c.args.slots (marked c.args.slots slot) bindings b (λ other h. taken_stays c.args.slots slot other small there h)
-    (subst (λ k. is_taken (marked c.args.slots slot) k ≡ true) is (marked_taken c.args.slots slot small there)) taken
+    more_taken c.args.slots.now (marked c.args.slots.now slot) bindings b (λ other h. taken_stays c.args.slots.now slot other small there h)
+    (subst (λ k. is_taken (marked c.args.slots.now slot) k ≡ true) is (marked_taken c.args.slots.now slot small there)) taken
