@@ -6,13 +6,13 @@ use Rattle.std.proofs.lemmas.Option.{same_Some}
 use Rattle.dms_text.specs.Words.{words_of}
 use Rattle.dms_text.specs.Octets.{SpellsOctets}
 use Rattle.dms_text.specs.Reading.{same_octets, word_at}
-use Rattle.dms_text.proofs.WordLaws.{begun, word_found}
+use Rattle.dms_text.proofs.WordLaws.{begun, word_found, same_found}
 use Rattle.dms_codes.specs.declared.codes.Order.{Order}
 use Rattle.dms_centre.specs.Commands.{CommandModel, Publish, Blank, Activate}
 use Rattle.dms_world.specs.Event as event
 use Rattle.dms_replay.specs.EventLine.{SpellsOne, SpellsCommand, SpellsEventWords}
 use Rattle.dms_replay.specs.EventReading.{alone, last_octets_at, event_of}
-use Rattle.dms_replay.proofs.EventLaws.{same_word, made_of, alone_found, last_octets_found, last_octets_only, event_found, event_only}
+use Rattle.dms_replay.proofs.EventLaws.{made_of, alone_found, last_octets_found, last_octets_only, event_found, event_only}
 use Rattle.dms_centre_lines.specs.Calls.{CentreCall, command, datagram, tick, restart, status}
 use Rattle.dms_centre_lines.specs.CallReading.{call_after, plain_call_at, command_of, or_command, call_of}
 use Rattle.dms_centre_lines.specs.SpelledCalls.{SpellsCallWords, SpellsCentreCall, SpellsNoCall}
@@ -24,7 +24,7 @@ hit_or : (word keyword : List ℕ) (this others : Option CentreCall) (call : Cen
     → ((word ≡ keyword) × (this ≡ Some call)) ⊎ (others ≡ Some call)
 hit_or word keyword this others call e =
     elim (cases_Bool (same_octets word keyword)) [
-      | inl same ↦ inl (same_word _ _ same, ap (λ b. cond b this others) (sym same) ∙ e)
+      | inl same ↦ inl (same_found _ _ same, ap (λ b. cond b this others) (sym same) ∙ e)
       | inr other ↦ inr (ap (λ b. cond b this others) (sym other) ∙ e)
     ]
 

@@ -6,7 +6,7 @@ use Rattle.std.proofs.lemmas.Option.{same_Some, cond_some}
 use Rattle.std.proofs.lemmas.List.{append-nil, length-replicate}
 use Rattle.dms_text.specs.Words.{words_of}
 use Rattle.dms_text.specs.Reading.{word_at, keyword_at, ◌>>=◌}
-use Rattle.dms_text.proofs.WordLaws.{begun, goes_on}
+use Rattle.dms_text.proofs.WordLaws.{begun, goes_on, same_found}
 use Rattle.dms_font.specs.Font.{FontModel}
 use Rattle.dms_font.specs.FontText.{SpellsHeader}
 use Rattle.dms_table.specs.Rows.{RowModel, unused}
@@ -16,7 +16,6 @@ use Rattle.dms_description.specs.Fields.{SpellsEach}
 use Rattle.dms_description.specs.Description.{Description, SpellsSign, SpellsPermanentLine, SpellsFonts}
 use Rattle.dms_description.specs.DescriptionReading.{row_words, row_of, rows_from, fonts_at, end_at, HeadModel, described, body_at, description_at}
 use Rattle.dms_description.specs.Setups.{BeginsWith}
-use Rattle.dms_description.proofs.WordReading.{same_found}
 use Rattle.dms_description.proofs.HeadLaws.{size_found, size_only, communities_found, communities_only, rows_found, rows_only, order_line_found, order_line_only, services_found, services_only, first_found, first_only}
 use Rattle.dms_description.proofs.DefaultsLaws.{defaults_found, defaults_only}
 use Rattle.dms_description.proofs.FirstLines.{FoundHead, head_found, head_only}

@@ -22,9 +22,9 @@ use Rattle.dms_description.proofs.DescriptionLaws.{read_is_spelled, none_begins,
 -- the answer of `made` is about the parts
 pub made_of_parts : (parts : Parts) (rows : List OwnedRow) (made found : Option SignState) → rows ≡ parts.rows.items → made ≡ found
     → MadeOrRefused (described (head_seen parts.head) (map row_seen rows) parts.fonts.items) made → MadeOrRefused (parts_seen parts) found
-made_of_parts parts rows made found are is told =
+made_of_parts parts rows made found are is answer =
     subst (MadeOrRefused (parts_seen parts)) is
-    (subst (λ (all : List OwnedRow). MadeOrRefused (described (head_seen parts.head) (map row_seen all) parts.fonts.items) made) are told)
+    (subst (λ (all : List OwnedRow). MadeOrRefused (described (head_seen parts.head) (map row_seen all) parts.fonts.items) made) are answer)
 
 pub is_made : (lines rest : List (List ℕ)) (parts : Parts) (sign : SignState) (setup : Setup) → description_at lines ≡ Some (parts_seen parts, rest) → MadeOrRefused (parts_seen parts) (Some sign)
     → setup.sign ≡ sign → setup.first ≡ parts.head.first → (it : Description) × BeginsWith lines rest it × IsMade it setup

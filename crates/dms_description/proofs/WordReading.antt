@@ -1,28 +1,16 @@
 -- What single words and whole lines of words spell is what is read of them.
 use Rattle.std.proofs.Common.{◌≡◌, ℕ, ◌<◌, ◌≤◌, ◌==◌, Bool, true, false, cond, List, [], ◌∷◌, length, Option, Some, None, refl, sym, ap, subst, ◌∙◌, arith, inl, inr}
 use Rattle.std.specs.Prelude.{codes}
-use Rattle.std.proofs.lemmas.Bool.{and_parts, eqb-true, eqb-false, eq-eqb, cases_Bool}
+use Rattle.std.proofs.lemmas.Bool.{eqb-true, eqb-false, eq-eqb, cases_Bool}
 use Rattle.std.proofs.lemmas.Option.{cond_some, same_Some}
 use Rattle.dms_text.specs.Numbers.{SpellsNumber, SpellsDecimal}
 use Rattle.dms_text.specs.Reading.{keyword_at, decimal_at, same_octets, is_end, ◌>>=◌}
-use Rattle.dms_text.proofs.WordLaws.{begun, goes_on, word_found, word_only, keyword_found, keyword_only, decimal_found, decimal_only}
+use Rattle.dms_text.proofs.WordLaws.{begun, goes_on, same_found, word_found, word_only, keyword_found, keyword_only, decimal_found, decimal_only}
 use Rattle.dms_text.proofs.NumberLaws.{number_found, number_only, within_found, within_only}
 use Rattle.dms_codes.specs.declared.codes.Order.{Order}
 use Rattle.dms_codes.specs.declared.codes.Order.TheVariants.{High, Swapped}
 use Rattle.dms_description.specs.Fields.{SpellsFlag, SpellsOrder, SpellsFourOctets}
 use Rattle.dms_description.specs.DescriptionReading.{if_last, order_named}
-
--- ---- octets
-
-pub same_found : (xs ys : List ℕ) → same_octets xs ys ≡ true → xs ≡ ys
-same_found [] [] e = refl
-same_found [] (y ∷ ys) e = absurd (let never : false ≡ true = e in cc)
-same_found (x ∷ xs) [] e = absurd (let never : false ≡ true = e in cc)
-same_found (x ∷ xs) (y ∷ ys) e =
-    let parts = and_parts _ _ e in
-    let head : x ≡ y = eqb-true x y parts.0 in
-    let tail : xs ≡ ys = same_found xs ys parts.1 in
-    cc
 
 -- ---- the end of a line
 

@@ -87,10 +87,10 @@ one_more_line octets text rest line before is some tested =
     let name = line_of line in
     let single : lines line ≡ name ∷ [] = ap lines is ∙ alone rest some_rest ∙ ap (λ l. line_of l ∷ []) (sym is) in
     let more_lines : lines (text ++ line) ≡ lines text ++ (name ∷ []) = before.closed some_rest line ∙ ap (λ l. lines text ++ l) single in
-    let behind = drop_through 10 rest in record {
-      whole = before.whole ∙ ap (λ l. text ++ l) (sym (both rest) ∙ ap (λ l. l ++ behind) (sym is)) ∙ sym (append_assoc text line behind);
-      cut = before.cut ∙ ap (λ l. lines text ++ l) (first_line_is rest some_rest ∙ ap (λ l. line_of l ∷ lines behind) (sym is))
-          ∙ sym (append_assoc (lines text) (name ∷ []) (lines behind)) ∙ ap (λ l. l ++ lines behind) (sym more_lines);
+    let later = drop_through 10 rest in record {
+      whole = before.whole ∙ ap (λ l. text ++ l) (sym (both rest) ∙ ap (λ l. l ++ later) (sym is)) ∙ sym (append_assoc text line later);
+      cut = before.cut ∙ ap (λ l. lines text ++ l) (first_line_is rest some_rest ∙ ap (λ l. line_of l ∷ lines later) (sym is))
+          ∙ sym (append_assoc (lines text) (name ∷ []) (lines later)) ∙ ap (λ l. l ++ lines later) (sym more_lines);
       through = λ more. ap (λ l. lines_through_end (l ++ more)) more_lines ∙ ap lines_through_end (append_assoc (lines text) (name ∷ []) more)
           ∙ before.through (name ∷ more) ∙ ap (λ l. lines text ++ l) (goes_through name more tested) ∙ sym (append_assoc (lines text) (name ∷ []) (lines_through_end more))
           ∙ ap (λ l. l ++ lines_through_end more) (sym more_lines);
@@ -106,7 +106,7 @@ pub collected_more : (first now after : Option (List ℕ)) (text line longer : L
 collected_more None now after text line longer room before taken short some tested is = tt
 collected_more (Some octets) None after text line longer room before taken short some tested is = absurd before
 collected_more (Some octets) (Some rest) None text line longer room before taken short some tested is = absurd taken
-collected_more (Some octets) (Some rest) (Some behind) text line longer room before taken short some tested is =
+collected_more (Some octets) (Some rest) (Some later) text line longer room before taken short some tested is =
     rw (is, taken.1) (one_more_line octets text rest line before (held_whole rest line room taken.0 short) some tested)
 
 ends_there : (octets text rest line : List ℕ) → Collected octets text rest → line ≡ take_through 10 rest → 0 < length line → is_end (line_of line) ≡ true
@@ -114,13 +114,13 @@ ends_there : (octets text rest line : List ℕ) → Collected octets text rest �
 ends_there octets text rest line before is some tested =
     let some_rest = there rest line is some in
     let name = line_of line in
-    let behind = drop_through 10 rest in
+    let later = drop_through 10 rest in
     let single : lines line ≡ name ∷ [] = ap lines is ∙ alone rest some_rest ∙ ap (λ l. line_of l ∷ []) (sym is) in
-    let cut : lines octets ≡ lines text ++ (name ∷ lines behind) = before.cut ∙ ap (λ l. lines text ++ l) (first_line_is rest some_rest ∙ ap (λ l. line_of l ∷ lines behind) (sym is)) in (
-      before.whole ∙ ap (λ l. text ++ l) (sym (both rest) ∙ ap (λ l. l ++ behind) (sym is)) ∙ sym (append_assoc text line behind),
-      before.closed some_rest line ∙ ap (λ l. lines text ++ l) (single ∙ sym (ap (λ b. cond b (name ∷ []) (name ∷ lines_through_end (lines behind))) tested))
-          ∙ sym (before.through (name ∷ lines behind)) ∙ ap lines_through_end (sym cut),
-      sym (ap (λ b. cond b (lines behind) (lines_after_end (lines behind))) tested) ∙ sym (before.after (name ∷ lines behind)) ∙ ap lines_after_end (sym cut),
+    let cut : lines octets ≡ lines text ++ (name ∷ lines later) = before.cut ∙ ap (λ l. lines text ++ l) (first_line_is rest some_rest ∙ ap (λ l. line_of l ∷ lines later) (sym is)) in (
+      before.whole ∙ ap (λ l. text ++ l) (sym (both rest) ∙ ap (λ l. l ++ later) (sym is)) ∙ sym (append_assoc text line later),
+      before.closed some_rest line ∙ ap (λ l. lines text ++ l) (single ∙ sym (ap (λ b. cond b (name ∷ []) (name ∷ lines_through_end (lines later))) tested))
+          ∙ sym (before.through (name ∷ lines later)) ∙ ap lines_through_end (sym cut),
+      sym (ap (λ b. cond b (lines later) (lines_after_end (lines later))) tested) ∙ sym (before.after (name ∷ lines later)) ∙ ap lines_after_end (sym cut),
     )
 
 pub described : (first now after : Option (List ℕ)) (text line longer : List ℕ) (room : ℕ) → Collects first text now → Takes (room + 1) now line after
@@ -128,7 +128,7 @@ pub described : (first now after : Option (List ℕ)) (text line longer : List �
 described None now after text line longer room before taken short some tested is = tt
 described (Some octets) None after text line longer room before taken short some tested is = absurd before
 described (Some octets) (Some rest) None text line longer room before taken short some tested is = absurd taken
-described (Some octets) (Some rest) (Some behind) text line longer room before taken short some tested is =
+described (Some octets) (Some rest) (Some later) text line longer room before taken short some tested is =
     rw (is, taken.1) (ends_there octets text rest line before (held_whole rest line room taken.0 short) some tested)
 
 all_there : (octets text : List ℕ) → Collected octets text [] → TakesDescription (Some octets) text (Some [])
@@ -144,11 +144,11 @@ pub without_end : (first now after : Option (List ℕ)) (text line longer : List
 without_end None now after text line longer room before taken short none is = tt
 without_end (Some octets) None after text line longer room before taken short none is = absurd before
 without_end (Some octets) (Some rest) None text line longer room before taken short none is = absurd taken
-without_end (Some octets) (Some rest) (Some behind) text line longer room before taken short none is =
+without_end (Some octets) (Some rest) (Some later) text line longer room before taken short none is =
     let nothing : line ≡ [] = empty line none in
     let end : rest ≡ [] = take_through-nil 10 rest (omega (arith, ap length (held_whole rest line room taken.0 short))) in
     let same : longer ≡ text = is ∙ ap (λ l. text ++ l) nothing ∙ append-nil text in
-    let left : behind ≡ [] = taken.1 ∙ ap (drop_through 10) end in
+    let left : later ≡ [] = taken.1 ∙ ap (drop_through 10) end in
     rw (same, left) (all_there octets text (subst (Collected octets text) end before))
   where
     empty : (l : List ℕ) → length l ≡ 0 → l ≡ []
@@ -161,7 +161,7 @@ pub too_many : (first now after : Option (List ℕ)) (text line : List ℕ) (lim
 too_many None now after text line limit room before taken same long = tt
 too_many (Some octets) None after text line limit room before taken same long = absurd before
 too_many (Some octets) (Some rest) None text line limit room before taken same long = absurd taken
-too_many (Some octets) (Some rest) (Some behind) text line limit room before taken same long =
+too_many (Some octets) (Some rest) (Some later) text line limit room before taken same long =
     omega (
       arith,
       ap length before.whole,

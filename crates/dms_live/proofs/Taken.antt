@@ -56,17 +56,17 @@ last_part limit count n (Some octets) (Some now) (Some rest) piece line longer k
     )
 
 -- the same, of what the code has at hand
-pub goes_on : (limit count n : ℕ) (first old source after : Option (List ℕ)) (piece shown behind line longer : List ℕ) → Keeps old (prepend_known piece source) → shown ≡ piece
-    → IsPart shown n → n ≤ length shown → longer ≡ take limit (line ++ take n shown) → behind ≡ drop n piece → after ≡ source
-    → Continues limit count first line old → Continues limit (count + 1) first longer (prepend_known behind after)
-goes_on limit count n first old source after piece shown behind line longer kept same more within held dropped still before =
+pub goes_on : (limit count n : ℕ) (first old source after : Option (List ℕ)) (piece shown later line longer : List ℕ) → Keeps old (prepend_known piece source) → shown ≡ piece
+    → IsPart shown n → n ≤ length shown → longer ≡ take limit (line ++ take n shown) → later ≡ drop n piece → after ≡ source
+    → Continues limit count first line old → Continues limit (count + 1) first longer (prepend_known later after)
+goes_on limit count n first old source after piece shown later line longer kept same more within held dropped still before =
     rw (dropped, still) (one_part_more limit count n first old source piece line longer kept (subst (λ p. IsPart p n) same more) (omega (arith, within, ap length same))
     (held ∙ ap (λ p. take limit (line ++ take n p)) same) before)
 
-pub ends : (limit count n : ℕ) (first old source after : Option (List ℕ)) (piece shown behind line longer : List ℕ) → Keeps old (prepend_known piece source) → shown ≡ piece
-    → (piece ≡ [] → IsAtEnd (prepend_known piece source)) → IsLastPart shown n → longer ≡ take limit (line ++ take n shown) → behind ≡ drop n piece → after ≡ source
-    → Continues limit count first line old → Takes limit first longer (prepend_known behind after)
-ends limit count n first old source after piece shown behind line longer kept same end last held dropped still before =
+pub ends : (limit count n : ℕ) (first old source after : Option (List ℕ)) (piece shown later line longer : List ℕ) → Keeps old (prepend_known piece source) → shown ≡ piece
+    → (piece ≡ [] → IsAtEnd (prepend_known piece source)) → IsLastPart shown n → longer ≡ take limit (line ++ take n shown) → later ≡ drop n piece → after ≡ source
+    → Continues limit count first line old → Takes limit first longer (prepend_known later after)
+ends limit count n first old source after piece shown later line longer kept same end last held dropped still before =
     rw (dropped, still) (last_part limit count n first old source piece line longer kept end (subst (λ p. IsLastPart p n) same last)
     (held ∙ ap (λ p. take limit (line ++ take n p)) same) before)
 

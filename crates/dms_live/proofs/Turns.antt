@@ -54,7 +54,7 @@ module _ {S : Type 0} (reply : S → List ℕ → List ℕ) (after : S → List 
   said_more count start None old state next now left new written line said taken some goes wrote = tt
   said_more count start (Some octets) old state next None left new written line said taken some goes wrote = absurd said
   said_more count start (Some octets) old state next (Some rest) None new written line said taken some goes wrote = absurd taken
-  said_more count start (Some octets) old state next (Some rest) (Some behind) new written line said taken some goes wrote =
+  said_more count start (Some octets) old state next (Some rest) (Some later) new written line said taken some goes wrote =
       let there = some_left rest line taken.0 some in
       let first_is = line_of (take_through 10 rest) in
       let text = answered reply state (line_of line) in
@@ -62,7 +62,7 @@ module _ {S : Type 0} (reply : S → List ℕ → List ℕ) (after : S → List 
       let goes_to : next ≡ left_by after state first_is = goes ∙ ap (λ l. left_by after state (line_of l)) taken.0 ∙ cut_leaves after state (take_through 10 rest) _ refl in
       let done = said.0 ++ first_is ∷ [] in (
         done,
-        said.1 ∙ ap (λ l. said.0 ++ l) (first_line_is rest there ∙ ap (λ l. first_is ∷ lines l) (sym taken.1)) ∙ sym (append_assoc said.0 (first_is ∷ []) (lines behind)),
+        said.1 ∙ ap (λ l. said.0 ++ l) (first_line_is rest there ∙ ap (λ l. first_is ∷ lines l) (sym taken.1)) ∙ sym (append_assoc said.0 (first_is ∷ []) (lines later)),
         goes_to ∙ ap (λ s. left_by after s first_is) said.2 ∙ sym (after_more start said.0 first_is),
         subst (Appends old written)
             (ap (λ t. answers reply after start said.0 ++ t) (answer ∙ ap (λ s. answered reply s first_is) said.2 ∙ sym (append-nil (answered reply (after_all start said.0) first_is)))
@@ -78,7 +78,7 @@ module _ {S : Type 0} (reply : S → List ℕ → List ℕ) (after : S → List 
   all_said count start None old state now left new line said taken none = tt
   all_said count start (Some octets) old state None left new line said taken none = absurd said
   all_said count start (Some octets) old state (Some rest) None new line said taken none = absurd taken
-  all_said count start (Some octets) old state (Some rest) (Some behind) new line said taken none =
+  all_said count start (Some octets) old state (Some rest) (Some later) new line said taken none =
       let whole : lines octets ≡ said.0 = said.1 ∙ ap (λ l. said.0 ++ lines l) (none_left rest line taken.0 none) ∙ append-nil said.0 in
       subst (λ l. Appends old new (answers reply after start l)) (sym whole) said.3
 
@@ -96,7 +96,7 @@ module _ {S : Type 0} (reply : S → List ℕ → List ℕ) (after : S → List 
   said_so_far count start None old state now left new said broken = tt
   said_so_far count start (Some octets) old state None left new said broken = absurd said
   said_so_far count start (Some octets) old state (Some rest) None new said broken = tt
-  said_so_far count start (Some octets) old state (Some rest) (Some behind) new said broken = (
+  said_so_far count start (Some octets) old state (Some rest) (Some later) new said broken = (
     length said.0,
     broken.0,
     subst (λ l. Appends old new (answers reply after start l)) (sym (ap (take (length said.0)) said.1 ∙ take-append_seam said.0 (lines rest))) said.3,
@@ -112,11 +112,11 @@ module _ {S : Type 0} (reply : S → List ℕ → List ℕ) (after : S → List 
   said_in_part count start None old state now left new written line said taken some wrote = tt
   said_in_part count start (Some octets) old state None left new written line said taken some wrote = absurd said
   said_in_part count start (Some octets) old state (Some rest) None new written line said taken some wrote = absurd taken
-  said_in_part count start (Some octets) old state (Some rest) (Some behind) new written line said taken some wrote =
+  said_in_part count start (Some octets) old state (Some rest) (Some later) new written line said taken some wrote =
       let there = some_left rest line taken.0 some in
       let first_is = line_of (take_through 10 rest) in
       let end = after_all start said.0 in
-      let more = answers reply after (left_by after end first_is) (lines behind) in
+      let more = answers reply after (left_by after end first_is) (lines later) in
       let text = answered reply state (line_of line) in
       let answer : text ≡ answered reply end first_is =
       ap (λ l. answered reply state (line_of l)) taken.0 ∙ cut_is_answered reply state (take_through 10 rest) _ refl ∙ ap (λ s. answered reply s first_is) said.2 in

@@ -9,7 +9,7 @@ use Rattle.dms_centre.specs.declared.ended.Ended.TheVariants.{Failed}
 use Rattle.dms_centre.specs.declared.ended.Why.TheVariants.{Cause}
 use Rattle.dms_world.specs.Event.{EventModel, sign_tick, to_sign, to_centre, power_lost, power_back, forge_sign}
 use Rattle.dms_world.specs.World.{WorldModel}
-use Rattle.dms_replay.proofs.BenchWorld.{bench, after, report, hex, activate, request, set_number, set_code, sets, told, errors, statuses, fills, puts_up}
+use Rattle.dms_replay.proofs.BenchWorld.{bench, after, report, hex, activate, request, set_number, set_code, sets, status_and_index, errors, statuses, fills, puts_up}
 
 -- defaultFont becomes 2
 abbrev font_two : EventModel
@@ -32,9 +32,9 @@ for_its_text : errors (after bench not_in_font) ≡ 8 ∷ 7 ∷ 0 ∷ []
 unfolding after hex
 for_its_text = refl
 
-as_the_centre_is_told : (after bench not_in_font).centre.last ≡ Failed 7 (Cause (pos 8))
+as_the_centre_reads : (after bench not_in_font).centre.last ≡ Failed 7 (Cause (pos 8))
 unfolding after hex
-as_the_centre_is_told = refl
+as_the_centre_reads = refl
 
 -- ---- what is up keeps its copy of the defaults, until it is put up again
 
@@ -92,8 +92,8 @@ small = refl
 
 -- ---- one SET of the font and of a code: the code is judged under the new font, and nothing is set
 
-judged_under_the_new : told bench (set_number 4 5 2 ∷ set_code 6 3 (codes "ffffff0200017502c0000201") ∷ []) ≡ (5, 2)
-unfolding told hex
+judged_under_the_new : status_and_index bench (set_number 4 5 2 ∷ set_code 6 3 (codes "ffffff0200017502c0000201") ∷ []) ≡ (5, 2)
+unfolding status_and_index hex
 judged_under_the_new = refl
 
 abbrev sets_both : EventModel
@@ -123,10 +123,10 @@ valid_after = refl
 
 -- ---- values out of their ranges, and fonts that the face has not
 
-out_of_range : map (λ value. told bench (set_number 4 5 value ∷ [])) (0 ∷ 3 ∷ 256 ∷ 258 ∷ []) ≡ (3, 1) ∷ (3, 1) ∷ (3, 1) ∷ (3, 1) ∷ []
-unfolding told
+out_of_range : map (λ value. status_and_index bench (set_number 4 5 value ∷ [])) (0 ∷ 3 ∷ 256 ∷ 258 ∷ []) ≡ (3, 1) ∷ (3, 1) ∷ (3, 1) ∷ (3, 1) ∷ []
+unfolding status_and_index
 out_of_range = refl
 
-justification_out_of_range : map (λ value. told bench (set_number 4 6 value ∷ [])) (1 ∷ 2 ∷ 4 ∷ 5 ∷ []) ≡ (3, 1) ∷ (0, 0) ∷ (0, 0) ∷ (3, 1) ∷ []
-unfolding told
+justification_out_of_range : map (λ value. status_and_index bench (set_number 4 6 value ∷ [])) (1 ∷ 2 ∷ 4 ∷ 5 ∷ []) ≡ (3, 1) ∷ (0, 0) ∷ (0, 0) ∷ (3, 1) ∷ []
+unfolding status_and_index
 justification_out_of_range = refl

@@ -126,9 +126,9 @@ seen world = record {
 }
 
 -- what a SET by the community that may write is answered: its status and index
-unfoldable pub told : WorldModel → List VarBind → ℕ × ℕ
+unfoldable pub status_and_index : WorldModel → List VarBind → ℕ × ℕ
 unfolding after
-told world bindings = (error_status_number (set world.sign true bindings).status, (set world.sign true bindings).index)
+status_and_index world bindings = (error_status_number (set world.sign true bindings).status, (set world.sign true bindings).index)
 
 -- what is told of activations and texts: dmsActivateMsgError, dmsMultiSyntaxError and its position
 abbrev pub errors : WorldModel → List ℕ

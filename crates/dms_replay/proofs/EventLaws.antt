@@ -3,7 +3,7 @@ use Rattle.std.proofs.Common.{◌≡◌, ℕ, ◌<◌, ◌≤◌, true, false, c
 use Rattle.std.specs.Prelude.{codes, IfOk, IfSome, IfNone, ◌+◌, ◌*◌, ◌/◌, ◌%◌, ◌⊎◌, All, suc, slice_index}
 use Rattle.std.proofs.lemmas.Slice.Eq.{text_from_reads}
 use Rattle.std.proofs.lemmas.List.Elements.{All-nil, All-cons}
-use Rattle.std.proofs.lemmas.Bool.{and_parts, eqb-true, eq-eqb, cases_Bool}
+use Rattle.std.proofs.lemmas.Bool.{eqb-true, eq-eqb, cases_Bool}
 use Rattle.std.proofs.lemmas.Option.{cond_some, same_Some}
 use Rattle.hex.specs.Hex.{decode_of, IsBytes}
 use Rattle.hex.specs.declared.error.FromHexError.{FromHexError}
@@ -12,7 +12,7 @@ use Rattle.dms_text.specs.Words.{words_of, parts_of}
 use Rattle.dms_text.specs.Numbers.{SpellsNumber}
 use Rattle.dms_text.specs.Octets.{SpellsOctets}
 use Rattle.dms_text.specs.Reading.{same_octets, word_at, decimal_at}
-use Rattle.dms_text.proofs.WordLaws.{begun, goes_on, word_found, word_only, decimal_found, decimal_only, octets_found, octets_only, octets_some}
+use Rattle.dms_text.proofs.WordLaws.{begun, goes_on, same_found, word_found, word_only, decimal_found, decimal_only, octets_found, octets_only, octets_some}
 use Rattle.dms_codes.specs.declared.codes.Order.{Order}
 use Rattle.dms_codes.specs.declared.codes.Order.TheVariants.{High, Swapped}
 use Rattle.dms_codes.specs.declared.codes.Activation.{Activation}
@@ -438,16 +438,6 @@ keyword_only key.CentreRestart = refl
 keyword_only key.ForgeSign = refl
 keyword_only key.ForgeCentre = refl
 
-pub same_word : (xs ys : List ℕ) → same_octets xs ys ≡ true → xs ≡ ys
-same_word [] [] e = refl
-same_word [] (y ∷ ys) e = absurd (let never : false ≡ true = e in cc)
-same_word (x ∷ xs) [] e = absurd (let never : false ≡ true = e in cc)
-same_word (x ∷ xs) (y ∷ ys) e =
-    let parts = and_parts _ _ e in
-    let head : x ≡ y = eqb-true x y parts.0 in
-    let tail : xs ≡ ys = same_word xs ys parts.1 in
-    cc
-
 -- the word is this keyword's, or another one is found
 hit_or : (word : List ℕ) (keyword found : Keyword) (others : Option Keyword)
     → cond (same_octets word (keyword_text keyword)) (Some keyword) others ≡ Some found → (word ≡ keyword_text found) ⊎ (others ≡ Some found)
@@ -455,7 +445,7 @@ hit_or word keyword found others e =
     elim (cases_Bool (same_octets word (keyword_text keyword))) [
       | inl same ↦
           let this : Some keyword ≡ Some found = ap (λ b. cond b (Some keyword) others) (sym same) ∙ e in
-          inl (same_word _ _ same ∙ ap keyword_text (same_Some _ _ this))
+          inl (same_found _ _ same ∙ ap keyword_text (same_Some _ _ this))
       | inr other ↦ inr (ap (λ b. cond b (Some keyword) others) (sym other) ∙ e)
     ]
 

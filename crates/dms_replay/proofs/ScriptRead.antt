@@ -189,7 +189,7 @@ pub is_report : (octets : List ℕ) (setup : Setup) (events slice : List ScriptE
     → (it : Description) × SpellsScript octets it (script_events_model events) × IsMade it setup
     → before ≡ beginning setup.sign (centre.start (record { community = setup.sign.config.writer; order = setup.sign.table.order }) setup.first)
     → slice ≡ events → now ≡ world_after before (script_events_model slice) → count ≡ length events → report ≡ report_of now count → IsReport octets report
-is_report octets setup events slice before now report count found begins lent runs counts told =
+is_report octets setup events slice before now report count found begins lent runs counts reports =
     let said : List EventModel = script_events_model events in
     let number : count ≡ length said = counts ∙ sym (length-map events script_event_model) in
     record {
@@ -197,7 +197,7 @@ is_report octets setup events slice before now report count found begins lent ru
       events = said;
       spelled = found.1;
       report_is =
-          told ∙ ap (report_of now) number ∙ ap (λ world. report_of world (length said)) (runs ∙ ap (λ l. world_after before (script_events_model l)) lent)
+          reports ∙ ap (report_of now) number ∙ ap (λ world. report_of world (length said)) (runs ∙ ap (λ l. world_after before (script_events_model l)) lent)
           ∙ ap (λ world. report_of (world_after world said) (length said))
           (begins
           ∙ ap (λ (sign : SignState). beginning sign (centre.start (record { community = sign.config.writer; order = sign.table.order }) setup.first)) found.2.sign

@@ -7,7 +7,7 @@ use Rattle.dms_wire.specs.Canonical.{canonical}
 use Rattle.dms_objects.specs.declared.column.Column.TheVariants.{MultiString, Status}
 use Rattle.dms_objects.specs.Names.{cell_name}
 use Rattle.dms_world.specs.Event.{EventModel, sign_tick, power_lost, power_back}
-use Rattle.dms_replay.proofs.BenchWorld.{bench, after, hex, seconds, request, set_number, set_code, set_cell, sets, Seen, seen, told, errors, statuses, fills, puts_up}
+use Rattle.dms_replay.proofs.BenchWorld.{bench, after, hex, seconds, request, set_number, set_code, set_cell, sets, Seen, seen, status_and_index, errors, statuses, fills, puts_up}
 
 -- "A" is valid in the first changeable row, with the run-time priority 200
 abbrev valid_row : List EventModel
@@ -49,9 +49,9 @@ unfolding after request hex
 no_minutes_over = refl
 
 -- no time is left: it is over at once
-told_no_time : told (after bench up) (set_number 6 4 0 ∷ []) ≡ (0, 0)
-unfolding told request hex
-told_no_time = refl
+no_time_is_accepted : status_and_index (after bench up) (set_number 6 4 0 ∷ []) ≡ (0, 0)
+unfolding status_and_index request hex
+no_time_is_accepted = refl
 
 no_time : seen (after bench (up ++ sets (set_number 6 4 0) ∷ [])) ≡ blank_up 14
 unfolding after request hex
@@ -115,8 +115,8 @@ second_waits : statuses (after bench both_asked) ≡ 3 ∷ 2 ∷ []
 unfolding after request hex
 second_waits = refl
 
-second_is_refused : told (after bench both_asked) (set_cell Status 3 2 (integer (pos 7)) ∷ []) ≡ (5, 1)
-unfolding told request hex
+second_is_refused : status_and_index (after bench both_asked) (set_cell Status 3 2 (integer (pos 7)) ∷ []) ≡ (5, 1)
+unfolding status_and_index request hex
 second_is_refused = refl
 
 interrupted : statuses (after bench (both_asked ++ power_lost ∷ power_back 1 ∷ [])) ≡ 2 ∷ 2 ∷ []
@@ -126,18 +126,18 @@ interrupted = refl
 -- ---- more than one value in a SET: what is refused, and at which index
 
 -- a name twice
-name_twice : told bench (set_number 6 10 5 ∷ set_number 6 10 6 ∷ []) ≡ (5, 2)
-unfolding told
+name_twice : status_and_index bench (set_number 6 10 5 ∷ set_number 6 10 6 ∷ []) ≡ (5, 2)
+unfolding status_and_index
 name_twice = refl
 
 -- a value out of its range comes before that
-out_of_range : told bench (set_number 6 10 65536 ∷ set_number 6 10 6 ∷ []) ≡ (3, 1)
-unfolding told
+out_of_range : status_and_index bench (set_number 6 10 65536 ∷ set_number 6 10 6 ∷ []) ≡ (3, 1)
+unfolding status_and_index
 out_of_range = refl
 
 -- four octets for a code of five, and nothing is set
-short_code : told bench (set_number 6 10 5 ∷ set_code 6 15 (codes "07000100") ∷ []) ≡ (3, 2)
-unfolding told hex
+short_code : status_and_index bench (set_number 6 10 5 ∷ set_code 6 15 (codes "07000100") ∷ []) ≡ (3, 2)
+unfolding status_and_index hex
 short_code = refl
 
 nothing_set : (after bench (request Set (set_number 6 10 5 ∷ set_code 6 15 (codes "07000100") ∷ []) ∷ [])).sign.short_power_loss_time ≡ 0
@@ -145,8 +145,8 @@ unfolding after request hex
 nothing_set = refl
 
 -- a row is opened and filled at once: the field is judged on the state before
-opened_and_filled : told bench (set_cell Status 3 1 (integer (pos 6)) ∷ set_cell MultiString 3 1 (octet_string (codes "A")) ∷ []) ≡ (5, 2)
-unfolding told
+opened_and_filled : status_and_index bench (set_cell Status 3 1 (integer (pos 6)) ∷ set_cell MultiString 3 1 (octet_string (codes "A")) ∷ []) ≡ (5, 2)
+unfolding status_and_index
 opened_and_filled = refl
 
 -- a row is filled and asked to be validated at once
@@ -156,8 +156,8 @@ unfolding after request hex
 filled_and_asked = refl
 
 -- two commands
-two_commands : told (after bench up) (set_code 6 3 (codes "ffffff0300019a66c0000201") ∷ set_number 6 4 7 ∷ []) ≡ (5, 2)
-unfolding told request hex
+two_commands : status_and_index (after bench up) (set_code 6 3 (codes "ffffff0300019a66c0000201") ∷ set_number 6 4 7 ∷ []) ≡ (5, 2)
+unfolding status_and_index request hex
 two_commands = refl
 
 -- ---- losses of power

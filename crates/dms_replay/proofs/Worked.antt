@@ -59,9 +59,9 @@ for_its_checksum : (after bench insisted).sign.reports.activate_error ≡ 7
 unfolding after hex
 for_its_checksum = refl
 
-as_the_centre_is_told : (after bench insisted).centre.last ≡ Failed 7 (Cause (pos 7))
+as_the_centre_reads : (after bench insisted).centre.last ≡ Failed 7 (Cause (pos 7))
 unfolding after hex
-as_the_centre_is_told = refl
+as_the_centre_reads = refl
 
 -- ---- an activation that comes twice is accepted once, and the reply that comes first is recorded
 

@@ -5,10 +5,10 @@ use Rattle.std.proofs.lemmas.Bool.{cases_Bool}
 use Rattle.std.proofs.lemmas.Option.{same_Some}
 use Rattle.dms_text.specs.Words.{words_of}
 use Rattle.dms_text.specs.Reading.{same_octets, word_at}
-use Rattle.dms_text.proofs.WordLaws.{begun, goes_on, word_found, word_only}
+use Rattle.dms_text.proofs.WordLaws.{begun, goes_on, word_found, word_only, same_found}
 use Rattle.dms_sign.specs.State.{SignState}
 use Rattle.dms_replay.specs.EventReading.{alone}
-use Rattle.dms_replay.proofs.EventLaws.{alone_found, last_number_found, last_number_only, last_octets_found, last_octets_only, same_word, made_of}
+use Rattle.dms_replay.proofs.EventLaws.{alone_found, last_number_found, last_number_only, last_octets_found, last_octets_only, made_of}
 use Rattle.dms_sign_lines.specs.SignCall.{SignCall, datagram, tick, power_lost, power_back, show, state}
 use Rattle.dms_sign_lines.specs.SignLine.{SpellsCallWords, SpellsSignCall, SpellsNoSignCall}
 use Rattle.dms_sign_lines.specs.SignReading.{keyword_of, call_after, call_of}
@@ -50,7 +50,7 @@ hit_or word keyword found others e =
     elim (cases_Bool (same_octets word (keyword_text keyword))) [
       | inl same ↦
           let this : Some keyword ≡ Some found = ap (λ b. cond b (Some keyword) others) (sym same) ∙ e in
-          inl (same_word _ _ same ∙ ap keyword_text (same_Some _ _ this))
+          inl (same_found _ _ same ∙ ap keyword_text (same_Some _ _ this))
       | inr other ↦ inr (ap (λ b. cond b (Some keyword) others) (sym other) ∙ e)
     ]
 

@@ -10,7 +10,7 @@ pub mod WorldNumbers
 pub mod WorldGrows
 pub mod WorldOrders
 pub mod WorldSent
-pub mod WorldTold
+pub mod WorldReported
 mod WorldHonestPutUp
 mod WorldHonestRange
 mod WorldHonestCodes

@@ -40,9 +40,9 @@ use Rattle.dms_world.proofs.WorldNumbers.{codes_at}
 use Rattle.dms_world.proofs.WorldGrows.{grows_until}
 use Rattle.dms_world.proofs.WorldOrders.{CameBy}
 use Rattle.dms_world.proofs.WorldSent.{first_sent}
-use Rattle.dms_world.proofs.WorldTold.{WasHeard, WasTold, told_at}
+use Rattle.dms_world.proofs.WorldReported.{WasHeard, WasReported, reported_at}
 use Rattle.dms_world.proofs.WorldHonestRange.{in_range_at}
-use Rattle.dms_world.proofs.WorldReplies.{heard_message, answered_is_heard, status_told, answered_at, turned}
+use Rattle.dms_world.proofs.WorldReplies.{heard_message, answered_is_heard, status_reported, answered_at, turned}
 use Rattle.dms_world.proofs.WorldHonestPutUp.{accepted_is_up}
 use Rattle.dms_world.proofs.WorldHonestCodes.{octets_back, alike}
 
@@ -88,11 +88,11 @@ AllPutUp world events count number code =
     → PutsUp world.centre.settings number code datagram
 
 -- a Response in flight to the request is the sign's
-told : (world : WorldModel) (events : List EventModel) → IsFresh world → NothingIsForged events → (count number : ℕ) (code : Activation)
+answered_by_the_sign : (world : WorldModel) (events : List EventModel) → IsFresh world → NothingIsForged events → (count number : ℕ) (code : Activation)
     → (octets : List ℕ) (reply : SnmpMessage) → Has (world_at world events count).to_centre octets → message_of octets ≡ Some reply
     → Answers world.centre.settings number reply → AllPutUp world events count number code
     → IsAnsweredWith world events count number code reply.status
-told world events fresh fair count number code octets reply there spelled answers all =
+answered_by_the_sign world events fresh fair count number code octets reply there spelled answers all =
     let is = answered_at world events fresh fair count there.0 octets there.1 in
     let s : SignState = (world_at world events is.before).sign in
     let request : SnmpMessage = request_for world number code in
@@ -117,7 +117,7 @@ told world events fresh fair count number code octets reply there spelled answer
       puts_up = up;
       hears = answered_is_heard s is.datagram octets request is.answered up;
       heard_is = heard_message s is.datagram octets request is.answered up;
-      status_is = sym (status_told s request is.datagram up (request_kind world number code) one) ∙ ap (λ (m : SnmpMessage). m.status) meant;
+      status_is = sym (status_reported s request is.datagram up (request_kind world number code) one) ∙ ap (λ (m : SnmpMessage). m.status) meant;
     }
 
 -- ---- what the centre was told
@@ -154,7 +154,7 @@ answer_heard world events fresh are fair count number code status was e =
     let all : AllPutUp world events was.before number code =
     λ place datagram sent has. codes_at world events fresh are was.before was.waited.0 place _ datagram was.waited.1 sent has in
     let there = in_flight world events fair was.before was.datagram was.came in
-    let answer = told world events fresh fair was.before number code was.datagram was.reply there was.spelled was.answers all in
+    let answer = answered_by_the_sign world events fresh fair was.before number code was.datagram was.reply there was.spelled was.answers all in
     later_answer world events was.before count number code status (omega (arith, was.less))
     (subst (IsAnsweredWith world events was.before number code) e answer)
 
@@ -301,16 +301,16 @@ was_accepted world events fresh are entry was =
 accepted_is_true : (world : WorldModel) (events : List EventModel) → IsFresh world → AreEvents events → NothingIsForged events → AcceptedWasAccepted world events
 accepted_is_true world events fresh are fair entry there is =
     let count = length events in
-    let heard : WasTold world events count entry.number entry.code Accepted =
-    subst (WasTold world events count entry.number entry.code) is (told_at world events fresh are count there.0 entry there.1) in
+    let heard : WasReported world events count entry.number entry.code Accepted =
+    subst (WasReported world events count entry.number entry.code) is (reported_at world events fresh are count there.0 entry there.1) in
     was_accepted world events fresh are entry
     (answer_heard world events fresh are fair count entry.number entry.code (pos 0) heard.0 heard.1)
 
 refused_is_true : (world : WorldModel) (events : List EventModel) → IsFresh world → AreEvents events → NothingIsForged events → RefusedWasRefused world events
 refused_is_true world events fresh are fair entry status there is =
     let count = length events in
-    let heard : WasTold world events count entry.number entry.code (Refused status) =
-    subst (WasTold world events count entry.number entry.code) is (told_at world events fresh are count there.0 entry there.1) in
+    let heard : WasReported world events count entry.number entry.code (Refused status) =
+    subst (WasReported world events count entry.number entry.code) is (reported_at world events fresh are count there.0 entry there.1) in
     was_refused world events fresh are entry status
     (answer_heard world events fresh are fair count entry.number entry.code status heard.0 heard.1)
 

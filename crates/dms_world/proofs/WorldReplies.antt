@@ -57,9 +57,9 @@ status_by m a true e = refl
 status_by m a false e = absurd (cc)
 
 -- of a SET of one binding it is that of what is answered
-pub status_told : (s : SignState) (m : SnmpMessage) (datagram : List ℕ) → message_of datagram ≡ Some m → m.kind ≡ Set → length m.bindings ≡ 1
+pub status_reported : (s : SignState) (m : SnmpMessage) (datagram : List ℕ) → message_of datagram ≡ Some m → m.kind ≡ Set → length m.bindings ≡ 1
     → (response_sent m (primary s m)).status ≡ pos (error_status_number (primary s m).status)
-status_told s m datagram spelled set one =
+status_reported s m datagram spelled set one =
     let a : Answer = primary s m in
     let is = is_set_answer s m set in
     let spells = (read_is_spelled datagram m).0 spelled in
