@@ -153,6 +153,17 @@ settled_whole old table o reports known is t v r after = record {
   known = known_settled old.known known o old.face old.settings.defaults old.table table is.known t v after;
 }
 
+-- where no row was settled, the reports and what is known stay
+pub unsettled_whole : (old : Inside) (table : TableModel) (o : Option Verdict) → IsWhole old
+    → table ≡ settled (under old.face old.settings.defaults) old.table → o ≡ verdict (under old.face old.settings.defaults) old.table
+    → o ≡ None → IsWhole (record old { table = table })
+unsettled_whole old table o is t v none =
+    settled_whole old table None old.reports old.known is t (sym none ∙ v) refl (known_still old.known old.settings.defaults)
+  where
+    known_still : (known : Option Defaults) (defaults : Defaults) → IfSome known (IsKnownAfter known None defaults)
+    known_still None defaults = tt
+    known_still (Some d) defaults = record { was = refl; same = λ told. absurd (told refl) }
+
 pub restored_whole : (old : Inside) (table : TableModel) (shown : ShownModel) (source : List ℕ) → IsWhole old → table ≡ after_power old.table
     → shown ≡ old.kept → source ≡ octets_of_id table.order shown.source
     → IsWhole (record old { table = table; shown = shown; source = source; powered = true; silent = 0 })

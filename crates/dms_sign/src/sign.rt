@@ -233,6 +233,9 @@ impl Sign {
         ensures { self.new ≡ after_settling self.old }
     {
         let verdict = self.table.settle(&self.face, &self.settings.defaults);
+        if verdict.is_none() {
+            return;
+        }
         self.reports = self.reports.with_verdict(&verdict);
         self.known = known_after(self.known, &verdict, &self.settings.defaults);
     }
