@@ -66,7 +66,7 @@ if [ $# = 0 ] || [[ $asked == *" signtool "* ]]; then
         n=1
         while refusing $n "$program" "${call[@]}" < "$input"; [ "${calls:-0}" -ge $n ] || [ -z "$calls" ]; do
             if ! { [ "$status" = 0 ] && cmp -s "$folder/out" "$folder/wanted"; } && ! { [ "$status" = 1 ] && [ "$(cat "$folder/out")" = memory ]; } \
-                && ! { [ "$status" = 2 ] && [ ! -s "$folder/out" ] && grep -qx "\(error: \)\?out of memory" "$folder/err"; }; then
+                && ! { [ "$status" = 2 ] && [ ! -s "$folder/out" ] && grep -qx "\(.*: \)\?out of memory" "$folder/err"; }; then
                 bad=$((bad + 1))
                 echo "signtool ${call[*]}, allocation $n: exit $status, printed '$(head -c 100 "$folder/out")'"
             fi
