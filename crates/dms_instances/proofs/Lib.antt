@@ -3,3 +3,4 @@ pub mod InOrder
 pub mod WhichInstances
 pub mod ObjectRows
 pub mod Places
+pub mod CellOctets

@@ -2,17 +2,15 @@
 
 ghost use Rattle.std.specs.Prelude.{◌≡◌, ◌≤◌, ◌<◌, ℕ, true, length, IfSome};
 ghost use Rattle.dms_table.specs.Rows.{TableModel};
-ghost use Rattle.dms_objects.specs.Names.{name_of};
-ghost use Rattle.dms_objects.specs.declared.instance.Instance.TheVariants.{The, Cell};
-ghost use Rattle.dms_instances.specs.Objects.{has_name, comes_after, instance_named, next_instance, IsInstance};
+ghost use Rattle.dms_instances.specs.Objects.{has_name, instance_named, next_instance, IsInstance};
 ghost use Rattle.dms_instances.specs.Places.{HasCounts, last_number, row_total, place_total, row_at, instance_at, IsBetween};
 
 use crate::guess;
-use dms_ber::{Oid, oid_cmp};
+use crate::names::{comes_after, has_name};
+use dms_ber::Oid;
 use dms_codes::{RowId, memory};
-use dms_objects::{Column, Instance, Name, Scalar};
+use dms_objects::{Column, Instance, Scalar};
 use dms_table::Table;
-use std::cmp::Ordering;
 
 /// The objects before dmsMessageTable.
 pub(crate) const BEFORE_TABLE: [Scalar; 19] = [
@@ -188,19 +186,21 @@ impl Counts {
         }
     }
 
-    /// The first place of which the instance comes after this name, or the number of places: by halving.
+    /// The first place of which the instance comes after this name, or the number of places: where its octets tell it that place and
+    /// the one before it are looked at, and else it is found by halving.
     fn place_after(&self, name: &Oid<'_>) -> usize
         ensures within { result ≤ place_total self.now }
         ensures between { (table : TableModel) → HasCounts table self.now → IsBetween table name.now result result }
     {
+        let guess = guess::place_of_next(self, name.content());
         let mut low = 0;
         let mut high = self.places();
         while low < high {
-            let middle = low + (high - low) / 2;
-            if comes_after(name, self.instance_at(middle)) {
-                high = middle;
+            let place = probe(low, high, guess);
+            if comes_after(name, self.instance_at(place)) {
+                high = place;
             } else {
-                low = middle + 1;
+                low = place + 1;
             }
         }
         low
@@ -217,7 +217,7 @@ impl Counts {
     }
 
     /// How many instances there are.
-    fn places(&self) -> usize
+    pub(crate) fn places(&self) -> usize
         ensures { result ≡ place_total self.now }
     {
         19 + self.rows() * 9 + 17
@@ -274,44 +274,17 @@ fn row(memory: u8, number: usize) -> RowId
     }
 }
 
-/// The instance comes after this name.
-fn comes_after(name: &Oid<'_>, instance: Instance) -> bool
-    ensures { result ≡ comes_after name.now instance }
+/// The place to look at next: the guess first, then the one before it where the guess was right, and else the middle.
+fn probe(low: usize, high: usize, guess: usize) -> usize
+    requires { low < high }
+    ensures from { low ≤ result }
+    ensures below { result < high }
 {
-    oid_cmp(name, &Name::of(instance).oid()) == Ordering::Less
-}
-
-/// Whether the instance has this name, which is compared with octets that stand on the stack where it is short.
-fn has_name(name: &Oid<'_>, instance: Instance) -> bool
-    ensures { result ≡ has_name name.now instance }
-{
-    match instance {
-        Instance::The(object) => has_object_name(name, object),
-        Instance::Cell(column, row) if row.memory < 128 && row.number < 128 => {
-            has_cell_name(name, column, row.memory, row.number as u8)
-        }
-        _ => Name::of(instance).oid() == *name,
+    if low <= guess && guess < high {
+        guess
+    } else if guess == high {
+        high - 1
+    } else {
+        low + (high - low) / 2
     }
-}
-
-#[inline]
-fn has_object_name(name: &Oid<'_>, object: Scalar) -> bool
-    ensures { result ≡ has_name name.now (The object) }
-{
-    let (group, number) = object.number();
-    let octets = [43, 6, 1, 4, 1, 137, 54, 4, 2, 3, group, number, 0];
-    Oid::known(&octets) == *name
-}
-
-#[inline]
-fn has_cell_name(name: &Oid<'_>, column: Column, memory: u8, number: u8) -> bool
-    requires memory { memory < 128 }
-    requires number { number < 128 }
-    ensures { result ≡ has_name name.now (Cell column (record { memory = memory; number = number })) }
-{
-    let column = column.number();
-    let octets = [
-        43, 6, 1, 4, 1, 137, 54, 4, 2, 3, 5, 8, 1, column, memory, number,
-    ];
-    Oid::known(&octets) == *name
 }

@@ -1,11 +1,11 @@
 //! The instance of a name by its octets, and its place. What is found is a guess, which who asks verifies.
 
+ghost use Rattle.std.specs.Prelude.{◌≤◌};
+ghost use Rattle.dms_instances.specs.Places.{row_total};
+
 use crate::counts::{AFTER_TABLE, BEFORE_TABLE, COLUMNS, Counts};
 use dms_codes::{RowId, memory};
 use dms_objects::Instance;
-
-/// The octets that all names begin with, those of dms, 1.3.6.1.4.1.1206.4.2.3.
-const DMS: [u8; 10] = [43, 6, 1, 4, 1, 137, 54, 4, 2, 3];
 
 /// What the octets after those are: the common prefix is looked at once, then the few octets that differ.
 enum Guess {
@@ -19,9 +19,14 @@ enum Guess {
 
 /// The place of the instance whose name has these content octets.
 pub(crate) fn place(counts: &Counts, content: &[u8]) -> Option<usize> {
-    match guess_of(content)? {
+    place_of(counts, guess_of(content)?)
+}
+
+#[inline]
+fn place_of(counts: &Counts, guess: Guess) -> Option<usize> {
+    match guess {
         Guess::Before(place) => Some(usize::from(place)),
-        Guess::After(place) => Some(place_after(counts, place)),
+        Guess::After(place) => Some(19 + counts.rows() * 9 + usize::from(place)),
         Guess::Cell {
             column,
             memory,
@@ -51,9 +56,35 @@ pub(crate) fn instance(content: &[u8]) -> Option<Instance> {
     }
 }
 
+/// The place of the first instance after the name with these content octets.
+pub(crate) fn place_of_next(counts: &Counts, content: &[u8]) -> usize {
+    let place = match below_dms(content) {
+        None | Some([]) => Some(0),
+        Some([5, 8, 1, column @ 1..=9, row @ ..]) => {
+            let columns = usize::from(*column - 1);
+            Some(19 + columns * counts.rows() + rows_up_to(counts, row))
+        }
+        Some([group, number]) => match object(*group, *number) {
+            Some(guess) => place_of(counts, guess),
+            None => None,
+        },
+        Some(_) => None,
+    };
+    place.unwrap_or(counts.places() / 2)
+}
+
+/// The octets after those that all names begin with, those of dms, 1.3.6.1.4.1.1206.4.2.3.
+#[inline]
+fn below_dms(content: &[u8]) -> Option<&[u8]> {
+    match content {
+        [43, 6, 1, 4, 1, 137, 54, 4, 2, 3, rest @ ..] => Some(rest),
+        _ => None,
+    }
+}
+
 #[inline]
 fn guess_of(content: &[u8]) -> Option<Guess> {
-    match content.strip_prefix(&DMS)? {
+    match below_dms(content)? {
         [5, 8, 1, column, memory, number] if *number < 128 => cell(*column, *memory, *number),
         [5, 8, 1, column, memory, 129, number] if *number < 128 => {
             cell(*column, *memory, *number + 128)
@@ -87,10 +118,6 @@ fn object(group: u8, number: u8) -> Option<Guess> {
     }
 }
 
-fn place_after(counts: &Counts, place: u8) -> usize {
-    19 + counts.rows() * 9 + usize::from(place)
-}
-
 fn cell_place(counts: &Counts, column: u8, memory: u8, number: u8) -> Option<usize> {
     let permanent = usize::from(counts.permanent);
     let changeable = usize::from(counts.changeable);
@@ -105,4 +132,29 @@ fn cell_place(counts: &Counts, column: u8, memory: u8, number: u8) -> Option<usi
     };
     let row = before + usize::from(number).checked_sub(1)?;
     Some(19 + usize::from(column) * counts.rows() + row)
+}
+
+/// How many rows there are up to the one with these octets below a column, which need not be whole.
+fn rows_up_to(counts: &Counts, row: &[u8]) -> usize
+    ensures { result ≤ row_total counts.now }
+{
+    let (memory, number) = match row {
+        [] => (0, 0),
+        [memory] => (*memory, 0),
+        [memory, 129, number, ..] => (*memory, 128 + usize::from(*number)),
+        [memory, number, ..] => (*memory, usize::from(*number)),
+    };
+    let changeable = usize::from(counts.permanent);
+    let volatile = changeable + usize::from(counts.changeable);
+    let stored = volatile + usize::from(counts.volatile);
+    match memory {
+        0..memory::PERMANENT => 0,
+        memory::PERMANENT => number.min(changeable),
+        memory::CHANGEABLE => (changeable + number).min(volatile),
+        memory::VOLATILE => (volatile + number).min(stored),
+        memory::CURRENT_BUFFER => stored + number.min(1),
+        memory::BLANK => stored + 1 + number.min(255),
+        _ if memory < memory::BLANK => stored + 1,
+        _ => stored + 256,
+    }
 }

@@ -4,5 +4,6 @@
 pub mod counts;
 mod guess;
 pub mod laws;
+mod names;
 
 pub use counts::Counts;

@@ -1,4 +1,4 @@
-use Rattle.std.proofs.Common.{◌≡◌, ◌+◌, ◌-◌, ◌/◌, true, false, sym, subst, arith}
+use Rattle.std.proofs.Common.{◌≡◌, true, false, sym, subst}
 use Rattle.dms_instances.specs.Objects.{comes_after}
 use Rattle.dms_instances.specs.Places.{instance_at}
 use Rattle.dms_instances.proofs.Places.{IsSearching, searching_starts, searching_lower, searching_raise}
@@ -10,12 +10,12 @@ loop-low-init c =
 
 pub loop-low-preserved-then-comes_after : goal.loop-low-preserved-then-comes_after
 loop-low-preserved-then-comes_after c =
-    let middle = c.loop-low.low + (c.loop-low.high - c.loop-low.low) / 2 in
-    let e : comes_after c.args.name.now (instance_at c.args.self.now middle) ≡ true = cc in
-    searching_lower c.args.self.now c.args.name.now c.loop-low.low middle c.loop-low.high c.loop-low.invariant (omega arith) (omega arith) e
+    let place = c.probe-place.result in
+    let e : comes_after c.args.name.now (instance_at c.args.self.now place) ≡ true = cc in
+    searching_lower c.args.self.now c.args.name.now c.loop-low.low place c.loop-low.high c.loop-low.invariant c.probe-place.ensures.from c.probe-place.ensures.below e
 
 pub loop-low-preserved : goal.loop-low-preserved
 loop-low-preserved c =
-    let middle = c.loop-low.low + (c.loop-low.high - c.loop-low.low) / 2 in
-    let e : comes_after c.args.name.now (instance_at c.args.self.now middle) ≡ false = cc in
-    searching_raise c.args.self.now c.args.name.now c.loop-low.low middle c.loop-low.high c.loop-low.invariant (omega arith) (omega arith) e
+    let place = c.probe-place.result in
+    let e : comes_after c.args.name.now (instance_at c.args.self.now place) ≡ false = cc in
+    searching_raise c.args.self.now c.args.name.now c.loop-low.low place c.loop-low.high c.loop-low.invariant c.probe-place.ensures.from c.probe-place.ensures.below e

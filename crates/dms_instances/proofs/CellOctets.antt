@@ -1,0 +1,26 @@
+-- The octets of the names of cells whose type of memory has one octet.
+use Rattle.std.proofs.Common.{◌≡◌, ℕ, ◌<◌, ◌≤◌, ◌-◌, ◌/◌, ◌%◌, ◌∷◌, [], arith, refl}
+use Rattle.dms_objects.specs.declared.column.Column.{Column}
+use Rattle.dms_objects.specs.declared.instance.Instance.TheVariants.{Cell}
+use Rattle.dms_objects.specs.Names.{column_number}
+use Rattle.dms_objects.specs.NameOctets.{IsNamed}
+use Rattle.dms_objects.proofs.NameLaws.{cell_named}
+use Rattle.dms_objects.proofs.SubIdentifiers.{one_octet, two_octets}
+
+-- sixteen octets, where the number has one too
+pub short_named : (column : Column) (first memory number : ℕ) → first ≡ column_number column → memory < 128 → number < 128
+    → IsNamed (Cell column (record { memory = memory; number = number }))
+    (43 ∷ 6 ∷ 1 ∷ 4 ∷ 1 ∷ 137 ∷ 54 ∷ 4 ∷ 2 ∷ 3 ∷ 5 ∷ 8 ∷ 1 ∷ first ∷ memory ∷ number ∷ [])
+short_named column first memory number is few_memory few_number =
+    cell_named column (record { memory = memory; number = number }) _ (omega arith) (omega arith)
+    (rw (one_octet memory few_memory, one_octet number few_number, is) refl)
+
+-- seventeen, where it has two
+pub long_named : (column : Column) (first memory number : ℕ) → first ≡ column_number column → memory < 128 → 128 ≤ number → number < 256
+    → IsNamed (Cell column (record { memory = memory; number = number }))
+    (43 ∷ 6 ∷ 1 ∷ 4 ∷ 1 ∷ 137 ∷ 54 ∷ 4 ∷ 2 ∷ 3 ∷ 5 ∷ 8 ∷ 1 ∷ first ∷ memory ∷ 129 ∷ (number - 128) ∷ [])
+long_named column first memory number is few_memory least few_number =
+    let high : number / 128 % 128 ≡ 1 = omega arith in
+    let low : number % 128 ≡ number - 128 = omega arith in
+    cell_named column (record { memory = memory; number = number }) _ (omega arith) (omega arith)
+    (rw (one_octet memory few_memory, two_octets number least (omega arith), high, low, is) refl)
