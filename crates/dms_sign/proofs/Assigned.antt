@@ -20,7 +20,7 @@ use Rattle.dms_instances.specs.Objects.{instance_named}
 use Rattle.dms_table.specs.declared.row.Refused.{Refused}
 use Rattle.dms_table.specs.declared.activation.Cause.{Cause}
 use Rattle.dms_table.specs.Rows.{TableModel, asked}
-use Rattle.dms_table.specs.Activation.{ShownModel, decided}
+use Rattle.dms_table.specs.Activation.{ShownModel, shown_by, refusal, unless_refused, decided}
 use Rattle.dms_access.specs.declared.settings.Settings.{Settings}
 use Rattle.dms_reports.specs.declared.reports.Reports.{Reports}
 use Rattle.dms_sign.specs.declared.sign.Sign.TheInside.{Inside}
@@ -41,6 +41,7 @@ use Rattle.dms_sign.specs.SignView.{state_of, IsWhole}
 use Rattle.dms_access.specs.SettingsView.{codes_by, set_by}
 use Rattle.dms_sign.specs.SetView.{AreSettings}
 use Rattle.dms_sign.specs.SetView.{IsCommandInRange}
+use Rattle.dms_table.proofs.Decisions.{accepted_decision, accepted_elsewhere}
 use Rattle.dms_sign.proofs.InRangeLists.{if_found}
 use Rattle.dms_sign.proofs.InRangeShown.{showing_in_range, telling_in_range, with_table_in_range, activation_is, IsDecisionInRange, decided_in_range}
 use Rattle.dms_sign.proofs.InRangeSets.{IsWriteInRange, writes_in_range, assigned_in_range, asked_in_range, accepted_reports}
@@ -190,6 +191,20 @@ decided_new s ws settings octets code is c =
     ap (λ (d : Defaults). decided s.config.face d s.table s.shown code) is.defaults
     ∙ decided_alike s.config.face _ s.table (with_writes s.table ws) s.shown code (writes_like s.table ws)
     ∙ ap (decided s.config.face _ (with_writes s.table ws) s.shown) c
+
+-- a code that is let pass before the values are assigned puts up what is there after it
+pub accepted_new : {A : Type 0} (a : A) (s : SignState) (ws : List Write) (settings : Settings) (octets : List ℕ) (code : Activation)
+    → AreSettings settings (assigned s ws) → code ≡ activation_of s.table.order octets
+    → Ok a ≡ unless_refused a (refusal s.config.face settings.defaults s.table s.shown code)
+    → Ok (shown_by (assigned s ws).defaults (assigned s ws).table (assigned s ws).shown code) ≡ decided s.config.face settings.defaults s.table s.shown code
+accepted_new a s ws settings octets code is c e =
+    let new = assigned s ws in
+    let same = decided_new s ws settings octets code is c in
+    let old = accepted_decision a s.config.face settings.defaults s.table s.shown code e in
+    ap (λ (code : Activation). Ok (shown_by new.defaults new.table new.shown code)) c
+    ∙ accepted_elsewhere new.config.face new.defaults new.shown (shown_by settings.defaults s.table s.shown code) new.table
+    (activation_of s.table.order octets) (old ∙ same)
+    ∙ sym same
 
 fit_of : (s : SignState) (ws : List Write) → HasFitDefaults (assigned s ws) → IsTrue (fit s.config.face.fonts (assigned s ws).defaults)
 unfolding assigned

@@ -1,5 +1,6 @@
 -- What a change of some fields leaves whole.
-use Rattle.std.proofs.Common.{◌≡◌, ℕ, ◌≤◌, true, List, Option, Some, None, Ok, Err, refl, sym, subst, ap, ◌∙◌, ◌*◌}
+use Rattle.std.proofs.Common.{◌≡◌, ℕ, ◌≤◌, ◌==◌, Bool, true, false, cond, List, Option, Some, None, Result, Ok, Err, refl, sym, subst, ap, ◌∙◌, ◌*◌}
+use Rattle.std.proofs.lemmas.Bool.{eqb-true}
 use Rattle.std.specs.Option.{IfSome}
 use Rattle.std.specs.Prelude.{All, IsTrue}
 use Rattle.std.specs.Int.Digits.{AllBelowBase}
@@ -9,14 +10,15 @@ use Rattle.dms_face.specs.Face.{fit}
 use Rattle.dms_codes.specs.declared.codes.Order.{Order}
 use Rattle.dms_codes.specs.declared.codes.Order.TheVariants.{High, Swapped}
 use Rattle.dms_table.specs.Stock.{HasOctets}
+use Rattle.dms_codes.specs.Memory.{current_buffer}
 use Rattle.dms_codes.specs.declared.codes.MessageId.{MessageId}
 use Rattle.dms_codes.specs.declared.codes.Activation.{Activation}
-use Rattle.dms_codes.specs.Codes.{octets_of_id, id_of, IsMessageId}
+use Rattle.dms_codes.specs.Codes.{octets_of_id, id_of, octets_of_activation, IsMessageId}
 use Rattle.dms_table.specs.declared.activation.Cause.{Cause}
 use Rattle.dms_table.specs.declared.validation.Verdict.{Verdict}
 use Rattle.dms_table.specs.Rows.{TableModel, after_power}
 use Rattle.dms_table.specs.Validation.{settled, verdict, AreValidTextsGood}
-use Rattle.dms_table.specs.Activation.{ShownModel, decided}
+use Rattle.dms_table.specs.Activation.{ShownModel, shown_by, refusal, unless_refused, decided}
 use Rattle.dms_reports.specs.declared.reports.Reports.{Reports}
 use Rattle.dms_sign.specs.declared.sign.Sign.TheInside.{Inside}
 use Rattle.dms_sign.specs.Communities.{are_communities}
@@ -28,13 +30,14 @@ use Rattle.dms_access.specs.declared.settings.Settings.{Settings}
 use Rattle.dms_access.specs.SettingsView.{first_settings}
 use Rattle.dms_sign.specs.FallbacksView.{fallbacks_of}
 use Rattle.dms_reports.specs.Reports.{ReportsModel, first_reports, refused_reports}
-use Rattle.dms_sign.specs.OwnCodes.{own_activation}
+use Rattle.dms_sign.specs.OwnCodes.{showing, with_refused_code, own_activation, put_up_as_decided, staying, put_up_code}
 use Rattle.dms_reports.specs.Reports.{settled_reports}
 use Rattle.dms_reports.specs.Reports.{IsCauseInRange}
 use Rattle.dms_access.specs.Ranges.{AreDefaultsInRange}
 use Rattle.dms_sign.specs.InRange.{IsStocked, AreOctets, IsTableInRange, IsShownInRange, IsTimeInRange, AreReportsInRange, IsSignInRange, most_minutes}
 use Rattle.dms_reports.specs.ReportsView.{reports_of}
 use Rattle.dms_sign.specs.SignView.{state_of, IsWhole, IsKnownAfter}
+use Rattle.dms_table.proofs.Decisions.{accepted_decision, refused_decision}
 use Rattle.dms_sign.proofs.InRangeShown.{showing_in_range, telling_in_range, with_table_in_range, with_mode, with_time, own_is, id_is, IsDecisionInRange, decided_in_range, refused_in_range}
 use Rattle.dms_sign.proofs.KnownTexts.{known_kept, known_settled}
 use Rattle.dms_sign.proofs.StepRows.{after_power_keeps}
@@ -190,17 +193,54 @@ own_decision s octets id code is below e own =
     subst (λ code. IsDecisionInRange (decided s.config.face s.defaults s.table s.shown code)) (sym own)
     (decided_in_range s.config.face s.defaults s.table s.shown (own_activation id) is.defaults is.table is.shown (own_is id known))
 
-pub put_up_shown : (s : SignState) (octets : List ℕ) (id : MessageId) (code : Activation) (mode : ℕ) (shown result : ShownModel) → IsSignInRange s
+pub put_up_shown : {A : Type 0} (a : A) (s : SignState) (octets : List ℕ) (id : MessageId) (code : Activation) (mode : ℕ) → IsSignInRange s
     → AllBelowBase 256 octets → id ≡ id_of s.table.order octets → code ≡ own_activation id → mode ≤ 255
-    → Ok shown ≡ decided s.config.face s.defaults s.table s.shown code → result ≡ record shown { mode = mode } → IsShownInRange result
-put_up_shown s octets id code mode shown result is below e own small ok r =
-    let decision : IsDecisionInRange (Ok shown) = subst IsDecisionInRange (sym ok) (own_decision s octets id code is below e own) in
-    subst IsShownInRange (sym r) (with_mode shown mode decision small)
+    → Ok a ≡ unless_refused a (refusal s.config.face s.defaults s.table s.shown code)
+    → IsShownInRange (record (shown_by s.defaults s.table s.shown code) { mode = mode })
+put_up_shown a s octets id code mode is below e own small ok =
+    let up = shown_by s.defaults s.table s.shown code in
+    let decision : IsDecisionInRange (Ok up) =
+    subst IsDecisionInRange (sym (accepted_decision a s.config.face s.defaults s.table s.shown code ok)) (own_decision s octets id code is below e own)
+    in
+    with_mode up mode decision small
 
-pub put_up_refused : (s : SignState) (octets : List ℕ) (id : MessageId) (code : Activation) (cause : Cause) → IsSignInRange s
+pub put_up_refused : {A : Type 0} (a : A) (s : SignState) (octets : List ℕ) (id : MessageId) (code : Activation) (cause : Cause) → IsSignInRange s
     → AllBelowBase 256 octets → id ≡ id_of s.table.order octets → code ≡ own_activation id
-    → Err cause ≡ decided s.config.face s.defaults s.table s.shown code → IsCauseInRange cause
-put_up_refused s octets id code cause is below e own err = subst IsDecisionInRange (sym err) (own_decision s octets id code is below e own)
+    → Err cause ≡ unless_refused a (refusal s.config.face s.defaults s.table s.shown code) → IsCauseInRange cause
+put_up_refused a s octets id code cause is below e own err =
+    subst IsDecisionInRange (sym (refused_decision a s.config.face s.defaults s.table s.shown code cause err)) (own_decision s octets id code is below e own)
+
+chosen_other : (b : Bool) (x y : SignState) → (b ≡ true → ⊥) → y ≡ cond b x y
+chosen_other false x y other = refl
+chosen_other true x y other = absurd (other refl)
+
+-- what comes of a decision on a code that is not of the current buffer
+own_as_decided : (s : SignState) (octets : List ℕ) (id : MessageId) (code : Activation) (mode : ℕ) (r : Result ShownModel Cause)
+    → id ≡ id_of s.table.order octets → code ≡ own_activation id → (id.memory ≡ current_buffer → ⊥)
+    → r ≡ decided s.config.face s.defaults s.table s.shown code → put_up_as_decided s id mode r ≡ put_up_code s octets mode
+unfolding put_up_code
+own_as_decided s octets id code mode r i own other e =
+    let by_id = λ (id : MessageId). put_up_as_decided s id mode (decided s.config.face s.defaults s.table s.shown (own_activation id)) in
+    ap (put_up_as_decided s id mode) (e ∙ ap (decided s.config.face s.defaults s.table s.shown) own)
+    ∙ chosen_other (id.memory == current_buffer) (staying s mode) (by_id id) (λ is. other (eqb-true id.memory current_buffer is))
+    ∙ ap (λ (id : MessageId). cond (id.memory == current_buffer) (staying s mode) (by_id id)) i
+
+pub own_accepted : {A : Type 0} (a : A) (s : SignState) (octets : List ℕ) (id : MessageId) (code : Activation) (mode : ℕ) → id ≡ id_of s.table.order octets
+    → code ≡ own_activation id → (id.memory ≡ current_buffer → ⊥)
+    → Ok a ≡ unless_refused a (refusal s.config.face s.defaults s.table s.shown code)
+    → showing s (record (shown_by s.defaults s.table s.shown code) { mode = mode }) ≡ put_up_code s octets mode
+own_accepted a s octets id code mode i own other e =
+    own_as_decided s octets id code mode (Ok (shown_by s.defaults s.table s.shown code)) i own other
+    (accepted_decision a s.config.face s.defaults s.table s.shown code e)
+
+pub own_refused : {A : Type 0} (a : A) (s : SignState) (octets : List ℕ) (id : MessageId) (code : Activation) (mode : ℕ) (cause : Cause) (blank : ShownModel)
+    (told : List ℕ) → id ≡ id_of s.table.order octets → code ≡ own_activation id → (id.memory ≡ current_buffer → ⊥)
+    → Err cause ≡ unless_refused a (refusal s.config.face s.defaults s.table s.shown code) → blank ≡ blank_shown s.defaults mode
+    → told ≡ octets_of_activation s.table.order code → with_refused_code (showing s blank) cause told ≡ put_up_code s octets mode
+own_refused a s octets id code mode cause blank told i own other e b t =
+    ap (λ (blank : ShownModel). with_refused_code (showing s blank) cause told) b
+    ∙ ap (with_refused_code (showing s (blank_shown s.defaults mode)) cause) (t ∙ ap (octets_of_activation s.table.order) own)
+    ∙ own_as_decided s octets id code mode (Err cause) i own other (refused_decision a s.config.face s.defaults s.table s.shown code cause e)
 
 -- ---- a sign as it is made
 

@@ -14,7 +14,7 @@ ghost use Rattle.dms_sign.specs.SignView.{IsKnownAfter};
 ghost use Rattle.dms_face.specs.Face.{fit};
 ghost use Rattle.dms_face.specs.Layout.{under};
 ghost use Rattle.dms_table.specs.Validation.{AreValidTextsGood};
-ghost use Rattle.dms_table.specs.Activation.{decided};
+ghost use Rattle.dms_table.specs.Activation.{refusal, shown_by, unless_refused};
 ghost use Rattle.dms_sign.specs.OwnCodes.{showing, staying, with_refused_code};
 ghost use Rattle.dms_sign.specs.Events.{after_settling, restored};
 ghost use Rattle.dms_sign.specs.FallbacksView.{fallbacks_of};
@@ -182,6 +182,17 @@ impl Sign {
         self.shown = shown;
     }
 
+    /// The message that a code names is up, in the place of what was shown, with this mode.
+    fn show_named(&mut self, code: &Activation, mode: u8)
+        requires { IsShownInRange (record (shown_by self.old.defaults self.old.table self.old.shown code.now) { mode = mode }) }
+        ensures { self.new ≡ showing self.old (record (shown_by self.old.defaults self.old.table self.old.shown code.now) { mode = mode }) }
+    {
+        self.table
+            .put_up(&self.settings.defaults, code, &mut self.shown);
+        self.shown.set_mode(mode);
+        self.source = source_of(&self.shown, self.table.order());
+    }
+
     /// What is shown stays, with this mode and without an end.
     fn stay(&mut self, mode: u8)
         ensures { self.new ≡ staying self.old mode }
@@ -278,23 +289,23 @@ fn known_after(
     }
 }
 
-/// What a code activates under these defaults, or why it is refused: where the text of each valid row is known to be good under them, none
-/// is checked again.
-fn decide(
+/// Refuses a code under these defaults for the first cause that there is: where the text of each valid row is known to be good under them,
+/// none is checked again.
+fn judge(
     known: &Option<Defaults>,
     table: &Table,
     face: &Face,
     defaults: &Defaults,
     code: &Activation,
     shown: &Shown,
-) -> Result<Shown, Cause>
+) -> Result<(), Cause>
     requires fit { IsTrue (fit face.now.fonts defaults.now) }
     requires good { IfSome known.now (λ d. AreValidTextsGood (under face.now d) table.now) }
-    ensures { result ≡ decided face.now defaults.now table.now shown.now code.now }
+    ensures { result ≡ unless_refused tt (refusal face.now defaults.now table.now shown.now code.now) }
 {
     match known {
-        Some(known) if *known == *defaults => table.decide_known(face, defaults, code, shown),
-        _ => table.decide(face, defaults, code, shown),
+        Some(known) if *known == *defaults => table.judge(true, face, defaults, code, shown),
+        _ => table.judge(false, face, defaults, code, shown),
     }
 }
 

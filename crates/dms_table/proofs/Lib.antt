@@ -1,3 +1,4 @@
+pub mod Decisions
 pub mod GoodRows
 pub mod KnownTexts
 pub mod Stands

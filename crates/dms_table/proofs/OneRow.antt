@@ -15,7 +15,7 @@ use Rattle.dms_codes.specs.Status.{next_status, is_validate, is_validating, is_m
 use Rattle.dms_face.specs.Face.{FaceModel}
 use Rattle.dms_table.specs.declared.row.Services.{Services}
 use Rattle.dms_table.specs.Validation.{passes, verdict_of, settled_row}
-use Rattle.dms_table.specs.Rows.{RowModel, TableModel, FieldModel, Text, Owner, Beacon, Pixel, Priority, row_is_validating, unused, is_settling, may_ask, changed_in, asked_row, written_row, is_in_range, with_status, with_field, interrupted, released}
+use Rattle.dms_table.specs.Rows.{RowModel, TableModel, FieldModel, Text, Owner, Beacon, Pixel, Priority, row_is_validating, unused, may_ask, changed_in, asked_row, written_row, is_in_range, with_status, with_field, interrupted, released}
 
 -- how many rows are being validated
 abbrev pub count : List RowModel → ℕ

@@ -102,6 +102,15 @@ activation_error face shown code message =
     else if nat_lt code.priority shown.priority then Some causes.Priority
     else text_error face code.id message
 
+abbrev pub row_refusal : FaceModel → ShownModel → Activation → Option RowReading → Option Cause
+row_refusal face shown code None = Some causes.Number
+row_refusal face shown code (Some message) = activation_error face shown code message
+
+-- Why a code is refused: its type of memory, then its number, then its row may be wrong; none, if nothing is.
+abbrev pub refusal : FaceModel → Defaults → TableModel → ShownModel → Activation → Option Cause
+refusal face defaults table shown code =
+    if is_memory code.id.memory then row_refusal (under face defaults) shown code (named table shown code.id) else Some causes.MemoryType
+
 abbrev pub cause_number : Cause → ℕ
 cause_number causes.Priority = 3
 cause_number causes.Status = 4
@@ -133,6 +142,14 @@ put_up defaults shown code message = record {
   remaining = seconds_of code.minutes;
   defaults = if code.id.memory == current_buffer then shown.defaults else defaults;
 }
+
+abbrev pub put_up_row : Defaults → ShownModel → Activation → Option RowReading → ShownModel
+put_up_row defaults shown code None = shown
+put_up_row defaults shown code (Some message) = put_up defaults shown code message
+
+-- what is shown once the message that a code names is up; where it names none, what is shown stays
+abbrev pub shown_by : Defaults → TableModel → ShownModel → Activation → ShownModel
+shown_by defaults table shown code = put_up_row defaults shown code (named table shown code.id)
 
 abbrev pub unless_refused : {A : Type 0} → A → Option Cause → Result A Cause
 unless_refused value None = Ok value

@@ -8,7 +8,7 @@ ghost use Rattle.dms_codes.specs.Status.{is_valid};
 ghost use Rattle.dms_table.specs.Validation.{AreValidTextsGood};
 ghost use Rattle.dms_face.specs.Layout.{under};
 ghost use Rattle.dms_table.specs.RowsView.{reading_of, IsShort};
-ghost use Rattle.dms_table.specs.Activation.{is_memory, named, activation_error, unless_refused, decided};
+ghost use Rattle.dms_table.specs.Activation.{is_memory, named, activation_error, refusal, shown_by, unless_refused, decided};
 
 use crate::row::RowView;
 use crate::shown::Shown;
@@ -85,46 +85,54 @@ impl Table {
         requires { IsTrue (fit face.now.fonts defaults.now) }
         ensures { result ≡ decided face.now defaults.now self.now shown.now code.now }
     {
-        self.decide_where(false, face, defaults, code, shown)
+        match self.judge(false, face, defaults, code, shown) {
+            Ok(()) => {
+                let mut next = shown.again();
+                self.put_up(defaults, code, &mut next);
+                Ok(next)
+            }
+            Err(cause) => Err(cause),
+        }
     }
 
-    /// What `decide` answers, where the text of each valid row is known to be good under these defaults: no text is checked again.
-    pub fn decide_known(
-        &self,
-        face: &Face,
-        defaults: &Defaults,
-        code: &Activation,
-        shown: &Shown,
-    ) -> Result<Shown, Cause>
-        requires fit { IsTrue (fit face.now.fonts defaults.now) }
-        requires good { AreValidTextsGood (under face.now defaults.now) self.now }
-        ensures { result ≡ decided face.now defaults.now self.now shown.now code.now }
-    {
-        self.decide_where(true, face, defaults, code, shown)
-    }
-
-    /// What a code activates, or why it is refused; texts that are known to be good are not checked.
-    fn decide_where(
+    /// Refuses a code for the first cause that there is. Where the text of each valid row is known to be good under these defaults, none is
+    /// checked again.
+    pub fn judge(
         &self,
         known: bool,
         face: &Face,
         defaults: &Defaults,
         code: &Activation,
         shown: &Shown,
-    ) -> Result<Shown, Cause>
+    ) -> Result<(), Cause>
         requires fit { IsTrue (fit face.now.fonts defaults.now) }
         requires good { known ≡ true → AreValidTextsGood (under face.now defaults.now) self.now }
-        ensures { result ≡ decided face.now defaults.now self.now shown.now code.now }
+        ensures { result ≡ unless_refused tt (refusal face.now defaults.now self.now shown.now code.now) }
     {
         if !is_memory(code.id.memory) {
             return Err(Cause::MemoryType);
         }
         match self.named(shown, &code.id) {
             None => Err(Cause::Number),
-            Some(row) => {
-                judge(known, face, defaults, code, shown, &row)?;
-                Ok(shown.after(code, &row, defaults))
+            Some(row) => judge_row(known, face, defaults, code, shown, &row),
+        }
+    }
+
+    /// Puts up the message that a code names, in the place of what is shown; a code that `judge` let pass names one, and by one that names
+    /// none nothing changes.
+    pub fn put_up(&self, defaults: &Defaults, code: &Activation, shown: &mut Shown)
+        ensures { shown.new ≡ shown_by defaults.now self.now shown.old code.now }
+    {
+        if code.id.memory != memory::CURRENT_BUFFER {
+            let id = RowId {
+                memory: code.id.memory,
+                number: code.id.number,
+            };
+            if let Some(row) = self.row(id) {
+                shown.take(code, &row, defaults);
             }
+        } else if code.id.number == 1 {
+            shown.renew(code);
         }
     }
 
@@ -161,7 +169,7 @@ fn is_memory(kind: u8) -> bool
 }
 
 /// Refuses a code of this row for the first cause that there is; a text that is known to be good is not checked.
-fn judge(
+fn judge_row(
     known: bool,
     face: &Face,
     defaults: &Defaults,

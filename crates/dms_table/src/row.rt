@@ -325,7 +325,7 @@ pub(crate) fn copy_of<const N: usize>(octets: &[u8]) -> ArrayVec<u8, N>
 }
 
 /// Puts these octets in the place of those that are kept.
-fn replace<const N: usize>(kept: &mut ArrayVec<u8, N>, octets: &[u8])
+pub(crate) fn replace<const N: usize>(kept: &mut ArrayVec<u8, N>, octets: &[u8])
     requires { length octets.now ≤ N }
     ensures { kept.new.items ≡ octets.now }
 {

@@ -1,10 +1,11 @@
 //! What a sign shows.
 
-ghost use Rattle.std.specs.Prelude.{◌≡◌, None};
+ghost use Rattle.std.specs.Prelude.{◌≡◌, ◌==◌, None, false};
+ghost use Rattle.dms_codes.specs.Memory.{current_buffer};
 ghost use Rattle.dms_table.specs.RowsView.{reading_of, IsShort};
-ghost use Rattle.dms_table.specs.Activation.{blank_shown, shown_reading, seconds_of, put_up};
+ghost use Rattle.dms_table.specs.Activation.{blank_shown, shown_reading, seconds_of, central_mode, put_up};
 
-use crate::row::{RowView, copy_of};
+use crate::row::{RowView, copy_of, replace};
 use arrayvec::ArrayVec;
 use dms_codes::{Activation, MAX_OWNER, MAX_TEXT, MessageId, Status, crc, memory};
 use dms_face::Defaults;
@@ -73,8 +74,15 @@ impl Shown {
     pub fn stay(&mut self, mode: u8)
         ensures { self.new ≡ record self.old { mode = mode; remaining = None } }
     {
+        self.set_mode(mode);
+        self.remain(None);
+    }
+
+    /// It came up so (dmsMsgSourceMode).
+    pub fn set_mode(&mut self, mode: u8)
+        ensures { self.new ≡ record self.old { mode = mode } }
+    {
         self.mode = mode;
-        self.remaining = None;
     }
 
     /// It has so many seconds left, or no end.
@@ -129,24 +137,29 @@ impl Shown {
         }
     }
 
-    /// What is shown once a code has activated this row.
-    pub(crate) fn after(&self, code: &Activation, row: &RowView<'_>, defaults: &Defaults) -> Shown
-        requires { IsShort row.now }
-        ensures { result ≡ put_up defaults.now self.now code.now (reading_of row.now) }
+    /// It stays, and is up again by this code.
+    pub(crate) fn renew(&mut self, code: &Activation)
+        ensures { self.new ≡ record self.old { mode = central_mode; address = code.now.address; remaining = seconds_of code.now.minutes } }
     {
-        let is_kept = code.id.memory == memory::CURRENT_BUFFER;
-        Shown {
-            text: copy_of(row.text),
-            owner: copy_of(row.owner),
-            beacon: row.beacon,
-            pixel: row.pixel,
-            priority: row.priority,
-            source: if is_kept { self.source } else { code.id },
-            mode: CENTRAL,
-            address: code.address,
-            remaining: seconds(code.minutes),
-            defaults: if is_kept { self.defaults } else { *defaults },
-        }
+        self.mode = CENTRAL;
+        self.address = code.address;
+        self.remaining = seconds(code.minutes);
+    }
+
+    /// This row is up in its place, by a code that names it.
+    pub(crate) fn take(&mut self, code: &Activation, row: &RowView<'_>, defaults: &Defaults)
+        requires short { IsShort row.now }
+        requires stored { (code.now.id.memory == current_buffer) ≡ false }
+        ensures { self.new ≡ put_up defaults.now self.old code.now (reading_of row.now) }
+    {
+        replace(&mut self.text, row.text);
+        replace(&mut self.owner, row.owner);
+        self.beacon = row.beacon;
+        self.pixel = row.pixel;
+        self.priority = row.priority;
+        self.source = code.id;
+        self.defaults = *defaults;
+        self.renew(code);
     }
 }
 

@@ -4,7 +4,7 @@ ghost use Rattle.std.specs.Prelude.{◌≡◌, ◌≤◌, length, option_map, Is
 ghost use Rattle.dms_wire.specs.Limits.{AreBindingsInLimits, most_bindings};
 ghost use Rattle.dms_codes.specs.Codes.{activation_of};
 ghost use Rattle.dms_table.specs.Rows.{asked};
-ghost use Rattle.dms_table.specs.Activation.{seconds_of};
+ghost use Rattle.dms_table.specs.Activation.{seconds_of, shown_by};
 ghost use Rattle.dms_sign.specs.InRange.{AreOctets, IsShownInRange, IsTimeInRange};
 ghost use Rattle.dms_access.specs.Access.{AskRow, Activate};
 ghost use Rattle.dms_access.specs.ChangeView.{write_by};
@@ -15,10 +15,9 @@ ghost use Rattle.dms_sign.specs.Requests.{activated, with_remaining, writes_of, 
 use crate::sign::events::mode;
 use crate::sign::own_codes::{BLANK, own_activation};
 use crate::sign::set_request::{Judged, Refusal, write_fields};
-use crate::sign::{Sign, decide};
+use crate::sign::{Sign, judge};
 use dms_access::{Change, Settings};
 use dms_codes::{Activation, Ask, Order, RowId};
-use dms_table::Shown;
 use dms_wire::{Binds, ErrorStatus};
 
 impl Sign {
@@ -109,7 +108,7 @@ impl Sign {
     {
         let code = activation_of(self.table.order(), &octets);
         let defaults = &judged.settings.defaults;
-        match decide(
+        match judge(
             &self.known,
             &self.table,
             &self.face,
@@ -117,9 +116,9 @@ impl Sign {
             &code,
             &self.shown,
         ) {
-            Ok(shown) => {
+            Ok(()) => {
                 self.assign(judged, binds);
-                self.accept(shown, octets);
+                self.accept(&code, octets);
                 Ok(Some(code))
             }
             Err(cause) => {
@@ -181,14 +180,15 @@ impl Sign {
         let _ = self.table.ask(id, ask);
     }
 
-    /// The message of a code that was accepted is up.
-    fn accept(&mut self, shown: Shown, octets: [u8; 12])
-        requires shown { IsShownInRange shown }
+    /// The message of a code that was accepted is up, in the place of what was shown.
+    fn accept(&mut self, code: &Activation, octets: [u8; 12])
+        requires shown { IsShownInRange (shown_by self.old.defaults self.old.table self.old.shown code.now) }
         requires octets { AreOctets 12 octets }
-        ensures { self.new ≡ activated self.old octets shown }
+        ensures { self.new ≡ activated self.old octets (shown_by self.old.defaults self.old.table self.old.shown code.now) }
     {
-        self.source = super::source_of(&shown, self.table.order());
-        self.shown = shown;
+        self.table
+            .put_up(&self.settings.defaults, code, &mut self.shown);
+        self.source = super::source_of(&self.shown, self.table.order());
         self.reports = self.reports.with_accepted(octets);
     }
 

@@ -5,7 +5,7 @@ ghost use Rattle.std.specs.Int.Digits.{AllBelowBase};
 ghost use Rattle.dms_codes.specs.Codes.{id_of};
 ghost use Rattle.dms_sign.specs.OwnCodes.{own_activation, put_up_code};
 
-use crate::sign::{Sign, decide};
+use crate::sign::{Sign, judge};
 use dms_codes::{Activation, MessageId, Order, memory};
 use dms_table::Shown;
 
@@ -30,7 +30,7 @@ impl Sign {
         }
         let code = own_activation(id);
         let defaults = self.settings.defaults;
-        match decide(
+        match judge(
             &self.known,
             &self.table,
             &self.face,
@@ -38,7 +38,7 @@ impl Sign {
             &code,
             &self.shown,
         ) {
-            Ok(shown) => self.show(with_mode(shown, mode)),
+            Ok(()) => self.show_named(&code, mode),
             Err(cause) => {
                 let octets = code.to_bytes(self.table.order());
                 self.show(Shown::blank(&defaults, mode));
@@ -65,10 +65,4 @@ pub(super) fn own_activation(id: MessageId) -> Activation
         id,
         address: [0; 4],
     }
-}
-
-fn with_mode(shown: Shown, mode: u8) -> Shown
-    ensures { result ≡ record shown { mode = mode } }
-{
-    Shown { mode, ..shown }
 }

@@ -2,7 +2,7 @@ use Rattle.std.proofs.Common.{rules, ◌≡◌, true, None}
 use Rattle.dms_codes.specs.Status.{is_valid}
 use Rattle.dms_face.specs.Layout.{under}
 use Rattle.dms_face.specs.Fit.{fault_of}
-use Rattle.dms_table.proofs.activation.judge.Goals as goal
+use Rattle.dms_table.proofs.activation.judge_row.Goals as goal
 
 pub returns-then-known : goal.returns-then-known
 returns-then-known c =
