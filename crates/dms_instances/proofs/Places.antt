@@ -1,7 +1,7 @@
 -- The instance at each place of the list of instances is the one that is computed; a name lies where the search by halving says.
 use Rattle.std.proofs.Common.{◌≡◌, ◌⊎◌, inl, inr, ℕ, zero, suc, ◌+◌, ◌-◌, ◌*◌, ◌/◌, ◌%◌, ◌<◌, ◌≤◌, ◌==◌, Bool, true, false, cond, List, [], ◌∷◌, ◌++◌, map, length, flat_map, find, Some, None, slice_get, get_or, refl, sym, ap, subst, ◌∙◌, arith, ltb, lt-ltb, ltb-true, length-append}
 use Rattle.std.specs.Cmp.Lexicographic.{bytes_decides}
-use Rattle.std.proofs.Math.Nat.{div-lt_iff_lt-mul, mod-lt, mod-eq-sub-mul-div, mul-div-le}
+use Rattle.std.proofs.Math.Nat.{div-lt_iff_lt-mul, mod-lt, mod-eq-sub-mul-div, mul-div-le, mul-add-div_right, div-eq_of_lt, mul-add-mod_self_right, mod-eq_of_lt, mul-le-mul_right}
 use Rattle.std.proofs.lemmas.Bool.{and_parts, both_ways, cond-true, cond-false, false_from_ne_true, eq-eqb, ne_eqb}
 use Rattle.std.proofs.lemmas.List.{get_or_append_left, get_or-append_right, get_or-map, length-map}
 use Rattle.std.proofs.lemmas.List.FromFn.{get_or-map-range_with_len, length-map-range_with_len}
@@ -241,6 +241,33 @@ place_is table n has k h =
           ]
     ]
 
+-- nine columns of rows
+cells_within : (n : Counts) (c r : ℕ) → c < 9 → r < row_total n → c * row_total n + r < row_total n * 9
+cells_within n c r h g =
+    let size = row_total n in
+    let all : (c + 1) * size ≤ 9 * size = mul-le-mul_right size (omega arith) in
+    omega (arith, all, g)
+
+pub after_cell_within : (n : Counts) (c r : ℕ) → c < 9 → r < row_total n → 19 + c * row_total n + r + 1 < place_total n
+after_cell_within n c r h g = let few = cells_within n c r h g in omega (arith, few)
+
+-- the instance of a row in a column
+pub cell_at_is : (n : Counts) (c r : ℕ) → c < 9 → r < row_total n
+    → instance_at n (19 + c * row_total n + r) ≡ Cell (get_or columns c MemoryType) (row_at n r)
+unfolding instance_at
+cell_at_is n c r h g =
+    let size = row_total n in
+    let place = 19 + c * size + r in
+    let some : 0 < size = omega arith in
+    let cell : place - 19 ≡ c * size + r = omega arith in
+    let few : place - 19 < size * 9 = subst (λ j. j < size * 9) (sym cell) (cells_within n c r h g) in
+    let column : (c * size + r) / size ≡ c = mul-add-div_right some c r ∙ ap (λ q. c + q) (div-eq_of_lt g) ∙ omega arith in
+    let row : (c * size + r) % size ≡ r = mul-add-mod_self_right c size r ∙ mod-eq_of_lt g in
+    cond-false (ltb place 19) _ _ (not_less place 19 (omega arith)) ∙ cond-true (ltb (place - 19) (size * 9)) _ _ (lt-ltb (place - 19) (size * 9) few)
+    ∙ ap (λ j. Cell (get_or columns (j / size) MemoryType) (row_at n (j % size))) cell
+    ∙ ap (λ k. Cell (get_or columns k MemoryType) (row_at n ((c * size + r) % size))) column
+    ∙ ap (λ k. Cell (get_or columns c MemoryType) (row_at n k)) row
+
 -- ---- rising names
 
 above_at : (low : List ℕ) (xs : List Instance) (high : List ℕ) (d : Instance) → rises name_of low xs high ≡ true → (k : ℕ) → k < length xs
@@ -446,3 +473,11 @@ last_none table n name k has few is e =
 pub none_before_all : (table : TableModel) (name : List ℕ) → IsBetween table name 0 0 → None ≡ instance_named table name
 none_before_all table name is =
     sym (found_none (has_name name) (instances table) (The SignHeightPixels) λ k h. not_both name (listed table k) (is.above k (omega arith) h))
+
+-- the instance after a cell's name
+pub after_cell_found : (table : TableModel) (n : Counts) (name : List ℕ) (c r : ℕ) → HasCounts table n → c < 9 → r < row_total n
+    → has_name name (instance_at n (19 + c * row_total n + r)) ≡ true
+    → Some (instance_at n (19 + c * row_total n + r + 1)) ≡ next_instance table name
+after_cell_found table n name c r has h g e =
+    let few = after_cell_within n c r h g in
+    next_found table n name (19 + c * row_total n + r + 1) has (after_named table n name (19 + c * row_total n + r) has (omega (arith, few)) e) few

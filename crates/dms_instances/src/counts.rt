@@ -1,6 +1,6 @@
 //! The places of instances: the list of them is never made, since the instance at a place is computed.
 
-ghost use Rattle.std.specs.Prelude.{◌≡◌, ◌≤◌, ◌<◌, ℕ, true, length, IfSome};
+ghost use Rattle.std.specs.Prelude.{◌≡◌, ◌≤◌, ◌<◌, ◌+◌, ◌*◌, ℕ, true, length, Some, IfSome};
 ghost use Rattle.dms_table.specs.Rows.{TableModel};
 ghost use Rattle.dms_instances.specs.Objects.{has_name, instance_named, next_instance, IsInstance};
 ghost use Rattle.dms_instances.specs.Places.{HasCounts, last_number, row_total, place_total, row_at, instance_at, IsBetween};
@@ -155,9 +155,24 @@ impl Counts {
     pub fn next(&self, name: &Oid<'_>) -> Option<Instance>
         ensures { (table : TableModel) → HasCounts table self.now → result ≡ next_instance table name.now }
     {
+        if let Some(next) = self.after_cell(name) {
+            return Some(next);
+        }
         let place = self.next_place(name);
         if place < self.places() {
             Some(self.instance_at(place))
+        } else {
+            None
+        }
+    }
+
+    /// The instance after this name, where its octets tell at once that it is a cell's.
+    fn after_cell(&self, name: &Oid<'_>) -> Option<Instance>
+        ensures { IfSome result (λ i. (table : TableModel) → HasCounts table self.now → Some i ≡ next_instance table name.now) }
+    {
+        let (column, row) = guess::cell_place(self, name.content())?;
+        if column < 9 && row < self.rows() && has_name(name, self.cell_at(column, row)) {
+            Some(self.after_cell_at(column, row))
         } else {
             None
         }
@@ -242,6 +257,28 @@ impl Counts {
             row(memory::CURRENT_BUFFER, 1)
         } else {
             row(memory::BLANK, place - volatile)
+        }
+    }
+
+    /// The instance of a row in a column: its place is known with no division.
+    fn cell_at(&self, column: usize, row: usize) -> Instance
+        requires column { column < 9 }
+        requires row { row < row_total self.now }
+        ensures { result ≡ instance_at self.now (19 + column * row_total self.now + row) }
+    {
+        Instance::Cell(COLUMNS[column], self.row_at(row))
+    }
+
+    /// The instance after that of a row in a column.
+    fn after_cell_at(&self, column: usize, row: usize) -> Instance
+        requires column { column < 9 }
+        requires row { row < row_total self.now }
+        ensures { result ≡ instance_at self.now (19 + column * row_total self.now + row + 1) }
+    {
+        if row + 1 < self.rows() {
+            self.cell_at(column, row + 1)
+        } else {
+            self.instance_at(19 + column * self.rows() + row + 1)
         }
     }
 

@@ -1,6 +1,6 @@
 //! The instance of a name by its octets, and its place. What is found is a guess, which who asks verifies.
 
-ghost use Rattle.std.specs.Prelude.{◌≤◌};
+ghost use Rattle.std.specs.Prelude.{◌≤◌, ◌<◌, IfSome};
 ghost use Rattle.dms_instances.specs.Places.{row_total};
 
 use crate::counts::{AFTER_TABLE, BEFORE_TABLE, COLUMNS, Counts};
@@ -31,7 +31,22 @@ fn place_of(counts: &Counts, guess: Guess) -> Option<usize> {
             column,
             memory,
             number,
-        } => cell_place(counts, column, memory, number),
+        } => {
+            let row = row_place(counts, memory, number)?;
+            Some(19 + usize::from(column) * counts.rows() + row)
+        }
+    }
+}
+
+/// The place of the column, and that of the row in it, of the cell whose name has these content octets.
+pub(crate) fn cell_place(counts: &Counts, content: &[u8]) -> Option<(usize, usize)> {
+    match guess_of(content)? {
+        Guess::Cell {
+            column,
+            memory,
+            number,
+        } => Some((usize::from(column), row_place(counts, memory, number)?)),
+        Guess::Before(_) | Guess::After(_) => None,
     }
 }
 
@@ -118,20 +133,26 @@ fn object(group: u8, number: u8) -> Option<Guess> {
     }
 }
 
-fn cell_place(counts: &Counts, column: u8, memory: u8, number: u8) -> Option<usize> {
-    let permanent = usize::from(counts.permanent);
-    let changeable = usize::from(counts.changeable);
-    let volatile = usize::from(counts.volatile);
-    let before = match memory {
-        memory::PERMANENT => 0,
-        memory::CHANGEABLE => permanent,
-        memory::VOLATILE => permanent + changeable,
-        memory::CURRENT_BUFFER => permanent + changeable + volatile,
-        memory::BLANK => permanent + changeable + volatile + 1,
+/// The place in a column of the row of this type of memory and number.
+fn row_place(counts: &Counts, memory: u8, number: u8) -> Option<usize>
+    ensures { IfSome result (λ row. row < row_total counts.now) }
+{
+    let changeable = usize::from(counts.permanent);
+    let volatile = changeable + usize::from(counts.changeable);
+    let stored = volatile + usize::from(counts.volatile);
+    let (before, count) = match memory {
+        memory::PERMANENT => (0, counts.permanent),
+        memory::CHANGEABLE => (changeable, counts.changeable),
+        memory::VOLATILE => (volatile, counts.volatile),
+        memory::CURRENT_BUFFER => (stored, 1),
+        memory::BLANK => (stored + 1, 255),
         _ => return None,
     };
-    let row = before + usize::from(number).checked_sub(1)?;
-    Some(19 + usize::from(column) * counts.rows() + row)
+    if number <= count {
+        Some(before + usize::from(number).checked_sub(1)?)
+    } else {
+        None
+    }
 }
 
 /// How many rows there are up to the one with these octets below a column, which need not be whole.
