@@ -66,8 +66,7 @@ call code 3 1 A --address 1.2.3 < /dev/null; ended "code: an address of three nu
 call code 3 1 "$(head -c 513 /dev/zero | tr '\0' A)" < /dev/null; ended "code: a text of 513 octets" 1 "text too long"
 # words that are no text are named on standard error by their number
 call check $'A\xff' < /dev/null; ended "check: a word that is no text" 2 ""
-grep -qx "word 2 of the command line is no text" "$folder/err"; status=$?; : > "$folder/out"; ended "its number" 0 "" || true
-call check A B $'\xc3(' < /dev/null; ended "check: a third word that is no text" 2 ""
+if grep -qx "word 2 of the command line is no text" "$folder/err"; then passed=$((passed + 1)); else failed=$((failed + 1)); cat "$folder/err"; fi
 
 echo "$passed passed, $failed failed"
 [ "$failed" = 0 ]
