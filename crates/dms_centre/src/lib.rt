@@ -16,8 +16,6 @@ mod request;
 pub mod settings;
 mod stage;
 pub mod step;
-#[cfg(test)]
-mod tests;
 
 pub use centre::Centre;
 pub use command::Command;

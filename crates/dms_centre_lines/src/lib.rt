@@ -8,8 +8,6 @@ pub mod answering;
 pub mod laws;
 mod reading;
 mod status;
-#[cfg(test)]
-mod tests;
 mod text;
 
 pub use answering::answer;

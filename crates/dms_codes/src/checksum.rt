@@ -48,6 +48,3 @@ pub fn crc(text: &[u8], beacon: u8, pixel: u8) -> u16
     }
     !register_after(register_after(register, beacon), pixel)
 }
-
-#[cfg(test)]
-mod tests;

@@ -140,6 +140,3 @@ impl Activation {
         }
     }
 }
-
-#[cfg(test)]
-mod tests;

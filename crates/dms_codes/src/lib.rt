@@ -14,8 +14,6 @@ pub mod limits;
 pub mod memory;
 pub mod row_id;
 pub mod status;
-#[cfg(test)]
-mod tests;
 
 pub use checksum::crc;
 pub use codes::{Activation, MessageId, Order};

@@ -23,8 +23,6 @@ mod making;
 pub mod reader;
 mod rows;
 pub mod setup;
-#[cfg(test)]
-mod tests;
 mod upcoming;
 
 pub use bench_sign::{BENCH, bench};

@@ -13,8 +13,6 @@
 #![tactic(auto)]
 
 pub mod cell;
-#[cfg(test)]
-mod check_tests;
 pub mod checking;
 pub mod defaults;
 pub mod face;
@@ -23,8 +21,6 @@ pub mod justification;
 pub mod laws;
 pub mod multi_fault;
 pub mod room;
-#[cfg(test)]
-mod tests;
 mod totals;
 
 pub use cell::{Cell, Flash};

@@ -13,8 +13,6 @@ pub mod font;
 mod font_text;
 pub mod glyph;
 pub mod laws;
-#[cfg(test)]
-mod tests;
 
 pub use fault::{FontFault, FontFaultKind};
 pub use font::Font;

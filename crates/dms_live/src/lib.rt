@@ -13,6 +13,3 @@ pub use describing::{LONGEST_DESCRIPTION, description_text};
 pub use fault::ConversationFault;
 pub use input::Input;
 pub use party::Party;
-
-#[cfg(test)]
-mod tests;

@@ -23,6 +23,3 @@ pub use fault::{FaultCode, SyntaxFault, TooLong};
 pub use item::{Item, Lead};
 pub use rendering::render;
 pub use spots::{Spot, Spots, items};
-
-#[cfg(test)]
-mod tests;

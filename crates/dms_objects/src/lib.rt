@@ -11,8 +11,6 @@ pub mod instance;
 pub mod laws;
 pub mod name;
 pub mod scalar;
-#[cfg(test)]
-mod tests;
 
 pub use column::Column;
 pub use instance::Instance;

@@ -13,8 +13,6 @@
 mod cells;
 mod drawing;
 pub mod page;
-#[cfg(test)]
-mod tests;
 mod text_layout;
 pub mod text_pages;
 

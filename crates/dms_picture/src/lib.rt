@@ -11,8 +11,6 @@ pub mod document;
 mod lamps;
 mod motion;
 mod shade;
-#[cfg(test)]
-mod tests;
 mod text;
 
 pub use document::{picture, still};

@@ -15,12 +15,3 @@ pub mod script_event;
 pub use fault::ReplayFault;
 pub use fields::address;
 pub use replaying::{LONGEST_INPUT, bench, described, replay};
-
-#[cfg(test)]
-mod memory_tests;
-#[cfg(test)]
-mod report_tests;
-#[cfg(test)]
-mod stream_tests;
-#[cfg(test)]
-mod tests;

@@ -6,8 +6,6 @@ pub mod laws;
 pub mod range_laws;
 pub mod sign;
 pub mod step_laws;
-#[cfg(test)]
-mod tests;
 
 pub use config::{Config, ConfigFault};
 pub use dms_objects::{Instance, Scalar};

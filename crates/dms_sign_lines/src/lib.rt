@@ -13,8 +13,6 @@ mod keyword;
 pub mod laws;
 pub mod page_text;
 mod sign_call;
-#[cfg(test)]
-mod tests;
 
 pub use answering::answer;
 pub use page_text::pages_text;

@@ -17,8 +17,6 @@ pub mod gathered;
 pub mod reading;
 pub mod sink;
 pub mod source;
-#[cfg(test)]
-mod tests;
 pub mod writing;
 
 pub use counted::Counted;

@@ -17,8 +17,6 @@ pub mod row;
 pub mod shown;
 pub mod stock;
 pub mod table;
-#[cfg(test)]
-mod tests;
 pub mod validation;
 
 pub use activation::Cause;

@@ -18,8 +18,6 @@ pub mod hexadecimal;
 pub mod lines;
 pub mod numbers;
 pub mod parts;
-#[cfg(test)]
-mod tests;
 pub mod words;
 
 pub use hexadecimal::octets;

@@ -21,8 +21,6 @@ pub mod fault;
 pub mod laws;
 pub mod message;
 mod tag;
-#[cfg(test)]
-mod tests;
 pub mod value;
 
 pub use binding::{Bind, BindingOctets, Binds, MAX_BINDINGS};

@@ -8,8 +8,6 @@ pub mod ledger_laws;
 pub mod number_laws;
 pub mod running;
 pub mod sign_laws;
-#[cfg(test)]
-mod tests;
 pub mod world;
 
 pub use event::Event;

@@ -1,0 +1,11 @@
+//! Tests of faces, of the check of a text, of pages and of pictures through their public calls.
+#![tactic(auto)]
+
+#[cfg(test)]
+mod checks;
+#[cfg(test)]
+mod faces;
+#[cfg(test)]
+mod pages;
+#[cfg(test)]
+mod pictures;

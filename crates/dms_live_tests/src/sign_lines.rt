@@ -1,0 +1,252 @@
+//! The bench sign line by line, and the text of its pages.
+
+use dms_pages::pages;
+use dms_replay::bench;
+use dms_sign_lines::answering::answer;
+use dms_sign_lines::page_text::pages_text;
+use std::io::Write;
+use std::test::Fail;
+
+/// Lines to the bench sign, each behind `> `, and under each its answer.
+const TALK: &str = "> show
+page 1 on 30 off 0 back 0
+.......................
+.......................
+.......................
+.......................
+.......................
+.......................
+.......................
+.......................
+.......................
+.......................
+.......................
+.......................
+.......................
+.......................
+ok
+> state
+shown 7 1 0000 mode 10 priority 1 remaining 65535 text -
+ok
+> datagram 302b02010004067075626c6963a01e02010102010002010030133011060d2b0601040189360402030204000500
+reply 302c02010004067075626c6963a21f02010102010002010030143012060d2b060104018936040203020400020117
+> datagram 302b02010004066e6f626f6479a01e02010102010002010030133011060d2b0601040189360402030204000500
+dropped
+> datagram -
+dropped
+> datagram 00
+dropped
+> datagram 3036020100040561646d696ea32a02010a020100020100301f301d060d2b060104018936040203060300040cffff64020001750300000000
+reply 3036020100040561646d696ea22a02010a020105020101301f301d060d2b060104018936040203060300040cffff64020001750300000000
+> datagram 3036020100040561646d696ea32a020109020100020100301f301d060d2b060104018936040203060300040cffff64020001750200000000
+accepted ffff64020001750200000000 3036020100040561646d696ea22a020109020100020100301f301d060d2b060104018936040203060300040cffff64020001750200000000
+> show
+page 1 on 30 off 0 back 0
+.........9999..........
+.........9...9.........
+.........9...9.........
+.........9999..........
+.........9...9.........
+.........9...9.........
+.........9999..........
+.......................
+.......................
+.......................
+.......................
+.......................
+.......................
+.......................
+ok
+> state
+shown 2 1 7502 mode 8 priority 100 remaining 65535 text 42
+ok
+> tick
+ok
+> power-lost
+ok
+> datagram 302b02010004067075626c6963a01e02010102010002010030133011060d2b0601040189360402030204000500
+dropped
+> state
+shown 7 1 0000 mode 13 priority 1 remaining 65535 text -
+ok
+> power-lost
+ok
+> power-back 7
+ok
+> state
+shown 7 1 0000 mode 10 priority 1 remaining 65535 text -
+ok
+> power-back 4294967295
+ok
+> show
+page 1 on 30 off 0 back 0
+.......................
+.......................
+.......................
+.......................
+.......................
+.......................
+.......................
+.......................
+.......................
+.......................
+.......................
+.......................
+.......................
+.......................
+ok
+";
+
+/// The pages of `[cb3][pt5o2]1[np][fo2][cf1]A`.
+const TWO_PAGES: &str = "page 1 on 5 off 2 back 3
+...........9...........
+..........99...........
+...........9...........
+...........9...........
+...........9...........
+...........9...........
+...........9...........
+.......................
+.......................
+.......................
+.......................
+.......................
+.......................
+.......................
+page 2 on 5 off 2 back 3
+...........1...........
+..........1.1..........
+..........111..........
+..........1.1..........
+..........1.1..........
+.......................
+.......................
+.......................
+.......................
+.......................
+.......................
+.......................
+.......................
+.......................
+";
+
+/// Permanent 1 is activated, and what is answered.
+const ACTIVATE: &str =
+    "datagram 3036020100040561646d696ea32a020109020100020100301f301d060d2b060104018936040203060300040cffff64020001750200000000";
+
+const ACCEPTED: &str =
+    "accepted ffff64020001750200000000 3036020100040561646d696ea22a020109020100020100301f301d060d2b060104018936040203060300040cffff64020001750200000000
+";
+
+/// The state of the bench sign while the power is off.
+const STATE_WITHOUT_POWER: &str = "shown 7 1 0000 mode 13 priority 1 remaining 65535 text -
+ok
+";
+
+/// Each line has the answer that stands under it.
+#[test]
+fn answers(rt: HostRuntime) -> Result<(), Fail> {
+    let mut setup = bench(rt.alloc())?;
+    let mut found = Vec::new(rt.alloc());
+    for line in TALK.lines() {
+        if let Some(asked) = line.strip_prefix("> ") {
+            writeln!(found, "{line}")?;
+            let answer = answer(rt.alloc(), &mut setup.sign, asked.as_bytes())?;
+            found.extend_from_slice(answer.as_slice())?;
+        }
+    }
+    assert!(rt; found.as_slice() == TALK.as_bytes());
+    Ok(())
+}
+
+/// A line that spells no call is a bad line, and changes nothing.
+#[test]
+fn bad_lines(rt: HostRuntime) -> Result<(), Fail> {
+    let mut setup = bench(rt.alloc())?;
+    setup.sign.power_lost();
+    for line in [
+        "",
+        "datagram",
+        "Datagram 00",
+        "datagram 0",
+        "datagram 0g",
+        "datagram 00 00",
+        "datagram - ",
+        "datagrams -",
+        "tick 1",
+        "tick ",
+        "tick\r",
+        " tick",
+        "tock",
+        "power-lost 1",
+        "power-back",
+        "power-back ",
+        "power-back -1",
+        "power-back +1",
+        "power-back 4294967296",
+        "power-back 00000000007",
+        "power-back 7 7",
+        "power_back 7",
+        "show 1",
+        "show-",
+        "state 1",
+        "ok",
+        "bad line",
+    ] {
+        let found = answer(rt.alloc(), &mut setup.sign, line.as_bytes())?;
+        assert!(rt; found.as_slice() == "bad line\n".as_bytes(), "of {line:?}");
+        let state = answer(rt.alloc(), &mut setup.sign, b"state")?;
+        assert!(rt;
+            state.as_slice() == STATE_WITHOUT_POWER.as_bytes(),
+            "after {line:?}"
+        );
+    }
+    Ok(())
+}
+
+/// Two pages of other times and another background than the defaults, in two colours.
+#[test]
+fn two_pages(rt: HostRuntime) -> Result<(), Fail> {
+    let setup = bench(rt.alloc())?;
+    let shown = pages(
+        rt.alloc(),
+        setup.sign.face(),
+        b"[cb3][pt5o2]1[np][fo2][cf1]A",
+    )?;
+    let text = pages_text(rt.alloc(), shown.as_slice())?;
+    assert!(rt; text.as_slice() == TWO_PAGES.as_bytes());
+    Ok(())
+}
+
+/// Out of memory leaves the sign as it was; the same line then has its answer.
+#[test]
+fn answer_or_out_of_memory(rt: HostRuntime) -> Result<(), Fail> {
+    let mut setup = match bench(rt.alloc()) {
+        Ok(setup) => setup,
+        Err(_) => bench(rt.alloc())?,
+    };
+    for (line, mode, wanted) in [
+        ("power-lost", 13, "ok\n"),
+        ("power-back 7", 10, "ok\n"),
+        ("tick", 10, "ok\n"),
+        (ACTIVATE, 8, ACCEPTED),
+        (
+            "state",
+            8,
+            "shown 2 1 7502 mode 8 priority 100 remaining 65535 text 42\nok\n",
+        ),
+        ("tock", 8, "bad line\n"),
+    ] {
+        let before = setup.sign.shown().mode;
+        let found = match answer(rt.alloc(), &mut setup.sign, line.as_bytes()) {
+            Ok(found) => found,
+            Err(_) => {
+                assert_eq!(rt; setup.sign.shown().mode, before);
+                answer(rt.alloc(), &mut setup.sign, line.as_bytes())?
+            }
+        };
+        assert!(rt; found.as_slice() == wanted.as_bytes());
+        assert_eq!(rt; setup.sign.shown().mode, mode);
+    }
+    Ok(())
+}

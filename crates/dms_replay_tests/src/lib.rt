@@ -1,0 +1,13 @@
+//! Tests of runs of both ends, of scripts and of their reports.
+#![tactic(auto)]
+
+#[cfg(test)]
+mod memory;
+#[cfg(test)]
+mod reports;
+#[cfg(test)]
+mod scripts;
+#[cfg(test)]
+mod streams;
+#[cfg(test)]
+mod worlds;

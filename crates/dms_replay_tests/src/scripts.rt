@@ -1,0 +1,212 @@
+//! The lines of events by their values, and where scripts are at fault.
+
+use dms_codes::{Activation, MessageId, Order};
+use dms_replay::event_line::event;
+use dms_replay::fault::ReplayFault;
+use dms_replay::fields::address;
+use dms_replay::replaying::{bench, replay};
+use dms_replay::script_event::ScriptEvent;
+use dms_streams::Gathered;
+use std::test::Fail;
+
+/// Lines that spell no event, each wrong in one word.
+const NO_EVENTS: &str = "publish
+Publish 3 1 41 - 0 0 200 65535 255 192.0.2.1
+publish 256 1 41 - 0 0 200 65535 255 192.0.2.1
+publish 000003 1 41 - 0 0 200 65535 255 192.0.2.1
+publish 3 65536 41 - 0 0 200 65535 255 192.0.2.1
+publish 3 +1 41 - 0 0 200 65535 255 192.0.2.1
+publish 3 1 4 - 0 0 200 65535 255 192.0.2.1
+publish 3 1 4g - 0 0 200 65535 255 192.0.2.1
+publish 3 1  - 0 0 200 65535 255 192.0.2.1
+publish 3 1 41 0 0 0 200 65535 255 192.0.2.1
+publish 3 1 41 - 256 0 200 65535 255 192.0.2.1
+publish 3 1 41 - 0 256 200 65535 255 192.0.2.1
+publish 3 1 41 - 0 0 256 65535 255 192.0.2.1
+publish 3 1 41 - 0 0 200 65536 255 192.0.2.1
+publish 3 1 41 - 0 0 200 65535 256 192.0.2.1
+publish 3 1 41 - 0 0 200 65535 255 192.0.2
+publish 3 1 41 - 0 0 200 65535 255
+publish 3 1 41 - 0 0 200 65535 255 192.0.2.1 0
+blank
+blank 65536 0 0 0.0.0.0
+blank 1 65536 0 0.0.0.0
+blank 1 0 256 0.0.0.0
+blank 1 0 0 1.2.3
+blank 1 0 0 1.2.3.4.5
+blank 1 0 0 1.2.3.256
+blank 1 0 0 0001.2.3.4
+blank 1 0 0 1..3.4
+blank 1 0 0 1.2.3.a
+blank 1 0 0 -
+blank 1 0 0
+blank 1 0 0 0.0.0.0 0
+activate
+activate -
+activate ffffff0300019a66c00002
+activate ffffff0300019a66c000020
+activate ffffff0300019a66c000020g
+activate ffffff0300019a66c000020100
+activate ffffff0300019a66c0000201 0
+sign-tick 1
+sign-tick -
+sign-tock
+Sign-tick
+centre-tick 1
+center-tick
+to-sign
+to-sign -1
+to-sign 4294967296
+to-sign 00000000001
+to-sign 0x1
+to-sign 1 2
+to-centre
+to-centre 4294967296
+to-centre 1 2
+power-lost 1
+power-back
+power-back 4294967296
+power-back 1 2
+centre-restart 0
+forge-sign
+forge-sign 0
+forge-sign 0g
+forge-sign 00 00
+forge-centre
+forge-centre 0
+forge-centre 00 00
+bench
+end";
+
+/// None of them spells an event, and a script names the line where it stands.
+#[test]
+fn lines_that_spell_no_event(rt: HostRuntime) -> Result<(), Fail> {
+    for line in NO_EVENTS.lines() {
+        let found = event(rt.alloc(), Order::High, line.as_bytes())?;
+        assert!(rt; found.is_none(), "of {line:?}");
+        let mut script = String::new(rt.alloc());
+        writeln!(
+            script,
+            "# the fifth line\nbench\n\nsign-tick\n{line}\nsign-tock"
+        )?;
+        let mut reader = script.as_bytes();
+        let mut writer = Gathered::new(rt.alloc());
+        let fault = replay(rt.alloc(), &mut reader, &mut writer).err();
+        assert_eq!(rt; fault, Some(ReplayFault::Line(5)), "of {line:?}");
+        assert!(rt; writer.bytes().is_empty());
+    }
+    for line in ["", "sign-tick ", " sign-tick", "sign-tick\n", "sign-tick\r"] {
+        let found = event(rt.alloc(), Order::High, line.as_bytes())?;
+        assert!(rt; found.is_none(), "of {line:?}");
+    }
+    Ok(())
+}
+
+#[test]
+fn lines_that_spell_events(rt: HostRuntime) -> Result<(), Fail> {
+    for line in [
+        "publish 3 1 41 - 0 0 200 65535 255 192.0.2.1",
+        "publish 255 00000 - - 255 255 0 0 0 000.0.00.255",
+        "publish 0 65535 00fF 5B 1 1 255 1 1 1.2.3.4",
+        "blank 65535 65535 255 255.255.255.255",
+        "activate ffffff0300019a66C0000201",
+        "sign-tick",
+        "centre-tick",
+        "to-sign 4294967295",
+        "to-centre 0000000000",
+        "power-lost",
+        "power-back 0",
+        "centre-restart",
+        "forge-sign -",
+        "forge-centre 00Ff",
+    ] {
+        let found = event(rt.alloc(), Order::Swapped, line.as_bytes())?;
+        assert!(rt; found.is_some(), "of {line:?}");
+    }
+    Ok(())
+}
+
+/// A code's checksum is in the order that is asked for.
+#[test]
+fn codes_in_both_orders(rt: HostRuntime) -> Result<(), Fail> {
+    let line = b"activate 01020304050607080a0b0c0d";
+    for (order, crc) in [(Order::High, 0x0708), (Order::Swapped, 0x0807)] {
+        let Some(ScriptEvent::Activate(code)) = event(rt.alloc(), order, line)? else {
+            return Err("no code".into());
+        };
+        assert_eq!(rt;
+            code,
+            Activation {
+                minutes: 0x0102,
+                priority: 3,
+                id: MessageId {
+                    memory: 4,
+                    number: 0x0506,
+                    crc,
+                },
+                address: [10, 11, 12, 13],
+            }
+        );
+    }
+    Ok(())
+}
+
+#[test]
+fn addresses(rt: HostRuntime) {
+    for (word, octets) in [
+        ("192.0.2.1", Some([192, 0, 2, 1])),
+        ("000.00.0.255", Some([0, 0, 0, 255])),
+        ("1.2.3", None),
+        ("1.2.3.4.", None),
+        ("1.2.3.4 ", None),
+        ("", None),
+    ] {
+        assert_eq!(rt; address(word.as_bytes()), octets, "of {word:?}");
+    }
+}
+
+/// Scripts without a sign, with a sign that is at fault, and with a fault after a sign of its own.
+#[test]
+fn faults(rt: HostRuntime) {
+    for (script, number) in [
+        ("", 1),
+        ("\n# nothing\n", 3),
+        ("\nbench\n\n# nothing\nto-sing 0\n", 5),
+        ("bench \n", 1),
+        ("Bench\n", 1),
+        ("bench sign-tick\n", 1),
+        ("sign-tick\nbench\n", 1),
+        ("size 23 14\n", 2),
+        (
+            "size 5 7\ncommunities a b\nrows 1 1\norder high\nhas 0 0\ndefaults 0 1 5 5 1 2 2 10 0\nfirst 1\nend\n",
+            8,
+        ),
+        (
+            "size 5 7\ncommunities a b\nrows 1 1\norder high\nhas 0 0\ndefaults 0 1 5 5 1 2 2 10 0\nfirst 1\nfont 1 height 7 space 1 line 1 version 0001\nend\nsign-tick\nend\n",
+            11,
+        ),
+    ] {
+        let mut reader = script.as_bytes();
+        let mut writer = Gathered::new(rt.alloc());
+        let fault = replay(rt.alloc(), &mut reader, &mut writer).err();
+        assert_eq!(rt; fault, Some(ReplayFault::Line(number)), "of {script}");
+        assert!(rt; writer.bytes().is_empty());
+    }
+}
+
+/// What is printed of each fault.
+#[test]
+fn texts(rt: HostRuntime) -> Result<(), Fail> {
+    for (fault, text) in [
+        (ReplayFault::Read, "read"),
+        (ReplayFault::Write, "write"),
+        (ReplayFault::Line(7), "line 7"),
+        (ReplayFault::TooLong, "too long"),
+        (ReplayFault::Memory, "memory"),
+    ] {
+        let printed = format!(in rt.alloc(); "{fault}")?;
+        assert_eq!(rt; printed.as_str(), text);
+    }
+    assert_eq!(rt; bench(rt.alloc())?.first, 1);
+    Ok(())
+}

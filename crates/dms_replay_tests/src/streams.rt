@@ -1,0 +1,221 @@
+//! Readers that fail, end late or never, and writers that fail, each a few octets a call.
+
+use dms_description::BENCH;
+use dms_replay::fault::ReplayFault;
+use dms_replay::replaying::{LONGEST_INPUT, described, replay};
+use dms_streams::{Failed, Sink, Source};
+use std::alloc::Global;
+use std::test::Fail;
+
+/// Gives a text and after it so many `#`, at most so many octets a call, and fails once so many calls were made.
+#[derive(Drop)]
+struct Slow<'a> {
+    text: &'a [u8],
+    padding: usize,
+    piece: usize,
+    calls: usize,
+    failed: u64,
+}
+
+impl Source for Slow<'_> {
+    ghost failed = { λ slow. slow.failed };
+
+    fn read_some(&mut self, buffer: &mut [u8]) -> Result<usize, Failed> {
+        if self.calls == 0 {
+            self.failed = self.failed.saturating_add(1);
+            return Err(Failed);
+        }
+        self.calls -= 1;
+        let room = self.piece.min(buffer.len());
+        if self.text.is_empty() {
+            let count = self.padding.min(room);
+            buffer[..count].fill(b'#');
+            self.padding -= count;
+            return Ok(count);
+        }
+        let (first, rest) = self.text.split_at(self.text.len().min(room));
+        buffer[..first.len()].copy_from_slice(first);
+        self.text = rest;
+        Ok(first.len())
+    }
+
+    fn failures(&self) -> u64 {
+        self.failed
+    }
+}
+
+/// How a writer refuses octets.
+#[derive(Clone, Copy, Debug, PartialEq, Eq)]
+enum Refusal {
+    /// The call fails.
+    Fails,
+    /// It takes none of them.
+    TakesNone,
+}
+
+/// Keeps at most so many octets a call, and refuses them once so many calls were made.
+#[derive(Drop)]
+struct Narrow {
+    octets: Vec<u8>,
+    piece: usize,
+    calls: usize,
+    refusal: Refusal,
+    failed: u64,
+}
+
+impl Sink for Narrow {
+    ghost failed = { λ narrow. narrow.failed };
+
+    fn write_some(&mut self, octets: &[u8]) -> Result<usize, Failed> {
+        if octets.is_empty() {
+            return Ok(0);
+        }
+        let count = if self.calls == 0 {
+            0
+        } else {
+            self.piece.min(octets.len())
+        };
+        self.calls = self.calls.saturating_sub(1);
+        let kept = self.octets.extend_from_slice(&octets[..count]);
+        if count > 0 && kept.is_ok() {
+            return Ok(count);
+        }
+        self.failed = self.failed.saturating_add(1);
+        match self.refusal {
+            Refusal::Fails => Err(Failed),
+            Refusal::TakesNone => Ok(0),
+        }
+    }
+
+    fn failures(&self) -> u64 {
+        self.failed
+    }
+}
+
+const SCRIPT: &str = "bench
+publish 3 1 41 - 0 0 200 65535 255 192.0.2.1
+to-sign 0
+to-centre 0
+";
+
+const REPORT: &str = "events 3
+sent 2 1
+shown 7 1 0000 mode 10 priority 1 remaining 65535 text -
+";
+
+fn reader_of(text: &str, padding: usize, piece: usize, calls: usize) -> Slow<'_> {
+    Slow {
+        text: text.as_bytes(),
+        padding,
+        piece,
+        calls,
+        failed: 0,
+    }
+}
+
+fn writer_of(alloc: Global, piece: usize, calls: usize, refusal: Refusal) -> Narrow {
+    Narrow {
+        octets: Vec::new(alloc),
+        piece,
+        calls,
+        refusal,
+        failed: 0,
+    }
+}
+
+/// The script is replayed from a reader that fails at each call in turn: nothing is written but where it gave all, the last call included
+/// that gives nothing.
+#[test]
+fn reader_fails_at_each_call(rt: HostRuntime) {
+    for piece in [1, 7, 4096] {
+        let pieces = SCRIPT.len().div_ceil(piece);
+        for calls in 0..=pieces + 1 {
+            let mut reader = reader_of(SCRIPT, 0, piece, calls);
+            let mut writer = writer_of(rt.alloc(), 4096, 4096, Refusal::Fails);
+            let found = replay(rt.alloc(), &mut reader, &mut writer);
+            let (wanted, written, failures) = if calls <= pieces {
+                (Err(ReplayFault::Read), "", 1)
+            } else {
+                (Ok(()), REPORT, 0)
+            };
+            assert_eq!(rt; found, wanted, "at {calls}");
+            assert!(rt; writer.octets.as_slice() == written.as_bytes());
+            assert_eq!(rt; (reader.failures(), writer.failures()), (failures, 0));
+        }
+    }
+}
+
+/// The same report is written to a writer that fails, or takes nothing, at each call in turn: what it took before is a prefix of the report.
+#[test]
+fn writer_fails_at_each_call(rt: HostRuntime) {
+    for (piece, refusal) in [
+        (1, Refusal::Fails),
+        (1, Refusal::TakesNone),
+        (10, Refusal::Fails),
+        (10, Refusal::TakesNone),
+        (4096, Refusal::Fails),
+        (4096, Refusal::TakesNone),
+    ] {
+        let pieces = REPORT.len().div_ceil(piece);
+        for calls in 0..=pieces {
+            let mut reader = reader_of(SCRIPT, 0, 4096, 4096);
+            let mut writer = writer_of(rt.alloc(), piece, calls, refusal);
+            let found = replay(rt.alloc(), &mut reader, &mut writer);
+            let written = REPORT.len().min(calls.saturating_mul(piece));
+            assert!(rt; writer.octets.as_slice() == &REPORT.as_bytes()[..written]);
+            let (wanted, failures) = if calls < pieces {
+                (Err(ReplayFault::Write), 1)
+            } else {
+                (Ok(()), 0)
+            };
+            assert_eq!(rt; found, wanted, "at {calls} of {piece}");
+            assert_eq!(rt; (reader.failures(), writer.failures()), (0, failures));
+        }
+    }
+}
+
+/// An input of the most octets, one of an octet more, one that fails right before and right after its last octet, and one that never ends.
+#[test]
+fn longest_inputs(rt: HostRuntime) {
+    let rest = LONGEST_INPUT.saturating_sub(SCRIPT.len());
+    for (padding, piece, calls, wanted) in [
+        (rest, 1, usize::MAX, Ok(())),
+        (rest, 4096, usize::MAX, Ok(())),
+        (rest + 1, 1, usize::MAX, Err(ReplayFault::TooLong)),
+        (rest + 1, 4096, usize::MAX, Err(ReplayFault::TooLong)),
+        (rest, 1, LONGEST_INPUT, Err(ReplayFault::Read)),
+        (rest + 1, 1, LONGEST_INPUT, Err(ReplayFault::Read)),
+        (rest + 1, 1, LONGEST_INPUT + 1, Err(ReplayFault::TooLong)),
+        (usize::MAX, 1, usize::MAX, Err(ReplayFault::TooLong)),
+        (usize::MAX, 4096, usize::MAX, Err(ReplayFault::TooLong)),
+    ] {
+        let mut reader = reader_of(SCRIPT, padding, piece, calls);
+        let mut writer = writer_of(rt.alloc(), 4096, 4096, Refusal::Fails);
+        let found = replay(rt.alloc(), &mut reader, &mut writer);
+        assert_eq!(rt; found, wanted, "of {padding} in pieces of {piece}");
+        let written = if wanted.is_ok() { REPORT } else { "" };
+        assert!(rt; writer.octets.as_slice() == written.as_bytes());
+    }
+}
+
+/// A description is read by the same limits and from the same readers.
+#[test]
+fn descriptions(rt: HostRuntime) {
+    let rest = LONGEST_INPUT.saturating_sub(BENCH.len());
+    for (padding, piece, calls, wanted) in [
+        (0, 1, usize::MAX, None),
+        (rest, 4096, usize::MAX, None),
+        (rest + 1, 4096, usize::MAX, Some(ReplayFault::TooLong)),
+        (usize::MAX, 1, usize::MAX, Some(ReplayFault::TooLong)),
+        (0, 1, 0, Some(ReplayFault::Read)),
+        (0, 1, 100, Some(ReplayFault::Read)),
+        (0, 1, BENCH.len(), Some(ReplayFault::Read)),
+        (0, 1, BENCH.len() + 1, None),
+    ] {
+        let mut reader = reader_of(BENCH, padding, piece, calls);
+        let found = described(rt.alloc(), &mut reader).err();
+        assert_eq!(rt; found, wanted, "of {padding} in {calls} calls of {piece}");
+        let failures = u64::from(wanted == Some(ReplayFault::Read));
+        assert_eq!(rt; reader.failures(), failures);
+    }
+}

@@ -1,0 +1,5 @@
+//! Tests of the controller, octets in and octets out.
+#![tactic(auto)]
+
+#[cfg(test)]
+mod signs;

@@ -1,0 +1,106 @@
+//! Datagrams that a sign should not have been sent: each is dropped or answered, and nothing that an object reads changes.
+
+use crate::signs::{bench_sign, cases, check_same, play};
+use dms_sign::{Receipt, Sign};
+use dms_wire::Out;
+use std::test::Fail;
+
+/// A Get of dmsMessageStatus.3.1 by the community that may read.
+const STATUS: [u8; 48] =
+    *b"\x30\x2e\x02\x01\x00\x04\x06public\xa0\x21\x02\x01\x01\x02\x01\x00\x02\x01\x00\x30\x16\x30\x14\x06\x10\x2b\x06\x01\x04\x01\x89\x36\x04\x02\x03\x05\x08\x01\x09\x03\x01\x05\x00";
+
+/// A sign that was sent such datagrams, beside one that was not.
+#[derive(Drop)]
+struct Pair {
+    sent: Sign,
+    untouched: Sign,
+}
+
+impl Pair {
+    fn check_same(&mut self) -> Result<(), Fail> {
+        check_same(&mut self.sent, &mut self.untouched)
+    }
+
+    fn send(&mut self, datagram: &[u8]) -> Receipt {
+        let mut reply = Out::new();
+        self.sent.receive(datagram, &mut reply)
+    }
+
+    fn check_dropped(&mut self, datagram: &[u8]) -> Result<(), Fail> {
+        if self.send(datagram) == Receipt::Dropped {
+            Ok(())
+        } else {
+            Err("a reply".into())
+        }
+    }
+}
+
+fn two_signs(rt: &HostRuntime) -> Result<Pair, Fail> {
+    Ok(Pair {
+        sent: bench_sign(rt.alloc())?,
+        untouched: bench_sign(rt.alloc())?,
+    })
+}
+
+#[test]
+fn no_message(rt: HostRuntime) -> Result<(), Fail> {
+    let mut pair = two_signs(&rt)?;
+    play(&mut pair.sent, cases::HOSTILE)?;
+    pair.check_same()
+}
+
+/// Each proper prefix, one to four octets more, and more octets than a datagram has.
+#[test]
+fn other_lengths(rt: HostRuntime) -> Result<(), Fail> {
+    let mut pair = two_signs(&rt)?;
+    for size in 0..48 {
+        pair.check_dropped(&STATUS[..size])?;
+    }
+    let mut more = Out::new();
+    more.try_extend_from_slice(&STATUS)?;
+    for octet in 0..4 {
+        more.try_push(octet)?;
+        pair.check_dropped(more.as_slice())?;
+    }
+    pair.check_dropped(&[0; 1473])?;
+    pair.check_dropped(&[0x30; 1473])?;
+    pair.check_same()
+}
+
+/// Each other value of each octet.
+#[test]
+fn each_octet_changed(rt: HostRuntime) -> Result<(), Fail> {
+    let mut pair = two_signs(&rt)?;
+    for place in 0..48 {
+        for change in 1..=255 {
+            let mut datagram = STATUS;
+            datagram[place] ^= change;
+            pair.send(&datagram);
+        }
+        if place % 8 == 7 {
+            pair.check_same()?;
+        }
+    }
+    Ok(())
+}
+
+/// Each pair of neighbours deleted, doubled and exchanged.
+#[test]
+fn neighbours(rt: HostRuntime) -> Result<(), Fail> {
+    let mut pair = two_signs(&rt)?;
+    for place in 0..47 {
+        let mut deleted = Out::new();
+        deleted.try_extend_from_slice(&STATUS[..place])?;
+        deleted.try_extend_from_slice(&STATUS[place + 2..])?;
+        pair.send(deleted.as_slice());
+        let mut doubled = Out::new();
+        doubled.try_extend_from_slice(&STATUS[..place + 2])?;
+        doubled.try_extend_from_slice(&STATUS[place..])?;
+        pair.send(doubled.as_slice());
+        let mut exchanged = STATUS;
+        exchanged[place] = STATUS[place + 1];
+        exchanged[place + 1] = STATUS[place];
+        pair.send(&exchanged);
+    }
+    pair.check_same()
+}

@@ -1,0 +1,336 @@
+//! Datagrams with the answers of an independent model, hostile datagrams, and messages with each kind of value.
+
+mod cases;
+
+use dms_wire::{
+    Bind, BindingOctets, ErrorStatus, FaultKind, Kind, Message, MessageParts, Oid, Out, TooBig,
+    Value, WireFault, heard, read, write, write_around, write_response,
+};
+use std::alloc::Global;
+use std::process::Abort;
+use std::test::Fail;
+
+/// A Get of one object of community public, with request-id 1.
+static GET: [u8; 48] =
+    *b"\x30\x2e\x02\x01\x00\x04\x06public\xa0\x21\x02\x01\x01\x02\x01\x00\x02\x01\x00\x30\x16\x30\x14\x06\x10\x2b\x06\x01\x04\x01\x89\x36\x04\x02\x03\x05\x08\x01\x09\x03\x01\x05\x00";
+
+fn check_fault(rt: &impl Abort, octets: &[u8], kind: FaultKind, place: usize) {
+    assert_eq!(rt;
+        read(octets).err(),
+        Some(WireFault { kind, place }),
+        "in {octets:?}"
+    );
+}
+
+fn check_faulty(rt: &impl Abort, cases: &[(&[u8], FaultKind, usize)]) {
+    for (octets, kind, place) in cases {
+        check_fault(rt, octets, *kind, *place);
+    }
+}
+
+/// Writes what was read, with these bindings.
+fn check_written(rt: &impl Abort, message: &Message<'_>, binds: &[Bind<'_>], canonical: &[u8]) {
+    let parts = MessageParts {
+        community: message.community,
+        kind: message.kind,
+        request: message.request,
+        status: message.status,
+        index: message.index,
+        binds,
+    };
+    let mut out = Out::new();
+    assert_eq!(rt; write(&parts, &mut out), Ok(()));
+    assert_eq!(rt; out.as_slice(), canonical);
+}
+
+fn check_spelled(rt: &impl Abort, alloc: Global, cases: &[(&[u8], &[u8])]) -> Result<(), Fail> {
+    for (octets, canonical) in cases {
+        let message = read(octets)?;
+        let first: Vec<Bind<'_>> = message.binds.again().collect(alloc)?;
+        let second: Vec<Bind<'_>> = message.binds.again().collect(alloc)?;
+        check_written(rt, &message, &first, canonical);
+        check_written(rt, &message, &second, canonical);
+    }
+    Ok(())
+}
+
+/// A datagram of these parts, one after the other.
+fn datagram_of(rt: &impl Abort, parts: &[&[u8]]) -> Out {
+    let mut datagram = Out::new();
+    for part in parts {
+        assert!(rt; datagram.try_extend_from_slice(part).is_ok());
+    }
+    datagram
+}
+
+#[test]
+fn faulty(rt: HostRuntime) {
+    check_faulty(&rt, &cases::FAULTY_1);
+    check_faulty(&rt, &cases::FAULTY_2);
+    check_faulty(&rt, &cases::FAULTY_3);
+    check_faulty(&rt, &cases::FAULTY_4);
+    check_faulty(&rt, &cases::FAULTY_5);
+    check_faulty(&rt, &cases::FAULTY_6);
+}
+
+#[test]
+fn spelled(rt: HostRuntime) -> Result<(), Fail> {
+    check_spelled(&rt, rt.alloc(), &cases::SPELLED_1)?;
+    check_spelled(&rt, rt.alloc(), &cases::SPELLED_2)?;
+    check_spelled(&rt, rt.alloc(), &cases::SPELLED_3)?;
+    check_spelled(&rt, rt.alloc(), &cases::SPELLED_4)?;
+    let longer = datagram_of(&rt, &[b"\x30\x82\x00\x2e", &GET[2..]]);
+    check_spelled(&rt, rt.alloc(), &[(&longer, &GET)])
+}
+
+#[test]
+fn prefixes(rt: HostRuntime) {
+    for (place, _) in GET.iter().enumerate() {
+        check_fault(&rt, &GET[..place], FaultKind::Truncated, place);
+    }
+}
+
+#[test]
+fn hostile(rt: HostRuntime) {
+    let cases: [(&[u8], FaultKind, usize); 8] = [
+        (b"\x30\x84\xff\xff\xff\xff", FaultKind::Truncated, 6),
+        (b"\x30\x80", FaultKind::BadLength, 1),
+        (b"\x30\x85\x00", FaultKind::BadLength, 1),
+        (b"\x30\x03\x02\x01\x01", FaultKind::BadVersion, 4),
+        (b"\x30\x03\x02\x01\x00", FaultKind::Truncated, 5),
+        (b"\x30\x04\x02\x02\x00\x00", FaultKind::BadInteger, 4),
+        (b"\x30\x03\x02\x05\x00", FaultKind::LengthPast, 3),
+        (&[0x30; 1473], FaultKind::TooLong, 1472),
+    ];
+    check_faulty(&rt, &cases);
+    let longer = datagram_of(&rt, &[&GET, &[0]]);
+    check_fault(&rt, &longer, FaultKind::TrailingBytes, 48);
+}
+
+/// The example of the crate's documentation: each object of a Get has the value 7.
+#[test]
+fn example(rt: HostRuntime) -> Result<(), Fail> {
+    let message = read(&GET)?;
+    let mut values = BindingOctets::new();
+    for bind in message.binds.again() {
+        values.push(&Bind {
+            name: bind.name,
+            value: Value::Integer(7),
+        });
+    }
+    let mut out = Out::new();
+    let header = message.response(ErrorStatus::NoError, 0);
+    if write_around(&header, &values, &mut out).is_err() {
+        write_response(&message, ErrorStatus::TooBig, 0, &mut out)?;
+    }
+    let answer =
+        b"\x30\x2f\x02\x01\x00\x04\x06public\xa2\x22\x02\x01\x01\x02\x01\x00\x02\x01\x00\x30\x17\x30\x15\x06\x10\x2b\x06\x01\x04\x01\x89\x36\x04\x02\x03\x05\x08\x01\x09\x03\x01\x02\x01\x07";
+    assert_eq!(rt; out.as_slice(), answer.as_slice());
+    assert_eq!(rt;
+        write_response(&message, ErrorStatus::NoSuchName, 1, &mut out),
+        Ok(())
+    );
+    let refusal = datagram_of(
+        &rt,
+        &[
+            &GET[..13],
+            b"\xa2\x21\x02\x01\x01\x02\x01\x02\x02\x01\x01",
+            &GET[24..],
+        ],
+    );
+    assert_eq!(rt; out.as_slice(), refusal.as_slice());
+    assert!(rt; heard(&GET).is_some());
+    assert!(rt; heard(&GET[1..]).is_none());
+    Ok(())
+}
+
+/// A name has at most 127 sub-identifiers.
+#[test]
+fn long_names(rt: HostRuntime) -> Result<(), Fail> {
+    let longest = datagram_of(
+        &rt,
+        &[
+            b"\x30\x81\xa0\x02\x01\x00\x04\x06public\xa0\x81\x92\x02\x01\x01\x02\x01\x00\x02\x01\x00",
+            b"\x30\x81\x86\x30\x81\x83\x06\x7f",
+            &[0x2b; 127],
+            b"\x05\x00",
+        ],
+    );
+    check_spelled(&rt, rt.alloc(), &[(&longest, &longest)])?;
+    let longer = datagram_of(
+        &rt,
+        &[
+            b"\x30\x81\xa2\x02\x01\x00\x04\x06public\xa0\x81\x94\x02\x01\x01\x02\x01\x00\x02\x01\x00",
+            b"\x30\x81\x88\x30\x81\x85\x06\x81\x80",
+            &[0x2b; 128],
+            b"\x05\x00",
+        ],
+    );
+    check_fault(&rt, &longer, FaultKind::BadName, 35);
+    Ok(())
+}
+
+#[test]
+fn kinds(rt: HostRuntime) -> Result<(), Fail> {
+    let mut octets = GET;
+    for (tag, kind) in [
+        (160, Kind::Get),
+        (161, Kind::GetNext),
+        (162, Kind::Response),
+        (163, Kind::Set),
+    ] {
+        octets[13] = tag;
+        assert_eq!(rt; read(&octets)?.kind, kind);
+        check_spelled(&rt, rt.alloc(), &[(&octets, &octets)])?;
+    }
+    Ok(())
+}
+
+/// A Response in which the values have each tag, with the ends of the ranges, and its bindings, of which the Nth has the
+/// name 1.3.N.
+static RESPONSE: &[&[u8]] = &[
+    b"\x30\x81\xa0\x02\x01\x00\x04\x06public\xa2\x81\x92\x02\x04\x80\x00\x00\x00\x02\x01\x02\x02\x02\x01\x2c\x30\x81\x82",
+    b"\x30\x0a\x06\x02\x2b\x01\x02\x04\x80\x00\x00\x00",
+    b"\x30\x0b\x06\x02\x2b\x02\x02\x05\x00\xff\xff\xff\xff",
+    b"\x30\x06\x06\x02\x2b\x03\x04\x00",
+    b"\x30\x08\x06\x02\x2b\x04\x04\x02\x61\x62",
+    b"\x30\x06\x06\x02\x2b\x05\x05\x00",
+    b"\x30\x0e\x06\x02\x2b\x06\x06\x08\x2b\x06\x01\x04\x01\x89\x36\x00",
+    b"\x30\x0a\x06\x02\x2b\x07\x40\x04\xc0\x00\x02\xff",
+    b"\x30\x07\x06\x02\x2b\x08\x41\x01\x00",
+    b"\x30\x0b\x06\x02\x2b\x09\x41\x05\x00\xff\xff\xff\xff",
+    b"\x30\x07\x06\x02\x2b\x0a\x42\x01\x7f",
+    b"\x30\x08\x06\x02\x2b\x0b\x43\x02\x00\x80",
+    b"\x30\x08\x06\x02\x2b\x0c\x44\x02\x9f\x78",
+];
+
+fn binding<'a>(rt: &impl Abort, name: &'a [u8], value: Value<'a>) -> Bind<'a> {
+    let name = Oid::of(name).expect(rt, "an object identifier");
+    Bind { name, value }
+}
+
+#[test]
+fn values(rt: HostRuntime) -> Result<(), Fail> {
+    let expected = [
+        binding(&rt, b"\x2b\x01", Value::Integer(-2147483648)),
+        binding(&rt, b"\x2b\x02", Value::Integer(4294967295)),
+        binding(&rt, b"\x2b\x03", Value::Octets(b"")),
+        binding(&rt, b"\x2b\x04", Value::Octets(b"ab")),
+        binding(&rt, b"\x2b\x05", Value::Null),
+        binding(
+            &rt,
+            b"\x2b\x06",
+            Value::Name(Oid::of(b"\x2b\x06\x01\x04\x01\x89\x36\x00").expect(
+                &rt,
+                "an object identifier",
+            )),
+        ),
+        binding(&rt, b"\x2b\x07", Value::Address([192, 0, 2, 255])),
+        binding(&rt, b"\x2b\x08", Value::Counter(0)),
+        binding(&rt, b"\x2b\x09", Value::Counter(4294967295)),
+        binding(&rt, b"\x2b\x0a", Value::Gauge(127)),
+        binding(&rt, b"\x2b\x0b", Value::Ticks(128)),
+        binding(&rt, b"\x2b\x0c", Value::Opaque(b"\x9f\x78")),
+    ];
+    let parts = MessageParts {
+        community: b"public",
+        kind: Kind::Response,
+        request: -2147483648,
+        status: 2,
+        index: 300,
+        binds: &expected,
+    };
+    let mut out = Out::new();
+    assert_eq!(rt; write(&parts, &mut out), Ok(()));
+    assert_eq!(rt; out.as_slice(), datagram_of(&rt, RESPONSE).as_slice());
+    let mut message = read(&out)?;
+    assert_eq!(rt; message.community, b"public".as_slice());
+    assert_eq!(rt; message.kind, Kind::Response);
+    assert_eq!(rt;
+        (message.request, message.status, message.index),
+        (-2147483648, 2, 300)
+    );
+    for bind in &expected {
+        let found = message.binds.next().expect(&rt, "a binding");
+        assert!(rt; found == *bind);
+    }
+    assert!(rt; message.binds.next().is_none());
+    Ok(())
+}
+
+fn get_of<'a>(community: &'a [u8]) -> MessageParts<'a> {
+    MessageParts {
+        community,
+        kind: Kind::Get,
+        request: 1,
+        status: 0,
+        index: 0,
+        binds: &[],
+    }
+}
+
+fn check_too_big(rt: &impl Abort, parts: &MessageParts<'_>) {
+    let mut out = datagram_of(rt, &[&GET]);
+    assert_eq!(rt; write(parts, &mut out), Err(TooBig));
+    assert!(rt; out.is_empty());
+}
+
+#[test]
+fn limit(rt: HostRuntime) {
+    let octets = [0x61; 1473];
+    let mut out = datagram_of(&rt, &[&GET]);
+    assert_eq!(rt; write(&get_of(&octets[..1448]), &mut out), Ok(()));
+    let largest = datagram_of(
+        &rt,
+        &[
+            b"\x30\x82\x05\xbc\x02\x01\x00\x04\x82\x05\xa8",
+            &octets[..1448],
+            b"\xa0\x0b\x02\x01\x01\x02\x01\x00\x02\x01\x00\x30\x00",
+        ],
+    );
+    assert_eq!(rt; largest.len(), 1472);
+    assert_eq!(rt; out.as_slice(), largest.as_slice());
+    check_too_big(&rt, &get_of(&octets[..1449]));
+    check_too_big(&rt, &get_of(&octets));
+    let binds = [binding(&rt, b"\x2b", Value::Octets(&octets))];
+    let parts = MessageParts {
+        community: b"",
+        kind: Kind::Get,
+        request: 1,
+        status: 0,
+        index: 0,
+        binds: &binds,
+    };
+    check_too_big(&rt, &parts);
+}
+
+#[test]
+fn texts(rt: HostRuntime) -> Result<(), Fail> {
+    let kinds = [
+        (FaultKind::Truncated, "truncated"),
+        (FaultKind::BadTag, "unexpected tag"),
+        (FaultKind::BadLength, "bad length"),
+        (FaultKind::LengthPast, "content passes its element"),
+        (FaultKind::BadInteger, "bad integer"),
+        (FaultKind::BadName, "bad object identifier"),
+        (FaultKind::BadVersion, "version is not 0"),
+        (FaultKind::TrailingBytes, "trailing octets"),
+        (FaultKind::TooLong, "datagram over 1472 octets"),
+    ];
+    for (kind, text) in kinds {
+        assert_eq!(rt; kind.to_string(rt.alloc())?.as_str(), text);
+    }
+    let fault = WireFault {
+        kind: FaultKind::BadTag,
+        place: 13,
+    };
+    assert_eq!(rt;
+        fault.to_string(rt.alloc())?.as_str(),
+        "unexpected tag at octet 13"
+    );
+    assert_eq!(rt;
+        TooBig.to_string(rt.alloc())?.as_str(),
+        "the message has more than 1472 octets"
+    );
+    Ok(())
+}

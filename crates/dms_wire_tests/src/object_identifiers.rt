@@ -1,0 +1,64 @@
+//! Object identifiers by their content octets.
+
+use dms_ber::{Oid, oid_cmp, read_name};
+use std::cmp::Ordering;
+use std::process::Abort;
+use std::test::Fail;
+
+fn check_numbers(rt: &impl Abort, content: &[u8], numbers: &[u32]) {
+    let oid = Oid::of(content).expect(rt, "an object identifier");
+    let mut left = numbers.iter();
+    for number in &oid {
+        assert_eq!(rt; Some(number), left.next().copied());
+    }
+    assert_eq!(rt; left.next(), None);
+}
+
+/// The example of the crate's documentation.
+#[test]
+fn example(rt: HostRuntime) -> Result<(), Fail> {
+    let octets: &[u8] = b"\x06\x03\x2b\x06\x01";
+    let (name, rest) = read_name(octets, octets.len())?;
+    assert_eq!(rt; name.to_string(rt.alloc())?.as_str(), "1.3.6.1");
+    assert!(rt; rest.is_empty());
+    Ok(())
+}
+
+// the example of X.690, 8.19.5, and the ends of the ranges
+#[test]
+fn numbers_of_contents(rt: HostRuntime) {
+    check_numbers(&rt, b"\x88\x37\x03", &[2, 999, 3]);
+    check_numbers(&rt, b"\x2b\x06\x01\x02\x01", &[1, 3, 6, 1, 2, 1]);
+    check_numbers(&rt, b"\x00", &[0, 0]);
+    check_numbers(&rt, b"\x27", &[0, 39]);
+    check_numbers(&rt, b"\x28", &[1, 0]);
+    check_numbers(&rt, b"\x50", &[2, 0]);
+    check_numbers(&rt, b"\x8f\xff\xff\xff\x7f", &[2, 4294967215]);
+    check_numbers(&rt, b"\x2b\x8f\xff\xff\xff\x7f", &[1, 3, 4294967295]);
+}
+
+#[test]
+fn no_names(rt: HostRuntime) {
+    assert!(rt; Oid::of(b"").is_none());
+    assert!(rt; Oid::of(b"\x80\x01").is_none());
+    assert!(rt; Oid::of(b"\x2b\x86").is_none());
+    assert!(rt; Oid::of(b"\x90\x80\x80\x80\x00").is_none());
+    assert!(rt; Oid::of(&[0x2b; 128]).is_none());
+    assert!(rt; Oid::of(&[0x2b; 127]).is_some());
+}
+
+fn check_order(rt: &impl Abort, a: &[u8], b: &[u8], order: Ordering) {
+    let a = Oid::of(a).expect(rt, "an object identifier");
+    let b = Oid::of(b).expect(rt, "an object identifier");
+    assert_eq!(rt; oid_cmp(&a, &b), order);
+    assert_eq!(rt; oid_cmp(&b, &a), order.reverse());
+    assert_eq!(rt; a == b, order == Ordering::Equal);
+}
+
+#[test]
+fn order(rt: HostRuntime) {
+    check_order(&rt, b"\x2b\x06", b"\x2b\x06", Ordering::Equal);
+    check_order(&rt, b"\x2b", b"\x2b\x00", Ordering::Less);
+    check_order(&rt, b"\x27\x05", b"\x28", Ordering::Less);
+    check_order(&rt, b"\x2b\xff\x7f", b"\x2b\x81\x80\x00", Ordering::Less);
+}

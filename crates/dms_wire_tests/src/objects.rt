@@ -1,0 +1,50 @@
+//! Columns by their numbers, and names by their octets.
+
+use dms_codes::RowId;
+use dms_objects::{Column, Instance, Name, Scalar};
+
+#[test]
+fn columns(rt: HostRuntime) {
+    let numbers = [
+        (Column::MemoryType, 1),
+        (Column::Number, 2),
+        (Column::MultiString, 3),
+        (Column::Owner, 4),
+        (Column::Crc, 5),
+        (Column::Beacon, 6),
+        (Column::PixelService, 7),
+        (Column::RunTimePriority, 8),
+        (Column::Status, 9),
+    ];
+    for (column, number) in numbers {
+        assert_eq!(rt; column.number(), number, "{column:?}");
+    }
+}
+
+#[test]
+fn example(rt: HostRuntime) {
+    let name = Name::of(Instance::The(Scalar::ActivateMessage));
+    assert_eq!(rt;
+        name.oid().content(),
+        [43, 6, 1, 4, 1, 137, 54, 4, 2, 3, 6, 3, 0].as_slice()
+    );
+}
+
+/// The octets after those of dmsMessageEntry: a column, a type of memory, and a row's number of one, two and three octets.
+#[test]
+fn rows(rt: HostRuntime) {
+    let rows: [(u8, u16, &[u8]); 6] = [
+        (3, 1, &[9, 3, 1]),
+        (7, 127, &[9, 7, 127]),
+        (7, 128, &[9, 7, 129, 0]),
+        (7, 255, &[9, 7, 129, 127]),
+        (200, 16384, &[9, 129, 72, 129, 128, 0]),
+        (255, 65535, &[9, 129, 127, 131, 255, 127]),
+    ];
+    for (memory, number, octets) in rows {
+        let name = Name::of(Instance::Cell(Column::Status, RowId { memory, number }));
+        let entry = [43, 6, 1, 4, 1, 137, 54, 4, 2, 3, 5, 8, 1];
+        let found = name.oid().content().strip_prefix(entry.as_slice());
+        assert!(rt; found == Some(octets), "for row {number}");
+    }
+}
