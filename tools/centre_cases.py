@@ -1,6 +1,6 @@
-"""Writes crates/dms_centre/src/tests/cases.rt: requests of the central system and replies to them, in octets.
+"""Writes crates/dms_centre_tests/src/centres/cases.rt: requests of the central system and replies to them, in octets.
 
-    python3 tools/centre_cases.py > crates/dms_centre/src/tests/cases.rt
+    python3 tools/centre_cases.py > crates/dms_centre_tests/src/centres/cases.rt
 
 The octets are made here from NTCIP 1203's names, X.690's short forms and RFC 1157's messages, with nothing of the
 repository's code. What it writes is laid out as by rt fmt.

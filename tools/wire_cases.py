@@ -1,6 +1,6 @@
-"""Writes crates/dms_wire/src/tests/cases.rt from a file of cases.
+"""Writes crates/dms_wire_tests/src/messages/cases.rt from a file of cases.
 
-    python3 tools/wire_cases.py CASES.jsonl > crates/dms_wire/src/tests/cases.rt
+    python3 tools/wire_cases.py CASES.jsonl > crates/dms_wire_tests/src/messages/cases.rt
 
 Each line of CASES.jsonl is {"octets": HEX, "canonical": HEX} for a datagram that spells a message, or
 {"octets": HEX, "fault": NUMBER, "place": OFFSET} for one that spells none. The short ones are kept, in tables of

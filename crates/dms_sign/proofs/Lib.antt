@@ -1,9 +1,6 @@
 pub mod Replies
-pub mod Accepted
-pub mod OneValidating
 pub mod InRangeLists
 pub mod InRangeValues
-pub mod InRangeReplies
 pub mod InRangeFaults
 pub mod InRangeShown
 pub mod InRangeEvents
@@ -12,17 +9,7 @@ pub mod InRangeStart
 pub mod StepRows
 pub mod KnownTexts
 pub mod StepShown
-pub mod StepEvents
 pub mod StepDefaults
-pub mod BenchSign
-pub mod WorkedAnswers
-pub mod WorkedTable
-pub mod WorkedActivations
-pub mod WorkedPower
-pub mod WorkedSilence
-pub mod WorkedDefaults
-pub mod WorkedSizes
-pub mod WorkedPictures
 pub mod Wholes
 pub mod Walks
 pub mod Sending

@@ -1,64 +1,11 @@
-//! Laws over the definitions of specs/ alone, and what holds of every sign, stated as functions with nothing to run.
+//! What holds of every sign, stated as a function with nothing to run.
 
-ghost use Rattle.std.specs.Prelude.{◌≡◌, ◌↔◌, ℕ, List, [], ◌∷◌, length, Some, IsTrue};
-ghost use Rattle.dms_wire.specs.declared.message.Kind.TheVariants.{Set};
-ghost use Rattle.dms_wire.specs.declared.error_status.ErrorStatus.TheVariants.{NoError};
-ghost use Rattle.dms_wire.specs.ErrorStatus.{error_status_number};
-ghost use Rattle.dms_wire.specs.Message.{SnmpMessage};
-ghost use Rattle.dms_wire.specs.MessageOf.{message_of};
-ghost use Rattle.dms_wire.specs.Canonical.{canonical};
-ghost use Rattle.dms_wire.specs.Response.{response_to};
-ghost use Rattle.dms_codes.specs.declared.codes.Activation.{Activation};
-ghost use Rattle.dms_codes.specs.Codes.{activation_of};
-ghost use Rattle.dms_table.specs.Rows.{IsTable};
-ghost use Rattle.dms_table.specs.declared.stock.Stock.{Stock};
-ghost use Rattle.dms_table.specs.Stock.{table_of};
-ghost use Rattle.dms_sign.specs.State.{ConfigModel, SignState, start};
-ghost use Rattle.dms_sign.specs.Requests.{primary};
-ghost use Rattle.dms_sign.specs.Reply.{reply_to, received};
-ghost use Rattle.dms_sign.specs.Events.{after_tick, after_power_loss, after_power_return};
-ghost use Rattle.dms_sign.specs.Promises.{IsReplyTo, AsksFor, activates};
+ghost use Rattle.std.specs.Prelude.{IsTrue};
 ghost use Rattle.dms_sign.specs.Communities.{are_communities};
 ghost use Rattle.dms_sign.specs.InRange.{IsSignInRange};
 ghost use Rattle.dms_sign.specs.Transitions.{HasFitDefaults};
 
 use crate::sign::Sign;
-
-/// What is sent is a Response to a request that came, with its community and its request-id.
-pub fn replies_name_their_request()
-    ensures { (s : SignState) (datagram : List ℕ) (reply : List ℕ) → (received s datagram).reply ≡ Some reply → IsReplyTo datagram reply }
-{}
-
-/// A SET of one binding is never answered by tooBig: its reply has the status and the index of what is answered, and repeats the
-/// binding.
-pub fn one_binding_set_is_never_too_big()
-    ensures { (s : SignState) (m : SnmpMessage) (datagram : List ℕ) → message_of datagram ≡ Some m → m.kind ≡ Set → length m.bindings ≡ 1
-        → reply_to m (primary s m) ≡ canonical (response_to m (error_status_number (primary s m).status) (primary s m).index) }
-{}
-
-/// Nor is a SET that succeeds.
-pub fn no_success_is_replaced()
-    ensures { (s : SignState) (m : SnmpMessage) (datagram : List ℕ) → message_of datagram ≡ Some m → m.kind ≡ Set → (primary s m).status ≡ NoError
-        → reply_to m (primary s m) ≡ canonical (response_to m (error_status_number (primary s m).status) (primary s m).index) }
-{}
-
-/// A SET of dmsActivateMessage alone is answered by no error where its activation was accepted, and there alone; and an activation is
-/// accepted where a binding of a SET asks for it, and no error is answered.
-pub fn accepted_where_no_error()
-    ensures one { (s : SignState) (m : SnmpMessage) (octets : List ℕ) → m.kind ≡ Set → m.bindings ≡ activates octets ∷ []
-        → ((primary s m).status ≡ NoError) ↔ ((primary s m).accepted ≡ Some (activation_of s.table.order octets)) }
-    ensures only { (s : SignState) (m : SnmpMessage) (activation : Activation) → (primary s m).accepted ≡ Some activation
-        → ((primary s m).status ≡ NoError) × AsksFor s m activation }
-{}
-
-/// At most one row is being validated: as the sign is made, and after whatever comes.
-pub fn at_most_one_row_validates()
-    ensures start { (config : ConfigModel) (stock : Stock) → IsTable (start config (table_of stock)).table }
-    ensures datagram { (s : SignState) (datagram : List ℕ) → IsTable s.table → IsTable (received s datagram).after.table }
-    ensures tick { (s : SignState) → IsTable s.table → IsTable (after_tick s).table }
-    ensures power_loss { (s : SignState) → IsTable s.table → IsTable (after_power_loss s).table }
-    ensures power_return { (s : SignState) (seconds : ℕ) → IsTable s.table → IsTable (after_power_return s seconds).table }
-{}
 
 /// What holds of every sign: its values are in range, its defaults fit its face, and its communities have 1 to 32 octets and differ.
 pub fn signs_are_kept(sign: &Sign)

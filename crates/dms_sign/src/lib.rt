@@ -3,9 +3,7 @@
 
 pub mod config;
 pub mod laws;
-pub mod range_laws;
 pub mod sign;
-pub mod step_laws;
 
 pub use config::{Config, ConfigFault};
 pub use dms_objects::{Instance, Scalar};

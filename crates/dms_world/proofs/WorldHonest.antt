@@ -21,8 +21,8 @@ use Rattle.dms_sign.specs.Reply as sign_reply
 use Rattle.dms_sign.specs.Reply.{heard, is_heard}
 use Rattle.dms_sign.specs.InRange.{response_sent, IsSpelledReply}
 use Rattle.dms_sign.specs.Promises.{activates}
-use Rattle.dms_sign.proofs.Accepted.{accepted_was_asked_for, accepted_where_no_error}
-use Rattle.dms_sign.proofs.InRangeReplies.{replies_spell_their_response}
+use Rattle.dms_sign_laws.proofs.Accepted.{accepted_was_asked_for, accepted_where_no_error}
+use Rattle.dms_sign_laws.proofs.InRangeReplies.{replies_spell_their_response}
 use Rattle.dms_centre.specs.declared.outcome.Outcome.TheVariants.{Accepted, Refused}
 use Rattle.dms_centre.specs.declared.step.Step.TheVariants.{Activating}
 use Rattle.dms_centre.specs.State.{Showing, Entry}

@@ -1,7 +1,7 @@
 -- What is in flight between a sign and its centre, after any events.
 use Rattle.std.proofs.Common.{List, length}
 use Rattle.dms_sign.specs.InRange.{IsSpelledReply}
-use Rattle.dms_sign.proofs.InRangeReplies.{replies_spell_their_response}
+use Rattle.dms_sign_laws.proofs.InRangeReplies.{replies_spell_their_response}
 use Rattle.dms_world.specs.Event.{EventModel}
 use Rattle.dms_world.specs.World.{WorldModel, world_at, IsFresh}
 use Rattle.dms_world.specs.Headline.{AreEvents, NothingIsForged}

@@ -3,7 +3,7 @@ use Rattle.std.proofs.Common.{◌≡◌, List, length, replicate, ap, sym, subst
 use Rattle.dms_table.specs.Rows.{TableModel, unused, IsTable}
 use Rattle.dms_table.proofs.OneRow.{count, none_unused}
 use Rattle.dms_sign.specs.State.{SignState}
-use Rattle.dms_sign.proofs.OneValidating.{one_received, one_after_tick, one_after_power_loss, one_after_power_return}
+use Rattle.dms_sign_laws.proofs.OneValidating.{one_received, one_after_tick, one_after_power_loss, one_after_power_return}
 use Rattle.dms_world.specs.Event.{EventModel}
 use Rattle.dms_world.specs.World.{WorldModel, IsFresh}
 use Rattle.dms_world.specs.GoodRows.{OneRowIsValidating}

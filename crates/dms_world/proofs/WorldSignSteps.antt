@@ -5,7 +5,7 @@ use Rattle.dms_sign.specs.State.{SignState}
 use Rattle.dms_sign.specs.Reply.{received}
 use Rattle.dms_sign.specs.Events.{after_tick, after_power_loss, after_power_return}
 use Rattle.dms_sign.specs.Transitions.{IsSignStep}
-use Rattle.dms_sign.proofs.StepEvents.{step_none, step_received, step_tick, step_power_loss, step_power_return}
+use Rattle.dms_sign_laws.proofs.StepEvents.{step_none, step_received, step_tick, step_power_loss, step_power_return}
 use Rattle.dms_world.specs.Event.{EventModel, command, sign_tick, centre_tick, to_sign, to_centre, power_lost, power_back, centre_restart, forge_sign, forge_centre}
 use Rattle.dms_world.specs.World.{WorldModel, noted, with_sign, at_sign, at_centre, happens, happens_if, world_at}
 use Rattle.dms_world.specs.Backed.{Has}

@@ -1,5 +1,0 @@
-use Rattle.dms_sign.proofs.Replies.{success_fits}
-use Rattle.dms_sign.proofs.laws.no_success_is_replaced.Goals as goal
-
-pub returns : goal.returns
-returns c = success_fits

@@ -1,0 +1,13 @@
+pub mod Accepted
+pub mod OneValidating
+pub mod InRangeReplies
+pub mod StepEvents
+pub mod BenchSign
+pub mod WorkedAnswers
+pub mod WorkedTable
+pub mod WorkedActivations
+pub mod WorkedPower
+pub mod WorkedSilence
+pub mod WorkedDefaults
+pub mod WorkedSizes
+pub mod WorkedPictures
