@@ -1,10 +1,11 @@
 #!/usr/bin/env python3
-"""Tries a crate's wrong bodies many at a time: `tools/try_edits.py CRATE..` in a clone that may be written to.
+"""Tries a crate's wrong bodies many at a time: `tools/try_edits.py [CRATE..]` in a clone that may be written to.
 
-`rt must-fail` tries one edit a check. Here a check tries as many as change functions of their own: an edit is refused where
-the function that it changes is not proved, and not only because it calls another. An edit of a constant or a table, and one
-whose text another edit touches, has a check of its own. It prints what was not refused, and last `N passed, N failed`. The
-gate is the judge: it tries each edit alone.
+Those of must-fail/, which the gate tries one a check, and those of wrong-bodies/, which only this tool tries. Here a check tries
+as many as change functions of their own: an edit is refused where the function that it changes is not proved, and not only
+because it calls another. An edit of a constant or a table, and one whose text another edit touches, has a check of its own. It
+prints what was not refused, and last `N passed, N failed`. With no crate it tries those of all; with --apply it only looks that
+each can be applied, in a second.
 """
 
 import pathlib
@@ -72,11 +73,36 @@ def groups(edits):
     return made
 
 
-def main(crates):
+def edits_of(base):
+    """The edits of a crate: those of the gate, and the others."""
+    return [Edit(base, path) for folder in ("must-fail", "wrong-bodies") for path in sorted((base / folder).glob("*.edit"))]
+
+
+def applicable(base):
+    """How many edits of a crate can be applied, and how many cannot."""
+    counts = [0, 0]
+    for edit in edits_of(base):
+        saved = {file: file.read_text(encoding="utf-8") for file, _, _ in edit.pairs}
+        texts, stands = dict(saved), bool(edit.pairs)
+        for file, old, new in edit.pairs:
+            stands = stands and texts[file].count(old) == 1
+            texts[file] = texts[file].replace(old, new)
+        if not stands:
+            print(f"{base.name}/{edit.name}: cannot be applied")
+        counts[not stands] += 1
+    return counts
+
+
+def main(words):
+    crates = [word for word in words if word != "--apply"] or sorted(path.name for path in (TOP / "crates").iterdir() if edits_of(path))
+    if "--apply" in words:
+        counts = [applicable(TOP / "crates" / crate) for crate in crates]
+        print(f"{sum(count[0] for count in counts)} passed, {sum(count[1] for count in counts)} failed")
+        return 1 if any(count[1] for count in counts) else 0
     passed = failed = 0
     for crate in crates:
         base = TOP / "crates" / crate
-        edits = [Edit(base, path) for path in sorted((base / "must-fail").glob("*.edit"))]
+        edits = edits_of(base)
         refused = {edit.name for group in groups(edits) for edit in checked(base, group)}
         for edit in edits:
             if edit.name not in refused and not checked(base, [edit]):
