@@ -1,5 +1,6 @@
 pub mod Pictures
 pub mod RowLaws
+pub mod RowNumbers
 pub mod FontLaws
 pub mod Promises
 pub mod GlyphSearch

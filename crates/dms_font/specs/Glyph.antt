@@ -1,6 +1,7 @@
 -- A character's picture (NTCIP 1203, characterBitmap).
-use Rattle.std.specs.Prelude.{◌≡◌, ℕ, zero, suc, ◌/◌, ◌%◌, ◌^◌, ◌==◌, ◌<◌, ◌≤◌, ◌*◌, Bool, false, map, List, [], ◌∷◌, ◌++◌, length, take, drop, slice_index_or}
-use Rattle.std.specs.List.{flat_map, AllByRecursion}
+use Rattle.std.specs.Prelude.{◌≡◌, ℕ, zero, suc, ◌/◌, ◌%◌, ◌^◌, ◌==◌, ◌<◌, ◌≤◌, ◌*◌, ◌+◌, Bool, false, if◌then◌else◌, map, List, [], ◌∷◌, ◌++◌, length, take, drop, slice_index_or}
+use Rattle.std.specs.Int.{bit_at}
+use Rattle.std.specs.List.{flat_map, range_with_len, AllByRecursion}
 
 -- a character, the width of its picture, and the picture's rows from the top, each from the left
 pub record GlyphModel : Type 0 where
@@ -41,7 +42,7 @@ rows_of width (suc height) bits = take width bits ∷ rows_of width height (drop
 abbrev pub glyph_from : ℕ → ℕ → ℕ → List ℕ → GlyphModel
 glyph_from character width height octets = record { character = character; width = width; rows = rows_of width height (bits_of octets) }
 
--- what the code keeps of a picture: octets enough for its bits, and its limits
+-- octets that are a picture: enough for its bits, and its limits
 pub record IsPicture (character width height : ℕ) (octets : List ℕ) : Type 0 where
   pub room : width * height ≤ 8 * length octets
   pub least_character : 1 ≤ character
@@ -49,3 +50,30 @@ pub record IsPicture (character width height : ℕ) (octets : List ℕ) : Type 0
   pub greatest_width : width ≤ 32
   pub least_height : 1 ≤ height
   pub greatest_height : height ≤ 32
+
+-- whether a number has this bit: the lowest one is bit 0
+abbrev pub is_bit : ℕ → ℕ → Bool
+is_bit number place = bit_at number place == 1
+
+-- the row that a number is: its lowest bit is the first column
+abbrev pub row_bits : ℕ → ℕ → List Bool
+row_bits width number = map (is_bit number) (range_with_len 0 width)
+
+-- the number that a row is
+abbrev pub row_number : List Bool → ℕ
+row_number [] = 0
+row_number (bit ∷ bits) = (if bit then 1 else 0) + 2 * row_number bits
+
+-- the picture whose rows are these numbers
+abbrev pub glyph_of_rows : ℕ → ℕ → List ℕ → GlyphModel
+glyph_of_rows character width rows = record { character = character; width = width; rows = map (row_bits width) rows }
+
+-- what the code keeps of a picture: its rows as numbers, and its limits
+pub record AreRows (character width height : ℕ) (rows : List ℕ) : Type 0 where
+  pub least_character : 1 ≤ character
+  pub least_width : 1 ≤ width
+  pub greatest_width : width ≤ 32
+  pub least_height : 1 ≤ height
+  pub greatest_height : height ≤ 32
+  pub height_is : length rows ≡ height
+  pub within : (row : ℕ) → slice_index_or rows row 0 < 2 ^ width

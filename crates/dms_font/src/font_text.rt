@@ -96,7 +96,7 @@ fn glyph(alloc: Global, height: u8, line: &[u8]) -> Result<Glyph, FontFaultKind>
         return Err(FontFaultKind::Glyph);
     };
     match bitmap(alloc, said.width, height, said.bits) {
-        Ok(bits) => Ok(Glyph::new(said.character, said.width, height, bits)),
+        Ok(bits) => Ok(Glyph::new(said.character, said.width, height, bits.as_slice())),
         Err(kind) => Err(kind),
     }
 }

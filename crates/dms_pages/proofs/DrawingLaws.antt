@@ -16,7 +16,7 @@ use Rattle.dms_pages.specs.Drawing.{covered, is_in_picture, is_lit_in_row, is_li
 use Rattle.dms_pages.specs.Styled.{StyledCells, style, IsLitStyle, Lights}
 
 -- two tests that imply each other
-same_test : (a b : Bool) → (a ≡ true → b ≡ true) → (b ≡ true → a ≡ true) → a ≡ b
+pub same_test : (a b : Bool) → (a ≡ true → b ≡ true) → (b ≡ true → a ≡ true) → a ≡ b
 same_test true b there back = sym (there refl)
 same_test false true there back = back refl
 same_test false false there back = refl
@@ -29,44 +29,6 @@ pub covered_twice : (a b : Bool) (lit cell : Cell) → lit.lit ≡ true → cove
 covered_twice false b lit cell on = refl
 covered_twice true true lit cell on = kept lit cell cell.lit refl on
 covered_twice true false lit cell on = refl
-
--- ---- a row of a picture
-
-pub none_in_row : (first : ℕ) (glyph : GlyphModel) (row place : ℕ) → is_lit_in_row first 0 glyph row place ≡ false
-none_in_row first glyph row place = false_from_ne_true _ (λ on.
-    let parts = and_parts _ _ on in
-    let tests = and_parts _ _ parts.0 in
-    let low : first ≤ place = leb-true _ _ tests.0 in
-    let high : place < first + 0 = ltb-true _ _ tests.1 in
-    absurd (omega arith))
-
--- one column more
-pub more_in_row : (first columns : ℕ) (glyph : GlyphModel) (row place : ℕ) (on : Bool) → on ≡ lit_at glyph columns row
-    → ((on && (place == first + columns)) || is_lit_in_row first columns glyph row place) ≡ is_lit_in_row first (columns + 1) glyph row place
-more_in_row first columns glyph row place on is = same_test _ _
-    (λ h. elim (or_cases _ _ h) [
-      | inl here ↦
-          let parts = and_parts _ _ here in
-          let at : place ≡ first + columns = eqb-true _ _ parts.1 in
-          and_from _ _ (and_from _ _ (le-leb first place (omega arith)) (lt-ltb place (first + (columns + 1)) (omega arith)))
-          (ap (λ k. lit_at glyph k row) (let e : place - first ≡ columns = omega arith in e) ∙ sym is ∙ parts.0)
-      | inr before ↦
-          let parts = and_parts _ _ before in
-          let tests = and_parts _ _ parts.0 in
-          let high : place < first + columns = ltb-true _ _ tests.1 in
-          and_from _ _ (and_from _ _ tests.0 (lt-ltb place (first + (columns + 1)) (omega arith))) parts.1
-    ])
-    (λ h.
-    let parts = and_parts _ _ h in
-    let tests = and_parts _ _ parts.0 in
-    let low : first ≤ place = leb-true _ _ tests.0 in
-    let high : place < first + (columns + 1) = ltb-true _ _ tests.1 in
-    elim (cases_lt place (first + columns)) [
-      | inl before ↦ or_right _ _ (and_from _ _ (and_from _ _ tests.0 (lt-ltb place (first + columns) before)) parts.1)
-      | inr past ↦
-          or_left _ _ (and_from _ _ (is ∙ ap (λ k. lit_at glyph k row) (let e : columns ≡ place - first = omega arith in e) ∙ parts.1)
-          (eq-eqb place (first + columns) (omega arith)))
-    ])
 
 -- ---- a row of a picture in a row of the matrix
 

@@ -3,3 +3,4 @@ pub mod PlacingLaws
 pub mod DrawnLaws
 pub mod LayingLaws
 pub mod StyleLaws
+pub mod BitLaws

@@ -48,12 +48,13 @@ impl Cells {
     }
 
     /// Lights a cell, unless it is lit already.
-    pub fn light(&mut self, place: usize, on: bool, number: u8)
+    #[inline]
+    pub fn light(&mut self, place: usize, number: u8)
         requires inside { place < length self.old.cells }
         requires number { IsLitStyle self.old.styles number }
-        ensures { Lights (λ k. on && k == place) (style self.old.styles number) self.old self.new }
+        ensures { Lights (λ k. k == place) (style self.old.styles number) self.old self.new }
     {
-        if on && self.numbers[place] == 0 {
+        if self.numbers[place] == 0 {
             self.numbers[place] = number;
         }
     }

@@ -1,8 +1,8 @@
 //! Drawing the characters of a page on the cells of a matrix.
 
-ghost use Rattle.std.specs.Prelude.{◌≡◌, ℕ, ◌+◌, ◌*◌, ◌/◌, ◌%◌, ◌^◌, ◌<◌, ◌≤◌, ◌==◌, ◌&&◌, List, ◌++◌, length, map, filter, true, slice_index_or, OnOk};
+ghost use Rattle.std.specs.Prelude.{◌≡◌, ℕ, ◌+◌, ◌-◌, ◌*◌, ◌/◌, ◌%◌, ◌^◌, ◌<◌, ◌≤◌, ◌==◌, ◌&&◌, List, ◌++◌, length, map, filter, true, not, nat_le, nat_lt, slice_index_or, OnOk};
 ghost use Rattle.std.specs.List.{list_all, flat_map};
-ghost use Rattle.dms_font.specs.Glyph.{lit_at};
+ghost use Rattle.dms_font.specs.Glyph.{lit_at, is_bit};
 ghost use Rattle.dms_font.specs.Font.{FontModel};
 ghost use Rattle.dms_face.specs.declared.room.Block.{Block as BlockModel};
 ghost use Rattle.dms_face.specs.Layout.{Character, Line, PageModel};
@@ -31,16 +31,47 @@ impl Styling<'_> {
     }
 }
 
+/// The row without its bit of this column.
+fn without(row: u32, column: u32) -> u32
+    requires { column < 32 }
+    ensures bits { (k : ℕ) → is_bit result k ≡ (is_bit row k && not (k == column)) }
+    ensures less { is_bit row column ≡ true → result < row }
+{
+    row & !(1 << column)
+}
+
+/// The first columns of a row.
+fn first_columns(row: u32, columns: usize) -> u32
+    requires { columns ≤ 32 }
+    ensures { (k : ℕ) → is_bit result k ≡ (nat_lt k columns && is_bit row k) }
+{
+    (u64::from(row) % (1 << columns)) as u32
+}
+
+/// Lights the cells of a row of a picture, of which `first` is that of its first column.
+fn light_bits(cells: &mut Cells, first: usize, row: u32, number: u8)
+    requires inside { (k : ℕ) → is_bit row k ≡ true → first + k < length cells.old.cells }
+    requires small { first < 2 ^ 33 }
+    requires number { IsLitStyle cells.old.styles number }
+    ensures { Lights (λ place. nat_le first place && is_bit row (place - first)) (style cells.old.styles number) cells.old cells.new }
+{
+    let mut left = row;
+    while left != 0 {
+        let column = left.trailing_zeros();
+        cells.light(first + column as usize, number);
+        left = without(left, column);
+    }
+}
+
 /// Draws a row of a picture from the cell `first` on, in so many columns.
 fn light_row(cells: &mut Cells, first: usize, columns: usize, glyph: &Glyph, row: usize, number: u8)
     requires inside { first + columns ≤ length cells.old.cells }
     requires small { first + columns < 2 ^ 33 }
+    requires narrow { columns ≤ 32 }
     requires number { IsLitStyle cells.old.styles number }
     ensures { Lights (is_lit_in_row first columns glyph.now row) (style cells.old.styles number) cells.old cells.new }
 {
-    for column in 0..columns {
-        cells.light(first + column, glyph.is_lit(column, row), number);
-    }
+    light_bits(cells, first, first_columns(glyph.row(row), columns), number);
 }
 
 /// Draws a row of a picture from column x on in line y; what stands outside of the matrix is left out.

@@ -1,25 +1,25 @@
-use Rattle.std.proofs.Common.{◌+◌, ◌==◌, ◌&&◌, arith}
+use Rattle.std.proofs.Common.{◌≡◌, ◌∙◌, ◌+◌, ◌-◌, ◌<◌, ◌&&◌, true, length, sym, arith}
+use Rattle.std.specs.Prelude.{nat_le, nat_lt}
+use Rattle.std.proofs.lemmas.Bool.{and_parts, ltb-true}
+use Rattle.dms_font.specs.Glyph.{is_bit}
 use Rattle.dms_pages.specs.Drawing.{is_lit_in_row}
 use Rattle.dms_pages.specs.Styled.{style}
-use Rattle.dms_pages.proofs.DrawingLaws.{none_in_row, more_in_row, lights_none, lights_more, still}
+use Rattle.dms_pages.proofs.BitLaws.{columns_lit}
+use Rattle.dms_pages.proofs.DrawingLaws.{lights_same}
 use Rattle.dms_pages.proofs.drawing.light_row.Goals as goal
 
-pub loop-column-init : goal.loop-column-init
-loop-column-init c =
-    lights_none (is_lit_in_row c.args.first 0 c.args.glyph.now c.args.row) (style c.args.cells.now.styles c.args.number) c.args.cells.now (λ place below. none_in_row c.args.first c.args.glyph.now c.args.row place)
-
-pub light-requires : goal.light-requires
-light-requires c = record {
-  inside = omega (arith, c.loop-column.invariant.len, c.requires.inside);
-  number = still c.args.number c.args.cells.now c.loop-column.cells c.loop-column.invariant.styles c.requires.number;
+pub light_bits-requires : goal.light_bits-requires
+light_bits-requires c = record {
+  inside = λ k on.
+      let below : k < c.args.columns = ltb-true _ _ (and_parts _ _ (sym (c.first_columns.ensures k) ∙ on)).0 in
+      omega (arith, c.requires.inside);
+  small = omega (arith, c.requires.small);
+  number = c.requires.number;
 }
 
-pub loop-column-preserved : goal.loop-column-preserved
-loop-column-preserved c =
-    lights_more (is_lit_in_row c.args.first c.loop-column.column c.args.glyph.now c.args.row) (λ k. c.is_lit.result && k == c.args.first + c.loop-column.column)
-    (is_lit_in_row c.args.first (c.loop-column.column + 1) c.args.glyph.now c.args.row) c.args.number c.args.cells.now c.loop-column.cells c.light.new.self
-    c.requires.number c.loop-column.invariant c.light.ensures
-    (λ place below. more_in_row c.args.first c.loop-column.column c.args.glyph.now c.args.row place c.is_lit.result c.is_lit.ensures)
-
-pub overflow_add-first : goal.overflow_add-first
-overflow_add-first c = omega (arith, c.requires.small)
+pub returns : goal.returns
+returns c =
+    lights_same (λ place. nat_le c.args.first place && is_bit c.first_columns.result (place - c.args.first)) (is_lit_in_row c.args.first c.args.columns c.args.glyph.now c.args.row)
+    (style c.args.cells.now.styles c.args.number) c.args.cells.now c.light_bits.new.cells
+    (λ place below. columns_lit c.args.first c.args.columns c.row.result c.first_columns.result c.args.glyph.now c.args.row place c.row.ensures c.first_columns.ensures)
+    c.light_bits.ensures
