@@ -1,10 +1,9 @@
 //! Calls that take no memory, each many times, for tools/no_memory.sh, which counts how often memory was asked for.
 
 use crate::face_of;
-use arrayvec::ArrayVec;
 use dms_centre::{Centre, Command, Settings};
 use dms_codes::{Activation, Ask, MessageId, Order, RowId, memory};
-use dms_face::{Defaults, Face};
+use dms_face::Face;
 use dms_sign::{Config, Receipt, Sign};
 use dms_table::{Field, Shown, Stock, Table};
 use dms_wire::{ErrorStatus, Out, heard, write_response};
@@ -23,25 +22,6 @@ const STOCK: Stock<'static> = Stock {
     pixel: true,
     order: Order::High,
 };
-
-fn blank(defaults: Defaults) -> Shown {
-    Shown {
-        text: ArrayVec::new(),
-        owner: ArrayVec::new(),
-        beacon: 0,
-        pixel: 0,
-        priority: 1,
-        source: MessageId {
-            memory: memory::BLANK,
-            number: 1,
-            crc: 0,
-        },
-        mode: 10,
-        address: [0; 4],
-        remaining: None,
-        defaults,
-    }
-}
 
 /// Writes the text to a row, validates it, reads it, activates it, and lets the power go. It sums checksums and verdicts.
 fn one_message(table: &mut Table, face: &Face, shown: &mut Shown, text: &[u8]) -> u64 {
@@ -84,7 +64,7 @@ pub extern "C" fn dms_still_table(alloc: Global, fonts: &[u8], text: &[u8], time
     let Ok(mut table) = Table::new(alloc, STOCK, &face) else {
         return 0;
     };
-    let mut shown = blank(face.defaults());
+    let mut shown = Shown::blank(&face.defaults(), 10);
     let mut sum = 0_u64;
     for _ in 0..times {
         sum = sum.wrapping_add(one_message(&mut table, &face, &mut shown, text));

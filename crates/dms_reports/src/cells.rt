@@ -36,7 +36,7 @@ pub fn cell_value<'a>(order: Order, column: Column, id: RowId, message: &RowView
     }
 }
 
-/// What a column reads of what is shown, as the row of the current buffer: its checksum is computed only where it is asked for.
+/// What a column reads of what is shown, as the row of the current buffer.
 pub fn shown_value<'a>(order: Order, column: Column, id: RowId, shown: &'a Shown) -> Value<'a>
     ensures { object_value result ≡ cell_value order column id (shown_reading shown.now) }
 {

@@ -5,3 +5,4 @@ pub mod Stands
 pub mod Settlement
 pub mod OneRow
 pub mod Places
+pub mod ShownChecksums

@@ -6,6 +6,7 @@ pub mod Activation
 pub mod FaultTexts
 -- what the code's fields and views are in these words
 pub mod RowsView
+pub mod ShownView
 -- what only proofs go through
 pub mod ValidatorView
 pub mod PlaceView

@@ -4,6 +4,7 @@ ghost use Rattle.std.specs.Prelude.{◌≡◌, ◌==◌, None, false};
 ghost use Rattle.dms_codes.specs.Memory.{current_buffer};
 ghost use Rattle.dms_table.specs.RowsView.{reading_of, IsShort};
 ghost use Rattle.dms_table.specs.Activation.{blank_shown, shown_reading, seconds_of, central_mode, put_up};
+ghost use Rattle.dms_table.specs.ShownView.{shown_checksum, HasItWhereValid};
 
 use crate::row::{RowView, copy_of, replace};
 use arrayvec::ArrayVec;
@@ -37,14 +38,19 @@ pub struct Shown {
     pub remaining: Option<u32>,
     /// The defaults when it came up.
     pub defaults: Defaults,
+    /// Its checksum as it is read.
+    checksum: u16,
 }
 
 impl Model for Shown {
     ghost use Rattle.dms_table.specs.Activation.{ShownModel};
+    ghost use Rattle.dms_table.specs.ShownView.{KeepsItsChecksum};
 
     ghost Value = { ShownModel };
 
     ghost view = { λ s. record { text = s.text.items; owner = s.owner.items; beacon = s.beacon; pixel = s.pixel; priority = s.priority; source = s.source; mode = s.mode; address = s.address; remaining = s.remaining; defaults = s.defaults } };
+
+    ghost invariant = { λ s. KeepsItsChecksum s.source.memory s.text.items s.beacon s.pixel s.checksum };
 }
 
 impl Shown {
@@ -67,6 +73,7 @@ impl Shown {
             address: [0; 4],
             remaining: None,
             defaults: *defaults,
+            checksum: 0,
         }
     }
 
@@ -104,7 +111,7 @@ impl Shown {
             pixel: self.pixel,
             priority: self.priority,
             status: Status::Valid,
-            checksum: self.checksum(),
+            checksum: self.checksum,
         }
     }
 
@@ -123,6 +130,7 @@ impl Shown {
             address: self.address,
             remaining: self.remaining,
             defaults: self.defaults,
+            checksum: self.checksum,
         }
     }
 
@@ -130,11 +138,7 @@ impl Shown {
     pub fn checksum(&self) -> u16
         ensures { result ≡ (shown_reading self.now).checksum }
     {
-        if self.source.memory == memory::BLANK {
-            0
-        } else {
-            crc(self.text.as_slice(), self.beacon, self.pixel)
-        }
+        self.checksum
     }
 
     /// It stays, and is up again by this code.
@@ -150,6 +154,7 @@ impl Shown {
     pub(crate) fn take(&mut self, code: &Activation, row: &RowView<'_>, defaults: &Defaults)
         requires short { IsShort row.now }
         requires stored { (code.now.id.memory == current_buffer) ≡ false }
+        requires checksum { HasItWhereValid code.now.id.memory (reading_of row.now) }
         ensures { self.new ≡ put_up defaults.now self.old code.now (reading_of row.now) }
     {
         replace(&mut self.text, row.text);
@@ -159,7 +164,22 @@ impl Shown {
         self.priority = row.priority;
         self.source = code.id;
         self.defaults = *defaults;
+        self.checksum = checksum_of(code.id.memory, row);
         self.renew(code);
+    }
+}
+
+/// The checksum of a row of this type of memory while it is shown: 0 of a blank message, and that which a valid row has.
+fn checksum_of(kind: u8, row: &RowView<'_>) -> u16
+    requires { HasItWhereValid kind (reading_of row.now) }
+    ensures { result ≡ shown_checksum kind row.now.text.now row.now.beacon row.now.pixel }
+{
+    if row.status == Status::Valid {
+        row.checksum
+    } else if kind == memory::BLANK {
+        0
+    } else {
+        crc(row.text, row.beacon, row.pixel)
     }
 }
 

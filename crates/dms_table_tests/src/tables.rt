@@ -1,11 +1,10 @@
 //! The table by its values: each cell of the table of statuses, verdicts on the bench sign, each cause of a decision, and what a table
 //! is made of.
 
-use arrayvec::ArrayVec;
 use dms_face::{Defaults, Face, Font, MultiFault, MultiFaultCode};
 use dms_table::{
-    Activation, Ask, Cause, Field, MessageId, Order, Permanent, Refused, RowId, Shown, Status,
-    Stock, Table, TableFault, Verdict, memory,
+    Activation, Ask, Cause, Field, Order, Permanent, Refused, RowId, Shown, Status, Stock,
+    Table, TableFault, Verdict, memory,
 };
 use std::alloc::Global;
 use std::test::Fail;
@@ -75,22 +74,7 @@ fn bench_stock<'a>(permanent: &'a [Permanent<'a>]) -> Stock<'a> {
 
 /// The sign at its start: a blank message.
 fn blank() -> Shown {
-    Shown {
-        text: ArrayVec::new(),
-        owner: ArrayVec::new(),
-        beacon: 0,
-        pixel: 0,
-        priority: 1,
-        source: MessageId {
-            memory: 7,
-            number: 1,
-            crc: 0,
-        },
-        mode: 10,
-        address: [0; 4],
-        remaining: None,
-        defaults: DEFAULTS,
-    }
+    Shown::blank(&DEFAULTS, 10)
 }
 
 fn status(table: &Table, id: RowId) -> Option<Status> {
