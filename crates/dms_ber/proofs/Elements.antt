@@ -106,7 +106,7 @@ content_only end len content rest h =
     let room : length content ≤ length (content ++ rest) = omega (arith, length-append content rest) in
     rw (append_assoc len content rest, length_only end (length content) len (content ++ rest) h, le-ltb (length (content ++ rest)) (length content) room, take-append_seam content rest, drop-append_seam content rest)
 
--- the same behind its tag
+-- the same after its tag
 pub element_found : (tag end : ℕ) (bytes : List ℕ) (x : List ℕ × List ℕ) → element_at tag end bytes ≡ Ok x
     → (len : List ℕ) × IsLength len (length x.0) × (bytes ≡ (tag ∷ (len ++ x.0)) ++ x.1)
 unfolding element_at

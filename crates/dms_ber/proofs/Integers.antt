@@ -19,7 +19,7 @@ pub after_ge_pow : (n : ℕ) (ds : List ℕ) → n * 2 ^ (8 * length ds) ≤ num
 after_ge_pow n [] = omega arith
 after_ge_pow n (d ∷ ds) = let more = after_ge_pow (n * 256 + d) ds in rw (pow-cons d ds) (omega arith)
 
--- octets and inverted octets, each behind a first part, add up to all ones
+-- octets and inverted octets, each after a first part, add up to all ones
 inverted_after : (m n : ℕ) (bs : List ℕ) → ((i : ℕ) → get_or bs i 0 < 256)
     → number_from_digits_after 256 m (inverted bs) + number_from_digits_after 256 n bs + 1 ≡ (m + n + 1) * 2 ^ (8 * length bs)
 inverted_after m n [] h = omega arith

@@ -73,13 +73,13 @@ part_push n b high part more octet some = record {
   value = ap (λ k. k * 128 + b % 128) part.value ∙ sym (number_push 128 high (b % 128));
 }
 
--- what the walk promises of octets behind the digits high, where count sub-identifiers came before
+-- what the walk promises of octets after the digits high, where count sub-identifiers came before
 abbrev IsWalk : ℕ → ℕ → List ℕ → List ℕ → Type 0
 IsWalk count n high bs =
     AreSubIdentifiers (sub_identifiers_after n bs) (map (λ d. 128 + d) high ++ bs)
     × (0 < count + length (sub_identifiers_after n bs)) × (count + length (sub_identifiers_after n bs) ≤ most_sub_identifiers)
 
--- an octet of 128 or more, and the walk behind it
+-- an octet of 128 or more, and the walk after it
 names_more : (b : ℕ) (bs : List ℕ) (count n : ℕ) (high : List ℕ) → 128 ≤ b → b < 256
     → IsWalk count (n * 128 + b % 128) (high ++ b % 128 ∷ []) bs → IsWalk count n high (b ∷ bs)
 names_more b bs count n high more octet walk =
@@ -102,7 +102,7 @@ part_ends n b high part last = record {
   value = ap (λ k. k * 128 + b) part.value ∙ sym (number_push 128 high b);
 }
 
--- an octet below 128, and the walk behind it
+-- an octet below 128, and the walk after it
 names_last : (b : ℕ) (bs : List ℕ) (count n : ℕ) (high : List ℕ) → IsPart n high → b < 128 → n * 128 + b < 2 ^ 32
     → IsWalk (count + 1) 0 [] bs → IsWalk count n high (b ∷ bs)
 names_last b bs count n high part last small walk =

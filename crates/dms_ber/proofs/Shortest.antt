@@ -63,7 +63,7 @@ cond_append false xs ys zs = refl
 digits_some : (n : ℕ) → 0 < n → 0 < length (digits_of 256 n)
 digits_some n some = omega (arith, length-digits_more n some)
 
--- an octet more behind digits
+-- an octet more after digits
 positive_long : (n : ℕ) → 0 < n / 256 → positive_octets n ≡ positive_octets (n / 256) ++ (n % 256) ∷ []
 positive_long n some =
     let e = digits_more n (omega arith) in

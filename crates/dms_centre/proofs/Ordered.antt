@@ -21,7 +21,7 @@ take_front : {X : Type 0} (front rest : List X) → take (length front) (front +
 take_front [] rest = refl
 take_front (y ∷ front) rest = ap (λ xs. y ∷ xs) (take_front front rest)
 
--- the command behind these inputs
+-- the command after these inputs
 taken : (settings : SettingsModel) (first : ℕ) (all front rest : List Input) (command : CommandModel) → all ≡ front ++ Commands command ∷ rest
     → refusal_of (after_inputs (made settings first) front).state command ≡ None → IsOrdered settings first all (job_of command).work
 taken settings first all front rest command e none = record {

@@ -66,7 +66,7 @@ low_bits-number (false ∷ bits) =
     ap (λ m. (m == 1) ∷ low_bits (length bits) ((0 + number bits * 2) / 2)) low
     ∙ ap (λ rest. false ∷ rest) (ap (low_bits (length bits)) half ∙ low_bits-number bits)
 
--- one bit more, behind those of which it is known
+-- one bit more, after those of which it is known
 inverted_step : (count n x : ℕ) → (n % 2 ≡ 0) ⊎ (n % 2 ≡ 1) → x + n / 2 + 1 ≡ 2 ^ count → (if not (n % 2 == 1) then 1 else 0) + x * 2 + n + 1 ≡ 2 ^ suc count
 inverted_step count n x (inl e) h = rw e (omega (arith, pow-suc 2 count))
 inverted_step count n x (inr e) h = rw e (omega (arith, pow-suc 2 count))
@@ -104,7 +104,7 @@ add_assoc_bits (x ∷ a) (y ∷ b) (z ∷ c) h =
     let shorter : length a ≤ length b = omega arith in
     ap (λ bit. bit ∷ add a (add b c)) (sum_assoc x y z) ∙ ap (λ rest. sum_of_bits (sum_of_bits x y) z ∷ rest) (add_assoc_bits a b c shorter)
 
--- what is added to one list and another behind it
+-- what is added to one list and another after it
 pub add-append : (terms bits more : List Bool) → add terms (bits ++ more) ≡ add terms bits ++ add (drop (length bits) terms) more
 add-append [] bits more = ap (λ terms. bits ++ add terms more) (sym (drop-nil (length bits)))
 add-append (t ∷ terms) [] more = refl
@@ -120,11 +120,11 @@ add_padded (t ∷ terms) (suc count) (b ∷ bits) h =
     ap (λ bit. sum_of_bits bit b ∷ add (add terms (low_bits count 0)) bits) (sum-false t)
     ∙ ap (λ rest. sum_of_bits t b ∷ rest) (add_padded terms count bits shorter)
 
--- zeros behind the terms add nothing
-pub add_zeros_behind : (terms : List Bool) (count : ℕ) (bits : List Bool) → add (terms ++ low_bits count 0) bits ≡ add terms bits
-add_zeros_behind [] count bits = add_zeros count bits
-add_zeros_behind (t ∷ terms) count [] = refl
-add_zeros_behind (t ∷ terms) count (b ∷ bits) = ap (λ rest. sum_of_bits t b ∷ rest) (add_zeros_behind terms count bits)
+-- zeros after the terms add nothing
+pub add_zeros_after : (terms : List Bool) (count : ℕ) (bits : List Bool) → add (terms ++ low_bits count 0) bits ≡ add terms bits
+add_zeros_after [] count bits = add_zeros count bits
+add_zeros_after (t ∷ terms) count [] = refl
+add_zeros_after (t ∷ terms) count (b ∷ bits) = ap (λ rest. sum_of_bits t b ∷ rest) (add_zeros_after terms count bits)
 
 -- inverting the front is adding ones to it
 pub inverted_front : (count : ℕ) (bits : List Bool) → map not (take count bits) ++ drop count bits ≡ add (replicate count true) bits

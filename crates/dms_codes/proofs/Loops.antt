@@ -51,17 +51,17 @@ found_first : {A B : Type 0} (f : A → B) (b : Bool) (x : A) → option_or (opt
 found_first f true x = refl
 found_first f false x = refl
 
-found_behind : {A B : Type 0} (f : A → B) (b : Bool) (x : A) (one more : Option A) (next : Option B) → option_or (option_map f one) next ≡ option_map f more
+found_after : {A B : Type 0} (f : A → B) (b : Bool) (x : A) (one more : Option A) (next : Option B) → option_or (option_map f one) next ≡ option_map f more
     → option_or (option_map f (cond b (Some x) one)) next ≡ option_map f (cond b (Some x) more)
-found_behind f true x one more next h = refl
-found_behind f false x one more next h = h
+found_after f true x one more next h = refl
+found_after f false x one more next h = h
 
 found_next : {A B : Type 0} (p : A → Bool) (f : A → B) (n : ℕ) (xs : List A) (d : A) → n < length xs
     → option_or (option_map f (find p (take n xs))) (if p (get_or xs n d) then Some (f (get_or xs n d)) else None) ≡ option_map f (find p (take (suc n) xs))
 found_next p f n [] d h = absurd (omega arith)
 found_next p f zero (x ∷ xs) d h = found_first f (p x) x
 found_next p f (suc n) (x ∷ xs) d h =
-    found_behind f (p x) x (find p (take n xs)) (find p (take (suc n) xs)) (if p (get_or xs n d) then Some (f (get_or xs n d)) else None) (found_next p f n xs d (omega arith))
+    found_after f (p x) x (find p (take n xs)) (find p (take (suc n) xs)) (if p (get_or xs n d) then Some (f (get_or xs n d)) else None) (found_next p f n xs d (omega arith))
 
 -- what is found in one element more, of a list that is written meanwhile
 pub found_more : {A B : Type 0} (g : A → A) (p : A → Bool) (f : A → B) (n : ℕ) (xs ys : List A) (d : A) (found next : Option B)
@@ -79,14 +79,14 @@ pub all_more : {A : Type 0} (P : A → Type 0) (n : ℕ) (xs : List A) (d : A) �
 all_more P n xs d within before here =
     subst (All P) (sym (take_more xs n d within)) (All-append P (take n xs) (get_or xs n d ∷ []) before (All-cons P (get_or xs n d) [] here (λ k e h. absurd (omega arith))))
 
-none_behind : {A : Type 0} (p : A → Bool) (b : Bool) (i : ℕ) (x : A) (xs : List A) → p x ≡ b → (position_from p (i + 1) xs ≡ None → All (λ x. p x ≡ false) xs)
+none_after : {A : Type 0} (p : A → Bool) (b : Bool) (i : ℕ) (x : A) (xs : List A) → p x ≡ b → (position_from p (i + 1) xs ≡ None → All (λ x. p x ≡ false) xs)
     → cond b (Some i) (position_from p (i + 1) xs) ≡ None → All (λ x. p x ≡ false) (x ∷ xs)
-none_behind p true i x xs is more h = cc
-none_behind p false i x xs is more h = All-cons (λ x. p x ≡ false) x xs is (more h)
+none_after p true i x xs is more h = cc
+none_after p false i x xs is more h = All-cons (λ x. p x ≡ false) x xs is (more h)
 
 none_from : {A : Type 0} (p : A → Bool) (i : ℕ) (xs : List A) → position_from p i xs ≡ None → All (λ x. p x ≡ false) xs
 none_from p i [] h = λ k d within. absurd (omega arith)
-none_from p i (x ∷ xs) h = none_behind p (p x) i x xs refl (none_from p (i + 1) xs) h
+none_from p i (x ∷ xs) h = none_after p (p x) i x xs refl (none_from p (i + 1) xs) h
 
 -- where no element is found, none passes
 pub none_passes : {A : Type 0} (p : A → Bool) (xs : List A) → position p xs ≡ None → All (λ x. p x ≡ false) xs

@@ -5,7 +5,7 @@ use Rattle.std.proofs.lemmas.List.FromFn.{get_or-map-range_with_len}
 use Rattle.dms_codes.specs.declared.checksum.TheConstants.{REMAINDERS}
 use Rattle.dms_codes.specs.Checksum.{low_bits, octet_bits, number, add, divided, remainder, sixteen_zeros}
 use Rattle.dms_codes.specs.Register.{TakesIn}
-use Rattle.dms_codes.proofs.Bits.{low_bits-xor, low_bits-mod, low_bits-number, add_assoc_bits, add-append, add_zeros_behind}
+use Rattle.dms_codes.proofs.Bits.{low_bits-xor, low_bits-mod, low_bits-number, add_assoc_bits, add-append, add_zeros_after}
 use Rattle.dms_codes.proofs.Division.{length-divided, divided_front}
 
 abbrev remainder_of : ℕ → ℕ
@@ -51,7 +51,7 @@ takes_octet register octet index small at =
           ∙ ap (λ bits. bits ++ more) (sym (low_bits-xor 8 register octet) ∙ sym (low_bits-mod 8 (bit_xor register octet)) ∙ ap (low_bits 8) (sym at)))
           ∙ divided_front 8 (octet_bits index) more refl
           ∙ ap (λ bits. add bits more) (sym divides)
-          ∙ ap (add (low_bits 16 entry)) (sym (add_zeros_behind (low_bits 8 high) 8 rest) ∙ ap (λ bits. add bits rest) (sym high_bits))
+          ∙ ap (add (low_bits 16 entry)) (sym (add_zeros_after (low_bits 8 high) 8 rest) ∙ ap (λ bits. add bits rest) (sym high_bits))
           ∙ add_assoc_bits (low_bits 16 entry) (low_bits 16 high) rest (omega arith)
           ∙ ap (λ bits. add bits rest) (sym (low_bits-xor 16 entry high));
     }

@@ -161,9 +161,9 @@ fault_before_the_fault_of_the_grammar : checked_text bench (codes "AAAAA]") ≡ 
 unfolding fault_of page_count outcomes_within item_at item_after_opening item_after_closing tag_at body_item name_at letters_name end_name item_of flash_of font_of times_of page_time_of number_of decimal_of value_of cut version_of
 fault_before_the_fault_of_the_grammar = refl
 
-fault_of_the_grammar_behind_what_fits : checked_text bench (codes "AAAA]") ≡ fault UnsupportedTag 4
+fault_of_the_grammar_after_what_fits : checked_text bench (codes "AAAA]") ≡ fault UnsupportedTag 4
 unfolding fault_of page_count outcomes_within item_at item_after_opening item_after_closing tag_at body_item name_at letters_name end_name item_of flash_of font_of times_of page_time_of number_of decimal_of value_of cut version_of
-fault_of_the_grammar_behind_what_fits = refl
+fault_of_the_grammar_after_what_fits = refl
 
 -- ---- pages
 

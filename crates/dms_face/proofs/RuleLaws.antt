@@ -251,7 +251,7 @@ page_number face (item ∷ items) layout =
 blank_follows : (face : FaceModel) → Follows face [] (blank_layout face)
 blank_follows face = record { style = refl; pages = refl }
 
--- behind a text's end no line and no character is open
+-- after a text's end no line and no character is open
 nothing_open : (face : FaceModel) (items : List Item) (layout : Layout)
     → line_characters (fold (with_turn face) layout (turns_of items)).lines ++ (fold (with_turn face) layout (turns_of items)).characters ≡ []
 nothing_open face [] layout = refl

@@ -136,7 +136,7 @@ pages_with face layout (FlashOn first lit dark) = sym (zero-add _)
 pages_with face layout FlashEnd = sym (zero-add _)
 pages_with face layout (PageTime on off) = sym (zero-add _)
 
--- what is answered behind a front, by the definitions
+-- what is answered after a front, by the definitions
 abbrev pub answered : FaceModel → ℕ → List Turn → List (Result Spot SyntaxFault) → Result ℕ MultiFault
 answered face end front read =
     or_fault (count_by is_new_page (items_in read) + length (layout_of face front).pages + 1)
@@ -147,7 +147,7 @@ end_cases : (face : FaceModel) (end pages : ℕ) (fit : Bool) (code : MultiFault
 end_cases face end pages true code = ap (λ n. Ok (n + 1)) (sym (zero-add pages))
 end_cases face end pages false code = refl
 
--- the rest of a text behind a front that fits
+-- the rest of a text after a front that fits
 pub walked_law : (face : FaceModel) (end : ℕ) (front : List Turn) (read : List (Result Spot SyntaxFault)) → fits face front ≡ true
     → walked face end (layout_of face front) read ≡ answered face end front read
 walked_law face end front [] fit =

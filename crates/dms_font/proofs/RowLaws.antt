@@ -11,7 +11,7 @@ pub length-bits_of : (octets : List ℕ) → length (bits_of octets) ≡ 8 * len
 length-bits_of [] = refl
 length-bits_of (octet ∷ octets) = omega (arith, length-append (octet_bits octet) (bits_of octets), length-bits_of octets)
 
--- bits are their rows, and what is behind them
+-- bits are their rows, and what is after them
 rows_and_rest : (width height : ℕ) (bits : List Bool) → bits ≡ joined (rows_of width height bits) ++ drop (height * width) bits
 rows_and_rest width zero bits = ap (λ k. drop k bits) (let e : 0 ≡ 0 * width = omega arith in e)
 rows_and_rest width (suc height) bits =

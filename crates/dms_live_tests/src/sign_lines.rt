@@ -7,7 +7,7 @@ use dms_sign_lines::page_text::pages_text;
 use std::io::Write;
 use std::test::Fail;
 
-/// Lines to the bench sign, each behind `> `, and under each its answer.
+/// Lines to the bench sign, each after `> `, and under each its answer.
 const TALK: &str = "> show
 page 1 on 30 off 0 back 0
 .......................

@@ -93,7 +93,7 @@ body_found body item e = body_found_in body item (name_at body) (name_found body
 
 -- ---- what is spelled so is found
 
--- the body's name, behind which its item is read
+-- the body's name, after which its item is read
 pub record IsNamed (item : Item) (body : List ℕ) : Type 0 where
   pub name : TagName
   pub value : List ℕ

@@ -134,6 +134,6 @@ pub text_spelled : (items : List Item) → All IsInRange items → TextSpells it
 text_spelled [] within = refl
 text_spelled (item ∷ items) within = record { front = item_text item; back = text_of items; first = item_spelled item (All-head IsInRange item items within); second = text_spelled items (All-tail IsInRange item items within); parts = refl }
 
--- where an item does not fit behind the text of those before it, the whole text is too long
+-- where an item does not fit after the text of those before it, the whole text is too long
 pub passes_limit : (items : List Item) (i limit : ℕ) (other : Item) (written : List ℕ) → i < length items → written ≡ text_of (take i items) → limit < length written + length (item_text (get_or items i other)) → limit < length (text_of items)
 passes_limit items i limit other written inside is over = omega (arith, length-flat_map-take item_text items i other inside, ap length is)

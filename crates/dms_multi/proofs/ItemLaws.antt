@@ -13,7 +13,7 @@ use Rattle.dms_multi.proofs.Values.{chosen, lower_other}
 use Rattle.dms_multi.proofs.Tags.{body_first}
 use Rattle.dms_multi.proofs.Bodies.{body_found, body_again, body_name, free_body}
 
--- a spelling of the item at the front, and behind it the rest
+-- a spelling of the item at the front, and after it the rest
 pub record IsFront (text : List ℕ) (found : Item × List ℕ) : Type 0 where
   pub piece : List ℕ
   pub spelled : ItemSpells found.0 piece

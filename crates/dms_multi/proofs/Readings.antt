@@ -30,7 +30,7 @@ some_spelled item (c ∷ cs) spelled = omega arith
 
 -- ---- spots and fault of what is read
 
--- what is read of a text that ends at an offset: spots that spell a front of it, and behind that nothing or a fault
+-- what is read of a text that ends at an offset: spots that spell a front of it, and after that nothing or a fault
 pub record IsDivided (end : ℕ) (text : List ℕ) (read : List Outcome) : Type 0 where
   pub spots : List Spot
   pub front : List ℕ
@@ -82,7 +82,7 @@ divided (suc k) end (c ∷ cs) small within =
     divided_with end (c ∷ cs) (outcomes_within k end) (item_at (c ∷ cs)) (omega arith) within refl
     (λ x e. let less : length x.1 < length (c ∷ cs) = shorter (c ∷ cs) x e in divided k end x.1 (omega arith) (omega arith))
 
--- ---- the fault stands behind the longest front that items spell
+-- ---- the fault stands after the longest front that items spell
 
 pub text_of_spots : (offset : ℕ) (spots : List Spot) (text : List ℕ) → SpotsSpell offset spots text → TextSpells (map (λ (s : Spot). s.item) spots) text
 text_of_spots offset [] text spelled = spelled
@@ -263,7 +263,7 @@ stopped text front rest spots code parts spelled stuck some =
     let sizes : length text ≡ length front + length rest = ap length parts ∙ length-append front rest in
     let place : length text - length rest ≡ length front = omega arith in
     let before_place : take (length text - length rest) text ≡ front = ap (λ k. take k text) place ∙ ap (take (length front)) parts ∙ take-append_seam front rest in
-    let behind_place : drop (length text - length rest) text ≡ rest = ap (λ k. drop k text) place ∙ ap (drop (length front)) parts ∙ drop-append_seam front rest in
+    let after_place : drop (length text - length rest) text ≡ rest = ap (λ k. drop k text) place ∙ ap (drop (length front)) parts ∙ drop-append_seam front rest in
     let items = map (λ (s : Spot). s.item) spots in
     let front_spelled : TextSpells items front = text_of_spots 0 spots front spelled in (
       subst (SpotsSpell 0 spots) (sym before_place) spelled,
@@ -275,7 +275,7 @@ stopped text front rest spots code parts spelled stuck some =
             let le : length (take n text) ≤ length front = longest items others front rest (take n text) (drop n text) code front_spelled stuck shown (sym parts ∙ sym (take-append-drop n text)) in
             let size : length (take n text) ≡ n = length-take-le n text within in
             omega arith;
-        code = subst (λ t. (code ≡ UnsupportedTagValue) ↔ BeginsWithNamedTag t) (sym behind_place) (code_is rest code stuck);
+        code = subst (λ t. (code ≡ UnsupportedTagValue) ↔ BeginsWithNamedTag t) (sym after_place) (code_is rest code stuck);
       },
     )
 

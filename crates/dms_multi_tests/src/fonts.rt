@@ -151,7 +151,7 @@ fn faults_of_a_font(rt: HostRuntime) -> Result<(), Fail> {
     ] {
         let text = format!(in alloc; "{header}{a}{more}")?;
         let fault = fault_of(alloc, text.as_bytes());
-        assert_eq!(rt; fault, Some(FontFault { kind, line }), "behind {more:?}");
+        assert_eq!(rt; fault, Some(FontFault { kind, line }), "after {more:?}");
     }
     Ok(())
 }

@@ -16,7 +16,7 @@ use Rattle.dms_face.specs.Room.{page_fits}
 use Rattle.dms_face.specs.Fit.{fits, turns_of, PlacedTurn, turns_in, first_fault, code_of, or_fault, fault_of}
 use Rattle.dms_face.specs.Cells.{pages_of}
 
--- the layout behind what is read so far
+-- the layout after what is read so far
 abbrev pub laid : FaceModel → List (Result Spot SyntaxFault) → Layout
 laid face read = fold (with_turn face) (blank_layout face) (map Some (items_in read))
 
@@ -45,7 +45,7 @@ laid_all face text = ap (λ (layout : Layout). layout.pages) (sym (fold-append (
 
 -- ---- the pages of a text without a fault fit
 
--- a turn that has no fault fits, and none behind it has one
+-- a turn that has no fault fits, and none after it has one
 passed : (face : FaceModel) (front : List Turn) (turn : Turn) (place : ℕ) (more : List PlacedTurn) → first_fault face front ((turn, place) ∷ more) ≡ None
     → (fits face (front ++ turn ∷ []) ≡ true) × (first_fault face (front ++ turn ∷ []) more ≡ None)
 passed face front turn place more none = elim (cases_Bool (fits face (front ++ turn ∷ []))) [

@@ -89,7 +89,7 @@ places_fit whole blocks fit =
     let third = and_parts _ _ second.1 in
     (leb-true _ _ ((and_parts _ _ first.0).0), leb-true _ _ ((and_parts _ _ second.0).0), leb-true _ _ ((and_parts _ _ third.0).0))
 
--- three parts, one behind the other
+-- three parts, one after the other
 pub three_parts : {A B : Type 0} (f : A → B) (before : List B) (x y z : List A) → ((before ++ map f x) ++ map f y) ++ map f z ≡ before ++ map f (x ++ (y ++ (z ++ [])))
 three_parts f before x y z =
     append_assoc (before ++ map f x) (map f y) (map f z) ∙ append_assoc before (map f x) (map f y ++ map f z)

@@ -49,7 +49,7 @@ length-map-bits : (f : Bool → Bool) (bits : List Bool) → length (map f bits)
 length-map-bits f [] = refl
 length-map-bits f (bit ∷ bits) = ap suc (length-map-bits f bits)
 
--- what is left of bits with sixteen zeros behind them
+-- what is left of bits with sixteen zeros after them
 sixteen_left : (bits : List Bool) → length (remainder (bits ++ sixteen_zeros)) ≡ 16
 sixteen_left bits =
     omega (arith, length-divided (length (bits ++ sixteen_zeros) - 16) (bits ++ sixteen_zeros), length-append bits sixteen_zeros)

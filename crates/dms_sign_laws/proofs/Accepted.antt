@@ -273,7 +273,7 @@ second_passes true two m n index tests more e = absurd (cc)
 second_passes false true m n index tests more e = absurd (cc)
 second_passes false false m n index tests more e = refl
 
--- the tests behind the first two, of a binding that stands first
+-- the tests after the first two, of a binding that stands first
 abbrev later_tests : SignState → VarBind → List (Bool × ErrorStatus)
 later_tests s binding =
     (is_among binding.name [], GenErr) ∷ (is_command_at s binding && list_any (is_command_at s) [], GenErr)

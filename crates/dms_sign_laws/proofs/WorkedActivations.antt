@@ -213,7 +213,7 @@ two_commands_change_nothing : after_set lettered (code (codes "ffffff0300039a660
 unfolding answer
 two_commands_change_nothing = refl
 
--- a value that is wrong behind a code that would be refused: badValue, index 2
+-- a value that is wrong after a code that would be refused: badValue, index 2
 wrong_value_after_a_code : status_and_index lettered (code (codes "ffffff0300039a6600000000") ∷ number (The ShortPowerLossTime) 65536 ∷ []) ≡ (3, 2)
 unfolding answer
 wrong_value_after_a_code = refl

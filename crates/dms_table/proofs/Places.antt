@@ -16,7 +16,7 @@ use Rattle.dms_codes.specs.Status.{is_validate}
 use Rattle.dms_table.specs.PlaceView.{IsOnly, IsAt, IsPlaced, validating_after}
 use Rattle.dms_table.proofs.OneRow.{count, weight, extra_of, count-cons, any_validating, unsettled, settling_is, changed_one_row, asked_weight, asked_before, asked_now, written_weight, written_before}
 
--- ---- the first row, and those behind it
+-- ---- the first row, and those after it
 
 is_row : (b : Bool) → Some b ≡ Some true → b ≡ true
 is_row true e = refl
@@ -41,8 +41,8 @@ first_alone row rows is =
 first_free : (row : RowModel) (rows : List RowModel) (place : ℕ) → IsOnly (suc place) (row ∷ rows) → row_is_validating row ≡ false
 first_free row rows place is = free_by (row_is_validating row) (omega (arith, count-cons row rows, counted rows place is.there, is.one))
 
-behind : (row : RowModel) (rows : List RowModel) (place : ℕ) → IsOnly (suc place) (row ∷ rows) → IsOnly place rows
-behind row rows place is = record {
+only_after : (row : RowModel) (rows : List RowModel) (place : ℕ) → IsOnly (suc place) (row ∷ rows) → IsOnly place rows
+only_after row rows place is = record {
   there = is.there;
   one = let none : weight row ≡ 0 = ap (λ b. cond {A = ℕ} b 1 0) (first_free row rows place is) in omega (arith, count-cons row rows, none, is.one);
 }
@@ -64,24 +64,24 @@ only_settled services face (first ∷ rows) zero row is e =
     let rest : map (settled_row services face) rows ≡ rows = unsettled services face rows (any_validating rows (first_alone first rows is)) in
     ap (λ (r : RowModel). settled_row services face r ∷ rows) (sym same) ∙ ap (λ rest. settled_row services face first ∷ rest) (sym rest)
 only_settled services face (first ∷ rows) (suc place) row is e =
-    ap (λ rest. first ∷ rest) (only_settled services face rows place row (behind first rows place is) e)
+    ap (λ rest. first ∷ rest) (only_settled services face rows place row (only_after first rows place is) e)
     ∙ ap (λ (r : RowModel). r ∷ map (settled_row services face) rows) (sym (free_settled (row_is_validating first) first _ (first_free first rows place is)))
 
 find_by : (b : Bool) (row : RowModel) (o found : Option RowModel) → b ≡ true → found ≡ Some row → found ≡ cond b (Some row) o
 find_by true row o found is e = e
 find_by false row o found is e = cc
 
-find_behind : (b : Bool) (row : RowModel) (o found : Option RowModel) → b ≡ false → found ≡ o → found ≡ cond b (Some row) o
-find_behind true row o found is e = cc
-find_behind false row o found is e = e
+find_after : (b : Bool) (row : RowModel) (o found : Option RowModel) → b ≡ false → found ≡ o → found ≡ cond b (Some row) o
+find_after true row o found is e = cc
+find_after false row o found is e = e
 
 pub only_found : (rows : List RowModel) (place : ℕ) (row : RowModel) → IsOnly place rows → slice_get rows place ≡ Some row → find row_is_validating rows ≡ Some row
 only_found [] place row is e = absurd (cc)
 only_found (first ∷ rows) zero row is e =
     sym (find_by (row_is_validating first) first (find row_is_validating rows) (Some row) (is_row (row_is_validating first) is.there) (sym e))
 only_found (first ∷ rows) (suc place) row is e =
-    sym (find_behind (row_is_validating first) first (find row_is_validating rows) (Some row) (first_free first rows place is)
-    (sym (only_found rows place row (behind first rows place is) e)))
+    sym (find_after (row_is_validating first) first (find row_is_validating rows) (Some row) (first_free first rows place is)
+    (sym (only_found rows place row (only_after first rows place is) e)))
 
 -- ---- what holds of the row that is being validated, for each row
 
@@ -100,7 +100,7 @@ only_all P (first ∷ rows) zero row is e holds =
     (none_all P rows (first_alone first rows is))
 only_all P (first ∷ rows) (suc place) row is e holds =
     let free : row_is_validating first ≡ false = first_free first rows place is in
-    All-cons (λ row. row_is_validating row ≡ true → P row) first rows (λ is. absurd (cc)) (only_all P rows place row (behind first rows place is) e holds)
+    All-cons (λ row. row_is_validating row ≡ true → P row) first rows (λ is. absurd (cc)) (only_all P rows place row (only_after first rows place is) e holds)
 
 -- the row at the place is being validated
 pub only_is : (rows : List RowModel) (place : ℕ) (row : RowModel) → IsOnly place rows → slice_get rows place ≡ Some row → row_is_validating row ≡ true

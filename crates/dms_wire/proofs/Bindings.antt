@@ -127,7 +127,7 @@ abbrev pub with_front : List VarBind → Result (List VarBind) WireFault → Res
 with_front front (Ok bs) = Ok (front ++ bs)
 with_front front (Err f) = Err f
 
--- rest is what is left of the content behind some of its bindings
+-- rest is what is left of the content after some of its bindings
 pub record IsRest (end : ℕ) (content rest : List ℕ) : Type 0 where
   pub turns : ℕ
   pub front : List VarBind

@@ -53,19 +53,19 @@ pub spelled_in_limits : (m : SnmpMessage) (octets : List ℕ) → Spells m octet
 spelled_in_limits m octets spells =
     let message = spells.message.spelled in
     let inside = content_below 48 _ octets spells.message spells.octets in
-    let behind_version = back_below _ _ spells.message.content message inside in
-    let community = front_below _ _ message.back message.second behind_version in
+    let after_version = back_below _ _ spells.message.content message inside in
+    let community = front_below _ _ message.back message.second after_version in
     let pdu = message.second.second.spelled in
     let list = pdu.second.second.second in
-    let tagged = back_below _ _ message.back message.second behind_version in
+    let tagged = back_below _ _ message.back message.second after_version in
     let numbers = content_below _ _ message.second.back message.second.second tagged in
-    let behind_request = back_below _ _ message.second.second.content pdu numbers in
-    let behind_status = back_below _ _ pdu.back pdu.second behind_request in
-    let behind_index = back_below _ _ pdu.second.back pdu.second.second behind_status in
+    let after_request = back_below _ _ message.second.second.content pdu numbers in
+    let after_status = back_below _ _ pdu.back pdu.second after_request in
+    let after_index = back_below _ _ pdu.second.back pdu.second.second after_status in
     record {
       community = octets_below 4 m.community message.second.front message.second.first community;
       request = pdu.first.spelled.range;
       status = pdu.second.first.spelled.range;
       index = pdu.second.second.first.spelled.range;
-      bindings = bindings_within m.bindings list.content list.spelled (content_below 48 _ pdu.second.second.back list behind_index);
+      bindings = bindings_within m.bindings list.content list.spelled (content_below 48 _ pdu.second.second.back list after_index);
     }

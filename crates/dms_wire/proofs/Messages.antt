@@ -268,7 +268,7 @@ unfolding ended
 message_only bytes m s =
     within_size bytes s.size ∙ ap datagram_at (sym (append-nil bytes)) ∙ datagram_then m bytes [] s.message
 
--- octets behind a message
+-- octets after a message
 pub message_trailing : (bytes more : List ℕ) (m : SnmpMessage) → Spells m bytes → 0 < length more → length (bytes ++ more) ≤ longest_datagram
     → message_at (bytes ++ more) ≡ Err (fault TrailingBytes (length bytes))
 unfolding ended

@@ -13,13 +13,13 @@ use Rattle.dms_ber.specs.NameReading.{is_name, numbers_of}
 use Rattle.dms_ber.specs.Element.{IsElement}
 use Rattle.dms_wire.specs.Spelling.{IsValue, IsAddress}
 use Rattle.dms_ber.specs.Reading.{◌>>=◌, fault, place_of, content_at, integer_value, natural_value}
-use Rattle.dms_wire.specs.Reading.{value_from, is_value_tag, behind_tag, value_at}
+use Rattle.dms_wire.specs.Reading.{value_from, is_value_tag, after_tag, value_at}
 use Rattle.dms_ber.proofs.Elements.{bind_ok, chosen, done, ok_is, not_ok, tested, content_found, content_only}
 use Rattle.dms_ber.proofs.Integers.{integer_found, integer_only}
 use Rattle.dms_ber.proofs.Names.{name_found, name_only}
 use Rattle.dms_ber.proofs.Members.{Front, natural_found, natural_only, made}
 
--- a tag and a content spell the value, behind any form of the length
+-- a tag and a content spell the value, after any form of the length
 abbrev Stands : ℕ → List ℕ → ObjectValue → Type 0
 Stands tag content value = (len : List ℕ) → IsLength len (length content) → IsValue value (tag ∷ (len ++ content))
 
@@ -100,7 +100,7 @@ value_from_found tag before place content value is h len form =
 value_element : (tag end : ℕ) (P : List ℕ → Type 0) (front rest : List ℕ) (value : ObjectValue) → is_value_tag tag ≡ true
     → (e : IsElement tag P front)
     → ((before place : ℕ) → value_from tag before place e.content ≡ Ok value) → value_at end (front ++ rest) ≡ Ok (value, rest)
-unfolding value_at behind_tag
+unfolding value_at after_tag
 value_element tag end P front rest value is e law =
     let before : ℕ = end - length ((e.len ++ e.content) ++ rest) in
     let back = λ (c : List ℕ × List ℕ). value_from tag before (place_of end c.0 c.1) c.0 >>= λ v. done (v, c.1) in
@@ -132,11 +132,11 @@ value_only (time_ticks n) end front rest e =
 value_only (opaque s) end front rest e =
     value_element 68 end (λ content. content ≡ s) front rest (opaque s) refl e (λ before place. rw e.spelled refl)
 
--- behind the tag of a value
-behind_found : (tag end : ℕ) (bytes : List ℕ) (x : ObjectValue × List ℕ) → is_value_tag tag ≡ true → behind_tag tag end bytes ≡ Ok x
+-- after the tag of a value
+after_found : (tag end : ℕ) (bytes : List ℕ) (x : ObjectValue × List ℕ) → is_value_tag tag ≡ true → after_tag tag end bytes ≡ Ok x
     → Front (IsValue x.0) (tag ∷ bytes) x.1
-unfolding behind_tag
-behind_found tag end bytes x is h =
+unfolding after_tag
+after_found tag end bytes x is h =
     let before : ℕ = end - length bytes in
     let c = bind_ok (content_at end bytes) (λ c. value_from tag before (place_of end c.0 c.1) c.0 >>= λ value. done (value, c.1)) x h in
     let value = bind_ok (value_from tag before (place_of end c.0.0 c.0.1) c.0.0) (λ value. done (value, c.0.1)) x c.2 in
@@ -151,5 +151,5 @@ pub value_found : (end : ℕ) (bytes : List ℕ) (x : ObjectValue × List ℕ) �
 unfolding value_at
 value_found end [] x h = not_ok (fault Truncated end) x h
 value_found end (b ∷ bytes) x h =
-    let t = tested (is_value_tag b) _ (behind_tag b end bytes) x h in
-    behind_found b end bytes x t.0 t.1
+    let t = tested (is_value_tag b) _ (after_tag b end bytes) x h in
+    after_found b end bytes x t.0 t.1

@@ -26,15 +26,15 @@ value_from tag before place content =
 abbrev pub is_value_tag : ℕ → Bool
 is_value_tag b = (b == 2) || (b == 4) || (b == 5) || (b == 6) || (nat_le 64 b && nat_le b 68)
 
-unfoldable pub behind_tag : ℕ → ℕ → List ℕ → Result (ObjectValue × List ℕ) WireFault
-behind_tag tag end bytes = do
+unfoldable pub after_tag : ℕ → ℕ → List ℕ → Result (ObjectValue × List ℕ) WireFault
+after_tag tag end bytes = do
   c ← content_at end bytes
   d ← value_from tag (end - length bytes) (place_of end c.0 c.1) c.0
   Ok (d, c.1)
 
 unfoldable pub value_at : ℕ → List ℕ → Result (ObjectValue × List ℕ) WireFault
 value_at end [] = Err (fault Truncated end)
-value_at end (b ∷ bytes) = (if is_value_tag b then behind_tag b end bytes else Err (fault BadTag (end - length (b ∷ bytes))))
+value_at end (b ∷ bytes) = (if is_value_tag b then after_tag b end bytes else Err (fault BadTag (end - length (b ∷ bytes))))
 
 -- a binding's two members, in its content
 unfoldable pub members_at : ℕ → List ℕ → Result VarBind WireFault

@@ -3,7 +3,7 @@
 ghost use Rattle.std.specs.Prelude.{◌≡◌, ◌↔◌, ℕ, ◌+◌, ◌^◌, ◌<◌, ◌≤◌, ◌++◌, List, [], ◌∷◌, pos, length, map, IsOk, IfOk, OnOk, OnErr, IfSome, IfNone};
 ghost use Rattle.arrayvec.specs.ArrayVec.{array_vec_len};
 ghost use Rattle.dms_ber.specs.Reading.{Gives};
-ghost use Rattle.dms_wire.specs.Reading.{value_from, behind_tag, is_value_tag, value_at};
+ghost use Rattle.dms_wire.specs.Reading.{value_from, after_tag, is_value_tag, value_at};
 ghost use Rattle.dms_wire.specs.View.{object_value};
 ghost use Rattle.dms_wire.specs.Canonical.{value_octets};
 ghost use Rattle.dms_ber.specs.Limits.{longest_datagram};
@@ -86,10 +86,10 @@ fn value_of(tag: u8, before: usize, place: usize, content: &[u8]) -> Result<Valu
 
 /// What follows the tag of a value: the value, and the octets after it.
 #[inline(always)]
-#[tactic(auto, unfolding(crate::specs::Reading::behind_tag))]
+#[tactic(auto, unfolding(crate::specs::Reading::after_tag))]
 fn tagged_value(tag: u8, octets: &[u8], end: usize) -> Result<(Value<'_>, &[u8]), WireFault>
     requires { length octets.now ≤ end }
-    ensures exact { Gives (λ x. (object_value x.0, x.1.now)) result (behind_tag tag end octets.now) }
+    ensures exact { Gives (λ x. (object_value x.0, x.1.now)) result (after_tag tag end octets.now) }
     ensures rest { IfOk result (λ x. length x.1.now < length octets.now) }
 {
     let (content, rest) = read_content(octets, end)?;
