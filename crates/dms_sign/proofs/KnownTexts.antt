@@ -1,92 +1,162 @@
--- The texts of valid rows stay good while no row becomes valid, and where one becomes so under the same defaults.
-use Rattle.std.proofs.Common.{◌≡◌, ℕ, zero, suc, ◌-◌, ◌==◌, ◌||◌, ◌++◌, Bool, true, false, cond, List, [], ◌∷◌, find, replicate, length, Option, Some, None, slice_get, All, refl, ap, sym, subst, ◌∙◌}
+-- The text of each valid row stays good under the defaults that are kept for it.
+use Rattle.std.proofs.Common.{◌≡◌, ℕ, zero, suc, ◌-◌, ◌<◌, ◌≤◌, ◌==◌, Bool, true, false, cond, List, [], ◌∷◌, map, get_or, set, replicate, length, Option, Some, None, slice_get, All, refl, ap, sym, subst, ◌∙◌, arith}
 use Rattle.std.specs.Prelude.{option_map}
-use Rattle.std.specs.List.{list_any}
-use Rattle.std.specs.Option.{IfSome}
+use Rattle.std.proofs.lemmas.Bool.{eqb-true, eqb-false}
+use Rattle.std.proofs.lemmas.List.{get_or-set_same, get_or-set_other}
 use Rattle.std.proofs.lemmas.Option.{slice_get_within, get_or_from_slice_get}
 use Rattle.dms_face.specs.declared.defaults.Defaults.{Defaults}
 use Rattle.dms_face.specs.Face.{FaceModel}
 use Rattle.dms_face.specs.Layout.{under}
 use Rattle.dms_face.specs.Fit.{IsGood}
-use Rattle.dms_codes.specs.declared.status.Status.TheVariants.{NotUsed, Valid}
+use Rattle.dms_codes.specs.declared.status.Status.TheVariants.{NotUsed, Valid, Error}
 use Rattle.dms_codes.specs.Memory.{permanent_memory, changeable_memory, volatile_memory}
 use Rattle.dms_table.specs.declared.row.Services.{Services}
-use Rattle.dms_table.specs.declared.validation.Verdict.{Verdict}
-use Rattle.dms_table.specs.Rows.{RowModel, TableModel, unused, rows_of, numbered, row_is_validating}
-use Rattle.dms_table.specs.Validation.{verdict_of, verdict, settled, CameToBeValid, was_valid, was_settled, IsShowable, AreValidTextsGood}
+use Rattle.dms_table.specs.declared.table.Place.{Place}
+use Rattle.dms_table.specs.declared.table.Place.TheVariants.{Changeable, Volatile}
+use Rattle.dms_table.specs.Rows.{RowModel, TableModel, unused, rows_of, row_is_validating}
+use Rattle.dms_table.specs.Validation.{verdict_of, passes, settled_row, settled, IsShowable}
+use Rattle.dms_table.specs.PlaceView.{IsOnly, IsPlaced}
 use Rattle.dms_table.specs.Stock.{PermanentRowsAreGood}
-use Rattle.dms_table.proofs.Settlement.{nothing_settled}
+use Rattle.dms_table.proofs.OneRow.{count, unsettled, any_validating}
+use Rattle.dms_table.proofs.Places.{only_settled, only_is}
+use Rattle.dms_sign.specs.declared.known_texts.KnownTexts.{KnownTexts}
 use Rattle.dms_sign.specs.InRange.{IsStocked}
-use Rattle.dms_sign.specs.SignView.{IsKnownAfter}
-use Rattle.dms_sign.proofs.StepRows.{KeepsRows, settled_step}
+use Rattle.dms_sign.specs.KnownTexts.{kept_for, first_known, noted, AreKnown}
+use Rattle.dms_sign.proofs.StepRows.{KeepsRows, good_where_passes}
 
 -- ---- no row becomes valid
 
-pub texts_kept : (face : FaceModel) (old new : TableModel) → KeepsRows old new → AreValidTextsGood face old → AreValidTextsGood face new
-texts_kept face old new keeps good = λ memory number row there valid. good memory number row (keeps.rows memory number row there valid) valid
-
-pub known_kept : (known : Option Defaults) (face : FaceModel) (old new : TableModel) → KeepsRows old new
-    → IfSome known (λ d. AreValidTextsGood (under face d) old) → IfSome known (λ d. AreValidTextsGood (under face d) new)
-known_kept None face old new keeps good = good
-known_kept (Some d) face old new keeps good = texts_kept (under face d) old new keeps good
+pub known_kept : (known : KnownTexts) (face : FaceModel) (old new : TableModel) → KeepsRows old new → AreKnown known face old → AreKnown known face new
+known_kept known face old new keeps good = λ memory number row there valid. good memory number row (keeps.rows memory number row there valid) valid
 
 -- ---- a row is settled
 
-came_good : (services : Services) (face : FaceModel) (before : Option RowModel) (row : RowModel) → CameToBeValid services face before row
-    → (before ≡ Some row → IsGood face row.text) → IsGood face row.text
-came_good services face before row (was_valid e) good = good e
-came_good services face before row (was_settled e showable) good = showable.good
+same_row : (row other : RowModel) → Some row ≡ Some other → row ≡ other
+same_row row other e = cc
 
-texts_settled : (face : FaceModel) (old : TableModel) → AreValidTextsGood face old → AreValidTextsGood face (settled face old)
-texts_settled face old good = λ memory number row there valid.
-    came_good old.services face (numbered (rows_of old memory) number) row ((settled_step face old).rows memory number row there valid)
-    (λ e. good memory number row e valid)
+set_there : (rows : List RowModel) (place : ℕ) (old new : RowModel) → slice_get rows place ≡ Some old → slice_get (set rows place new) place ≡ Some new
+set_there [] place old new e = absurd (cc)
+set_there (row ∷ rows) zero old new e = refl
+set_there (row ∷ rows) (suc place) old new e = set_there rows place old new e
 
-any_by : (b : Bool) (row : RowModel) (rows : List RowModel) → row_is_validating row ≡ b → cond b (Some row) (find row_is_validating rows) ≡ None
-    → (find row_is_validating rows ≡ None → list_any row_is_validating rows ≡ false) → (b || list_any row_is_validating rows) ≡ false
-any_by true row rows is none more = absurd (cc)
-any_by false row rows is none more = more none
+set_elsewhere : (rows : List RowModel) (place k : ℕ) (new : RowModel) → (k ≡ place → ⊥) → slice_get (set rows place new) k ≡ slice_get rows k
+set_elsewhere [] place k new other = refl
+set_elsewhere (row ∷ rows) zero zero new other = absurd (other refl)
+set_elsewhere (row ∷ rows) zero (suc k) new other = refl
+set_elsewhere (row ∷ rows) (suc place) zero new other = refl
+set_elsewhere (row ∷ rows) (suc place) (suc k) new other = set_elsewhere rows place k new (λ e. other (ap suc e))
 
-none_any : (rows : List RowModel) → find row_is_validating rows ≡ None → list_any row_is_validating rows ≡ false
-none_any [] none = refl
-none_any (row ∷ rows) none = any_by (row_is_validating row) row rows refl none (none_any rows)
+settled_by : (face : FaceModel) (validating passed : Bool) (old row : RowModel) → validating ≡ true → (passed ≡ true → IsGood face old.text)
+    → cond validating (record old { status = cond passed Valid Error }) old ≡ row → row.status ≡ Valid → IsGood face row.text
+settled_by face true true old row is good e valid = subst (λ (r : RowModel). IsGood face r.text) e (good refl)
+settled_by face true false old row is good e valid = absurd (let wrong : Error ≡ row.status = ap (λ (r : RowModel). r.status) e in cc)
+settled_by face false passed old row is good e valid = absurd (cc)
 
-none_mapped : (services : Services) (face : FaceModel) (o : Option RowModel) → option_map (verdict_of services face) o ≡ None → o ≡ None
-none_mapped services face None e = refl
-none_mapped services face (Some row) e = absurd (cc)
+-- the row at a place was settled under these defaults
+place_settled : (is_place : Bool) (services : Services) (face : FaceModel) (first defaults : Defaults) (entries : List Defaults) (rows : List RowModel) (place k : ℕ)
+    (old row : RowModel) → (k == place) ≡ is_place → IsOnly place rows → slice_get rows place ≡ Some old → place < length entries
+    → ((row : RowModel) → slice_get rows k ≡ Some row → row.status ≡ Valid → IsGood (under face (get_or entries k first)) row.text)
+    → slice_get (map (settled_row services (under face defaults)) rows) k ≡ Some row → row.status ≡ Valid
+    → IsGood (under face (get_or (set entries place defaults) k first)) row.text
+place_settled true services face first defaults entries rows place k old row is only there room good e valid =
+    let face' : FaceModel = under face defaults in
+    let at : k ≡ place = eqb-true k place is in
+    let got : slice_get (map (settled_row services face') rows) place ≡ Some row = subst (λ k. slice_get (map (settled_row services face') rows) k ≡ Some row) at e in
+    let new : settled_row services face' old ≡ row =
+    same_row _ row (sym (set_there rows place old (settled_row services face' old) there)
+    ∙ ap (λ (rows : List RowModel). slice_get rows place) (only_settled services face' rows place old only there) ∙ got) in
+    let entry : get_or (set entries place defaults) k first ≡ defaults = ap (λ k. get_or (set entries place defaults) k first) at ∙ get_or-set_same entries place defaults first room in
+    subst (λ (d : Defaults). IsGood (under face d) row.text) (sym entry)
+    (settled_by face' (row_is_validating old) (passes (verdict_of services face' old)) old row (only_is rows place old only there)
+    (good_where_passes services face' old) new valid)
+place_settled false services face first defaults entries rows place k old row is only there room good e valid =
+    let face' : FaceModel = under face defaults in
+    let other : k ≡ place → ⊥ = eqb-false k place is in
+    let got : slice_get rows k ≡ Some row =
+    sym (set_elsewhere rows place k (settled_row services face' old) other)
+    ∙ ap (λ (rows : List RowModel). slice_get rows k) (only_settled services face' rows place old only there) ∙ e in
+    subst (λ (d : Defaults). IsGood (under face d) row.text) (sym (get_or-set_other entries place k defaults first other)) (good row got valid)
 
-or_first : (b : Bool) (whole one other : Bool) → whole ≡ (one || other) → (b || whole) ≡ ((b || one) || other)
-or_first true whole one other e = refl
-or_first false whole one other e = e
+list_settled : (o : Option RowModel) (services : Services) (face : FaceModel) (first defaults : Defaults) (entries : List Defaults) (rows : List RowModel) (place k : ℕ)
+    (row : RowModel) → slice_get rows place ≡ o → IsOnly place rows → place < length entries
+    → ((row : RowModel) → slice_get rows k ≡ Some row → row.status ≡ Valid → IsGood (under face (get_or entries k first)) row.text)
+    → slice_get (map (settled_row services (under face defaults)) rows) k ≡ Some row → row.status ≡ Valid
+    → IsGood (under face (get_or (set entries place defaults) k first)) row.text
+list_settled None services face first defaults entries rows place k row there only room good e valid =
+    absurd (let none : None ≡ Some true = sym (ap (option_map row_is_validating) there) ∙ only.there in cc)
+list_settled (Some old) services face first defaults entries rows place k row there only room good e valid =
+    place_settled (k == place) services face first defaults entries rows place k old row refl only there room good e valid
 
-any_append : (xs ys : List RowModel) → list_any row_is_validating (xs ++ ys) ≡ (list_any row_is_validating xs || list_any row_is_validating ys)
-any_append [] ys = refl
-any_append (x ∷ xs) ys =
-    or_first (row_is_validating x) (list_any row_is_validating (xs ++ ys)) (list_any row_is_validating xs) (list_any row_is_validating ys) (any_append xs ys)
+-- no row of these was settled
+list_still : (services : Services) (face : FaceModel) (rows : List RowModel) (k : ℕ) (row : RowModel) → count rows ≡ 0
+    → slice_get (map (settled_row services face) rows) k ≡ Some row → slice_get rows k ≡ Some row
+list_still services face rows k row none e = sym (ap (λ (rows : List RowModel). slice_get rows k) (unsettled services face rows (any_validating rows none))) ∙ e
 
--- without a verdict nothing was settled
-not_settled : (face : FaceModel) (table : TableModel) → verdict face table ≡ None → table ≡ settled face table
-not_settled face table none =
-    let found : find row_is_validating (table.changeable ++ table.volatile) ≡ None =
-    none_mapped table.services face (find row_is_validating (table.changeable ++ table.volatile)) none in
-    nothing_settled face table (sym (any_append table.changeable table.volatile) ∙ none_any (table.changeable ++ table.volatile) found)
+among_changeable_rows : (is_permanent is_changeable is_volatile is_zero : Bool) (services : Services) (face : FaceModel) (known : KnownTexts) (defaults : Defaults)
+    (permanent changeable volatile : List RowModel) (place k : ℕ) (row : RowModel) → (is_permanent ≡ true → is_changeable ≡ false)
+    → IsOnly place changeable → count volatile ≡ 0 → place < length known.changeable
+    → ((row : RowModel) → cond is_zero None (slice_get (cond is_permanent permanent (cond is_changeable changeable (cond is_volatile volatile []))) k) ≡ Some row
+    → row.status ≡ Valid
+    → IsGood (under face (cond is_changeable (get_or known.changeable k known.first) (cond is_volatile (get_or known.volatile k known.first) known.first))) row.text)
+    → cond is_zero None (slice_get (cond is_permanent permanent (cond is_changeable (map (settled_row services (under face defaults)) changeable)
+    (cond is_volatile (map (settled_row services (under face defaults)) volatile) []))) k) ≡ Some row → row.status ≡ Valid
+    → IsGood (under face (cond is_changeable (get_or (set known.changeable place defaults) k known.first)
+    (cond is_volatile (get_or known.volatile k known.first) known.first))) row.text
+among_changeable_rows p c v true services face known defaults permanent changeable volatile place k row alone only none room good e valid = absurd (cc)
+among_changeable_rows true true v false services face known defaults permanent changeable volatile place k row alone only none room good e valid =
+    absurd (let wrong = alone refl in cc)
+among_changeable_rows true false v false services face known defaults permanent changeable volatile place k row alone only none room good e valid = good row e valid
+among_changeable_rows false true v false services face known defaults permanent changeable volatile place k row alone only none room good e valid =
+    list_settled (slice_get changeable place) services face known.first defaults known.changeable changeable place k row refl only room good e valid
+among_changeable_rows false false true false services face known defaults permanent changeable volatile place k row alone only none room good e valid =
+    good row (list_still services (under face defaults) volatile k row none e) valid
+among_changeable_rows false false false false services face known defaults permanent changeable volatile place k row alone only none room good e valid = absurd (cc)
 
-known_by : (reported : Option Verdict) (d defaults : Defaults) (face : FaceModel) (old table : TableModel) → AreValidTextsGood (under face d) old
-    → table ≡ settled (under face defaults) old → reported ≡ verdict (under face defaults) old → ((reported ≡ None → ⊥) → d ≡ defaults)
-    → AreValidTextsGood (under face d) table
-known_by None d defaults face old table before t v same =
-    subst (AreValidTextsGood (under face d)) (not_settled (under face defaults) old (sym v) ∙ sym t) before
-known_by (Some verdict) d defaults face old table before t v same =
-    let e : d ≡ defaults = same (λ none. cc) in
-    subst (AreValidTextsGood (under face d)) (ap (λ (x : Defaults). settled (under face x) old) e ∙ sym t) (texts_settled (under face d) old before)
+among_volatile_rows : (is_permanent is_changeable is_volatile is_zero : Bool) (services : Services) (face : FaceModel) (known : KnownTexts) (defaults : Defaults)
+    (permanent changeable volatile : List RowModel) (place k : ℕ) (row : RowModel) → (is_permanent ≡ true → is_volatile ≡ false)
+    → count changeable ≡ 0 → IsOnly place volatile → place < length known.volatile
+    → ((row : RowModel) → cond is_zero None (slice_get (cond is_permanent permanent (cond is_changeable changeable (cond is_volatile volatile []))) k) ≡ Some row
+    → row.status ≡ Valid
+    → IsGood (under face (cond is_changeable (get_or known.changeable k known.first) (cond is_volatile (get_or known.volatile k known.first) known.first))) row.text)
+    → cond is_zero None (slice_get (cond is_permanent permanent (cond is_changeable (map (settled_row services (under face defaults)) changeable)
+    (cond is_volatile (map (settled_row services (under face defaults)) volatile) []))) k) ≡ Some row → row.status ≡ Valid
+    → IsGood (under face (cond is_changeable (get_or known.changeable k known.first)
+    (cond is_volatile (get_or (set known.volatile place defaults) k known.first) known.first))) row.text
+among_volatile_rows p c v true services face known defaults permanent changeable volatile place k row alone none only room good e valid = absurd (cc)
+among_volatile_rows true c true false services face known defaults permanent changeable volatile place k row alone none only room good e valid =
+    absurd (let wrong = alone refl in cc)
+among_volatile_rows true c false false services face known defaults permanent changeable volatile place k row alone none only room good e valid = good row e valid
+among_volatile_rows false true v false services face known defaults permanent changeable volatile place k row alone none only room good e valid =
+    good row (list_still services (under face defaults) changeable k row none e) valid
+among_volatile_rows false false true false services face known defaults permanent changeable volatile place k row alone none only room good e valid =
+    list_settled (slice_get volatile place) services face known.first defaults known.volatile volatile place k row refl only room good e valid
+among_volatile_rows false false false false services face known defaults permanent changeable volatile place k row alone none only room good e valid = absurd (cc)
 
-pub known_settled : (known new : Option Defaults) (reported : Option Verdict) (face : FaceModel) (defaults : Defaults) (old table : TableModel)
-    → IfSome known (λ d. AreValidTextsGood (under face d) old) → table ≡ settled (under face defaults) old → reported ≡ verdict (under face defaults) old
-    → IfSome new (IsKnownAfter known reported defaults) → IfSome new (λ d. AreValidTextsGood (under face d) table)
-known_settled known None reported face defaults old table good t v after = tt
-known_settled known (Some d) reported face defaults old table good t v after =
-    let before : AreValidTextsGood (under face d) old = subst (λ (o : Option Defaults). IfSome o (λ d. AreValidTextsGood (under face d) old)) after.was good in
-    known_by reported d defaults face old table before t v after.same
+no_other : (memory other : ℕ) → (permanent_memory == other) ≡ false → (memory == permanent_memory) ≡ true → (memory == other) ≡ false
+no_other memory other none is = ap (λ m. m == other) (eqb-true memory permanent_memory is) ∙ none
+
+-- there is an entry for each row that can be changed
+pub record HasEntries (known : KnownTexts) (table : TableModel) : Type 0 where
+  pub changeable : length table.changeable ≤ length known.changeable
+  pub volatile : length table.volatile ≤ length known.volatile
+
+pub only_within : (rows : List RowModel) (place : ℕ) → IsOnly place rows → place < length rows
+only_within rows place only = within_by (slice_get rows place) refl only.there
+  where
+    within_by : (o : Option RowModel) → slice_get rows place ≡ o → option_map row_is_validating o ≡ Some true → place < length rows
+    within_by None there is = absurd (cc)
+    within_by (Some row) there is = slice_get_within rows place row there
+
+pub known_settled : (place : Place) (known : KnownTexts) (face : FaceModel) (defaults : Defaults) (old : TableModel) → HasEntries known old
+    → IsPlaced (Some place) old.changeable old.volatile → AreKnown known face old → AreKnown (noted known place defaults) face (settled (under face defaults) old)
+known_settled (Changeable place) known face defaults old entries placed good = λ memory number row there valid.
+    among_changeable_rows (memory == permanent_memory) (memory == changeable_memory) (memory == volatile_memory) (number == 0) old.services face known defaults
+    old.permanent old.changeable old.volatile place (number - 1) row (no_other memory changeable_memory refl) placed.in_changeable placed.in_volatile
+    (omega (arith, only_within old.changeable place placed.in_changeable, entries.changeable)) (good memory number) there valid
+known_settled (Volatile place) known face defaults old entries placed good = λ memory number row there valid.
+    among_volatile_rows (memory == permanent_memory) (memory == changeable_memory) (memory == volatile_memory) (number == 0) old.services face known defaults
+    old.permanent old.changeable old.volatile place (number - 1) row (no_other memory volatile_memory refl) placed.in_changeable placed.in_volatile
+    (omega (arith, only_within old.volatile place placed.in_volatile, entries.volatile)) (good memory number) there valid
 
 -- ---- a table as it is made
 
@@ -119,9 +189,23 @@ made_at false true v services face permanent changeable volatile k row each ones
 made_at false false true services face permanent changeable volatile k row each ones others e valid = absurd (unused_at volatile (length volatile) k row others e valid)
 made_at false false false services face permanent changeable volatile k row each ones others e valid = absurd (cc)
 
+replicated : {A : Type 0} (n k : ℕ) (x : A) → get_or (replicate n x) k x ≡ x
+replicated zero k x = refl
+replicated (suc n) zero x = refl
+replicated (suc n) (suc k) x = replicated n k x
+
+first_kept : {A : Type 0} (b c : Bool) (k m n : ℕ) (x : A) → cond b (get_or (replicate m x) k x) (cond c (get_or (replicate n x) k x) x) ≡ x
+first_kept true c k m n x = replicated m k x
+first_kept false true k m n x = replicated n k x
+first_kept false false k m n x = refl
+
 -- The permanent rows alone are valid.
-pub texts_made : (face : FaceModel) (table : TableModel) → PermanentRowsAreGood face table → IsStocked table → AreValidTextsGood face table
-texts_made face table good stocked = λ memory number row there valid.
-    made_at (memory == permanent_memory) (memory == changeable_memory) (memory == volatile_memory) table.services face table.permanent table.changeable table.volatile
+pub known_made : (known : KnownTexts) (face : FaceModel) (table : TableModel) → known ≡ first_known face.defaults → PermanentRowsAreGood face table → IsStocked table
+    → AreKnown known face table
+known_made known face table is good stocked = λ memory number row there valid.
+    subst (λ (d : Defaults). IsGood (under face d) row.text)
+    (sym (ap (λ (known : KnownTexts). kept_for known memory number) is
+    ∙ first_kept (memory == changeable_memory) (memory == volatile_memory) (number - 1) 64 16 face.defaults))
+    (made_at (memory == permanent_memory) (memory == changeable_memory) (memory == volatile_memory) table.services face table.permanent table.changeable table.volatile
     (number - 1) row good stocked.changeable stocked.volatile
-    (unless_zero (number == 0) (slice_get (rows_of table memory) (number - 1)) row there) valid
+    (unless_zero (number == 0) (slice_get (rows_of table memory) (number - 1)) row there) valid)

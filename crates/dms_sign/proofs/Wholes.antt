@@ -1,12 +1,12 @@
 -- What a change of some fields leaves whole.
-use Rattle.std.proofs.Common.{◌≡◌, ℕ, ◌≤◌, ◌==◌, Bool, true, false, cond, List, Option, Some, None, Result, Ok, Err, refl, sym, subst, ap, ◌∙◌, ◌*◌}
+use Rattle.std.proofs.Common.{◌≡◌, ℕ, ◌≤◌, ◌==◌, Bool, true, false, cond, List, Option, Some, None, Result, Ok, Err, length, refl, sym, subst, ap, ◌∙◌, ◌*◌, arith}
 use Rattle.std.proofs.lemmas.Bool.{eqb-true}
 use Rattle.std.specs.Option.{IfSome}
 use Rattle.std.specs.Prelude.{All, IsTrue}
 use Rattle.std.specs.Int.Digits.{AllBelowBase}
 use Rattle.dms_face.specs.Layout.{under}
 use Rattle.dms_face.specs.declared.defaults.Defaults.{Defaults}
-use Rattle.dms_face.specs.Face.{fit}
+use Rattle.dms_face.specs.Face.{FaceModel, fit}
 use Rattle.dms_codes.specs.declared.codes.Order.{Order}
 use Rattle.dms_codes.specs.declared.codes.Order.TheVariants.{High, Swapped}
 use Rattle.dms_table.specs.Stock.{HasOctets}
@@ -17,7 +17,10 @@ use Rattle.dms_codes.specs.Codes.{octets_of_id, id_of, octets_of_activation, IsM
 use Rattle.dms_table.specs.declared.activation.Cause.{Cause}
 use Rattle.dms_table.specs.declared.validation.Verdict.{Verdict}
 use Rattle.dms_table.specs.Rows.{TableModel, after_power}
-use Rattle.dms_table.specs.Validation.{settled, verdict, AreValidTextsGood}
+use Rattle.dms_table.specs.declared.table.Place.{Place}
+use Rattle.dms_table.specs.declared.table.Place.TheVariants.{Changeable, Volatile}
+use Rattle.dms_table.specs.PlaceView.{IsPlaced}
+use Rattle.dms_table.specs.Validation.{settled, verdict}
 use Rattle.dms_table.specs.Activation.{ShownModel, shown_by, refusal, unless_refused, decided}
 use Rattle.dms_reports.specs.declared.reports.Reports.{Reports}
 use Rattle.dms_sign.specs.declared.sign.Sign.TheInside.{Inside}
@@ -36,10 +39,15 @@ use Rattle.dms_reports.specs.Reports.{IsCauseInRange}
 use Rattle.dms_access.specs.Ranges.{AreDefaultsInRange}
 use Rattle.dms_sign.specs.InRange.{IsStocked, AreOctets, IsTableInRange, IsShownInRange, IsTimeInRange, AreReportsInRange, IsSignInRange, most_minutes}
 use Rattle.dms_reports.specs.ReportsView.{reports_of}
-use Rattle.dms_sign.specs.SignView.{state_of, IsWhole, IsKnownAfter}
+use Rattle.dms_sign.specs.declared.known_texts.KnownTexts.{KnownTexts}
+use Rattle.dms_sign.specs.KnownTexts.{HasRoom, noted, AreKnown}
+use Rattle.dms_sign.specs.SignView.{state_of, IsWhole}
 use Rattle.dms_table.proofs.Decisions.{accepted_decision, refused_decision}
+use Rattle.dms_table.proofs.Places.{placed_settling}
+use Rattle.dms_table.proofs.Settlement.{nothing_settled, no_verdict}
+use Rattle.dms_sign.specs.Events.{after_settling}
 use Rattle.dms_sign.proofs.InRangeShown.{showing_in_range, telling_in_range, with_table_in_range, with_mode, with_time, own_is, id_is, IsDecisionInRange, decided_in_range, refused_in_range}
-use Rattle.dms_sign.proofs.KnownTexts.{known_kept, known_settled}
+use Rattle.dms_sign.proofs.KnownTexts.{HasEntries, only_within, known_kept, known_settled}
 use Rattle.dms_sign.proofs.StepRows.{after_power_keeps}
 use Rattle.dms_sign.proofs.InRangeStart.{start_in_range, stocked_in_range}
 use Rattle.dms_sign.proofs.InRangeEvents.{IsVerdictInRange, settled_in_range, settled_verdict, verdict_reported, with_silence, restored_in_range}
@@ -142,30 +150,42 @@ settled_as_reported old table reports is t r =
     (with_table_in_range (state_of old) table range (subst (λ t. IsTableInRange t) (sym t) (settled_in_range face old.table range.table)))
     (subst AreReportsInRange (sym r) reported)
 
-pub settled_whole : (old : Inside) (table : TableModel) (o : Option Verdict) (reports : Reports) (known : Option Defaults) → IsWhole old
+-- there is room for what becomes known of the row that is being validated
+pub room_for : (place : Place) (table : TableModel) → IsTableInRange table → IsPlaced (Some place) table.changeable table.volatile → HasRoom place
+room_for (Changeable place) table is placed = omega (arith, only_within table.changeable place placed.in_changeable, is.changeable_count)
+room_for (Volatile place) table is placed = omega (arith, only_within table.volatile place placed.in_volatile, is.volatile_count)
+
+-- where no row is being validated, the second settles none
+pub unsettled : (s : SignState) → IsPlaced None s.table.changeable s.table.volatile → s ≡ after_settling s
+unfolding after_settling
+unsettled s nowhere =
+    let face : FaceModel = under s.config.face s.defaults in
+    let none = placed_settling None s.table nowhere in
+    ap (λ (table : TableModel). record s { table = table }) (nothing_settled face s.table none)
+    ∙ ap (λ (o : Option Verdict). record s { table = settled face s.table; reports = settled_reports s.reports o }) (no_verdict face s.table none)
+
+entries_there : (old : Inside) → IsWhole old → length old.known.changeable ≡ 64 → length old.known.volatile ≡ 16 → HasEntries old.known old.table
+entries_there old is changeable volatile = record {
+  changeable = omega (arith, is.kept.in_range.table.changeable_count, changeable);
+  volatile = omega (arith, is.kept.in_range.table.volatile_count, volatile);
+}
+
+pub settled_whole : (old : Inside) (place : Place) (table : TableModel) (o : Option Verdict) (reports : Reports) (known : KnownTexts) → IsWhole old
+    → length old.known.changeable ≡ 64 → length old.known.volatile ≡ 16 → IsPlaced (Some place) old.table.changeable old.table.volatile
     → table ≡ settled (under old.face old.settings.defaults) old.table → o ≡ verdict (under old.face old.settings.defaults) old.table
-    → reports_of reports ≡ settled_reports (reports_of old.reports) o → IfSome known (IsKnownAfter old.known o old.settings.defaults)
+    → reports_of reports ≡ settled_reports (reports_of old.reports) o → known ≡ noted old.known place old.settings.defaults
     → IsWhole (record old { table = table; reports = reports; known = known })
-settled_whole old table o reports known is t v r after = record {
+settled_whole old place table o reports known is changeable volatile placed t v r n = record {
   kept = record {
     in_range = settled_as_reported old table reports is t (r ∙ ap (settled_reports (reports_of old.reports)) v);
     fit = is.kept.fit;
     communities = is.kept.communities;
   };
   source = is.source ∙ ap (λ (t : TableModel). octets_of_id t.order old.shown.source) (sym t);
-  known = known_settled old.known known o old.face old.settings.defaults old.table table is.known t v after;
+  known = subst (λ (known : KnownTexts). AreKnown known old.face table) (sym n)
+      (subst (AreKnown (noted old.known place old.settings.defaults) old.face) (sym t)
+      (known_settled place old.known old.face old.settings.defaults old.table (entries_there old is changeable volatile) placed is.known));
 }
-
--- where no row was settled, the reports and what is known stay
-pub unsettled_whole : (old : Inside) (table : TableModel) (o : Option Verdict) → IsWhole old
-    → table ≡ settled (under old.face old.settings.defaults) old.table → o ≡ verdict (under old.face old.settings.defaults) old.table
-    → o ≡ None → IsWhole (record old { table = table })
-unsettled_whole old table o is t v none =
-    settled_whole old table None old.reports old.known is t (sym none ∙ v) refl (known_still old.known old.settings.defaults)
-  where
-    known_still : (known : Option Defaults) (defaults : Defaults) → IfSome known (IsKnownAfter known None defaults)
-    known_still None defaults = tt
-    known_still (Some d) defaults = record { was = refl; same = λ told. absurd (told refl) }
 
 pub restored_whole : (old : Inside) (table : TableModel) (shown : ShownModel) (source : List ℕ) → IsWhole old → table ≡ after_power old.table
     → shown ≡ old.kept → source ≡ octets_of_id table.order shown.source
@@ -180,7 +200,7 @@ restored_whole old table shown source is t e octets = record {
     communities = is.kept.communities;
   };
   source = octets;
-  known = subst (λ (t : TableModel). IfSome old.known (λ d. AreValidTextsGood (under old.face d) t)) (sym t)
+  known = subst (AreKnown old.known old.face) (sym t)
       (known_kept old.known old.face old.table (after_power old.table) (after_power_keeps old.table) is.known);
 }
 

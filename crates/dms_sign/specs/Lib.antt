@@ -15,6 +15,7 @@ pub mod Transitions
 pub mod Kept
 -- what the code's fields and receipts are in these words
 pub mod FallbacksView
+pub mod KnownTexts
 pub mod SignView
 pub mod ReplyView
 -- what only proofs go through

@@ -1,12 +1,9 @@
 -- The state that the code's fields are.
-use Rattle.std.specs.Prelude.{◌≡◌, Option, Some, None, IfSome}
-use Rattle.dms_face.specs.declared.defaults.Defaults.{Defaults}
-use Rattle.dms_face.specs.Layout.{under}
-use Rattle.dms_table.specs.declared.validation.Verdict.{Verdict}
-use Rattle.dms_table.specs.Validation.{AreValidTextsGood}
+use Rattle.std.specs.Prelude.{◌≡◌}
 use Rattle.dms_codes.specs.Codes.{octets_of_id}
 use Rattle.dms_sign.specs.declared.sign.Sign.TheInside.{Inside}
 use Rattle.dms_sign.specs.Kept.{IsKept}
+use Rattle.dms_sign.specs.KnownTexts.{AreKnown}
 use Rattle.dms_sign.specs.FallbacksView.{fallbacks_of}
 use Rattle.dms_reports.specs.ReportsView.{reports_of}
 use Rattle.dms_sign.specs.State.{SignState}
@@ -27,13 +24,8 @@ state_of s = record {
 }
 
 -- what holds of the fields: the sign is kept, the octets beside what is shown are those of its code, and the text of each valid row is
--- good under the defaults of which that is said
+-- good under the defaults that are kept for it
 pub record IsWhole (s : Inside) : Type 0 where
   pub kept : IsKept (state_of s)
   pub source : s.source ≡ octets_of_id s.table.order s.shown.source
-  pub known : IfSome s.known (λ d. AreValidTextsGood (under s.face d) s.table)
-
--- What is known after a second is what was, and where a row was settled it was so under the same defaults.
-pub record IsKnownAfter (known : Option Defaults) (reported : Option Verdict) (defaults d : Defaults) : Type 0 where
-  pub was : known ≡ Some d
-  pub same : (reported ≡ None → ⊥) → d ≡ defaults
+  pub known : AreKnown s.known s.face s.table

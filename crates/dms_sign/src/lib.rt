@@ -2,6 +2,7 @@
 #![tactic(auto)]
 
 pub mod config;
+mod known_texts;
 pub mod laws;
 pub mod sign;
 

@@ -10,23 +10,22 @@ ghost use Rattle.dms_sign.specs.Configuration.{config_of, config_fault, IsFirstC
 ghost use Rattle.dms_reports.specs.Reports.{IsCauseInRange};
 ghost use Rattle.dms_sign.specs.InRange.{IsStocked, AreOctets, IsShownInRange, IsTimeInRange, IsSignInRange, AreFallbacksInRange, most_minutes};
 ghost use Rattle.dms_sign.specs.Transitions.{HasFitDefaults};
-ghost use Rattle.dms_sign.specs.SignView.{IsKnownAfter};
+ghost use Rattle.dms_sign.specs.KnownTexts.{AreKnown};
 ghost use Rattle.dms_face.specs.Face.{fit};
-ghost use Rattle.dms_face.specs.Layout.{under};
-ghost use Rattle.dms_table.specs.Validation.{AreValidTextsGood};
 ghost use Rattle.dms_table.specs.Activation.{refusal, shown_by, unless_refused};
 ghost use Rattle.dms_sign.specs.OwnCodes.{showing, staying, with_refused_code};
 ghost use Rattle.dms_sign.specs.Events.{after_settling, restored};
 ghost use Rattle.dms_sign.specs.FallbacksView.{fallbacks_of};
 
 use crate::config::{Config, ConfigFault, are_communities};
+use crate::known_texts::KnownTexts;
 use crate::sign::events::mode;
 use arrayvec::ArrayVec;
 use dms_access::{Fallbacks, Settings};
 use dms_codes::{Activation, Order};
 use dms_face::{Defaults, Face};
 use dms_reports::Reports;
-use dms_table::{Cause, Shown, Table, Verdict};
+use dms_table::{Cause, Shown, Table};
 use std::alloc::Global;
 use std::marker::Model;
 
@@ -58,8 +57,8 @@ pub struct Sign {
     kept: Shown,
     reports: Reports,
     powered: bool,
-    /// The defaults under which the text of each valid row is good on the face, where that is known of some.
-    known: Option<Defaults>,
+    /// Under which defaults the text of each valid row is good on the face.
+    known: KnownTexts,
 }
 
 impl Model for Sign {
@@ -124,7 +123,7 @@ impl Sign {
             kept: Shown::blank(&defaults, mode::POWER_RECOVERY),
             reports: Reports::new(),
             powered: true,
-            known: Some(defaults),
+            known: KnownTexts::new(defaults),
         }
     }
 
@@ -243,12 +242,12 @@ impl Sign {
     fn settle(&mut self)
         ensures { self.new ≡ after_settling self.old }
     {
-        let verdict = self.table.settle(&self.face, &self.settings.defaults);
-        if verdict.is_none() {
+        let Some(place) = self.table.settling() else {
             return;
-        }
+        };
+        let verdict = self.table.settle(&self.face, &self.settings.defaults);
         self.reports = self.reports.with_verdict(&verdict);
-        self.known = known_after(self.known, &verdict, &self.settings.defaults);
+        self.known.note(place, &self.settings.defaults);
     }
 
     /// What is there as the power comes back: what was kept is shown, volatile rows are gone, and the silence begins anew.
@@ -275,24 +274,9 @@ fn community(octets: &[u8]) -> ArrayVec<u8, MAX_COMMUNITY>
     copy
 }
 
-/// What stays known of valid texts where this was reported under these defaults: nothing, where a row was settled under other ones.
-fn known_after(
-    known: Option<Defaults>,
-    reported: &Option<Verdict>,
-    defaults: &Defaults,
-) -> Option<Defaults>
-    ensures { IfSome result (IsKnownAfter known reported.now defaults.now) }
-{
-    match known {
-        Some(under) if reported.is_none() || under == *defaults => Some(under),
-        _ => None,
-    }
-}
-
-/// Refuses a code under these defaults for the first cause that there is: where the text of each valid row is known to be good under them,
-/// none is checked again.
+/// Refuses a code under these defaults for the first cause that there is; a text that is known to be good under them is not checked again.
 fn judge(
-    known: &Option<Defaults>,
+    known: &KnownTexts,
     table: &Table,
     face: &Face,
     defaults: &Defaults,
@@ -300,13 +284,11 @@ fn judge(
     shown: &Shown,
 ) -> Result<(), Cause>
     requires fit { IsTrue (fit face.now.fonts defaults.now) }
-    requires good { IfSome known.now (λ d. AreValidTextsGood (under face.now d) table.now) }
+    requires good { AreKnown known.now face.now table.now }
     ensures { result ≡ unless_refused tt (refusal face.now defaults.now table.now shown.now code.now) }
 {
-    match known {
-        Some(known) if *known == *defaults => table.judge(true, face, defaults, code, shown),
-        _ => table.judge(false, face, defaults, code, shown),
-    }
+    let good_under = known.of(code.id.memory, code.id.number);
+    table.judge(Some(good_under), face, defaults, code, shown)
 }
 
 /// The octets of the code of what is shown.

@@ -1,4 +1,4 @@
--- The rows that codes name have good texts where all valid rows have.
+-- The row that a code names has a good text where that is known.
 use Rattle.std.proofs.Common.{◌≡◌, ℕ, ◌==◌, ◌&&◌, Bool, true, false, cond, Option, Some, None, nat_le, refl, subst}
 use Rattle.std.specs.Prelude.{option_map}
 use Rattle.std.proofs.lemmas.Bool.{eqb-true}
@@ -11,7 +11,7 @@ use Rattle.dms_codes.specs.declared.status.Status.TheVariants.{NotUsed, Modifyin
 use Rattle.dms_codes.specs.Status.{is_valid}
 use Rattle.dms_codes.specs.Memory.{current_buffer, blank_memory}
 use Rattle.dms_table.specs.Rows.{RowModel, TableModel, RowReading, rows_of, numbered, blank, blank_at, blank_reading, reading}
-use Rattle.dms_table.specs.Validation.{AreValidTextsGood}
+use Rattle.dms_table.specs.Validation.{HasGoodTextWhereValid}
 use Rattle.dms_table.specs.Activation.{ShownModel, shown_reading, named}
 
 valid_status : (status : Status) → is_valid status ≡ true → status ≡ Valid
@@ -39,18 +39,18 @@ read_good face (Some row) message good e =
     subst (HasGoodReading face) same (λ valid. good row refl (valid_status row.status valid))
 
 row_good : (is_current is_one is_blank : Bool) (face : FaceModel) (table : TableModel) (shown : ShownModel) (memory number : ℕ) (message : RowReading)
-    → AreValidTextsGood face table → (is_current ≡ true → ⊥)
+    → HasGoodTextWhereValid face table memory number → (is_current ≡ true → ⊥)
     → cond is_current (cond is_one (Some (shown_reading shown)) None)
     (cond is_blank (option_map blank_reading (blank_at number)) (option_map reading (numbered (rows_of table memory) number))) ≡ Some message
     → HasGoodReading face message
 row_good true one blank face table shown memory number message good other e = absurd (other refl)
 row_good false one true face table shown memory number message good other e = blank_good face (nat_le 1 number && nat_le number 255) number message e
 row_good false one false face table shown memory number message good other e =
-    read_good face (numbered (rows_of table memory) number) message (λ row. good memory number row) e
+    read_good face (numbered (rows_of table memory) number) message good e
 
 -- a row that a code names, and that is not what is shown
-pub named_faultless : (face : FaceModel) (table : TableModel) (shown : ShownModel) (id : MessageId) (message : RowReading) → AreValidTextsGood face table
-    → named table shown id ≡ Some message → is_valid message.row.status ≡ true → (id.memory ≡ current_buffer → ⊥) → fault_of face message.row.text ≡ None
+pub named_faultless : (face : FaceModel) (table : TableModel) (shown : ShownModel) (id : MessageId) (message : RowReading)
+    → HasGoodTextWhereValid face table id.memory id.number → named table shown id ≡ Some message → is_valid message.row.status ≡ true → (id.memory ≡ current_buffer → ⊥) → fault_of face message.row.text ≡ None
 named_faultless face table shown id message good e valid other =
     (faultless_law face message.row.text).1
     (row_good (id.memory == current_buffer) (id.number == 1) (id.memory == blank_memory) face table shown id.memory id.number message good

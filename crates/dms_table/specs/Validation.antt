@@ -63,7 +63,7 @@ abbrev pub ValidRowsAreGood : FaceModel → TableModel → TableModel → Type 0
 ValidRowsAreGood face old new =
     (id : RowId) (row : RowModel) → row_at new id ≡ Some row → row.status ≡ Valid → CameToBeValid old.services face (row_at old id) row
 
--- the text of each row that is valid is good on this face
-abbrev pub AreValidTextsGood : FaceModel → TableModel → Type 0
-AreValidTextsGood face table =
-    (memory number : ℕ) (row : RowModel) → numbered (rows_of table memory) number ≡ Some row → row.status ≡ Valid → IsGood face row.text
+-- the text of the row of this number, where it is valid, is good on this face
+abbrev pub HasGoodTextWhereValid : FaceModel → TableModel → ℕ → ℕ → Type 0
+HasGoodTextWhereValid face table memory number =
+    (row : RowModel) → numbered (rows_of table memory) number ≡ Some row → row.status ≡ Valid → IsGood face row.text

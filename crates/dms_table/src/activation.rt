@@ -5,7 +5,7 @@ ghost use Rattle.dms_face.specs.Face.{fit};
 ghost use Rattle.dms_face.specs.Fit.{fault_of};
 ghost use Rattle.dms_codes.specs.Memory.{current_buffer};
 ghost use Rattle.dms_codes.specs.Status.{is_valid};
-ghost use Rattle.dms_table.specs.Validation.{AreValidTextsGood};
+ghost use Rattle.dms_table.specs.Validation.{HasGoodTextWhereValid};
 ghost use Rattle.dms_face.specs.Layout.{under};
 ghost use Rattle.dms_table.specs.RowsView.{reading_of, IsShort};
 ghost use Rattle.dms_table.specs.Activation.{is_memory, named, activation_error, refusal, shown_by, unless_refused, decided};
@@ -85,7 +85,7 @@ impl Table {
         requires { IsTrue (fit face.now.fonts defaults.now) }
         ensures { result ≡ decided face.now defaults.now self.now shown.now code.now }
     {
-        match self.judge(false, face, defaults, code, shown) {
+        match self.judge(None, face, defaults, code, shown) {
             Ok(()) => {
                 let mut next = shown.again();
                 self.put_up(defaults, code, &mut next);
@@ -95,18 +95,17 @@ impl Table {
         }
     }
 
-    /// Refuses a code for the first cause that there is. Where the text of each valid row is known to be good under these defaults, none is
-    /// checked again.
+    /// Refuses a code for the first cause that there is. A text that is known to be good under the same defaults is not checked again.
     pub fn judge(
         &self,
-        known: bool,
+        good_under: Option<&Defaults>,
         face: &Face,
         defaults: &Defaults,
         code: &Activation,
         shown: &Shown,
     ) -> Result<(), Cause>
         requires fit { IsTrue (fit face.now.fonts defaults.now) }
-        requires good { known ≡ true → AreValidTextsGood (under face.now defaults.now) self.now }
+        requires good { IfSome good_under (λ known. HasGoodTextWhereValid (under face.now known.now) self.now code.now.id.memory code.now.id.number) }
         ensures { result ≡ unless_refused tt (refusal face.now defaults.now self.now shown.now code.now) }
     {
         if !is_memory(code.id.memory) {
@@ -114,7 +113,7 @@ impl Table {
         }
         match self.named(shown, &code.id) {
             None => Err(Cause::Number),
-            Some(row) => judge_row(known, face, defaults, code, shown, &row),
+            Some(row) => judge_row(good_under, face, defaults, code, shown, &row),
         }
     }
 
@@ -168,9 +167,9 @@ fn is_memory(kind: u8) -> bool
     )
 }
 
-/// Refuses a code of this row for the first cause that there is; a text that is known to be good is not checked.
+/// Refuses a code of this row for the first cause that there is; a text that is known to be good under the same defaults is not checked.
 fn judge_row(
-    known: bool,
+    good_under: Option<&Defaults>,
     face: &Face,
     defaults: &Defaults,
     code: &Activation,
@@ -178,8 +177,8 @@ fn judge_row(
     row: &RowView<'_>,
 ) -> Result<(), Cause>
     requires fit { IsTrue (fit face.now.fonts defaults.now) }
-    requires good { known ≡ true → is_valid row.now.status ≡ true → (code.now.id.memory ≡ current_buffer → ⊥)
-        → fault_of (under face.now defaults.now) row.now.text.now ≡ None }
+    requires good { IfSome good_under (λ known. is_valid row.now.status ≡ true → (code.now.id.memory ≡ current_buffer → ⊥)
+        → fault_of (under face.now known.now) row.now.text.now ≡ None) }
     ensures { result ≡ unless_refused tt (activation_error (under face.now defaults.now) shown.now code.now (reading_of row.now)) }
 {
     if row.status != Status::Valid {
@@ -194,11 +193,11 @@ fn judge_row(
     if code.id.memory == memory::CURRENT_BUFFER {
         return Ok(());
     }
-    if known {
-        return Ok(());
-    }
-    match check_with(face, defaults, row.text) {
-        Ok(_) => Ok(()),
-        Err(fault) => Err(Cause::Syntax(fault)),
+    match good_under {
+        Some(known) if *known == *defaults => Ok(()),
+        _ => match check_with(face, defaults, row.text) {
+            Ok(_) => Ok(()),
+            Err(fault) => Err(Cause::Syntax(fault)),
+        },
     }
 }

@@ -27,5 +27,5 @@ pub use dms_codes::{
 pub use row::{Field, Refused, RowView, Services};
 pub use shown::Shown;
 pub use stock::{Permanent, Stock, TableFault};
-pub use table::Table;
+pub use table::{Place, Table};
 pub use validation::Verdict;

@@ -11,7 +11,7 @@ ghost use Rattle.dms_codes.specs.Status.{is_validate};
 ghost use Rattle.dms_face.specs.Face.{FaceModel, fit};
 ghost use Rattle.dms_face.specs.Layout.{under};
 ghost use Rattle.dms_table.specs.Validation.{settled, verdict, ValidRowsAreGood};
-ghost use Rattle.dms_table.specs.PlaceView.{IsOnly, validating_after};
+ghost use Rattle.dms_table.specs.PlaceView.{IsOnly, IsPlaced, validating_after};
 ghost use Rattle.dms_table.specs.ValidatorView.{settled_by, verdict_by, IsJudged};
 ghost use Rattle.dms_table.specs.Stock.{permanent_row, has_ranges, stock_fault, table_of, IsFirstFault, PermanentRowsAreGood, KeepsPermanentRows, HasOctets};
 ghost use Rattle.dms_table.specs.Activation.{is_memory, named, activation_error, unless_refused, decided};
@@ -38,9 +38,9 @@ pub struct Table {
     validating: Option<Place>,
 }
 
-/// Where a row stands that can be changed.
-#[derive(Clone, Copy)]
-pub(crate) enum Place {
+/// Where a row stands that can be changed; that of number 1 stands at 0.
+#[derive(Clone, Copy, Debug, PartialEq, Eq)]
+pub enum Place {
     /// Among the changeable rows.
     Changeable(usize),
     /// Among the volatile rows.
@@ -157,6 +157,13 @@ impl Table {
             memory::VOLATILE => self.volatile.as_slice(),
             _ => &[],
         }
+    }
+
+    /// Where the row stands that the next `settle` settles.
+    pub fn settling(&self) -> Option<Place>
+        ensures { IsPlaced result self.now.changeable self.now.volatile }
+    {
+        self.validating
     }
 
     /// Whether a row is being validated.

@@ -3,7 +3,7 @@
 
 use dms_face::{Defaults, Face, Font, MultiFault, MultiFaultCode};
 use dms_table::{
-    Activation, Ask, Cause, Field, Order, Permanent, Refused, RowId, Shown, Status, Stock,
+    Activation, Ask, Cause, Field, Order, Permanent, Place, Refused, RowId, Shown, Status, Stock,
     Table, TableFault, Verdict, memory,
 };
 use std::alloc::Global;
@@ -478,8 +478,10 @@ fn example(rt: HostRuntime) -> Result<(), Fail> {
     assert_eq!(rt; table.write(row, Field::Text(b"A")), Ok(()));
     assert_eq!(rt; table.ask(row, Ask::Validate), Ok(()));
     assert_eq!(rt; table.takes(row, Ask::Modify), false);
+    assert_eq!(rt; table.settling(), Some(Place::Changeable(0)));
     let verdict = table.settle(&face, &face.defaults()).ok_or("no verdict")?;
     assert_eq!(rt; (verdict.error, verdict.passes()), (2, true));
+    assert_eq!(rt; table.settling(), None);
     assert_eq!(rt; table.row(row).map(|row| row.checksum), Some(0x9a66));
     Ok(())
 }

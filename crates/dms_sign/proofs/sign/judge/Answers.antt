@@ -1,12 +1,11 @@
-use Rattle.std.proofs.Common.{rules, ◌≡◌, Option, subst}
-use Rattle.std.specs.Option.{IfSome}
+use Rattle.std.proofs.Common.{sym, subst}
 use Rattle.dms_face.specs.declared.defaults.Defaults.{Defaults}
 use Rattle.dms_face.specs.Layout.{under}
-use Rattle.dms_table.specs.Validation.{AreValidTextsGood}
+use Rattle.dms_table.specs.Validation.{HasGoodTextWhereValid}
 use Rattle.dms_sign.proofs.sign.judge.Goals as goal
 
 pub judge-requires-clause-good : goal.judge-requires-clause-good
-judge-requires-clause-good c = λ known_good.
-    let same : c.in-Some.known ≡ c.args.defaults.now = search rules in
-    subst (λ (d : Defaults). AreValidTextsGood (under c.args.face.now d) c.args.table.now) same
-    (subst (λ (o : Option Defaults). IfSome o (λ d. AreValidTextsGood (under c.args.face.now d) c.args.table.now)) c.in-Some.is c.requires.good)
+judge-requires-clause-good c =
+    let id = c.args.code.now.id in
+    subst (λ (d : Defaults). HasGoodTextWhereValid (under c.args.face.now d) c.args.table.now id.memory id.number) (sym c.of-good_under.ensures)
+    (c.requires.good id.memory id.number)

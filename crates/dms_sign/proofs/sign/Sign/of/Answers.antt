@@ -1,10 +1,9 @@
-use Rattle.std.proofs.Common.{◌≤◌, sym, subst}
+use Rattle.std.proofs.Common.{◌≤◌, ap, ◌∙◌, subst}
 use Rattle.std.specs.Prelude.{IsTrue}
 use Rattle.dms_face.specs.declared.defaults.Defaults.{Defaults}
 use Rattle.dms_face.specs.Face.{fit}
-use Rattle.dms_face.specs.Layout.{under}
-use Rattle.dms_table.specs.Validation.{AreValidTextsGood}
-use Rattle.dms_sign.proofs.KnownTexts.{texts_made}
+use Rattle.dms_sign.specs.KnownTexts.{first_known}
+use Rattle.dms_sign.proofs.KnownTexts.{known_made}
 use Rattle.dms_access.specs.Ranges.{AreDefaultsInRange}
 use Rattle.dms_sign.specs.State.{ConfigModel}
 use Rattle.dms_sign.proofs.Wholes.{made_kept, made_state, made_source}
@@ -25,6 +24,5 @@ invariant_of-result c =
           c.defaults-defaults.ensures.value c.new.ensures.first c.new-2.ensures
           c.blank.ensures c.blank-2.ensures kept;
       source = made_source c.args.table.order c.defaults-defaults.result c.blank.result c.blank.ensures;
-      known = subst (λ (d : Defaults). AreValidTextsGood (under c.args.face d) c.args.table) (sym c.defaults-defaults.ensures.value)
-          (texts_made c.args.face c.args.table c.requires.good c.requires.stocked);
+      known = known_made c.new-3.result c.args.face c.args.table (c.new-3.ensures ∙ ap first_known c.defaults-defaults.ensures.value) c.requires.good c.requires.stocked;
     }

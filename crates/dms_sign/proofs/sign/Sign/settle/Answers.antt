@@ -1,18 +1,30 @@
-use Rattle.std.proofs.Common.{rules, ◌≡◌, None}
+use Rattle.std.proofs.Common.{◌≡◌, Option, subst, arith}
+use Rattle.dms_table.specs.declared.table.Place.{Place}
+use Rattle.dms_table.specs.PlaceView.{IsPlaced}
+use Rattle.dms_sign.specs.State.{SignState}
+use Rattle.dms_sign.specs.Events.{after_settling}
 use Rattle.dms_sign.specs.SignView.{state_of}
-use Rattle.dms_sign.proofs.Wholes.{verdict_placed, settled_whole, unsettled_whole}
+use Rattle.dms_sign.proofs.Wholes.{verdict_placed, room_for, unsettled, settled_whole}
 use Rattle.dms_sign.proofs.sign.Sign.settle.Goals as goal
 
-pub invariant_of-self : goal.invariant_of-self
-invariant_of-self c =
-    let none : c.settle-verdict.result ≡ None = search rules in
-    unsettled_whole c.self.inside c.settle-verdict.new.self c.settle-verdict.result c.self.invariant
-    c.settle-verdict.ensures.rows c.settle-verdict.ensures.verdict none
+pub returns-in_default : goal.returns-in_default
+returns-in_default c =
+    let s = state_of c.self.inside in
+    subst (λ (s : SignState). s ≡ after_settling s) c.self.view_is
+    (unsettled s (subst (λ (o : Option Place). IsPlaced o s.table.changeable s.table.volatile) c.in_default.is c.settling.ensures))
 
 pub with_verdict-self-inside-requires : goal.with_verdict-self-inside-requires
 with_verdict-self-inside-requires c = verdict_placed (state_of c.self.inside) c.settle-verdict.result c.settle-verdict.ensures.verdict
 
-pub invariant_of-self-2 : goal.invariant_of-self-2
-invariant_of-self-2 c =
-    settled_whole c.self.inside c.settle-verdict.new.self c.settle-verdict.result c.with_verdict-self-inside.result c.known_after-self-inside.result c.self.invariant
-    c.settle-verdict.ensures.rows c.settle-verdict.ensures.verdict c.with_verdict-self-inside.ensures c.known_after-self-inside.ensures
+pub note-requires : goal.note-requires
+note-requires c =
+    let s = state_of c.self.inside in
+    room_for c.in-Some.place s.table c.self.invariant.kept.in_range.table
+    (subst (λ (o : Option Place). IsPlaced o s.table.changeable s.table.volatile) c.in-Some.is c.settling.ensures)
+
+pub invariant_of-self : goal.invariant_of-self
+invariant_of-self c =
+    let s = state_of c.self.inside in
+    settled_whole c.self.inside c.in-Some.place c.settle-verdict.new.self c.settle-verdict.result c.with_verdict-self-inside.result c.note.new.self c.self.invariant
+    (omega arith) (omega arith) (subst (λ (o : Option Place). IsPlaced o s.table.changeable s.table.volatile) c.in-Some.is c.settling.ensures)
+    c.settle-verdict.ensures.rows c.settle-verdict.ensures.verdict c.with_verdict-self-inside.ensures c.note.ensures
