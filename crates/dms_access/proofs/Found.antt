@@ -1,5 +1,5 @@
 -- What a search of a list says of it.
-use Rattle.std.proofs.Common.{◌≡◌, ℕ, Bool, true, false, ◌||◌, cond, List, [], ◌∷◌, ◌++◌, map, find, Option, Some, None, is_some, refl, ap}
+use Rattle.std.proofs.Common.{◌≡◌, ℕ, Bool, true, false, ◌||◌, cond, List, [], ◌∷◌, find, Option, Some, is_some, refl}
 use Rattle.std.specs.List.{list_any}
 use Rattle.dms_face.specs.Face.{FaceModel, has_font, font_of}
 

@@ -1,6 +1,5 @@
 -- Where characters stand once each, the one found at any place is the one that a search finds.
-use Rattle.std.proofs.Common.{◌≡◌, ℕ, zero, suc, ◌<◌, ◌==◌, ◌||◌, Bool, true, false, cond, not, List, [], ◌∷◌, length, get_or, Some, refl, sym, ap, ◌∙◌, arith}
-use Rattle.std.specs.List.{list_any}
+use Rattle.std.proofs.Common.{◌≡◌, ℕ, zero, suc, ◌<◌, ◌==◌, Bool, true, false, cond, not, List, [], ◌∷◌, length, get_or, Some, refl, sym, ap, ◌∙◌, arith}
 use Rattle.std.proofs.lemmas.Bool.{and_parts, not-true, or_parts, eqb-true, eq-eqb}
 use Rattle.dms_font.specs.Glyph.{GlyphModel}
 use Rattle.dms_font.specs.Font.{glyph_in, has_glyph, are_distinct}

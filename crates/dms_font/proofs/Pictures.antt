@@ -1,11 +1,9 @@
 -- The bits of a picture, and the octets that hold them.
-use Rattle.std.proofs.Common.{true, ◌≡◌, ℕ, zero, suc, ◌+◌, ◌-◌, ◌*◌, ◌/◌, ◌%◌, ◌^◌, ◌==◌, ◌<◌, ◌≤◌, Bool, false, List, [], ◌∷◌, ◌++◌, length, take, drop, get_or, refl, sym, ap, ◌∙◌, arith, length-take, ◌⊎◌, inl, inr}
+use Rattle.std.proofs.Common.{◌≡◌, ℕ, zero, suc, ◌+◌, ◌-◌, ◌*◌, ◌/◌, ◌%◌, ◌^◌, ◌==◌, ◌<◌, Bool, false, List, [], ◌∷◌, ◌++◌, length, take, drop, get_or, refl, sym, ap, ◌∙◌, arith}
 use Rattle.std.specs.Prelude.{bit_and}
-use Rattle.std.proofs.lemmas.Bool.{cases_lt}
-use Rattle.std.proofs.lemmas.Nat.{mul-add-lt}
 use Rattle.std.proofs.lemmas.Grind.{common_steps}
-use Rattle.std.proofs.lemmas.List.{get_or-take, get_or-drop, get_or_past, get_or_append_left, get_or-append-add, drop-drop}
-use Rattle.dms_font.specs.Glyph.{lit_at, octet_bits, bits_of, rows_of, glyph_from}
+use Rattle.std.proofs.lemmas.List.{get_or_append_left, get_or-append-add, drop-drop}
+use Rattle.dms_font.specs.Glyph.{octet_bits, bits_of, rows_of}
 
 abbrev has_bit : ℕ → ℕ → Bool
 has_bit octet place = octet / 2 ^ (7 - place) % 2 == 1

@@ -1,4 +1,4 @@
-use Rattle.std.proofs.Common.{◌≡◌, ◌∙◌, ◌<◌, ◌*◌, length, refl, ap, arith}
+use Rattle.std.proofs.Common.{◌∙◌, ◌*◌, refl, ap, arith}
 use Rattle.std.proofs.lemmas.List.{length-set}
 use Rattle.dms_font.specs.Glyph.{bits_of}
 use Rattle.dms_font.proofs.RowNumbers.{one_row_more, all_rows}

@@ -1,6 +1,5 @@
-use Rattle.std.proofs.Common.{◌≡◌, ◌<◌, ◌++◌, ◌∷◌, [], List, length, false, sym, ap, subst, ◌∙◌, arith}
-use Rattle.dms_font.specs.Glyph.{GlyphModel}
-use Rattle.dms_font.specs.Font.{FontModel, IsGlyph, IsFont, has_glyph}
+use Rattle.std.proofs.Common.{◌≡◌, ◌<◌, length, false, sym, ap, subst, ◌∙◌, arith}
+use Rattle.dms_font.specs.Font.{FontModel, IsFont, has_glyph}
 use Rattle.dms_font.proofs.Limits.{with_one_more}
 use Rattle.dms_font.proofs.font.Font.add_glyph.Goals as goal
 

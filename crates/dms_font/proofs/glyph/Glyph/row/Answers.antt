@@ -1,4 +1,4 @@
-use Rattle.std.proofs.Common.{◌≡◌, ◌∙◌, ◌<◌, ◌≤◌, length, take, get_or, sym, ap, arith}
+use Rattle.std.proofs.Common.{◌∙◌, ◌<◌, ◌≤◌, length, take, sym, ap, arith}
 use Rattle.std.proofs.lemmas.List.{get_or_past, get_or-take}
 use Rattle.dms_font.specs.Glyph.{lit_at, is_bit}
 use Rattle.dms_font.proofs.RowNumbers.{lit_in_rows}
