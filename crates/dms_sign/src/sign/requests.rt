@@ -9,7 +9,7 @@ ghost use Rattle.dms_sign.specs.Values.{bound, value_after};
 ghost use Rattle.dms_sign.specs.Requests.{has_no_value, with_value, is_last, next_after};
 
 use crate::sign::Sign;
-use dms_objects::Name;
+use dms_objects::{Instance, Name};
 use dms_wire::{Bind, BindingOctets, Binds, Oid, Value};
 
 impl Sign {
@@ -52,11 +52,11 @@ impl Sign {
         let mut rest = binds.again();
         while let Some(binding) = rest.next() {
             index += 1;
-            let Some((name, value)) = self.next(&binding.name) else {
+            let Some((instance, value)) = self.next(&binding.name) else {
                 return Err(index);
             };
             octets.push(&Bind {
-                name: name.oid(),
+                name: Name::of(instance).oid(),
                 value,
             });
         }
@@ -65,11 +65,11 @@ impl Sign {
 
     /// The first instance after a name, with what it reads.
     #[tactic(auto, unfolding(crate::specs::Values::value_after))]
-    fn next(&self, name: &Oid<'_>) -> Option<(Name, Value<'_>)>
+    fn next(&self, name: &Oid<'_>) -> Option<(Instance, Value<'_>)>
         ensures { option_map (λ x. bound x.0 (object_value x.1)) result ≡ value_after self.now name.now }
     {
         let instance = self.counts().next(name)?;
         let value = self.value_at(instance)?;
-        Some((Name::of(instance), value))
+        Some((instance, value))
     }
 }

@@ -156,6 +156,7 @@ impl Sign {
 
 impl<'a> Judged<'a> {
     /// Notes what the binding of this index writes.
+    #[tactic(auto, unfolding(dms_access::specs::SettingsView::set_by, dms_access::specs::SettingsView::codes_by))]
     fn note(&mut self, index: u32, change: Change<'a>)
         requires { IsChange change }
         ensures settings { self.new.settings ≡ set_by self.old.settings (write_by change.entry ∷ []) }
@@ -163,13 +164,24 @@ impl<'a> Judged<'a> {
         ensures command { option_map write_by self.new.command ≡ (if is_command (write_by change.entry) then Some (write_by change.entry) else option_map write_by self.old.command) }
         ensures index { self.new.index ≡ (if is_command (write_by change.entry) then index else self.old.index) }
     {
-        self.settings.assign(&change);
-        self.fields = self.fields || matches!(change, Change::Field(..));
-        if change.is_command() {
-            self.index = index;
-            self.command = Some(change);
+        match change {
+            Change::Field(..) => self.fields = true,
+            Change::Number(..) | Change::Code(..) => assign(&mut self.settings, &change),
+            Change::Ask(..) | Change::Activate(_) | Change::Remaining(_) => {
+                self.index = index;
+                self.command = Some(change);
+            }
         }
     }
+}
+
+/// Assigns what a binding writes: out of line, so that the settings are copied as a whole.
+#[inline(never)]
+fn assign(settings: &mut Settings, change: &Change<'_>)
+    requires { IsChange change.now }
+    ensures { settings.new ≡ set_by settings.old (write_by change.now ∷ []) }
+{
+    settings.assign(change);
 }
 
 /// What a binding writes on a sign with this face and as many rows.
@@ -194,10 +206,7 @@ fn write_change(table: &mut Table, change: Option<Change<'_>>)
     ensures { table.new ≡ with_writes table.old (cons_option (option_map write_by change.entry) []) }
 {
     if let Some(Change::Field(id, field)) = change {
-        match table.write(id, field) {
-            Ok(()) => {}
-            Err(_) => {}
-        }
+        let _ = table.write(id, field);
     }
 }
 
