@@ -7,5 +7,5 @@ mod fields;
 mod item_lines;
 mod names;
 
-pub use act::{act, act_saying};
+pub use act::act_saying;
 pub use command_line::{Call, asked};
