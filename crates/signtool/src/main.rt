@@ -1,7 +1,14 @@
 //! A dynamic message sign's controller on the command line.
 #![tactic(auto)]
 
-use dms_tool::{act_saying, asked};
+pub mod act;
+pub mod command_line;
+mod fields;
+mod item_lines;
+mod names;
+
+use crate::act::act_saying;
+use crate::command_line::asked;
 use std::env::{Env, FillError};
 use std::io;
 use std::process::ExitCode;
@@ -59,3 +66,6 @@ fn word_without_text(rt: &HostRuntime) -> Option<usize> {
 fn words(rt: &HostRuntime) -> io::Result<Vec<String>> {
     Ok(std::env::args(rt)?.collect(rt.alloc())?)
 }
+
+#[cfg(test)]
+mod tests;

@@ -1,7 +1,5 @@
-//! Calls of the program by their words and their input, each with what it prints.
-
-use dms_tool::act::{act, act_saying};
-use dms_tool::command_line::{Call, Drawing, SignWanted, asked};
+use crate::act::{act, act_saying};
+use crate::command_line::{Call, Drawing, SignWanted, asked};
 use std::io;
 use std::io::Read;
 use std::test::Fail;
