@@ -3,6 +3,7 @@ pub mod Bindings
 pub mod Messages
 pub mod Promises
 pub mod ShorterSpellings
+mod ShortestSpellings
 pub mod CanonicalLaws
 pub mod LimitsLaws
 pub mod MessageOfLaws

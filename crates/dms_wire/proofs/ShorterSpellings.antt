@@ -14,12 +14,12 @@ use Rattle.dms_wire.specs.Response.{response_to}
 use Rattle.dms_ber.proofs.ShorterContents.{NoLonger, short_length_monotone, length_no_longer, integer_no_longer, some_octet, small_no_longer, name_no_longer}
 
 -- the two parts of joined octets are octets
-below_parts : (xs ys : List ℕ) → AllBelowBase 256 (xs ++ ys) → AllBelowBase 256 xs × AllBelowBase 256 ys
+pub below_parts : (xs ys : List ℕ) → AllBelowBase 256 (xs ++ ys) → AllBelowBase 256 xs × AllBelowBase 256 ys
 below_parts [] ys below = (tt, below)
 below_parts (x ∷ xs) ys below = let rest = below_parts xs ys below.1 in ((below.0, rest.0), rest.1)
 
 -- a content that is one list
-exactly : (s : List ℕ) → NoLonger s (λ content. content ≡ s)
+pub exactly : (s : List ℕ) → NoLonger s (λ content. content ≡ s)
 exactly s = record { than = λ bytes below e. rw e (omega arith) }
 
 element_length : (tag any : ℕ) (Content : List ℕ → Type 0) (short bytes : List ℕ) → NoLonger short Content → AllBelowBase 256 bytes → IsElement tag Content bytes
@@ -34,10 +34,10 @@ element_length tag any Content short bytes shorter below e =
     omega (arith, ap length e.parts, length-append e.len e.content, length-append (short_length (length short)) short)
 
 -- the tag may differ, since each is one octet
-element_no_longer : {tag : ℕ} {Content : List ℕ → Type 0} {short : List ℕ} (any : ℕ) → NoLonger short Content → NoLonger (element any short) (IsElement tag Content)
+pub element_no_longer : {tag : ℕ} {Content : List ℕ → Type 0} {short : List ℕ} (any : ℕ) → NoLonger short Content → NoLonger (element any short) (IsElement tag Content)
 element_no_longer {tag} {Content} {short} any shorter = record { than = λ bytes. element_length tag any Content short bytes shorter }
 
-sequence_no_longer : {First Second : List ℕ → Type 0} {xs ys : List ℕ} → NoLonger xs First → NoLonger ys Second → NoLonger (xs ++ ys) (First ⨾ Second)
+pub sequence_no_longer : {First Second : List ℕ → Type 0} {xs ys : List ℕ} → NoLonger xs First → NoLonger ys Second → NoLonger (xs ++ ys) (First ⨾ Second)
 sequence_no_longer {First} {Second} {xs} {ys} first second = record {
   than = λ bytes below s.
       let parts = below_parts s.front s.back (subst (AllBelowBase 256) s.parts below) in

@@ -61,6 +61,14 @@ impl<'a> Binds<'a> {
             content: self.content,
         }
     }
+
+    /// The octets of the bindings that are left as they lie in the datagram, where this is their shortest spelling.
+    pub(crate) fn shortest(&self) -> Option<&'a [u8]>
+        ensures same { IfSome result (λ octets. octets.now ≡ flat_map binding_octets self.now) }
+        ensures small { IfSome result (λ octets. length octets.now ≤ longest_datagram) }
+    {
+        shortest_octets(self.content)
+    }
 }
 
 impl<'a> Iterator for Binds<'a> {
@@ -190,6 +198,37 @@ fn size_of_binding(binding: &Bind<'_>) -> Result<usize, TooBig>
         return Err(TooBig);
     }
     Ok(size_of_element(name + value))
+}
+
+/// How many octets the shortest spelling of bindings takes, where that is no more than a datagram.
+fn size_of_binds(binds: Binds<'_>) -> Result<usize, TooBig>
+    ensures size { IfOk result (λ n. n ≡ length (flat_map binding_octets binds.entry)) }
+    ensures small { IfOk result (λ n. n ≤ longest_datagram) }
+{
+    let mut rest = binds;
+    let mut size = 0;
+    while let Some(binding) = rest.next() {
+        size += size_of_binding(&binding)?;
+        if size > MAX_DATAGRAM {
+            return Err(TooBig);
+        }
+    }
+    Ok(size)
+}
+
+/// Octets that are bindings, where they are the shortest spelling of these: that one has as many octets, and no other spelling has
+/// as few.
+fn shortest_octets(octets: &[u8]) -> Option<&[u8]>
+    requires { AreWhole octets.now }
+    ensures same { IfSome result (λ shortest. shortest.now ≡ flat_map binding_octets (bindings_of octets.now)) }
+    ensures small { IfSome result (λ shortest. length shortest.now ≤ longest_datagram) }
+{
+    let size = size_of_binds(Binds { content: octets }).ok()?;
+    if size == octets.len() {
+        Some(octets)
+    } else {
+        None
+    }
 }
 
 /// Writes the name and the value of a binding.

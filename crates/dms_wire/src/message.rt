@@ -11,7 +11,7 @@ ghost use Rattle.dms_wire.specs.ErrorStatus.{error_status_number};
 ghost use Rattle.dms_wire.specs.Message.{VarBind, SnmpMessage};
 ghost use Rattle.dms_wire.specs.Spelling.{Spells, tag_of};
 ghost use Rattle.dms_wire.specs.MessageOf.{message_of};
-ghost use Rattle.dms_wire.specs.Canonical.{numbers_octets, canonical};
+ghost use Rattle.dms_wire.specs.Canonical.{binding_octets, numbers_octets, canonical};
 ghost use Rattle.dms_wire.specs.Response.{response_with, response_to};
 ghost use Rattle.dms_wire.specs.Written.{octets_of_bindings, IsWritten};
 ghost use Rattle.dms_ber.specs.Reading.{Gives, fault};
@@ -317,9 +317,7 @@ pub fn write_around(
     if octets.too_big {
         return Err(TooBig);
     }
-    begin(header, octets.octets.len(), out)?;
-    put_content(out, &octets.octets);
-    Ok(())
+    write_octets(header, &octets.octets, out)
 }
 
 /// Writes the Response to a message that was read, with this error-status and error-index, and with the bindings of the message
@@ -332,9 +330,33 @@ pub fn write_response(
 ) -> Result<(), TooBig>
     ensures { IsWritten result out.new.items (canonical (response_to (snmp_message message.now) (error_status_number status) index)) }
 {
+    let header = message.response(status, index);
+    match message.binds.shortest() {
+        Some(octets) => write_octets(&header, octets, out),
+        None => write_anew(&header, message.binds.again(), out),
+    }
+}
+
+/// Writes the message with this header and with bindings of which the shortest spelling is at hand: it is copied.
+#[inline]
+fn write_octets(header: &Header<'_>, octets: &[u8], out: &mut Out) -> Result<(), TooBig>
+    requires { length octets.now ≤ longest_datagram }
+    ensures { (bindings : List VarBind) → octets.now ≡ flat_map binding_octets bindings
+        → IsWritten result out.new.items (canonical (message_around header.now bindings)) }
+{
+    begin(header, octets.len(), out)?;
+    put_content(out, octets);
+    Ok(())
+}
+
+/// Writes the message with this header and with bindings that were read, each in its shortest spelling.
+#[inline(never)]
+fn write_anew(header: &Header<'_>, binds: Binds<'_>, out: &mut Out) -> Result<(), TooBig>
+    ensures { IsWritten result out.new.items (canonical (message_around header.now binds.entry)) }
+{
     let mut octets = BindingOctets::new();
-    octets.fill(message.binds.again());
-    write_around(&message.response(status, index), &octets, out)
+    octets.fill(binds);
+    write_around(header, &octets, out)
 }
 
 /// Writes what stands before bindings of `size` octets over what `out` holds, or nothing where the message would have more

@@ -144,6 +144,56 @@ fn example(rt: HostRuntime) -> Result<(), Fail> {
     Ok(())
 }
 
+/// A Response repeats bindings in their shortest spelling: as they lie in the request, or anew where it spells a length longer.
+#[test]
+fn responses(rt: HostRuntime) -> Result<(), Fail> {
+    let long = b"\x30\x82\x00\x15\x06\x81\x10";
+    let cases = [
+        (
+            b"\x30\x44".as_slice(),
+            b"\xa3\x37".as_slice(),
+            b"\x30\x2c".as_slice(),
+            &GET[26..30],
+        ),
+        (b"\x30\x47", b"\xa3\x3a", b"\x30\x2f", long),
+    ];
+    let response = datagram_of(
+        &rt,
+        &[
+            b"\x30\x44",
+            &GET[2..13],
+            b"\xa2\x37",
+            &GET[15..24],
+            b"\x30\x2c",
+            &GET[26..],
+            &GET[26..],
+        ],
+    );
+    for (message, pdu, list, second) in cases {
+        let request = datagram_of(
+            &rt,
+            &[
+                message,
+                &GET[2..13],
+                pdu,
+                &GET[15..24],
+                list,
+                &GET[26..],
+                second,
+                &GET[30..],
+            ],
+        );
+        let mut out = Out::new();
+        let message = read(&request)?;
+        assert_eq!(rt;
+            write_response(&message, ErrorStatus::NoError, 0, &mut out),
+            Ok(())
+        );
+        assert_eq!(rt; out.as_slice(), response.as_slice());
+    }
+    Ok(())
+}
+
 /// A name has at most 127 sub-identifiers.
 #[test]
 fn long_names(rt: HostRuntime) -> Result<(), Fail> {
