@@ -1,8 +1,10 @@
 -- The bindings that octets spell, as far as they spell any.
-use Rattle.std.specs.Prelude.{ℕ, zero, suc, List, [], ◌∷◌, length, Result, Ok, Err}
+use Rattle.std.specs.Prelude.{◌≡◌, ℕ, zero, suc, List, [], ◌∷◌, length, Result, Ok, Err}
+use Rattle.std.specs.List.{flat_map}
 use Rattle.dms_ber.specs.declared.fault.WireFault.{WireFault}
 use Rattle.dms_wire.specs.Message.{VarBind}
 use Rattle.dms_wire.specs.Spelling.{AreBindings}
+use Rattle.dms_wire.specs.Canonical.{binding_octets}
 use Rattle.dms_wire.specs.Reading.{binding_at}
 
 abbrev pub or_none : {A : Type 0} → List A → (A → List ℕ → List A) → Result (A × List ℕ) WireFault → List A
@@ -20,3 +22,7 @@ bindings_of bytes = bindings_within (length bytes) bytes
 -- octets that bindings fill
 abbrev pub AreWhole : List ℕ → Type 0
 AreWhole bytes = AreBindings (bindings_of bytes) bytes
+
+-- octets that are the shortest spelling of their bindings
+abbrev pub AreShortest : List ℕ → Type 0
+AreShortest bytes = bytes ≡ flat_map binding_octets (bindings_of bytes)

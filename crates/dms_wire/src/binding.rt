@@ -6,7 +6,7 @@ ghost use Rattle.std.specs.List.{flat_map};
 ghost use Rattle.dms_wire.specs.Message.{VarBind};
 ghost use Rattle.dms_ber.specs.Reading.{Gives};
 ghost use Rattle.dms_wire.specs.Reading.{members_at, binding_at, bindings_at, list_at};
-ghost use Rattle.dms_wire.specs.Walk.{bindings_of, AreWhole};
+ghost use Rattle.dms_wire.specs.Walk.{bindings_of, AreWhole, AreShortest};
 ghost use Rattle.dms_wire.specs.View.{object_value, var_bind};
 ghost use Rattle.dms_ber.specs.Element.{element};
 ghost use Rattle.dms_ber.specs.ObjectIdentifier.{name_octets};
@@ -17,8 +17,8 @@ ghost use Rattle.dms_ber.specs.Limits.{longest_datagram};
 use crate::fault::TooBig;
 use crate::value::{Value, put_value, read_value, size_of_value};
 use dms_ber::{
-    MAX_DATAGRAM, Oid, Out, WireFault, ended, offset_of, put_head, put_octets, read_element,
-    read_name, size_of_element, size_of_octets, tag,
+    MAX_DATAGRAM, Oid, Out, WireFault, ended, offset_of, put_head, put_octets, read_content,
+    read_element, read_name, size_of_element, size_of_octets, tag,
 };
 use std::marker::Model;
 
@@ -200,35 +200,59 @@ fn size_of_binding(binding: &Bind<'_>) -> Result<usize, TooBig>
     Ok(size_of_element(name + value))
 }
 
-/// How many octets the shortest spelling of bindings takes, where that is no more than a datagram.
-fn size_of_binds(binds: Binds<'_>) -> Result<usize, TooBig>
-    ensures size { IfOk result (λ n. n ≡ length (flat_map binding_octets binds.entry)) }
-    ensures small { IfOk result (λ n. n ≤ longest_datagram) }
+/// How many octets the shortest spelling of a binding takes, of which these are the contents of the name and of the value.
+#[inline]
+#[tactic(auto, using(crate::proofs::Sizes::sizes))]
+fn size_of_members(name: &[u8], value: &[u8]) -> usize
+    requires { length name.now + length value.now ≤ longest_datagram }
+    ensures { (tag : ℕ) → result ≡ length (element 48 (element 6 name.now ++ element tag value.now)) }
 {
-    let mut rest = binds;
-    let mut size = 0;
-    while let Some(binding) = rest.next() {
-        size += size_of_binding(&binding)?;
-        if size > MAX_DATAGRAM {
-            return Err(TooBig);
-        }
-    }
-    Ok(size)
+    size_of_element(size_of_octets(name) + size_of_octets(value))
 }
 
-/// Octets that are bindings, where they are the shortest spelling of these: that one has as many octets, and no other spelling has
-/// as few.
+/// The octets after the first of bindings, where that one has no more octets than its shortest spelling. Lengths alone are read: a
+/// name and a value have one content each.
+#[inline(always)]
+fn after_shortest(octets: &[u8]) -> Option<&[u8]>
+    requires whole { AreWhole octets.now }
+    requires small { length octets.now ≤ longest_datagram }
+    ensures whole { IfSome result (λ rest. AreWhole rest.now) }
+    ensures same { IfSome result (λ rest. AreShortest rest.now → AreShortest octets.now) }
+    ensures fewer { IfSome result (λ rest. length rest.now < length octets.now) }
+{
+    let Ok((content, rest)) = read_element(tag::SEQUENCE, octets, octets.len()) else {
+        return None;
+    };
+    let Ok((name, value)) = read_element(tag::OBJECT_IDENTIFIER, content, content.len()) else {
+        return None;
+    };
+    let [_, value @ ..] = value else {
+        return None;
+    };
+    let Ok((value, _)) = read_content(value, value.len()) else {
+        return None;
+    };
+    if octets.len() - rest.len() == size_of_members(name, value) {
+        Some(rest)
+    } else {
+        None
+    }
+}
+
+/// Octets that are bindings, where they are the shortest spelling of these, and no more than a datagram.
 fn shortest_octets(octets: &[u8]) -> Option<&[u8]>
     requires { AreWhole octets.now }
     ensures same { IfSome result (λ shortest. shortest.now ≡ flat_map binding_octets (bindings_of octets.now)) }
     ensures small { IfSome result (λ shortest. length shortest.now ≤ longest_datagram) }
 {
-    let size = size_of_binds(Binds { content: octets }).ok()?;
-    if size == octets.len() {
-        Some(octets)
-    } else {
-        None
+    if octets.len() > MAX_DATAGRAM {
+        return None;
     }
+    let mut rest = octets;
+    while !rest.is_empty() {
+        rest = after_shortest(rest)?;
+    }
+    Some(octets)
 }
 
 /// Writes the name and the value of a binding.
