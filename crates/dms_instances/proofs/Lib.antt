@@ -4,3 +4,4 @@ pub mod WhichInstances
 pub mod ObjectRows
 pub mod Places
 pub mod CellOctets
+pub mod SameOctets

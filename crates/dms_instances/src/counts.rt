@@ -6,14 +6,14 @@ ghost use Rattle.dms_instances.specs.Objects.{has_name, instance_named, next_ins
 ghost use Rattle.dms_instances.specs.Places.{HasCounts, last_number, row_total, place_total, row_at, instance_at, IsBetween};
 
 use crate::guess;
-use crate::names::{comes_after, has_name};
+use crate::names::{comes_after, has_name, known_by_octets};
 use dms_ber::Oid;
 use dms_codes::{RowId, memory};
 use dms_objects::{Column, Instance, Scalar};
 use dms_table::Table;
 
 /// The objects before dmsMessageTable.
-pub(crate) const BEFORE_TABLE: [Scalar; 19] = [
+const BEFORE_TABLE: [Scalar; 19] = [
     Scalar::SignHeightPixels,
     Scalar::SignWidthPixels,
     Scalar::DefaultBackgroundColor,
@@ -36,7 +36,7 @@ pub(crate) const BEFORE_TABLE: [Scalar; 19] = [
 ];
 
 /// The objects after dmsMessageTable.
-pub(crate) const AFTER_TABLE: [Scalar; 17] = [
+const AFTER_TABLE: [Scalar; 17] = [
     Scalar::ValidateMessageError,
     Scalar::ActivateMessage,
     Scalar::MessageTimeRemaining,
@@ -57,7 +57,7 @@ pub(crate) const AFTER_TABLE: [Scalar; 17] = [
 ];
 
 /// The columns of dmsMessageTable.
-pub(crate) const COLUMNS: [Column; 9] = [
+const COLUMNS: [Column; 9] = [
     Column::MemoryType,
     Column::Number,
     Column::MultiString,
@@ -99,9 +99,17 @@ impl Counts {
     pub fn named(&self, name: &Oid<'_>) -> Option<Instance>
         ensures { (table : TableModel) → HasCounts table self.now → result ≡ instance_named table name.now }
     {
-        if let Some(instance) = self.spelled(name) {
-            return Some(instance);
+        match self.spelled(name) {
+            Some(instance) => Some(instance),
+            None => self.searched(name),
         }
+    }
+
+    /// The instance of this name, found by halving.
+    #[inline(never)]
+    fn searched(&self, name: &Oid<'_>) -> Option<Instance>
+        ensures { (table : TableModel) → HasCounts table self.now → result ≡ instance_named table name.now }
+    {
         let place = self.place_after(name);
         if place == 0 {
             return None;
@@ -120,7 +128,8 @@ impl Counts {
         ensures named { IfSome result (λ i. has_name name.now i ≡ true) }
     {
         let instance = guess::instance(name.content())?;
-        if self.has(instance) && has_name(name, instance) {
+        known_by_octets(name, instance);
+        if self.has(instance) {
             Some(instance)
         } else {
             None

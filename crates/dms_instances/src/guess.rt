@@ -1,11 +1,16 @@
-//! The instance of a name by its octets, and its place. What is found is a guess, which who asks verifies.
+//! The instance of a name by its octets, and its place. A place that is found is a guess, which who asks verifies.
 
-ghost use Rattle.std.specs.Prelude.{◌≤◌, ◌<◌, IfSome};
+ghost use Rattle.std.specs.Prelude.{◌≡◌, ◌≤◌, ◌<◌, ◌∷◌, [], IfSome};
+ghost use Rattle.dms_objects.specs.Names.{column_number, scalar_number};
+ghost use Rattle.dms_objects.specs.NameOctets.{IsNamed};
 ghost use Rattle.dms_instances.specs.Places.{row_total};
 
-use crate::counts::{AFTER_TABLE, BEFORE_TABLE, COLUMNS, Counts};
+use crate::counts::Counts;
 use dms_codes::{RowId, memory};
-use dms_objects::Instance;
+use dms_objects::{Column, Instance, Scalar};
+
+/// The first octets of all names.
+const ABOVE_DMS: [u8; 8] = [43, 6, 1, 4, 1, 137, 54, 4];
 
 /// What the octets after those are: the common prefix is looked at once, then the few octets that differ.
 enum Guess {
@@ -50,24 +55,162 @@ pub(crate) fn cell_place(counts: &Counts, content: &[u8]) -> Option<(usize, usiz
     }
 }
 
-/// The instance whose name has these content octets, on a sign that has it.
-pub(crate) fn instance(content: &[u8]) -> Option<Instance> {
-    match guess_of(content)? {
-        Guess::Before(place) => BEFORE_TABLE
-            .get(usize::from(place))
-            .map(|object| Instance::The(*object)),
-        Guess::After(place) => AFTER_TABLE
-            .get(usize::from(place))
-            .map(|object| Instance::The(*object)),
-        Guess::Cell {
-            column,
-            memory,
-            number,
-        } => {
-            let column = *COLUMNS.get(usize::from(column))?;
-            let number = u16::from(number);
-            Some(Instance::Cell(column, RowId { memory, number }))
-        }
+/// The instance whose name has these content octets, where it is an object's, or a cell's of a row of at most 255.
+pub(crate) fn instance(content: &[u8]) -> Option<Instance>
+    ensures { IfSome result (λ i. IsNamed i content.now) }
+{
+    match below_dms(content)? {
+        [5, 8, 1, column, memory, number] => cell_named(*column, *memory, *number),
+        [5, 8, 1, column, memory, 129, low] => long_cell_named(*column, *memory, *low),
+        [group, number, 0] => object_named(*group, *number),
+        _ => None,
+    }
+}
+
+/// The cell whose name ends in these octets: one each of its column, its row's type of memory and its row's number.
+#[inline]
+fn cell_named(column: u8, memory: u8, number: u8) -> Option<Instance>
+    ensures { IfSome result (λ i. IsNamed i
+        (43 ∷ 6 ∷ 1 ∷ 4 ∷ 1 ∷ 137 ∷ 54 ∷ 4 ∷ 2 ∷ 3 ∷ 5 ∷ 8 ∷ 1 ∷ column ∷ memory ∷ number ∷ [])) }
+{
+    if memory < 128 && number < 128 {
+        let column = column_of(column)?;
+        let number = u16::from(number);
+        Some(Instance::Cell(column, RowId { memory, number }))
+    } else {
+        None
+    }
+}
+
+/// The cell whose name ends in these octets: one each of its column and its row's type of memory, and two of its row's number.
+#[inline]
+fn long_cell_named(column: u8, memory: u8, low: u8) -> Option<Instance>
+    ensures { IfSome result (λ i. IsNamed i
+        (43 ∷ 6 ∷ 1 ∷ 4 ∷ 1 ∷ 137 ∷ 54 ∷ 4 ∷ 2 ∷ 3 ∷ 5 ∷ 8 ∷ 1 ∷ column ∷ memory ∷ 129 ∷ low ∷ [])) }
+{
+    if memory < 128 && low < 128 {
+        let column = column_of(column)?;
+        let number = u16::from(128 + low);
+        Some(Instance::Cell(column, RowId { memory, number }))
+    } else {
+        None
+    }
+}
+
+/// The object whose instance's name ends in these octets and 0.
+#[inline]
+fn object_named(group: u8, number: u8) -> Option<Instance>
+    ensures { IfSome result (λ i. IsNamed i (43 ∷ 6 ∷ 1 ∷ 4 ∷ 1 ∷ 137 ∷ 54 ∷ 4 ∷ 2 ∷ 3 ∷ group ∷ number ∷ 0 ∷ [])) }
+{
+    Some(Instance::The(scalar_of(group, number)?))
+}
+
+/// The column of this number.
+#[inline]
+fn column_of(number: u8) -> Option<Column>
+    ensures { IfSome result (λ c. column_number c ≡ number) }
+{
+    match number {
+        1 => Some(Column::MemoryType),
+        2 => Some(Column::Number),
+        3 => Some(Column::MultiString),
+        4 => Some(Column::Owner),
+        5 => Some(Column::Crc),
+        6 => Some(Column::Beacon),
+        7 => Some(Column::PixelService),
+        8 => Some(Column::RunTimePriority),
+        9 => Some(Column::Status),
+        _ => None,
+    }
+}
+
+/// The object of this number in this group.
+#[inline]
+fn scalar_of(group: u8, number: u8) -> Option<Scalar>
+    ensures { IfSome result (λ s. scalar_number s ≡ (group, number)) }
+{
+    match group {
+        2 => vms_object(number),
+        4 => multi_object(number),
+        5 => message_object(number),
+        6 => control_object(number),
+        _ => None,
+    }
+}
+
+/// The object of this number in vmsCfg, group 2.
+#[inline]
+fn vms_object(number: u8) -> Option<Scalar>
+    ensures { IfSome result (λ s. scalar_number s ≡ (2, number)) }
+{
+    match number {
+        3 => Some(Scalar::SignHeightPixels),
+        4 => Some(Scalar::SignWidthPixels),
+        _ => None,
+    }
+}
+
+/// That in multiCfg, group 4.
+#[inline]
+fn multi_object(number: u8) -> Option<Scalar>
+    ensures { IfSome result (λ s. scalar_number s ≡ (4, number)) }
+{
+    match number {
+        1 => Some(Scalar::DefaultBackgroundColor),
+        2 => Some(Scalar::DefaultForegroundColor),
+        3 => Some(Scalar::DefaultFlashOn),
+        4 => Some(Scalar::DefaultFlashOff),
+        5 => Some(Scalar::DefaultFont),
+        6 => Some(Scalar::DefaultJustificationLine),
+        7 => Some(Scalar::DefaultJustificationPage),
+        8 => Some(Scalar::DefaultPageOnTime),
+        9 => Some(Scalar::DefaultPageOffTime),
+        11 => Some(Scalar::ColorScheme),
+        _ => None,
+    }
+}
+
+/// That in dmsMessage, group 5.
+#[inline]
+fn message_object(number: u8) -> Option<Scalar>
+    ensures { IfSome result (λ s. scalar_number s ≡ (5, number)) }
+{
+    match number {
+        1 => Some(Scalar::NumPermanentMsg),
+        2 => Some(Scalar::NumChangeableMsg),
+        3 => Some(Scalar::MaxChangeableMsg),
+        4 => Some(Scalar::FreeChangeableMemory),
+        5 => Some(Scalar::NumVolatileMsg),
+        6 => Some(Scalar::MaxVolatileMsg),
+        7 => Some(Scalar::FreeVolatileMemory),
+        9 => Some(Scalar::ValidateMessageError),
+        _ => None,
+    }
+}
+
+/// That in signControl, group 6.
+#[inline]
+fn control_object(number: u8) -> Option<Scalar>
+    ensures { IfSome result (λ s. scalar_number s ≡ (6, number)) }
+{
+    match number {
+        3 => Some(Scalar::ActivateMessage),
+        4 => Some(Scalar::MessageTimeRemaining),
+        5 => Some(Scalar::MsgTableSource),
+        6 => Some(Scalar::MsgRequesterId),
+        7 => Some(Scalar::MsgSourceMode),
+        8 => Some(Scalar::ShortPowerRecoveryMessage),
+        9 => Some(Scalar::LongPowerRecoveryMessage),
+        10 => Some(Scalar::ShortPowerLossTime),
+        12 => Some(Scalar::CommunicationsLossMessage),
+        13 => Some(Scalar::TimeCommLoss),
+        14 => Some(Scalar::PowerLossMessage),
+        15 => Some(Scalar::EndDurationMessage),
+        17 => Some(Scalar::ActivateMsgError),
+        18 => Some(Scalar::MultiSyntaxError),
+        19 => Some(Scalar::MultiSyntaxErrorPosition),
+        24 => Some(Scalar::ActivateErrorMsgCode),
+        _ => None,
     }
 }
 
@@ -88,11 +231,15 @@ pub(crate) fn place_of_next(counts: &Counts, content: &[u8]) -> usize {
     place.unwrap_or(counts.places() / 2)
 }
 
-/// The octets after those that all names begin with, those of dms, 1.3.6.1.4.1.1206.4.2.3.
+/// The octets after those that all names begin with, those of dms, 1.3.6.1.4.1.1206.4.2.3: eight of the ten are compared as one number.
 #[inline]
-fn below_dms(content: &[u8]) -> Option<&[u8]> {
+fn below_dms(content: &[u8]) -> Option<&[u8]>
+    ensures { IfSome result (λ rest. content.now ≡ 43 ∷ 6 ∷ 1 ∷ 4 ∷ 1 ∷ 137 ∷ 54 ∷ 4 ∷ 2 ∷ 3 ∷ rest.now) }
+{
     match content {
-        [43, 6, 1, 4, 1, 137, 54, 4, 2, 3, rest @ ..] => Some(rest),
+        [a, b, c, d, e, f, g, h, 2, 3, rest @ ..]
+            if u64::from_le_bytes([*a, *b, *c, *d, *e, *f, *g, *h])
+                == u64::from_le_bytes(ABOVE_DMS) => Some(rest),
         _ => None,
     }
 }

@@ -1,6 +1,7 @@
 //! Names compared with those of instances, whose octets stand on the stack where they are few.
 
-ghost use Rattle.std.specs.Prelude.{◌≡◌, ◌≤◌, ◌<◌};
+ghost use Rattle.std.specs.Prelude.{◌≡◌, ◌≤◌, ◌<◌, true};
+ghost use Rattle.dms_ber.specs.ObjectIdentifier.{name_octets};
 ghost use Rattle.dms_objects.specs.NameOctets.{IsNamed};
 ghost use Rattle.dms_objects.specs.declared.instance.Instance.TheVariants.{The, Cell};
 ghost use Rattle.dms_instances.specs.Objects.{has_name, comes_after, is_before};
@@ -55,6 +56,15 @@ pub(crate) fn has_name(name: &Oid<'_>, instance: Instance) -> bool
         }
         _ => Name::of(instance).oid() == *name,
     }
+}
+
+/// The name is that of the instance, since its octets are those of the instance's name: for the proof alone, nothing runs.
+#[inline]
+pub(crate) fn known_by_octets(name: &Oid<'_>, instance: Instance)
+    requires { IsNamed instance (name_octets name.now) }
+    ensures { has_name name.now instance ≡ true }
+{
+    let _ = name.numbers();
 }
 
 /// The name comes before that of the instance, which has these octets.
