@@ -481,3 +481,12 @@ pub after_cell_found : (table : TableModel) (n : Counts) (name : List ℕ) (c r 
 after_cell_found table n name c r has h g e =
     let few = after_cell_within n c r h g in
     next_found table n name (19 + c * row_total n + r + 1) has (after_named table n name (19 + c * row_total n + r) has (omega (arith, few)) e) few
+
+-- the same where the name is that of the cell of this column and row, which stand at these places
+pub after_cell_named : (table : TableModel) (n : Counts) (name : List ℕ) (c r : ℕ) (column : Column) (row : RowId) → HasCounts table n
+    → c < 9 → r < row_total n → get_or columns c MemoryType ≡ column → row_at n r ≡ row → has_name name (Cell column row) ≡ true
+    → Some (instance_at n (19 + c * row_total n + r + 1)) ≡ next_instance table name
+after_cell_named table n name c r column row has h g is_column is_row e =
+    let same : instance_at n (19 + c * row_total n + r) ≡ Cell column row =
+    cell_at_is n c r h g ∙ ap (λ x. Cell x (row_at n r)) is_column ∙ ap (Cell column) is_row in
+    after_cell_found table n name c r has h g (ap (has_name name) same ∙ e)

@@ -2,7 +2,9 @@
 
 ghost use Rattle.std.specs.Prelude.{◌≡◌, ◌≤◌, ◌<◌, ◌+◌, ◌*◌, ℕ, true, length, Some, IfSome};
 ghost use Rattle.dms_table.specs.Rows.{TableModel};
-ghost use Rattle.dms_instances.specs.Objects.{has_name, instance_named, next_instance, IsInstance};
+ghost use Rattle.std.specs.List.{slice_index_or};
+ghost use Rattle.dms_objects.specs.declared.column.Column.TheVariants.{MemoryType};
+ghost use Rattle.dms_instances.specs.Objects.{columns, has_name, instance_named, next_instance, IsInstance};
 ghost use Rattle.dms_instances.specs.Places.{HasCounts, last_number, row_total, place_total, row_at, instance_at, IsBetween};
 
 use crate::guess;
@@ -179,11 +181,14 @@ impl Counts {
     fn after_cell(&self, name: &Oid<'_>) -> Option<Instance>
         ensures { IfSome result (λ i. (table : TableModel) → HasCounts table self.now → Some i ≡ next_instance table name.now) }
     {
-        let (column, row) = guess::cell_place(self, name.content())?;
-        if column < 9 && row < self.rows() && has_name(name, self.cell_at(column, row)) {
-            Some(self.after_cell_at(column, row))
-        } else {
-            None
+        let instance = guess::instance(name.content())?;
+        known_by_octets(name, instance);
+        match instance {
+            Instance::The(_) => None,
+            Instance::Cell(column, row) => {
+                let place = guess::row_place(self, row.memory, row.number)?;
+                Some(self.after_cell_at(column_place(column), place))
+            }
         }
     }
 
@@ -197,7 +202,7 @@ impl Counts {
         }
     }
 
-    /// The place of this name, where its octets tell it at once.
+    /// The place of this name, where its octets tell at once that it is an object's.
     fn guessed(&self, name: &Oid<'_>) -> Option<usize>
         ensures within { IfSome result (λ place. place < place_total self.now) }
         ensures named { IfSome result (λ place. has_name name.now (instance_at self.now place) ≡ true) }
@@ -307,6 +312,24 @@ impl Counts {
         } else {
             Instance::The(AFTER_TABLE[cell - rows * 9])
         }
+    }
+}
+
+/// The place of a column.
+fn column_place(column: Column) -> usize
+    ensures within { result < 9 }
+    ensures is { slice_index_or columns result MemoryType ≡ column }
+{
+    match column {
+        Column::MemoryType => 0,
+        Column::Number => 1,
+        Column::MultiString => 2,
+        Column::Owner => 3,
+        Column::Crc => 4,
+        Column::Beacon => 5,
+        Column::PixelService => 6,
+        Column::RunTimePriority => 7,
+        Column::Status => 8,
     }
 }
 

@@ -1,9 +1,9 @@
-//! The instance of a name by its octets, and its place. A place that is found is a guess, which who asks verifies.
+//! The instance of a name by its octets, and the place of a cell. The other places that are found are guesses, which who asks verifies.
 
 ghost use Rattle.std.specs.Prelude.{◌≡◌, ◌≤◌, ◌<◌, ◌∷◌, [], IfSome};
 ghost use Rattle.dms_objects.specs.Names.{column_number, scalar_number};
 ghost use Rattle.dms_objects.specs.NameOctets.{IsNamed};
-ghost use Rattle.dms_instances.specs.Places.{row_total};
+ghost use Rattle.dms_instances.specs.Places.{row_total, row_at};
 
 use crate::counts::Counts;
 use dms_codes::{RowId, memory};
@@ -12,50 +12,32 @@ use dms_objects::{Column, Instance, Scalar};
 /// The first octets of all names.
 const ABOVE_DMS: [u8; 8] = [43, 6, 1, 4, 1, 137, 54, 4];
 
-/// What the octets after those are: the common prefix is looked at once, then the few octets that differ.
+/// An object by its place.
 enum Guess {
-    /// An object before dmsMessageTable, by its place among them.
+    /// One before dmsMessageTable, by its place among them.
     Before(u8),
     /// One after it, by its place among those.
     After(u8),
-    /// A cell of dmsMessageTable: its column, counted from 0, and its row's type of memory and number.
-    Cell { column: u8, memory: u8, number: u8 },
 }
 
-/// The place of the instance whose name has these content octets.
+/// The place of the object whose instance's name has these content octets.
 pub(crate) fn place(counts: &Counts, content: &[u8]) -> Option<usize> {
-    place_of(counts, guess_of(content)?)
-}
-
-#[inline]
-fn place_of(counts: &Counts, guess: Guess) -> Option<usize> {
-    match guess {
-        Guess::Before(place) => Some(usize::from(place)),
-        Guess::After(place) => Some(19 + counts.rows() * 9 + usize::from(place)),
-        Guess::Cell {
-            column,
-            memory,
-            number,
-        } => {
-            let row = row_place(counts, memory, number)?;
-            Some(19 + usize::from(column) * counts.rows() + row)
-        }
+    match below_dms(content)? {
+        [group, number, 0] => Some(place_of(counts, object(*group, *number)?)),
+        _ => None,
     }
 }
 
-/// The place of the column, and that of the row in it, of the cell whose name has these content octets.
-pub(crate) fn cell_place(counts: &Counts, content: &[u8]) -> Option<(usize, usize)> {
-    match guess_of(content)? {
-        Guess::Cell {
-            column,
-            memory,
-            number,
-        } => Some((usize::from(column), row_place(counts, memory, number)?)),
-        Guess::Before(_) | Guess::After(_) => None,
+#[inline]
+fn place_of(counts: &Counts, guess: Guess) -> usize {
+    match guess {
+        Guess::Before(place) => usize::from(place),
+        Guess::After(place) => 19 + counts.rows() * 9 + usize::from(place),
     }
 }
 
 /// The instance whose name has these content octets, where it is an object's, or a cell's of a row of at most 255.
+#[inline(always)]
 pub(crate) fn instance(content: &[u8]) -> Option<Instance>
     ensures { IfSome result (λ i. IsNamed i content.now) }
 {
@@ -223,7 +205,7 @@ pub(crate) fn place_of_next(counts: &Counts, content: &[u8]) -> usize {
             Some(19 + columns * counts.rows() + rows_up_to(counts, row))
         }
         Some([group, number]) => match object(*group, *number) {
-            Some(guess) => place_of(counts, guess),
+            Some(guess) => Some(place_of(counts, guess)),
             None => None,
         },
         Some(_) => None,
@@ -244,27 +226,6 @@ fn below_dms(content: &[u8]) -> Option<&[u8]>
     }
 }
 
-#[inline]
-fn guess_of(content: &[u8]) -> Option<Guess> {
-    match below_dms(content)? {
-        [5, 8, 1, column, memory, number] if *number < 128 => cell(*column, *memory, *number),
-        [5, 8, 1, column, memory, 129, number] if *number < 128 => {
-            cell(*column, *memory, *number + 128)
-        }
-        [group, number, 0] => object(*group, *number),
-        _ => None,
-    }
-}
-
-fn cell(column: u8, memory: u8, number: u8) -> Option<Guess> {
-    let column = column.checked_sub(1)?;
-    Some(Guess::Cell {
-        column,
-        memory,
-        number,
-    })
-}
-
 fn object(group: u8, number: u8) -> Option<Guess> {
     match (group, number) {
         (2, 3..=4) => Some(Guess::Before(number - 3)),
@@ -281,8 +242,10 @@ fn object(group: u8, number: u8) -> Option<Guess> {
 }
 
 /// The place in a column of the row of this type of memory and number.
-fn row_place(counts: &Counts, memory: u8, number: u8) -> Option<usize>
-    ensures { IfSome result (λ row. row < row_total counts.now) }
+#[tactic(auto, unfolding(crate::specs::Places::row_at))]
+pub(crate) fn row_place(counts: &Counts, memory: u8, number: u16) -> Option<usize>
+    ensures within { IfSome result (λ row. row < row_total counts.now) }
+    ensures row { IfSome result (λ row. row_at counts.now row ≡ record { memory = memory; number = number }) }
 {
     let changeable = usize::from(counts.permanent);
     let volatile = changeable + usize::from(counts.changeable);
@@ -295,7 +258,7 @@ fn row_place(counts: &Counts, memory: u8, number: u8) -> Option<usize>
         memory::BLANK => (stored + 1, 255),
         _ => return None,
     };
-    if number <= count {
+    if number <= u16::from(count) {
         Some(before + usize::from(number).checked_sub(1)?)
     } else {
         None
