@@ -1,6 +1,6 @@
 //! Variable bindings: their walk, their reading and their writing (RFC 1157, 4.1.1).
 
-ghost use Rattle.std.specs.Prelude.{◌≡◌, ◌↔◌, ℕ, ◌+◌, ◌^◌, ◌<◌, ◌≤◌, ◌++◌, List, [], ◌∷◌, pos, length, map, Ok, IsOk, IfOk, OnOk, OnErr, IsSome, IfSome, IfNone};
+ghost use Rattle.std.specs.Prelude.{◌≡◌, ◌≢◌, ◌↔◌, ℕ, ◌+◌, ◌^◌, ◌<◌, ◌≤◌, ◌++◌, List, [], ◌∷◌, pos, length, map, Ok, IsOk, IfOk, OnOk, OnErr, IsSome, IfSome, IfNone};
 ghost use Rattle.arrayvec.specs.ArrayVec.{array_vec_len};
 ghost use Rattle.std.specs.List.{flat_map};
 ghost use Rattle.dms_wire.specs.Message.{VarBind};
@@ -68,6 +68,19 @@ impl<'a> Binds<'a> {
         ensures small { IfSome result (λ octets. length octets.now ≤ longest_datagram) }
     {
         shortest_octets(self.content)
+    }
+
+    /// The binding that is left, where it is the only one.
+    pub fn only(&self) -> Option<Bind<'a>>
+        ensures some { IfSome result (λ binding. self.now ≡ var_bind binding ∷ []) }
+        ensures none { IfNone result (length self.now ≢ 1) }
+    {
+        let mut rest = self.again();
+        let first = rest.next()?;
+        match rest.next() {
+            None => Some(first),
+            Some(_) => None,
+        }
     }
 }
 

@@ -1,9 +1,9 @@
 //! The reply to a datagram.
 
-ghost use Rattle.std.specs.Prelude.{◌≡◌, List, [], Some, IsTrue};
+ghost use Rattle.std.specs.Prelude.{◌≡◌, List, [], ◌∷◌, Some, IsTrue};
 ghost use Rattle.dms_wire.specs.ErrorStatus.{error_status_number};
 ghost use Rattle.dms_wire.specs.Message.{VarBind};
-ghost use Rattle.dms_wire.specs.View.{snmp_message};
+ghost use Rattle.dms_wire.specs.View.{snmp_message, var_bind};
 ghost use Rattle.dms_wire.specs.Canonical.{canonical};
 ghost use Rattle.dms_wire.specs.Response.{response_to};
 ghost use Rattle.dms_wire.specs.Written.{octets_of_bindings};
@@ -14,8 +14,10 @@ ghost use Rattle.dms_sign.specs.declared.sign.reply.Receipt.TheVariants.{Dropped
 
 use crate::sign::Sign;
 use dms_codes::Activation;
+use dms_objects::Name;
 use dms_wire::{
-    BindingOctets, ErrorStatus, Kind, Message, Out, heard, write_around, write_response,
+    Bind, BindingOctets, ErrorStatus, Kind, Message, MessageParts, Out, heard, write, write_around,
+    write_response,
 };
 
 /// What came of a datagram.
@@ -41,14 +43,8 @@ impl Sign {
     {
         out.clear();
         match heard(datagram) {
-            None => Receipt::Dropped,
-            Some(message) => {
-                if self.is_heard(&message) {
-                    self.answer(&message, out)
-                } else {
-                    Receipt::Dropped
-                }
-            }
+            Some(message) if self.is_heard(&message) => self.answer(&message, out),
+            _ => Receipt::Dropped,
         }
     }
 
@@ -112,30 +108,68 @@ impl Sign {
         message.community == self.writer.as_slice()
     }
 
-    /// Answers a Get.
+    /// Answers a Get. One binding needs no room for several.
     #[tactic(auto, unfolding(crate::specs::Reply::reply_to))]
     fn answer_get(&self, message: &Message<'_>, out: &mut Out)
         requires { IsRead (snmp_message message.now) }
         ensures { out.new.items ≡ reply_to (snmp_message message.now) (get self.now message.now.binds) }
     {
-        let mut octets = BindingOctets::new();
-        match self.values_of(&message.binds, &mut octets) {
-            Ok(()) => reply(message, &octets, out),
-            Err(index) => repeat(message, ErrorStatus::NoSuchName, index, out),
+        let Some(binding) = message.binds.only() else {
+            let mut octets = BindingOctets::new();
+            return match self.values_of(&message.binds, &mut octets) {
+                Ok(()) => reply(message, &octets, out),
+                Err(index) => repeat(message, ErrorStatus::NoSuchName, index, out),
+            };
+        };
+        match self.value(&binding.name) {
+            Some(value) => {
+                let name = binding.name;
+                reply_one(message, Bind { name, value }, out)
+            }
+            None => repeat(message, ErrorStatus::NoSuchName, 1, out),
         }
     }
 
-    /// Answers a GetNext.
+    /// Answers a GetNext. One binding needs no room for several.
     #[tactic(auto, unfolding(crate::specs::Reply::reply_to))]
     fn answer_next(&self, message: &Message<'_>, out: &mut Out)
         requires { IsRead (snmp_message message.now) }
         ensures { out.new.items ≡ reply_to (snmp_message message.now) (get_next self.now message.now.binds) }
     {
-        let mut octets = BindingOctets::new();
-        match self.values_after(&message.binds, &mut octets) {
-            Ok(()) => reply(message, &octets, out),
-            Err(index) => repeat(message, ErrorStatus::NoSuchName, index, out),
+        let Some(binding) = message.binds.only() else {
+            let mut octets = BindingOctets::new();
+            return match self.values_after(&message.binds, &mut octets) {
+                Ok(()) => reply(message, &octets, out),
+                Err(index) => repeat(message, ErrorStatus::NoSuchName, index, out),
+            };
+        };
+        match self.next(&binding.name) {
+            Some((instance, value)) => {
+                let next = Name::of(instance);
+                let name = next.oid();
+                reply_one(message, Bind { name, value }, out)
+            }
+            None => repeat(message, ErrorStatus::NoSuchName, 1, out),
         }
+    }
+}
+
+/// Writes the reply that has this binding alone, or tooBig where it does not fit a datagram.
+fn reply_one(message: &Message<'_>, binding: Bind<'_>, out: &mut Out)
+    requires { IsRead (snmp_message message.now) }
+    ensures { out.new.items ≡ reply_with (snmp_message message.now) 0 0 (var_bind binding.entry ∷ []) }
+{
+    let parts = MessageParts {
+        community: message.community,
+        kind: Kind::Response,
+        request: message.request,
+        status: 0,
+        index: 0,
+        binds: &[binding],
+    };
+    match write(&parts, out) {
+        Ok(()) => {}
+        Err(_) => refuse_too_big(message, out),
     }
 }
 

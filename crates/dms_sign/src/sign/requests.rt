@@ -65,7 +65,7 @@ impl Sign {
 
     /// The first instance after a name, with what it reads.
     #[tactic(auto, unfolding(crate::specs::Values::value_after))]
-    fn next(&self, name: &Oid<'_>) -> Option<(Instance, Value<'_>)>
+    pub(super) fn next(&self, name: &Oid<'_>) -> Option<(Instance, Value<'_>)>
         ensures { option_map (λ x. bound x.0 (object_value x.1)) result ≡ value_after self.now name.now }
     {
         let instance = self.counts().next(name)?;

@@ -32,8 +32,7 @@ pub(super) struct Refusal {
     pub status: ErrorStatus,
 }
 
-/// What the bindings of a SET that is not refused write: the settings that they leave, whether they write fields of rows, and the
-/// command with its index.
+/// What a SET that is not refused writes: the settings that it leaves, whether it writes fields, and its command with its index.
 #[derive(Clone, Copy)]
 pub(super) struct Judged<'a> {
     pub settings: Settings,
