@@ -31,6 +31,7 @@ asked=" $* "
 crates=("$@")
 [ $# != 0 ] || mapfile -t crates < <(cd "$top/crates" && grep -rlE 'fn [a-z_]*_or_out_of_memory' --include=*.rt . | cut -d/ -f2 | sort -u)
 for crate in "${crates[@]}"; do
+    [ "$crate" != signtool ] || continue
     [ -n "${BUILT:-}" ] || (cd "$top/crates/$crate" && "${RT:-rt}" test > "$folder/log" 2>&1) || { tail -5 "$folder/log"; echo "$crate: its tests fail"; failed=$((failed + 1)); continue; }
     tests=$top/crates/$crate/out/${crate}_tests
     for test in $("$tests" --list | grep -oE '[A-Za-z_:]*_or_out_of_memory'); do

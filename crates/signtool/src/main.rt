@@ -1,14 +1,7 @@
 //! A dynamic message sign's controller on the command line.
 #![tactic(auto)]
 
-pub mod act;
-pub mod command_line;
-mod fields;
-mod item_lines;
-mod names;
-
-use crate::act::act_saying;
-use crate::command_line::asked;
+use dms_tool::{act_saying, asked};
 use std::env::{Env, FillError};
 use std::io;
 use std::process::ExitCode;
@@ -66,6 +59,3 @@ fn word_without_text(rt: &HostRuntime) -> Option<usize> {
 fn words(rt: &HostRuntime) -> io::Result<Vec<String>> {
     Ok(std::env::args(rt)?.collect(rt.alloc())?)
 }
-
-#[cfg(test)]
-mod tests;

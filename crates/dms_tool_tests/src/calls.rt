@@ -1,5 +1,7 @@
-use crate::act::{act, act_saying};
-use crate::command_line::{Call, Drawing, SignWanted, asked};
+//! Calls of the program by their words and their input, each with what it prints.
+
+use dms_tool::act::{act, act_saying};
+use dms_tool::command_line::{Call, Drawing, SignWanted, asked};
 use std::io;
 use std::io::Read;
 use std::test::Fail;

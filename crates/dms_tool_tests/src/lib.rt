@@ -1,0 +1,5 @@
+//! Tests of the program's calls: what each prints, and its exit status.
+#![tactic(auto)]
+
+#[cfg(test)]
+mod calls;
