@@ -256,6 +256,13 @@ fn centre() {
 }
 
 fn main() {
+    let words: Vec<String> = env::args().collect();
+    if let [_, call, name, side, times] = words.as_slice()
+        && call == "--sign"
+    {
+        let times = times.parse().expect("a number");
+        return measure_sign::counted(&fonts(), text_of(8).as_bytes(), name, side == "by-hand", times);
+    }
     measure_replay::scripts(&fonts());
     measure_sign::signs(&fonts(), text_of(8).as_bytes());
     measure_sign::growth(&fonts(), &[1, 2, 4, 8].map(|pieces| text_of(pieces).into_bytes()));

@@ -224,6 +224,25 @@ fn best(measure: &Measure, fonts: &str, rows: (usize, usize, usize)) -> [f64; 2]
     [0, 1].map(|at| (best[at][1] - best[at][0]) / f64::from(times[at]))
 }
 
+/// Hands a measure's script to the proved sign, or to that by hand, so many times: who counts instructions takes those of no times from
+/// those of some. The names of all measures are printed where none has this name.
+pub fn counted(fonts: &str, text: &[u8], name: &str, by_hand: bool, times: u32) {
+    let rows = ROWS[0];
+    let measures = measures(text, false, &mut sign_of(fonts, rows));
+    let Some(measure) = measures.iter().find(|measure| measure.name == name) else {
+        measures.iter().for_each(|measure| println!("{}", measure.name));
+        return;
+    };
+    let (before, script) = (script_of(&measure.before), script_of(&measure.script));
+    let sum = if by_hand {
+        sign_times(sign_of(fonts, rows), &before, &script, times)
+    } else {
+        let (before, before_size, script, script_size) = (before.as_ptr(), before.len(), script.as_ptr(), script.len());
+        unsafe { dms_bench_sign(fonts.as_ptr(), fonts.len(), before, before_size, script, script_size, rows.1 as u32, times) }
+    };
+    println!("{sum}");
+}
+
 /// What is measured at four sizes: of texts, of requests, and of the numbers of rows.
 fn grown(texts: &[Vec<u8>; 4]) -> Vec<Measure> {
     let mut measures = Vec::new();

@@ -38,6 +38,7 @@ fn example(rt: HostRuntime) -> Result<(), Fail> {
     let a = font.glyph(65).ok_or("no glyph")?;
     assert_eq!(rt; (a.width(), a.height()), (3, 5));
     assert!(rt; a.is_lit(1, 0) && !a.is_lit(0, 0));
+    assert_eq!(rt; (a.row(0), a.row(1), a.row(5)), (0b010, 0b101, 0));
     Ok(())
 }
 
