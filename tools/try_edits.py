@@ -1,8 +1,7 @@
 #!/usr/bin/env python3
 """Tries a crate's wrong bodies many at a time: `tools/try_edits.py [CRATE..]` in a clone that may be written to.
 
-Those of must-fail/, which the gate tries one a check, and those of wrong-bodies/, which only this tool tries. Here a check tries
-as many as change functions of their own: an edit is refused where the function that it changes is not proved, and not only
+The gate tries one a check. Here a check tries as many as change functions of their own: an edit is refused where the function that it changes is not proved, and not only
 because it calls another. An edit of a constant or a table, and one whose text another edit touches, has a check of its own. It
 prints what was not refused, and last `N passed, N failed`. With no crate it tries those of all; with --apply it only looks that
 each can be applied, in a second.
@@ -74,8 +73,8 @@ def groups(edits):
 
 
 def edits_of(base):
-    """The edits of a crate: those of the gate, and the others."""
-    return [Edit(base, path) for folder in ("must-fail", "wrong-bodies") for path in sorted((base / folder).glob("*.edit"))]
+    """The edits of a crate."""
+    return [Edit(base, path) for path in sorted((base / "must-fail").glob("*.edit"))]
 
 
 def applicable(base):
