@@ -1,10 +1,10 @@
 #!/usr/bin/env python3
 """Tries a crate's wrong bodies many at a time: `tools/try_edits.py [CRATE..]` in a clone that may be written to.
 
-The gate tries one a check. Here a check tries as many as change functions of their own: an edit is refused where the function that it changes is not proved, and not only
-because it calls another. An edit of a constant or a table, and one whose text another edit touches, has a check of its own. It
-prints what was not refused, and last `N passed, N failed`. With no crate it tries those of all; with --apply it only looks that
-each can be applied, in a second.
+The gate tries one a check. Here a check tries as many as change functions of their own: an edit is refused where the function
+that it changes is not proved, and not only because it calls another. An edit of a constant or a table, and one whose text another
+edit touches, has a check of its own. It prints what was not refused, and last `N passed, N failed`. With no crate it tries those
+of all; with --apply it only looks that each can be applied, in a second.
 """
 
 import pathlib
