@@ -15,144 +15,211 @@ glyph 93 3 e49278
 const SMALL: &[u8] =
     b"# a font of one character\r\n\r\nfont 2 height 5 space 1 line 1 version 0002\r\nglyph 65 3 57da";
 
-fn drawing(alloc: Global, glyph: &Glyph, height: u8) -> Result<String, AllocError> {
+/// A font without characters, with the largest numbers.
+const BARE: &[u8] = b"font 255 height 00032 space 0 line 32 version aBcD";
+
+const MIXED: &[u8] = b"font 1 height 8 space 1 line 1 version 0001
+glyph 300 1 ff
+glyph 7 1 ff
+glyph 255 1 ff
+glyph 256 1 ff
+glyph 1 1 ff
+glyph 65535 1 ff
+";
+
+/// The example of the crate's page.
+#[test]
+fn example(rt: HostRuntime) -> Result<(), Fail> {
+    let font = Font::from_text(
+        rt.alloc(),
+        b"font 2 height 5 space 1 line 1 version 0002\nglyph 65 3 57da",
+    )?;
+    let a = font.glyph(65).ok_or("no glyph")?;
+    assert_eq!(rt;
+        (
+            (a.width(), a.height()),
+            (a.is_lit(1, 0), a.is_lit(0, 0)),
+            (a.row(0), a.row(1), a.row(5))
+        ),
+        ((3, 5), (true, false), (0b010, 0b101, 0))
+    );
+    Ok(())
+}
+
+/// The number of a text's font, its height, its spacings between characters and between lines, its version, and how many characters
+/// it has.
+fn header(alloc: Global, text: &[u8]) -> Result<(u8, u8, u8, u8, u16, usize), FontFault> {
+    let font = Font::from_text(alloc, text)?;
+    Ok((
+        font.number(),
+        font.height(),
+        font.character_spacing(),
+        font.line_spacing(),
+        font.version(),
+        font.glyphs().len(),
+    ))
+}
+
+#[test]
+fn headers(rt: HostRuntime) {
+    for (text, read) in [
+        (TALL, (1, 7, 1, 1, 1, 5)),
+        (SMALL, (2, 5, 1, 1, 2, 1)),
+        (BARE, (255, 32, 0, 32, 0xabcd, 0)),
+        (MIXED, (1, 8, 1, 1, 1, 6)),
+    ] {
+        assert_eq!(rt; header(rt.alloc(), text), Ok(read));
+    }
+}
+
+/// A character and the columns of its picture, where a text's font has it.
+fn found(alloc: Global, text: &[u8], character: u16) -> Result<Option<(u16, u8)>, FontFault> {
+    let font = Font::from_text(alloc, text)?;
+    match font.glyph(character) {
+        Some(glyph) => Ok(Some((glyph.character(), glyph.width()))),
+        None => Ok(None),
+    }
+}
+
+/// A character is found wherever it stands, above 255 too, and none where the font has it not.
+#[test]
+fn characters_are_found(rt: HostRuntime) {
+    for (text, character, width) in [
+        (TALL, 49, Some(2)),
+        (TALL, 65, Some(5)),
+        (TALL, 66, Some(5)),
+        (TALL, 91, Some(3)),
+        (TALL, 93, Some(3)),
+        (TALL, 67, None),
+        (SMALL, 65, Some(3)),
+        (BARE, 65, None),
+        (MIXED, 300, Some(1)),
+        (MIXED, 7, Some(1)),
+        (MIXED, 255, Some(1)),
+        (MIXED, 256, Some(1)),
+        (MIXED, 1, Some(1)),
+        (MIXED, 65535, Some(1)),
+        (MIXED, 0, None),
+        (MIXED, 2, None),
+        (MIXED, 254, None),
+        (MIXED, 257, None),
+        (MIXED, 65534, None),
+    ] {
+        let glyph = match width {
+            Some(width) => Some((character, width)),
+            None => None,
+        };
+        assert_eq!(rt; found(rt.alloc(), text, character), Ok(glyph));
+    }
+}
+
+/// A picture, and a column and a row outside of it.
+fn drawing(alloc: Global, glyph: &Glyph) -> Result<String, AllocError> {
     let mut text = String::new(alloc);
-    for row in 0..height {
-        for column in 0..glyph.width() {
-            let lit = glyph.is_lit(usize::from(column), usize::from(row));
-            text.push(if lit { '9' } else { '.' })?;
+    for row in 0..=usize::from(glyph.height()) {
+        for column in 0..=usize::from(glyph.width()) {
+            text.push(if glyph.is_lit(column, row) { '9' } else { '.' })?;
         }
         text.push('\n')?;
     }
     Ok(text)
 }
 
-/// The example of the crate's page.
-#[test]
-fn example(rt: HostRuntime) -> Result<(), Fail> {
-    let alloc = rt.alloc();
-    let font = Font::from_text(
-        alloc,
-        b"font 2 height 5 space 1 line 1 version 0002\nglyph 65 3 57da",
-    )?;
-    let a = font.glyph(65).ok_or("no glyph")?;
-    assert_eq!(rt; (a.width(), a.height()), (3, 5));
-    assert!(rt; a.is_lit(1, 0) && !a.is_lit(0, 0));
-    assert_eq!(rt; (a.row(0), a.row(1), a.row(5)), (0b010, 0b101, 0));
-    Ok(())
+/// The picture of an A, and a column and a row outside of it, where nothing is lit.
+fn drawn(alloc: Global, text: &[u8]) -> Result<String, Fail> {
+    let font = Font::from_text(alloc, text)?;
+    Ok(drawing(alloc, font.glyph(65).ok_or("no glyph")?)?)
 }
 
 #[test]
-fn fonts_of_a_sign(rt: HostRuntime) -> Result<(), Fail> {
-    let alloc = rt.alloc();
-    let tall = Font::from_text(alloc, TALL)?;
-    assert_eq!(rt; tall.number(), 1);
-    assert_eq!(rt; tall.height(), 7);
-    assert_eq!(rt; tall.character_spacing(), 1);
-    assert_eq!(rt; tall.line_spacing(), 1);
-    assert_eq!(rt; tall.version(), 1);
-    for (character, width) in [(49, 2), (65, 5), (66, 5), (91, 3), (93, 3)] {
-        let glyph = tall.glyph(character).ok_or("no glyph")?;
-        assert_eq!(rt; glyph.character(), character);
-        assert_eq!(rt; glyph.width(), width);
+fn drawings(rt: HostRuntime) -> Result<(), Fail> {
+    for (text, picture) in [
+        (
+            TALL,
+            ".999..\n9...9.\n9...9.\n99999.\n9...9.\n9...9.\n9...9.\n......\n",
+        ),
+        (SMALL, ".9..\n9.9.\n999.\n9.9.\n9.9.\n....\n"),
+    ] {
+        assert_eq!(rt; drawn(rt.alloc(), text)?.as_str(), picture);
     }
-    assert!(rt; tall.glyph(67).is_none());
-    let a = tall.glyph(65).ok_or("no glyph")?;
-    let drawn = drawing(alloc, a, 7)?;
-    assert_eq!(rt;
-        drawn.as_str(),
-        ".999.\n9...9\n9...9\n99999\n9...9\n9...9\n9...9\n"
-    );
-    assert!(rt; !a.is_lit(5, 3));
-    assert!(rt; !a.is_lit(0, 7));
-
-    let small = Font::from_text(alloc, SMALL)?;
-    assert_eq!(rt; small.number(), 2);
-    assert_eq!(rt; small.height(), 5);
-    let a = small.glyph(65).ok_or("no glyph")?;
-    let drawn = drawing(alloc, a, 5)?;
-    assert_eq!(rt; drawn.as_str(), ".9.\n9.9\n999\n9.9\n9.9\n");
-
-    let bare = Font::from_text(alloc, b"font 255 height 00032 space 0 line 32 version aBcD")?;
-    assert_eq!(rt; bare.height(), 32);
-    assert_eq!(rt; bare.line_spacing(), 32);
-    assert_eq!(rt; bare.version(), 0xabcd);
-    assert!(rt; bare.glyph(65).is_none());
     Ok(())
 }
 
-fn fault_of(alloc: Global, text: &[u8]) -> Option<FontFault> {
-    match Font::from_text(alloc, text) {
-        Ok(_) => None,
-        Err(fault) => Some(fault),
-    }
+/// The fault of a text and more after it.
+fn fault_of(alloc: Global, text: &str, more: &str) -> Result<Option<FontFault>, Fail> {
+    let both = format!(in alloc; "{text}{more}")?;
+    Ok(Font::from_text(alloc, both.as_bytes()).err())
 }
+
+/// A font of one character, in two lines.
+const ONE: &str = "font 1 height 7 space 1 line 1 version 0001\nglyph 65 5 7463f8c620\n";
 
 #[test]
 fn faults_of_a_font(rt: HostRuntime) -> Result<(), Fail> {
-    let alloc = rt.alloc();
-    let header = "font 1 height 7 space 1 line 1 version 0001\n";
-    let a = "glyph 65 5 7463f8c620\n";
-    for (text, kind, line) in [
-        ("", FontFaultKind::Header, 1),
-        ("# nothing else\n\n", FontFaultKind::Header, 3),
-        ("glyph 65 5 7463f8c620\n", FontFaultKind::Header, 1),
+    for (text, more, kind, line) in [
+        ("", "", FontFaultKind::Header, 1),
+        ("# nothing else\n\n", "", FontFaultKind::Header, 3),
+        ("glyph 65 5 7463f8c620\n", "", FontFaultKind::Header, 1),
         (
             "\nfont 0 height 7 space 1 line 1 version 0001\n",
+            "",
             FontFaultKind::Header,
             2,
         ),
         (
             "font 1 height 33 space 1 line 1 version 0001\n",
+            "",
             FontFaultKind::Header,
             1,
         ),
         (
             "font 1 height 7 space 33 line 1 version 0001\n",
+            "",
             FontFaultKind::Header,
             1,
         ),
         (
             "font 1 height 7 space 1 line 1 version 001\n",
+            "",
             FontFaultKind::Header,
             1,
         ),
         (
             "font 1 height 7 space 1 line 1 version 0001 \n",
+            "",
             FontFaultKind::Header,
             1,
         ),
         (
             "font 000001 height 7 space 1 line 1 version 0001\n",
+            "",
             FontFaultKind::Header,
             1,
         ),
-    ] {
-        let fault = fault_of(alloc, text.as_bytes());
-        assert_eq!(rt; fault, Some(FontFault { kind, line }), "in {text:?}");
-    }
-    for (more, kind, line) in [
-        ("glyph 65 5\n", FontFaultKind::Glyph, 3),
-        ("glyph 0 5 7463f8c620\n", FontFaultKind::Glyph, 3),
-        ("glyph 65536 5 7463f8c620\n", FontFaultKind::Glyph, 3),
-        ("#\n\nglyph 66 33 00\n", FontFaultKind::Glyph, 5),
-        ("glyph 66 5  7463f8c620\n", FontFaultKind::Glyph, 3),
-        ("glyph 66 5 \n", FontFaultKind::Glyph, 3),
+        (ONE, "glyph 65 5\n", FontFaultKind::Glyph, 3),
+        (ONE, "glyph 0 5 7463f8c620\n", FontFaultKind::Glyph, 3),
+        (ONE, "glyph 65536 5 7463f8c620\n", FontFaultKind::Glyph, 3),
+        (ONE, "#\n\nglyph 66 33 00\n", FontFaultKind::Glyph, 5),
+        (ONE, "glyph 66 5  7463f8c620\n", FontFaultKind::Glyph, 3),
+        (ONE, "glyph 66 5 \n", FontFaultKind::Glyph, 3),
         (
+            ONE,
             "font 2 height 7 space 1 line 1 version 0001\n",
             FontFaultKind::Glyph,
             3,
         ),
-        ("glyph 66 5 7463f8c6\n", FontFaultKind::Bitmap, 3),
-        ("glyph 66 5 7463f8c62000\n", FontFaultKind::Bitmap, 3),
-        ("glyph 66 5 7463f8c62g\n", FontFaultKind::Bitmap, 3),
-        ("glyph 66 5 -", FontFaultKind::Bitmap, 3),
-        ("glyph 65 2 7554\n", FontFaultKind::Twice, 3),
-        ("glyph 65 5 00\n", FontFaultKind::Bitmap, 3),
+        (ONE, "glyph 66 5 7463f8c6\n", FontFaultKind::Bitmap, 3),
+        (ONE, "glyph 66 5 7463f8c62000\n", FontFaultKind::Bitmap, 3),
+        (ONE, "glyph 66 5 7463f8c62g\n", FontFaultKind::Bitmap, 3),
+        (ONE, "glyph 66 5 -", FontFaultKind::Bitmap, 3),
+        (ONE, "glyph 65 2 7554\n", FontFaultKind::Twice, 3),
+        (ONE, "glyph 65 5 00\n", FontFaultKind::Bitmap, 3),
     ] {
-        let text = format!(in alloc; "{header}{a}{more}")?;
-        let fault = fault_of(alloc, text.as_bytes());
-        assert_eq!(rt; fault, Some(FontFault { kind, line }), "after {more:?}");
+        assert_eq!(rt;
+            fault_of(rt.alloc(), text, more)?,
+            Some(FontFault { kind, line }),
+            "in {text:?}, {more:?}"
+        );
     }
     Ok(())
 }
@@ -168,108 +235,99 @@ fn font_or_out_of_memory(rt: HostRuntime) {
     for _ in 0..2 {
         match Font::from_text(rt.alloc(), TALL) {
             Ok(font) => {
+                let lit = match font.glyph(66) {
+                    Some(glyph) => glyph.is_lit(0, 0),
+                    None => false,
+                };
                 assert_eq!(rt;
-                    (font.number(), font.height(), font.glyphs().len()),
-                    (1, 7, 5)
+                    (font.number(), font.height(), font.glyphs().len(), lit),
+                    (1, 7, 5, true)
                 );
-                assert!(rt; font.glyph(66).is_some_and(|glyph| glyph.is_lit(0, 0)));
             }
             Err(fault) => {
-                assert_eq!(rt; fault, out_of_memory);
-                assert!(rt; !refused);
+                assert_eq!(rt; (fault, refused), (out_of_memory, false));
                 refused = true;
             }
         }
     }
 }
 
-/// The same of a character that is added: where its memory is refused, the font is as it was.
+/// The fault of the first try to add a character, and how many characters the font has after it and in the end.
+type Grown = (Option<FontFaultKind>, usize, usize);
+
+/// Adds a character, anew where that was refused.
+fn grown(font: &mut Font, alloc: Global, character: &[u8]) -> Result<Grown, FontFaultKind> {
+    let fault = font.add_glyph(alloc, character).err();
+    let count = font.glyphs().len();
+    if fault.is_some() {
+        font.add_glyph(alloc, character)?;
+    }
+    Ok((fault, count, font.glyphs().len()))
+}
+
+/// Adds two characters to a font that has none, where both are found then.
+fn grown_twice(alloc: Global) -> Option<[Grown; 2]> {
+    let mut font = Font::from_header(alloc, b"font 2 height 5 space 1 line 1 version 0002")?;
+    let first = grown(&mut font, alloc, b"glyph 65 3 57da").ok()?;
+    let second = grown(&mut font, alloc, b"glyph 66 3 57da").ok()?;
+    if font.glyph(65).is_some() && font.glyph(66).is_some() {
+        Some([first, second])
+    } else {
+        None
+    }
+}
+
+/// The same of a character that is added: where its memory is refused, which is once at most, the font is as it was.
 #[test]
 fn character_or_out_of_memory(rt: HostRuntime) {
-    let Some(mut font) = Font::from_header(
-        rt.alloc(),
-        b"font 2 height 5 space 1 line 1 version 0002",
-    ) else {
-        assert!(rt; false);
-        return;
-    };
-    let mut refused = false;
-    for character in ["glyph 65 3 57da", "glyph 66 3 57da"] {
-        let before = font.glyphs().len();
-        match font.add_glyph(rt.alloc(), character.as_bytes()) {
-            Ok(()) => assert_eq!(rt; font.glyphs().len(), before + 1),
-            Err(kind) => {
-                assert_eq!(rt; kind, FontFaultKind::Memory);
-                assert_eq!(rt; font.glyphs().len(), before);
-                assert_eq!(rt; font.add_glyph(rt.alloc(), character.as_bytes()), Ok(()));
-                assert!(rt; !refused);
-                refused = true;
-            }
-        }
-    }
-    assert_eq!(rt; font.glyphs().len(), 2);
-    assert!(rt; font.glyph(65).is_some() && font.glyph(66).is_some());
+    let refused = Some(FontFaultKind::Memory);
+    let found = grown_twice(rt.alloc());
+    assert!(rt;
+        found == Some([(None, 1, 1), (None, 2, 2)])
+            || found == Some([(refused, 0, 1), (None, 2, 2)])
+            || found == Some([(None, 1, 1), (refused, 1, 2)]),
+        "{found:?}"
+    );
 }
 
-/// A character is found wherever it stands, above 255 too, and none where the font has it not.
-#[test]
-fn characters_are_found(rt: HostRuntime) -> Result<(), Fail> {
-    let alloc = rt.alloc();
+/// The fault of a font of all characters from 1 to before one, and of more after them.
+fn fault_of_many(alloc: Global, past: u16, more: &str) -> Result<Option<FontFault>, Fail> {
     let mut text = String::from_str(alloc, "font 1 height 8 space 1 line 1 version 0001\n")?;
-    for character in [300, 7, 255, 256, 1, 65535] {
-        let line = format!(in alloc; "glyph {character} 1 ff\n")?;
-        text.push_str(line.as_str())?;
+    for character in 1..past {
+        write!(text, "glyph {character} 1 ff\n")?;
     }
-    let font = Font::from_text(alloc, text.as_bytes())?;
-    assert_eq!(rt; font.glyphs().len(), 6);
-    for character in [300, 7, 255, 256, 1, 65535] {
-        let glyph = font.glyph(character).ok_or("no glyph")?;
-        assert_eq!(rt; glyph.character(), character);
-    }
-    for character in [0, 2, 254, 257, 65534] {
-        assert!(rt; font.glyph(character).is_none());
-    }
-    Ok(())
+    fault_of(alloc, text.as_str(), more)
 }
 
+/// A font has 255 characters at most.
 #[test]
 fn most_characters(rt: HostRuntime) -> Result<(), Fail> {
-    let alloc = rt.alloc();
-    let mut text = String::from_str(alloc, "font 1 height 8 space 1 line 1 version 0001\n")?;
-    for character in 1..256 {
-        let line = format!(in alloc; "glyph {character} 1 ff\n")?;
-        text.push_str(line.as_str())?;
-    }
-    assert_eq!(rt; fault_of(alloc, text.as_bytes()), None);
-    text.push_str("glyph 1 1 ff")?;
-    let twice = FontFault {
+    let twice = Some(FontFault {
         kind: FontFaultKind::Twice,
         line: 257,
-    };
-    assert_eq!(rt; fault_of(alloc, text.as_bytes()), Some(twice));
-    text.push_str("\nglyph 256 1 ff")?;
-    assert_eq!(rt; fault_of(alloc, text.as_bytes()), Some(twice));
-    Ok(())
-}
-
-#[test]
-fn one_character_too_many(rt: HostRuntime) -> Result<(), Fail> {
-    let alloc = rt.alloc();
-    let mut text = String::from_str(alloc, "font 1 height 8 space 1 line 1 version 0001\n")?;
-    for character in 1..257 {
-        let line = format!(in alloc; "glyph {character} 1 ff\n")?;
-        text.push_str(line.as_str())?;
-    }
-    let many = FontFault {
+    });
+    let many = Some(FontFault {
         kind: FontFaultKind::TooMany,
         line: 257,
-    };
-    assert_eq!(rt; fault_of(alloc, text.as_bytes()), Some(many));
+    });
+    for (past, more, fault) in [
+        (256, "", None),
+        (256, "glyph 1 1 ff", twice),
+        (256, "glyph 1 1 ff\nglyph 256 1 ff", twice),
+        (257, "", many),
+    ] {
+        assert_eq!(rt; fault_of_many(rt.alloc(), past, more)?, fault);
+    }
     Ok(())
 }
 
 #[test]
 fn fault_numbers(rt: HostRuntime) {
-    assert_eq!(rt; FontFaultKind::Header.number(), 1);
-    assert_eq!(rt; FontFaultKind::Memory.number(), 6);
+    assert_eq!(rt;
+        (
+            FontFaultKind::Header.number(),
+            FontFaultKind::Memory.number()
+        ),
+        (1, 6)
+    );
 }

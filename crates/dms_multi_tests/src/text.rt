@@ -1,6 +1,7 @@
 //! Lines, words and what they spell, by their values.
 
 use dms_text::{Lines, Words, number, octets, version};
+use std::alloc::{AllocError, Global};
 use std::test::Fail;
 
 /// The address that a word spells: four numbers up to 255, with a dot between two.
@@ -16,23 +17,25 @@ fn address(word: &[u8]) -> Option<[u8; 4]> {
     }
 }
 
+/// The number of the next line, its address and its seconds, and whether its words end there.
+fn sending(lines: &mut Lines<'_>) -> Option<(usize, [u8; 4], u64, bool)> {
+    let line = lines.next_line()?;
+    let words = Words::of(line.octets).keyword(b"send")?;
+    let (word, words) = words.next_word()?;
+    let (seconds, words) = words.decimal(5, 1, 60)?;
+    Some((line.number, address(word)?, seconds, words.is_empty()))
+}
+
 #[test]
-fn lines_and_their_words(rt: HostRuntime) -> Result<(), Fail> {
+fn lines_and_their_words(rt: HostRuntime) {
     let mut lines = Lines::of(b"# skipped\n\nsend 192.0.2.1 30\r\nstop");
-    let line = lines.next_line().ok_or("no line")?;
-    assert_eq!(rt; line.number, 3);
-    let words = Words::of(line.octets).keyword(b"send").ok_or("no send")?;
-    let (word, words) = words.next_word().ok_or("no address")?;
-    assert_eq!(rt; address(word), Some([192, 0, 2, 1]));
-    let (seconds, words) = words.decimal(5, 1, 60).ok_or("no seconds")?;
-    assert_eq!(rt; seconds, 30);
-    assert!(rt; words.is_empty());
-    let line = lines.next_line().ok_or("no line")?;
-    assert!(rt; line.octets == b"stop".as_slice());
-    assert_eq!(rt; line.number, 4);
-    assert!(rt; lines.next_line().is_none());
-    assert_eq!(rt; lines.number(), 5);
-    Ok(())
+    assert_eq!(rt; sending(&mut lines), Some((3, [192, 0, 2, 1], 30, true)));
+    let stop = match lines.next_line() {
+        Some(line) => Some((line.number, line.octets == b"stop".as_slice())),
+        None => None,
+    };
+    assert_eq!(rt; stop, Some((4, true)));
+    assert_eq!(rt; (lines.next_line().is_none(), lines.number()), (true, 5));
 }
 
 #[test]
@@ -51,25 +54,37 @@ fn addresses(rt: HostRuntime) {
 }
 
 #[test]
-fn words_of_numbers_and_octets(rt: HostRuntime) -> Result<(), Fail> {
-    assert_eq!(rt; number(b"0fF", 16, 3), Some(255));
-    assert_eq!(rt;
-        number(b"999999999999999", 10, 15),
-        Some(999_999_999_999_999)
-    );
-    assert_eq!(rt; number(b"0255", 10, 3), None);
-    assert_eq!(rt; number(b"", 10, 3), None);
-    assert_eq!(rt; version(b"aBcD"), Some(0xabcd));
-    assert_eq!(rt; version(b"abc"), None);
-    let read = octets(rt.alloc(), b"00ffA0")?.ok_or("no octets")?;
-    assert!(rt; read.as_slice() == [0, 255, 160].as_slice());
-    let none = octets(rt.alloc(), b"-")?.ok_or("no octets")?;
-    assert!(rt; none.is_empty());
-    for word in ["", "0", "0g", "--"] {
-        assert!(rt;
-            octets(rt.alloc(), word.as_bytes())?.is_none(),
-            "of {word:?}"
-        );
+fn words_of_numbers(rt: HostRuntime) {
+    for (word, base, most, value) in [
+        ("0fF", 16, 3, Some(255)),
+        ("999999999999999", 10, 15, Some(999_999_999_999_999)),
+        ("0255", 10, 3, None),
+        ("", 10, 3, None),
+    ] {
+        assert_eq!(rt; number(word.as_bytes(), base, most), value);
+    }
+    assert_eq!(rt; (version(b"aBcD"), version(b"abc")), (Some(0xabcd), None));
+}
+
+/// Whether the word spells these octets, or none where there are none.
+fn spells(alloc: Global, word: &str, wanted: Option<&[u8]>) -> Result<bool, AllocError> {
+    Ok(match (octets(alloc, word.as_bytes())?, wanted) {
+        (Some(read), Some(wanted)) => read.as_slice() == wanted,
+        (read, wanted) => read.is_none() && wanted.is_none(),
+    })
+}
+
+#[test]
+fn words_of_octets(rt: HostRuntime) -> Result<(), Fail> {
+    for (word, wanted) in [
+        ("00ffA0", Some([0, 255, 160].as_slice())),
+        ("-", Some([].as_slice())),
+        ("", None),
+        ("0", None),
+        ("0g", None),
+        ("--", None),
+    ] {
+        assert!(rt; spells(rt.alloc(), word, wanted)?, "of {word:?}");
     }
     Ok(())
 }
