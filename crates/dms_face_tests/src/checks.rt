@@ -1,42 +1,14 @@
 //! Texts by their answers on a sign of 23 by 14 with two fonts, and a long text on the largest matrix.
 
-use dms_face::{Defaults, Face, Font, MultiFault, MultiFaultCode, check, check_with};
+use crate::bench::{DEFAULTS, SMALL, TALL, bench, defaults_of, fonts_of};
+use dms_face::{Face, MultiFault, MultiFaultCode, check, check_with};
 use std::alloc::{AllocError, Global};
 use std::test::Fail;
 
-const TALL: &[u8] = b"font 1 height 7 space 1 line 1 version 0001
-glyph 49 2 7554
-glyph 65 5 7463f8c620
-glyph 66 5 f463e8c7c0
-glyph 91 3 f24938
-glyph 93 3 e49278
-";
-
-const SMALL: &[u8] = b"font 2 height 5 space 1 line 1 version 0002
-glyph 65 3 57da
-";
-
-const DEFAULTS: Defaults = Defaults {
-    background: 0,
-    foreground: 9,
-    flash_on: 5,
-    flash_off: 5,
-    font: 1,
-    line: 3,
-    page: 2,
-    on: 30,
-    off: 0,
-};
-
-fn bench(alloc: Global) -> Result<Face, Fail> {
-    let mut fonts = Vec::new(alloc);
-    fonts.push(Font::from_text(alloc, TALL)?)?;
-    fonts.push(Font::from_text(alloc, SMALL)?)?;
-    Ok(Face::new(23, 14, fonts, DEFAULTS)?)
-}
-
 /// The number of pages, or the code's number and the place.
-fn answer(given: Result<usize, MultiFault>) -> Result<usize, (u8, usize)> {
+type Answer = Result<usize, (u8, usize)>;
+
+fn answer(given: Result<usize, MultiFault>) -> Answer {
     match given {
         Ok(pages) => Ok(pages),
         Err(fault) => Err((fault.code.number(), fault.place)),
@@ -78,18 +50,21 @@ fn texts_on_the_bench_sign(rt: HostRuntime) -> Result<(), Fail> {
     Ok(())
 }
 
+/// The answer under these defaults, where they fit.
+fn answer_with(face: &Face, defaults: [u8; 9], text: &str) -> Option<Answer> {
+    let defaults = defaults_of(defaults);
+    if defaults.fits(face) {
+        Some(answer(check_with(face, &defaults, text.as_bytes())))
+    } else {
+        None
+    }
+}
+
 #[test]
 fn other_defaults(rt: HostRuntime) -> Result<(), Fail> {
     let face = bench(rt.alloc())?;
-    let small = Defaults {
-        font: 2,
-        ..DEFAULTS
-    };
-    let right = Defaults {
-        line: 4,
-        page: 4,
-        ..DEFAULTS
-    };
+    let small = [0, 9, 5, 5, 2, 3, 2, 30, 0];
+    let right = [0, 9, 5, 5, 1, 4, 4, 30, 0];
     for (defaults, text, expected) in [
         (small, "[nl]A", Ok(1)),
         (small, "B", Err((7, 0))),
@@ -98,89 +73,33 @@ fn other_defaults(rt: HostRuntime) -> Result<(), Fail> {
         (right, "A[jl3]A", Err((11, 1))),
         (right, "A[jp3]A", Err((11, 1))),
     ] {
-        assert!(rt; defaults.fits(&face));
-        assert_eq!(rt;
-            answer(check_with(&face, &defaults, text.as_bytes())),
-            expected
-        );
+        assert_eq!(rt; answer_with(&face, defaults, text), Some(expected));
     }
     Ok(())
 }
 
+/// One of the defaults is another: a text's answers under the sign's own and under these.
 #[test]
 fn each_default(rt: HostRuntime) -> Result<(), Fail> {
     let face = bench(rt.alloc())?;
     for (defaults, text, own, expected) in [
-        (
-            Defaults {
-                background: 1,
-                ..DEFAULTS
-            },
-            "[cb]A",
-            Ok(1),
-            Ok(1),
-        ),
-        (
-            Defaults {
-                foreground: 4,
-                ..DEFAULTS
-            },
-            "[cf]A",
-            Ok(1),
-            Ok(1),
-        ),
-        (
-            Defaults {
-                flash_on: 7,
-                ..DEFAULTS
-            },
-            "[fl]A",
-            Ok(1),
-            Ok(1),
-        ),
-        (
-            Defaults {
-                flash_off: 8,
-                ..DEFAULTS
-            },
-            "[fl]A",
-            Ok(1),
-            Ok(1),
-        ),
-        (
-            Defaults {
-                font: 2,
-                ..DEFAULTS
-            },
-            "[nl]A",
-            Err((5u8, 4usize)),
-            Ok(1),
-        ),
-        (
-            Defaults {
-                line: 4,
-                ..DEFAULTS
-            },
-            "A[jl3]A",
-            Ok(1),
-            Err((11, 1)),
-        ),
-        (
-            Defaults {
-                page: 4,
-                ..DEFAULTS
-            },
-            "A[jp2]A",
-            Ok(1),
-            Err((11, 1)),
-        ),
-        (Defaults { on: 40, ..DEFAULTS }, "[pt]A", Ok(1), Ok(1)),
-        (Defaults { off: 2, ..DEFAULTS }, "[pt]A", Ok(1), Ok(1)),
+        ([1, 9, 5, 5, 1, 3, 2, 30, 0], "[cb]A", Ok(1), Ok(1)),
+        ([0, 4, 5, 5, 1, 3, 2, 30, 0], "[cf]A", Ok(1), Ok(1)),
+        ([0, 9, 7, 5, 1, 3, 2, 30, 0], "[fl]A", Ok(1), Ok(1)),
+        ([0, 9, 5, 8, 1, 3, 2, 30, 0], "[fl]A", Ok(1), Ok(1)),
+        ([0, 9, 5, 5, 2, 3, 2, 30, 0], "[nl]A", Err((5, 4)), Ok(1)),
+        ([0, 9, 5, 5, 1, 4, 2, 30, 0], "A[jl3]A", Ok(1), Err((11, 1))),
+        ([0, 9, 5, 5, 1, 3, 4, 30, 0], "A[jp2]A", Ok(1), Err((11, 1))),
+        ([0, 9, 5, 5, 1, 3, 2, 40, 0], "[pt]A", Ok(1), Ok(1)),
+        ([0, 9, 5, 5, 1, 3, 2, 30, 2], "[pt]A", Ok(1), Ok(1)),
     ] {
-        let text = text.as_bytes();
-        assert!(rt; defaults.fits(&face));
-        assert_eq!(rt; answer(check(&face, text)), own);
-        assert_eq!(rt; answer(check_with(&face, &defaults, text)), expected);
+        assert_eq!(rt;
+            (
+                answer(check(&face, text.as_bytes())),
+                answer_with(&face, defaults, text)
+            ),
+            (own, Some(expected))
+        );
     }
     Ok(())
 }
@@ -214,18 +133,18 @@ fn long_text(alloc: Global, more: usize) -> Result<Vec<u8>, AllocError> {
     Ok(text)
 }
 
+/// How many octets the long text with so many more characters has, and the answer to it.
+fn answer_of_long(alloc: Global, more: usize) -> Result<(usize, Answer), Fail> {
+    let fonts = fonts_of(alloc, &[TALL, SMALL, NARROW, WIDE])?;
+    let face = Face::new(256, 64, fonts, DEFAULTS)?;
+    let text = long_text(alloc, more)?;
+    Ok((text.len(), answer(check(&face, text.as_slice()))))
+}
+
 #[test]
 fn long_texts(rt: HostRuntime) -> Result<(), Fail> {
-    let alloc = rt.alloc();
-    let mut fonts = Vec::new(alloc);
-    for text in [TALL, SMALL, NARROW, WIDE] {
-        fonts.push(Font::from_text(alloc, text)?)?;
-    }
-    let face = Face::new(256, 64, fonts, DEFAULTS)?;
     for (more, octets, expected) in [(6, 512, Ok(2)), (7, 513, Err((5, 512)))] {
-        let text = long_text(alloc, more)?;
-        assert_eq!(rt; text.len(), octets);
-        assert_eq!(rt; answer(check(&face, text.as_slice())), expected);
+        assert_eq!(rt; answer_of_long(rt.alloc(), more)?, (octets, expected));
     }
     Ok(())
 }
