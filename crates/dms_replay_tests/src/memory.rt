@@ -4,7 +4,7 @@ use dms_description::{BENCH, Setup};
 use dms_replay::fault::ReplayFault;
 use dms_replay::replaying::{bench, described, replay};
 use dms_streams::{Gathered, Sink};
-use std::test::Fail;
+use std::alloc::Global;
 
 const SCRIPT: &str = "bench
 publish 3 1 41 - 0 0 200 65535 255 192.0.2.1
@@ -23,50 +23,62 @@ accepted 16 ffffff0300019a66c0000201
 ledger 7 ffffff0300019a66c0000201 accepted
 ";
 
+/// How the script is replayed: its answer, how often the writer failed, and whether the report was written, and nothing.
+fn replayed(alloc: Global) -> (Result<(), ReplayFault>, u64, bool, bool) {
+    let mut reader = SCRIPT.as_bytes();
+    let mut writer = Gathered::new(alloc);
+    let found = replay(alloc, &mut reader, &mut writer);
+    (
+        found,
+        writer.failures(),
+        writer.bytes() == REPORT.as_bytes(),
+        writer.bytes().is_empty(),
+    )
+}
+
 /// Out of memory leaves nothing written, also where it is the writer's own, which then has failed once. The same script is then replayed
 /// to its report.
 #[test]
 fn report_or_out_of_memory(rt: HostRuntime) {
-    let mut refused = false;
-    for _ in 0..2 {
-        let mut reader = SCRIPT.as_bytes();
-        let mut writer = Gathered::new(rt.alloc());
-        let found = replay(rt.alloc(), &mut reader, &mut writer);
+    for refused in [false, true] {
+        let (found, failures, whole, empty) = replayed(rt.alloc());
         if found == Ok(()) {
-            assert!(rt; writer.bytes() == REPORT.as_bytes());
+            assert!(rt; whole);
             return;
         }
-        let failures = u64::from(found == Err(ReplayFault::Write));
-        assert!(rt; failures == 1 || found == Err(ReplayFault::Memory));
-        assert_eq!(rt; writer.failures(), failures);
-        assert!(rt; writer.bytes().is_empty() && !refused);
-        refused = true;
+        let wanted = if found == Err(ReplayFault::Write) {
+            (found, 1, true, false)
+        } else {
+            (Err(ReplayFault::Memory), 0, true, false)
+        };
+        assert_eq!(rt; (found, failures, empty, refused), wanted);
     }
 }
 
-fn check_bench_sign(setup: &Setup) -> Result<(), Fail> {
-    if setup.first == 1 && setup.sign.face().fonts().len() == 2 {
-        Ok(())
-    } else {
-        Err("another sign".into())
-    }
+/// Whether the answer is the bench sign.
+fn is_bench_sign(answer: Result<Setup, ReplayFault>) -> Result<bool, ReplayFault> {
+    let setup = answer?;
+    Ok(setup.first == 1 && setup.sign.face().fonts().len() == 2)
+}
+
+fn read_bench(alloc: Global) -> Result<bool, ReplayFault> {
+    is_bench_sign(described(alloc, &mut BENCH.as_bytes()))
+}
+
+fn made_bench(alloc: Global) -> Result<bool, ReplayFault> {
+    is_bench_sign(bench(alloc))
 }
 
 /// The sign of a description, and the bench sign, are there or out of memory is answered; the same call then answers the sign.
 #[test]
-fn sign_or_out_of_memory(rt: HostRuntime) -> Result<(), Fail> {
-    let mut reader = BENCH.as_bytes();
-    let read = match described(rt.alloc(), &mut reader) {
-        Err(ReplayFault::Memory) => {
-            let mut reader = BENCH.as_bytes();
-            described(rt.alloc(), &mut reader)
-        }
-        answer => answer,
-    };
-    check_bench_sign(&read?)?;
-    let made = match bench(rt.alloc()) {
-        Err(ReplayFault::Memory) => bench(rt.alloc()),
-        answer => answer,
-    };
-    check_bench_sign(&made?)
+fn sign_or_out_of_memory(rt: HostRuntime) {
+    let mut read = read_bench(rt.alloc());
+    if read == Err(ReplayFault::Memory) {
+        read = read_bench(rt.alloc());
+    }
+    let mut made = made_bench(rt.alloc());
+    if made == Err(ReplayFault::Memory) {
+        made = made_bench(rt.alloc());
+    }
+    assert_eq!(rt; (read, made), (Ok(true), Ok(true)));
 }

@@ -3,7 +3,7 @@
 use dms_description::BENCH;
 use dms_replay::replaying::replay;
 use dms_streams::Gathered;
-use std::alloc::Global;
+use std::alloc::{AllocError, Global};
 use std::test::Fail;
 
 /// A part of a script.
@@ -99,9 +99,16 @@ fn put_letter(script: &mut String, memory: u8, minutes: u16) -> Result<(), Fail>
     put_both(script, 6, 6)
 }
 
-fn put_times(script: &mut String, count: u32, text: &str) -> Result<(), Fail> {
+fn put_times(script: &mut String, count: u32, text: &str) -> Result<(), AllocError> {
     for _ in 0..count {
         script.push_str(text)?;
+    }
+    Ok(())
+}
+
+fn put_lines(script: &mut String, count: u32, lines: &str) -> Result<(), Fail> {
+    for _ in 0..count {
+        writeln!(script, "{lines}")?;
     }
     Ok(())
 }
@@ -115,23 +122,31 @@ fn put_long(script: &mut String, text: u32, owner: u32) -> Result<(), Fail> {
     Ok(())
 }
 
+fn put_part(script: &mut String, part: Part) -> Result<(), Fail> {
+    match part {
+        Part::Sign(first, order) => put_sign(script, first, order),
+        Part::Lines(lines) => put_lines(script, 1, lines),
+        Part::Times(count, line) => put_lines(script, count, line),
+        Part::Both(first, last) => put_both(script, first, last),
+        Part::Letter(memory, minutes) => put_letter(script, memory, minutes),
+        Part::Long(text, owner) => put_long(script, text, owner),
+    }
+}
+
 fn script_of(alloc: Global, parts: &[Part]) -> Result<String, Fail> {
     let mut script = String::new(alloc);
     for part in parts {
-        match *part {
-            Part::Sign(first, order) => put_sign(&mut script, first, order)?,
-            Part::Lines(lines) => writeln!(script, "{lines}")?,
-            Part::Times(count, line) => {
-                for _ in 0..count {
-                    writeln!(script, "{line}")?;
-                }
-            }
-            Part::Both(first, last) => put_both(&mut script, first, last)?,
-            Part::Letter(memory, minutes) => put_letter(&mut script, memory, minutes)?,
-            Part::Long(text, owner) => put_long(&mut script, text, owner)?,
-        }
+        put_part(&mut script, *part)?;
     }
     Ok(script)
+}
+
+/// The report of the script of these parts.
+fn report_of(alloc: Global, parts: &[Part]) -> Result<Gathered, Fail> {
+    let script = script_of(alloc, parts)?;
+    let mut writer = Gathered::new(alloc);
+    replay(alloc, &mut script.as_bytes(), &mut writer)?;
+    Ok(writer)
 }
 
 /// Messages that are published, activated and refused.
@@ -712,12 +727,8 @@ fn reports(rt: HostRuntime) -> Result<(), Fail> {
         DEFAULTS.as_slice(),
     ] {
         for (parts, report) in cases {
-            let script = script_of(rt.alloc(), parts)?;
-            let mut reader = script.as_bytes();
-            let mut writer = Gathered::new(rt.alloc());
-            replay(rt.alloc(), &mut reader, &mut writer)?;
-            let found = str::from_utf8(writer.bytes()).map_err(|_| "no text")?;
-            assert_eq!(rt; found, *report, "of {script}");
+            let found = report_of(rt.alloc(), parts)?;
+            assert_eq!(rt; str::from_utf8(found.bytes()), Ok(*report), "of {parts:?}");
         }
     }
     Ok(())

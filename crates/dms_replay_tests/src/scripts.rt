@@ -7,6 +7,7 @@ use dms_replay::fields::address;
 use dms_replay::replaying::{bench, replay};
 use dms_replay::script_event::ScriptEvent;
 use dms_streams::Gathered;
+use std::alloc::{AllocError, Global};
 use std::test::Fail;
 
 /// Lines that spell no event, each wrong in one word.
@@ -78,26 +79,42 @@ forge-centre 00 00
 bench
 end";
 
+/// Whether a line spells an event.
+fn spells(alloc: Global, order: Order, line: &str) -> Result<bool, AllocError> {
+    Ok(event(alloc, order, line.as_bytes())?.is_some())
+}
+
+/// The fault of a script, and whether nothing was written of it.
+fn fault_of(alloc: Global, script: &str) -> (Option<ReplayFault>, bool) {
+    let mut reader = script.as_bytes();
+    let mut writer = Gathered::new(alloc);
+    let fault = replay(alloc, &mut reader, &mut writer).err();
+    (fault, writer.bytes().is_empty())
+}
+
+/// The same of a script whose fifth line this is.
+fn fault_of_fifth(alloc: Global, line: &str) -> Result<(Option<ReplayFault>, bool), AllocError> {
+    let mut script = String::new(alloc);
+    script.push_str("# the fifth line\nbench\n\nsign-tick\n")?;
+    script.push_str(line)?;
+    script.push_str("\nsign-tock\n")?;
+    Ok(fault_of(alloc, script.as_str()))
+}
+
 /// None of them spells an event, and a script names the line where it stands.
 #[test]
 fn lines_that_spell_no_event(rt: HostRuntime) -> Result<(), Fail> {
     for line in NO_EVENTS.lines() {
-        let found = event(rt.alloc(), Order::High, line.as_bytes())?;
-        assert!(rt; found.is_none(), "of {line:?}");
-        let mut script = String::new(rt.alloc());
-        writeln!(
-            script,
-            "# the fifth line\nbench\n\nsign-tick\n{line}\nsign-tock"
-        )?;
-        let mut reader = script.as_bytes();
-        let mut writer = Gathered::new(rt.alloc());
-        let fault = replay(rt.alloc(), &mut reader, &mut writer).err();
-        assert_eq!(rt; fault, Some(ReplayFault::Line(5)), "of {line:?}");
-        assert!(rt; writer.bytes().is_empty());
+        let spelt = spells(rt.alloc(), Order::High, line)?;
+        let found = fault_of_fifth(rt.alloc(), line)?;
+        assert_eq!(rt;
+            (spelt, found),
+            (false, (Some(ReplayFault::Line(5)), true)),
+            "of {line:?}"
+        );
     }
     for line in ["", "sign-tick ", " sign-tick", "sign-tick\n", "sign-tick\r"] {
-        let found = event(rt.alloc(), Order::High, line.as_bytes())?;
-        assert!(rt; found.is_none(), "of {line:?}");
+        assert!(rt; !spells(rt.alloc(), Order::High, line)?, "of {line:?}");
     }
     Ok(())
 }
@@ -120,33 +137,34 @@ fn lines_that_spell_events(rt: HostRuntime) -> Result<(), Fail> {
         "forge-sign -",
         "forge-centre 00Ff",
     ] {
-        let found = event(rt.alloc(), Order::Swapped, line.as_bytes())?;
-        assert!(rt; found.is_some(), "of {line:?}");
+        assert!(rt; spells(rt.alloc(), Order::Swapped, line)?, "of {line:?}");
     }
     Ok(())
+}
+
+fn code_of(alloc: Global, order: Order, line: &[u8]) -> Result<Option<Activation>, AllocError> {
+    match event(alloc, order, line)? {
+        Some(ScriptEvent::Activate(code)) => Ok(Some(code)),
+        _ => Ok(None),
+    }
 }
 
 /// A code's checksum is in the order that is asked for.
 #[test]
 fn codes_in_both_orders(rt: HostRuntime) -> Result<(), Fail> {
-    let line = b"activate 01020304050607080a0b0c0d";
     for (order, crc) in [(Order::High, 0x0708), (Order::Swapped, 0x0807)] {
-        let Some(ScriptEvent::Activate(code)) = event(rt.alloc(), order, line)? else {
-            return Err("no code".into());
+        let code = Activation {
+            minutes: 0x0102,
+            priority: 3,
+            id: MessageId {
+                memory: 4,
+                number: 0x0506,
+                crc,
+            },
+            address: [10, 11, 12, 13],
         };
-        assert_eq!(rt;
-            code,
-            Activation {
-                minutes: 0x0102,
-                priority: 3,
-                id: MessageId {
-                    memory: 4,
-                    number: 0x0506,
-                    crc,
-                },
-                address: [10, 11, 12, 13],
-            }
-        );
+        let found = code_of(rt.alloc(), order, b"activate 01020304050607080a0b0c0d")?;
+        assert_eq!(rt; found, Some(code));
     }
     Ok(())
 }
@@ -186,15 +204,20 @@ fn faults(rt: HostRuntime) {
             11,
         ),
     ] {
-        let mut reader = script.as_bytes();
-        let mut writer = Gathered::new(rt.alloc());
-        let fault = replay(rt.alloc(), &mut reader, &mut writer).err();
-        assert_eq!(rt; fault, Some(ReplayFault::Line(number)), "of {script}");
-        assert!(rt; writer.bytes().is_empty());
+        assert_eq!(rt;
+            fault_of(rt.alloc(), script),
+            (Some(ReplayFault::Line(number)), true),
+            "of {script}"
+        );
     }
 }
 
-/// What is printed of each fault.
+/// The first request number of the bench sign's centre.
+fn first_of_bench(alloc: Global) -> Result<u32, ReplayFault> {
+    Ok(bench(alloc)?.first)
+}
+
+/// What is printed of each fault, and the bench sign is there without one.
 #[test]
 fn texts(rt: HostRuntime) -> Result<(), Fail> {
     for (fault, text) in [
@@ -207,6 +230,6 @@ fn texts(rt: HostRuntime) -> Result<(), Fail> {
         let printed = format!(in rt.alloc(); "{fault}")?;
         assert_eq!(rt; printed.as_str(), text);
     }
-    assert_eq!(rt; bench(rt.alloc())?.first, 1);
+    assert_eq!(rt; first_of_bench(rt.alloc()), Ok(1));
     Ok(())
 }

@@ -123,6 +123,26 @@ fn writer_of(alloc: Global, piece: usize, calls: usize, refusal: Refusal) -> Nar
     }
 }
 
+/// How a script is replayed: its answer, how often the reader and the writer failed, and whether this was written.
+fn replayed(
+    mut reader: Slow<'_>,
+    alloc: Global,
+    (piece, calls, refusal): (usize, usize, Refusal),
+    written: &[u8],
+) -> (Result<(), ReplayFault>, u64, u64, bool) {
+    let mut writer = writer_of(alloc, piece, calls, refusal);
+    let found = replay(alloc, &mut reader, &mut writer);
+    (
+        found,
+        reader.failures(),
+        writer.failures(),
+        writer.octets.as_slice() == written,
+    )
+}
+
+/// A writer that takes all.
+const WIDE: (usize, usize, Refusal) = (4096, 4096, Refusal::Fails);
+
 /// The script is replayed from a reader that fails at each call in turn: nothing is written but where it gave all, the last call included
 /// that gives nothing.
 #[test]
@@ -130,17 +150,14 @@ fn reader_fails_at_each_call(rt: HostRuntime) {
     for piece in [1, 7, 4096] {
         let pieces = SCRIPT.len().div_ceil(piece);
         for calls in 0..=pieces + 1 {
-            let mut reader = reader_of(SCRIPT, 0, piece, calls);
-            let mut writer = writer_of(rt.alloc(), 4096, 4096, Refusal::Fails);
-            let found = replay(rt.alloc(), &mut reader, &mut writer);
             let (wanted, written, failures) = if calls <= pieces {
                 (Err(ReplayFault::Read), "", 1)
             } else {
                 (Ok(()), REPORT, 0)
             };
-            assert_eq!(rt; found, wanted, "at {calls}");
-            assert!(rt; writer.octets.as_slice() == written.as_bytes());
-            assert_eq!(rt; (reader.failures(), writer.failures()), (failures, 0));
+            let reader = reader_of(SCRIPT, 0, piece, calls);
+            let found = replayed(reader, rt.alloc(), WIDE, written.as_bytes());
+            assert_eq!(rt; found, (wanted, failures, 0, true), "at {calls}");
         }
     }
 }
@@ -158,18 +175,20 @@ fn writer_fails_at_each_call(rt: HostRuntime) {
     ] {
         let pieces = REPORT.len().div_ceil(piece);
         for calls in 0..=pieces {
-            let mut reader = reader_of(SCRIPT, 0, 4096, 4096);
-            let mut writer = writer_of(rt.alloc(), piece, calls, refusal);
-            let found = replay(rt.alloc(), &mut reader, &mut writer);
             let written = REPORT.len().min(calls.saturating_mul(piece));
-            assert!(rt; writer.octets.as_slice() == &REPORT.as_bytes()[..written]);
             let (wanted, failures) = if calls < pieces {
                 (Err(ReplayFault::Write), 1)
             } else {
                 (Ok(()), 0)
             };
-            assert_eq!(rt; found, wanted, "at {calls} of {piece}");
-            assert_eq!(rt; (reader.failures(), writer.failures()), (0, failures));
+            let reader = reader_of(SCRIPT, 0, 4096, 4096);
+            let found = replayed(
+                reader,
+                rt.alloc(),
+                (piece, calls, refusal),
+                &REPORT.as_bytes()[..written],
+            );
+            assert_eq!(rt; found, (wanted, 0, failures, true), "at {calls} of {piece}");
         }
     }
 }
@@ -189,12 +208,14 @@ fn longest_inputs(rt: HostRuntime) {
         (usize::MAX, 1, usize::MAX, Err(ReplayFault::TooLong)),
         (usize::MAX, 4096, usize::MAX, Err(ReplayFault::TooLong)),
     ] {
-        let mut reader = reader_of(SCRIPT, padding, piece, calls);
-        let mut writer = writer_of(rt.alloc(), 4096, 4096, Refusal::Fails);
-        let found = replay(rt.alloc(), &mut reader, &mut writer);
-        assert_eq!(rt; found, wanted, "of {padding} in pieces of {piece}");
+        let reader = reader_of(SCRIPT, padding, piece, calls);
         let written = if wanted.is_ok() { REPORT } else { "" };
-        assert!(rt; writer.octets.as_slice() == written.as_bytes());
+        let (found, _, _, right) = replayed(reader, rt.alloc(), WIDE, written.as_bytes());
+        assert_eq!(rt;
+            (found, right),
+            (wanted, true),
+            "of {padding} in pieces of {piece}"
+        );
     }
 }
 
@@ -214,8 +235,11 @@ fn descriptions(rt: HostRuntime) {
     ] {
         let mut reader = reader_of(BENCH, padding, piece, calls);
         let found = described(rt.alloc(), &mut reader).err();
-        assert_eq!(rt; found, wanted, "of {padding} in {calls} calls of {piece}");
         let failures = u64::from(wanted == Some(ReplayFault::Read));
-        assert_eq!(rt; reader.failures(), failures);
+        assert_eq!(rt;
+            (found, reader.failures()),
+            (wanted, failures),
+            "of {padding} in {calls} calls of {piece}"
+        );
     }
 }

@@ -96,67 +96,80 @@ fn world_of(alloc: Global) -> Option<World> {
     Some(World::new(alloc, Sign::new(alloc, config).ok()?, centre))
 }
 
-/// How many datagrams each end has sent.
-fn check_sent(world: &World, centre: usize, sign: usize) -> Result<(), Fail> {
-    if world.to_sign.len() == centre && world.to_centre.len() == sign {
-        Ok(())
-    } else {
-        Err("other datagrams".into())
-    }
+/// How many datagrams the centre and the sign have sent, how many activations were accepted, and whether `A` is shown.
+fn counts(world: &World) -> (usize, usize, usize, bool) {
+    (
+        world.to_sign.len(),
+        world.to_centre.len(),
+        world.accepted.len(),
+        world.sign.shown().text.as_slice() == b"A".as_slice(),
+    )
 }
 
-fn check_outcome(world: &World, number: u32, outcome: Outcome) -> Result<(), Fail> {
+fn outcome(world: &World, number: u32) -> Option<Outcome> {
     match world.centre.ledger().get(&number) {
-        Some(entry) if entry.outcome == outcome => Ok(()),
-        _ => Err("another entry".into()),
+        Some(entry) => Some(entry.outcome),
+        None => None,
     }
 }
 
-/// A publication is accepted at the sixteenth event. Where the run stops for want of memory, it goes on after the stop, and counts anew.
-#[test]
-fn publication(rt: HostRuntime) -> Result<(), Fail> {
-    let mut world = world_of(rt.alloc()).ok_or("no world")?;
-    let mut done = 0;
-    if let Err(stopped) = run(&mut world, &PUBLICATION) {
-        done = stopped.done;
-        run(&mut world, PUBLICATION.get(done..).ok_or("no such event")?)?;
+/// The number of the event of an acceptance, and whether it is of the changeable row with `A`.
+fn acceptance(world: &World, place: usize) -> Option<(usize, bool)> {
+    match world.accepted.get(place) {
+        Some((number, code)) => Some((*number, code.id == CODE.id)),
+        None => None,
     }
-    let counted = if done < 16 { 16 - done } else { 16 };
-    check_sent(&world, 7, 7)?;
-    check_outcome(&world, 7, Outcome::Accepted)?;
-    match world.accepted.as_slice() {
-        [(number, code)] if *number == counted && code.id == CODE.id => {}
-        _ => return Err("another acceptance".into()),
+}
+
+/// The number of an event, where a stop after so many makes the run count anew.
+fn recounted(event: usize, stop: usize) -> usize {
+    if event > stop { event - stop } else { event }
+}
+
+/// Goes on after a stop, which only an event that may want memory is a cause of. How many events had happened at the stop.
+fn run_through(world: &mut World, events: &[Event<'_>]) -> Result<usize, &'static str> {
+    let done = match run(world, events) {
+        Ok(()) => return Ok(0),
+        Err(stopped) => stopped.done,
+    };
+    let rest = events.get(done..).ok_or("no such event")?;
+    match rest.first() {
+        Some(Event::SignTick | Event::PowerLost | Event::PowerBack(_)) => {
+            return Err("out of memory without a need");
+        }
+        Some(_) => {}
+        None => return Err("no event is left"),
     }
-    if world.sign.shown().text.as_slice() == b"A".as_slice() {
-        Ok(())
-    } else {
-        Err("another message".into())
+    match run(world, rest) {
+        Ok(()) => Ok(done),
+        Err(_) => Err("a second stop"),
     }
 }
 
 /// Makes the world anew where its parts found no memory, and goes on after a stop. The world after all events, and how many had happened
 /// at the stop.
-fn after_all(alloc: Global, events: &[Event<'_>]) -> Result<(World, usize), Fail> {
+fn after_all(alloc: Global, events: &[Event<'_>]) -> Result<(World, usize), &'static str> {
     let mut world = match world_of(alloc) {
         Some(world) => world,
         None => world_of(alloc).ok_or("no world")?,
     };
-    match run(&mut world, events) {
-        Ok(()) => Ok((world, 0)),
-        Err(stopped) => {
-            let rest = events.get(stopped.done..).ok_or("no such event")?;
-            match rest.first() {
-                Some(Event::SignTick | Event::PowerLost | Event::PowerBack(_)) => {
-                    return Err("out of memory without a need".into());
-                }
-                Some(_) => {}
-                None => return Err("no event is left".into()),
-            }
-            run(&mut world, rest)?;
-            Ok((world, stopped.done))
-        }
-    }
+    let stop = run_through(&mut world, events)?;
+    Ok((world, stop))
+}
+
+/// A publication is accepted at the sixteenth event. Where the run stops for want of memory, it goes on after the stop, and counts anew.
+#[test]
+fn publication(rt: HostRuntime) -> Result<(), Fail> {
+    let (world, stop) = after_all(rt.alloc(), &PUBLICATION)?;
+    assert_eq!(rt;
+        (counts(&world), outcome(&world, 7), acceptance(&world, 0)),
+        (
+            (7, 7, 1, true),
+            Some(Outcome::Accepted),
+            Some((recounted(16, stop), true))
+        )
+    );
+    Ok(())
 }
 
 fn same_datagrams(some: &[Out], others: &[Out]) -> bool {
@@ -165,6 +178,49 @@ fn same_datagrams(some: &[Out], others: &[Out]) -> bool {
             .iter()
             .zip(others.iter())
             .all(|(one, other)| one.as_slice() == other.as_slice())
+}
+
+/// What is to be seen of a world after a publication and a second activation that no reply came to.
+type Sight = (
+    (usize, usize, usize, bool),
+    (Option<Outcome>, Option<Outcome>),
+    (Option<(usize, bool)>, Option<(usize, bool)>),
+);
+
+fn sight(world: &World) -> Sight {
+    (
+        counts(world),
+        (outcome(world, 7), outcome(world, 8)),
+        (acceptance(world, 0), acceptance(world, 1)),
+    )
+}
+
+/// What is wanted, where the run stopped after so many events.
+fn wanted(stop: usize) -> Sight {
+    (
+        (8, 8, 2, true),
+        (Some(Outcome::Accepted), Some(Outcome::Waiting)),
+        (
+            Some((recounted(16, stop), true)),
+            Some((recounted(21, stop), true)),
+        ),
+    )
+}
+
+/// What is to be seen of two worlds after the same events, what is wanted of each, and whether the same datagrams were sent in both.
+fn two_sights(
+    alloc: Global,
+    events: &[Event<'_>],
+) -> Result<((Sight, Sight), (Sight, Sight), bool), &'static str> {
+    let (one, stop) = after_all(alloc, events)?;
+    let (other, other_stop) = after_all(alloc, events)?;
+    let same = same_datagrams(one.to_sign.as_slice(), other.to_sign.as_slice())
+        && same_datagrams(one.to_centre.as_slice(), other.to_centre.as_slice());
+    Ok((
+        (sight(&one), sight(&other)),
+        (wanted(stop), wanted(other_stop)),
+        same,
+    ))
 }
 
 /// A publication, a loss of power and forged datagrams, where memory is refused once or never, as `rt try --test --fail-alloc N` refuses it:
@@ -179,30 +235,15 @@ fn world_or_out_of_memory(rt: HostRuntime) -> Result<(), Fail> {
     events[20] = Event::ToSign(7);
     events[21] = Event::ForgeCentre(b"0");
     events[22] = Event::ForgeSign(b"0");
-    let (one, stop) = after_all(rt.alloc(), &events)?;
-    let (other, other_stop) = after_all(rt.alloc(), &events)?;
-    assert!(rt; same_datagrams(one.to_sign.as_slice(), other.to_sign.as_slice()));
-    assert!(rt; same_datagrams(one.to_centre.as_slice(), other.to_centre.as_slice()));
-    assert_eq!(rt; (one.to_sign.len(), one.to_centre.len()), (8, 8));
-    check_outcome(&one, 7, Outcome::Accepted)?;
-    check_outcome(&other, 7, Outcome::Accepted)?;
-    check_outcome(&one, 8, Outcome::Waiting)?;
-    check_outcome(&other, 8, Outcome::Waiting)?;
-    for (world, stop) in [(&one, stop), (&other, other_stop)] {
-        for (place, event) in [16, 21].into_iter().enumerate() {
-            let (number, _) = world.accepted.get(place).ok_or("no acceptance")?;
-            let counted = if event > stop { event - stop } else { event };
-            assert_eq!(rt; *number, counted, "after a stop at {stop}");
-        }
-        assert!(rt; world.sign.shown().text.as_slice() == b"A".as_slice());
-    }
+    let (found, wanted, same) = two_sights(rt.alloc(), &events)?;
+    assert!(rt; same);
+    assert_eq!(rt; found, wanted);
     Ok(())
 }
 
 /// A second command, a delivery of what was never sent and a delivery to a sign without power change nothing.
 #[test]
 fn nothing_happens(rt: HostRuntime) -> Result<(), Fail> {
-    let mut world = world_of(rt.alloc()).ok_or("no world")?;
     let events = [
         Event::Command(PUBLISH),
         Event::Command(PUBLISH),
@@ -211,10 +252,14 @@ fn nothing_happens(rt: HostRuntime) -> Result<(), Fail> {
         Event::PowerLost,
         Event::ToSign(0),
     ];
-    run(&mut world, &events)?;
-    check_sent(&world, 1, 0)?;
-    run(&mut world, &[Event::PowerBack(1), Event::ToSign(0)])?;
-    check_sent(&world, 1, 1)
+    let (mut world, _) = after_all(rt.alloc(), &events)?;
+    let before = counts(&world);
+    run_through(&mut world, &[Event::PowerBack(1), Event::ToSign(0)])?;
+    assert_eq!(rt;
+        (before, counts(&world)),
+        ((1, 0, 0, false), (1, 1, 0, false))
+    );
+    Ok(())
 }
 
 /// A forged reply makes the centre record what never was, and enters no list.
@@ -222,17 +267,14 @@ fn nothing_happens(rt: HostRuntime) -> Result<(), Fail> {
 fn forged_reply(rt: HostRuntime) -> Result<(), Fail> {
     let reply =
         b"\x30\x17\x02\x01\x00\x04\x05admin\xa2\x0b\x02\x01\x01\x02\x01\x00\x02\x01\x00\x30\x00";
-    let mut world = world_of(rt.alloc()).ok_or("no world")?;
     let events = [
         Event::Command(Command::Activate(CODE)),
         Event::ForgeCentre(reply),
     ];
-    run(&mut world, &events)?;
-    check_sent(&world, 1, 0)?;
-    check_outcome(&world, 1, Outcome::Accepted)?;
-    if world.accepted.is_empty() {
-        Ok(())
-    } else {
-        Err("an acceptance".into())
-    }
+    let (world, _) = after_all(rt.alloc(), &events)?;
+    assert_eq!(rt;
+        (counts(&world), outcome(&world, 1)),
+        ((1, 0, 0, false), Some(Outcome::Accepted))
+    );
+    Ok(())
 }
