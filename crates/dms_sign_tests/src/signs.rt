@@ -42,7 +42,7 @@ const B: Permanent<'static> = Permanent {
     priority: 100,
 };
 
-fn bench_sign(alloc: Global) -> Result<Sign, Fail> {
+fn bench_sign(alloc: Global) -> Result<Sign, &'static str> {
     sign_of(alloc, &[B], 2, 1, Order::High)
 }
 
@@ -53,11 +53,14 @@ fn sign_of(
     changeable: u8,
     volatile: u8,
     order: Order,
-) -> Result<Sign, Fail> {
+) -> Result<Sign, &'static str> {
     let config = config_of(alloc, permanent, changeable, volatile, order).ok_or(
         "no configuration",
     )?;
-    Ok(Sign::new(alloc, config)?)
+    match Sign::new(alloc, config) {
+        Ok(sign) => Ok(sign),
+        Err(_) => Err("no sign"),
+    }
 }
 
 /// None where its face finds no memory.
@@ -86,117 +89,124 @@ fn config_of<'a>(
     })
 }
 
+/// The octet of two hexadecimal digits.
+fn octet(pair: &[u8]) -> Result<u8, &'static str> {
+    let mut octet: u8 = 0;
+    for digit in pair {
+        let value = match digit {
+            b'0'..=b'9' => digit - b'0',
+            b'a'..=b'f' => digit - b'a' + 10,
+            _ => return Err("no digit"),
+        };
+        octet = u8::wrapping_mul(octet, 16) | value;
+    }
+    Ok(octet)
+}
+
 /// The octets of hexadecimal digits; `-` is none.
-fn octets(digits: &str) -> Result<Out, Fail> {
+fn octets(digits: &str) -> Result<Out, &'static str> {
     let mut octets = Out::new();
     if digits == "-" {
         return Ok(octets);
     }
     for pair in digits.as_bytes().chunks(2) {
-        let mut octet: u8 = 0;
-        for digit in pair {
-            let value = match digit {
-                b'0'..=b'9' => digit - b'0',
-                b'a'..=b'f' => digit - b'a' + 10,
-                _ => return Err("no digit".into()),
-            };
-            octet = u8::wrapping_mul(octet, 16) | value;
+        if octets.try_push(octet(pair)?).is_err() {
+            return Err("too many octets");
         }
-        octets.try_push(octet)?;
     }
     Ok(octets)
 }
 
-/// A datagram is handed over after `>`, and `<` is followed by the reply, or by `dropped`; then there are seconds, losses and returns of
-/// the power, and what is shown with its mode.
-fn play(sign: &mut Sign, script: &str) -> Result<(), Fail> {
-    let mut reply = Out::new();
-    let mut receipt = Receipt::Dropped;
-    for line in script.lines() {
-        let mut words = line.split(' ');
-        let word = words.next().ok_or("no word")?;
-        match word {
-            ">" => {
-                let datagram = octets(words.next().ok_or("no datagram")?)?;
-                receipt = sign.receive(datagram.as_slice(), &mut reply);
-            }
-            "<" => {
-                let wanted = words.next().ok_or("no reply")?;
-                if wanted == "dropped" {
-                    if receipt != Receipt::Dropped || !reply.is_empty() {
-                        return Err("a reply".into());
-                    }
-                } else if octets(wanted)?.as_slice() != reply.as_slice() {
-                    return Err("another reply".into());
-                }
-            }
-            "tick" => {
-                let seconds: u32 = words.next().ok_or("no seconds")?.parse()?;
-                for _ in 0..seconds {
-                    sign.tick();
-                }
-            }
-            "lost" => sign.power_lost(),
-            "back" => sign.power_back(words.next().ok_or("no seconds")?.parse()?),
-            "shown" => {
-                let text = octets(words.next().ok_or("no text")?)?;
-                let mode: u8 = words.next().ok_or("no mode")?.parse()?;
-                let shown = sign.shown();
-                if shown.text.as_slice() != text.as_slice() || shown.mode != mode {
-                    return Err("another message".into());
-                }
-            }
-            _ => return Err("no such word".into()),
+fn number(digits: &str) -> Result<u32, &'static str> {
+    match digits.parse() {
+        Ok(number) => Ok(number),
+        Err(_) => Err("no number"),
+    }
+}
+
+/// What was replied is this, or nothing where it is `dropped`.
+fn check_reply(wanted: &str, receipt: Receipt, reply: &[u8]) -> Result<(), &'static str> {
+    if wanted == "dropped" {
+        if receipt != Receipt::Dropped || !reply.is_empty() {
+            return Err("a reply");
         }
+    } else if octets(wanted)?.as_slice() != reply {
+        return Err("another reply");
     }
     Ok(())
 }
 
-#[test]
-fn requests(rt: HostRuntime) -> Result<(), Fail> {
-    play(&mut bench_sign(rt.alloc())?, cases::REQUESTS)
+/// This text is shown, in this mode.
+fn check_shown(sign: &Sign, wanted: &str) -> Result<(), &'static str> {
+    let (text, mode) = wanted.split_once(' ').ok_or("no mode")?;
+    let mode = number(mode)?;
+    let text = octets(text)?;
+    let shown = sign.shown();
+    if shown.text.as_slice() != text.as_slice() || u32::from(shown.mode) != mode {
+        return Err("another message");
+    }
+    Ok(())
 }
 
-#[test]
-fn activations(rt: HostRuntime) -> Result<(), Fail> {
-    play(&mut bench_sign(rt.alloc())?, cases::ACTIVATIONS)
+fn play_line(
+    sign: &mut Sign,
+    receipt: &mut Receipt,
+    reply: &mut Out,
+    line: &str,
+) -> Result<(), &'static str> {
+    let (word, rest) = line.split_once(' ').unwrap_or((line, ""));
+    match word {
+        ">" => *receipt = sign.receive(octets(rest)?.as_slice(), reply),
+        "<" => check_reply(rest, *receipt, reply.as_slice())?,
+        "tick" => {
+            for _ in 0..number(rest)? {
+                sign.tick();
+            }
+        }
+        "lost" => sign.power_lost(),
+        "back" => sign.power_back(number(rest)?),
+        "shown" => check_shown(sign, rest)?,
+        _ => return Err("no such word"),
+    }
+    Ok(())
 }
 
-#[test]
-fn commands(rt: HostRuntime) -> Result<(), Fail> {
-    play(&mut bench_sign(rt.alloc())?, cases::COMMANDS)
+/// A datagram is handed over after `>`, and `<` is followed by the reply, or by `dropped`; then there are seconds, losses and returns of
+/// the power, and what is shown with its mode.
+fn play(sign: &mut Sign, script: &str) -> Result<(), &'static str> {
+    let mut reply = Out::new();
+    let mut receipt = Receipt::Dropped;
+    for line in script.lines() {
+        play_line(sign, &mut receipt, &mut reply, line)?;
+    }
+    Ok(())
 }
 
-#[test]
-fn power_and_silence(rt: HostRuntime) -> Result<(), Fail> {
-    play(&mut bench_sign(rt.alloc())?, cases::POWER)
+/// The script of a new sign, as the bench sign is but for the order of the octets of its checksums.
+fn played(alloc: Global, order: Order, script: &str) -> Result<(), &'static str> {
+    play(&mut sign_of(alloc, &[B], 2, 1, order)?, script)
 }
 
+/// Each script of the bench sign. In the last the octets of checksums are in the other order, and it has the same number as 29954 so.
 #[test]
-fn sizes(rt: HostRuntime) -> Result<(), Fail> {
-    play(&mut bench_sign(rt.alloc())?, cases::SIZES)
-}
-
-#[test]
-fn silence(rt: HostRuntime) -> Result<(), Fail> {
-    play(&mut bench_sign(rt.alloc())?, cases::SILENCE)
-}
-
-#[test]
-fn written_defaults(rt: HostRuntime) -> Result<(), Fail> {
-    play(&mut bench_sign(rt.alloc())?, cases::WRITTEN_DEFAULTS)
-}
-
-#[test]
-fn returns_of_the_power(rt: HostRuntime) -> Result<(), Fail> {
-    play(&mut bench_sign(rt.alloc())?, cases::RETURNS)
-}
-
-/// The same number as 29954 in the other order of its octets.
-#[test]
-fn checksum_of_the_other_order(rt: HostRuntime) -> Result<(), Fail> {
-    let mut sign = sign_of(rt.alloc(), &[B], 2, 1, Order::Swapped)?;
-    play(&mut sign, cases::SWAPPED)
+fn scripts(rt: HostRuntime) {
+    for (name, order, script) in [
+        ("requests", Order::High, cases::REQUESTS),
+        ("activations", Order::High, cases::ACTIVATIONS),
+        ("commands", Order::High, cases::COMMANDS),
+        ("power and silence", Order::High, cases::POWER),
+        ("sizes", Order::High, cases::SIZES),
+        ("silence", Order::High, cases::SILENCE),
+        ("written defaults", Order::High, cases::WRITTEN_DEFAULTS),
+        ("returns of the power", Order::High, cases::RETURNS),
+        (
+            "checksum of the other order",
+            Order::Swapped,
+            cases::SWAPPED,
+        ),
+    ] {
+        assert_eq!(rt; played(rt.alloc(), order, script), Ok(()), "of {name}");
+    }
 }
 
 /// What a request of one name is answered: the name and the value of the reply's binding, or none where the reply is an error.
@@ -205,7 +215,7 @@ fn asked<'a>(
     kind: Kind,
     name: &Oid<'_>,
     reply: &'a mut Out,
-) -> Result<Option<Bind<'a>>, Fail> {
+) -> Result<Option<Bind<'a>>, &'static str> {
     let mut request = Out::new();
     let parts = MessageParts {
         community: b"public",
@@ -218,92 +228,114 @@ fn asked<'a>(
             value: Value::Null,
         }],
     };
-    write(&parts, &mut request)?;
-    sign.receive(request.as_slice(), reply);
-    let mut message = read(reply.as_slice())?;
-    if message.status == 0 {
-        Ok(message.binds.next())
-    } else {
-        Ok(None)
+    if write(&parts, &mut request).is_err() {
+        return Err("no request");
     }
+    sign.receive(request.as_slice(), reply);
+    match read(reply.as_slice()) {
+        Ok(mut message) if message.status == 0 => Ok(message.binds.next()),
+        Ok(_) => Ok(None),
+        Err(_) => Err("no reply"),
+    }
+}
+
+fn put_name(last: &mut Out, content: &[u8]) -> Result<(), &'static str> {
+    last.clear();
+    match last.try_extend_from_slice(content) {
+        Ok(()) => Ok(()),
+        Err(_) => Err("no room"),
+    }
+}
+
+/// From a name to the one after it, if there is one: it is greater, and reads the same by its own name.
+fn walk_on(sign: &mut Sign, last: &mut Out) -> Result<bool, &'static str> {
+    let mut next = Out::new();
+    let mut same = Out::new();
+    let name = Oid::of(last.as_slice()).ok_or("no name")?;
+    let Some(found) = asked(sign, Kind::GetNext, &name, &mut next)? else {
+        return Ok(false);
+    };
+    if oid_cmp(&name, &found.name) != Ordering::Less {
+        return Err("not in order");
+    }
+    if asked(sign, Kind::Get, &found.name, &mut same)?.as_ref() != Some(&found) {
+        return Err("another value");
+    }
+    put_name(last, found.name.content())?;
+    Ok(true)
+}
+
+/// How many instances a walk comes by, or 3000 where it does not end.
+fn walked(sign: &mut Sign) -> Result<u32, &'static str> {
+    let mut last = Out::new();
+    put_name(&mut last, &[0])?;
+    for count in 0..3000 {
+        if !walk_on(sign, &mut last)? {
+            return Ok(count);
+        }
+    }
+    Ok(3000)
 }
 
 /// A walk from 0.0 on names each instance once, in order, and each reads the same by its name.
 #[test]
 fn walk(rt: HostRuntime) -> Result<(), Fail> {
     let mut sign = sign_of(rt.alloc(), &[B, B], 1, 1, Order::High)?;
-    let mut last = Out::new();
-    last.try_push(0)?;
-    let mut count: u32 = 0;
-    for _ in 0..3000 {
-        let mut next = Out::new();
-        let mut same = Out::new();
-        let name = Oid::of(last.as_slice()).ok_or("no name")?;
-        let Some(found) = asked(&mut sign, Kind::GetNext, &name, &mut next)? else {
-            break;
-        };
-        if oid_cmp(&name, &found.name) != Ordering::Less {
-            return Err("not in order".into());
-        }
-        if asked(&mut sign, Kind::Get, &found.name, &mut same)?.as_ref() != Some(&found) {
-            return Err("another value".into());
-        }
-        let content = found.name.content();
-        last.clear();
-        last.try_extend_from_slice(content)?;
-        count = u32::wrapping_add(count, 1);
-    }
-    assert_eq!(rt; count, 36 + 9 * (2 + 1 + 1 + 1 + 255));
+    assert_eq!(rt; walked(&mut sign), Ok(36 + 9 * (2 + 1 + 1 + 1 + 255)));
     Ok(())
+}
+
+/// The bench sign, asked for once more where it is out of memory.
+fn sign_again(alloc: Global) -> Result<Sign, &'static str> {
+    match Sign::new(alloc, bench_config(alloc)?) {
+        Ok(sign) => Ok(sign),
+        Err(ConfigFault::Table(TableFault::Memory)) => bench_sign(alloc),
+        Err(_) => Err("another fault"),
+    }
 }
 
 /// Each allocation of a sign may be refused: then it is out of memory, and the same call with memory makes the same sign.
 #[test]
 fn sign_or_out_of_memory(rt: HostRuntime) -> Result<(), Fail> {
-    let alloc = rt.alloc();
-    let mut sign = match Sign::new(alloc, bench_config(alloc)?) {
-        Ok(sign) => sign,
-        Err(fault) => {
-            assert_eq!(rt; fault, ConfigFault::Table(TableFault::Memory));
-            Sign::new(alloc, bench_config(alloc)?)?
-        }
-    };
-    let mut other = match Sign::new(alloc, bench_config(alloc)?) {
-        Ok(sign) => sign,
-        Err(_) => Sign::new(alloc, bench_config(alloc)?)?,
-    };
-    check_same(&mut sign, &mut other)
+    let mut sign = sign_again(rt.alloc())?;
+    let mut other = sign_again(rt.alloc())?;
+    Ok(check_same(&mut sign, &mut other)?)
 }
 
 /// The configuration of the bench sign; where memory is refused to its face, it is asked for again.
-fn bench_config(alloc: Global) -> Result<Config<'static>, Fail> {
+fn bench_config(alloc: Global) -> Result<Config<'static>, &'static str> {
     match config_of(alloc, &[B], 2, 1, Order::High) {
         Some(config) => Ok(config),
-        None => Ok(config_of(alloc, &[B], 2, 1, Order::High).ok_or("no configuration")?),
+        None => config_of(alloc, &[B], 2, 1, Order::High).ok_or("no configuration"),
     }
 }
 
-/// Both read the same, instance by instance from 0.0 on.
-fn check_same(sign: &mut Sign, other: &mut Sign) -> Result<(), Fail> {
-    let mut last = Out::new();
-    last.try_push(0)?;
-    for _ in 0..3000 {
-        let mut one = Out::new();
-        let mut two = Out::new();
-        let name = Oid::of(last.as_slice()).ok_or("no name")?;
-        let found = asked(sign, Kind::GetNext, &name, &mut one)?;
-        let same = asked(other, Kind::GetNext, &name, &mut two)?;
-        if found != same {
-            return Err("another value".into());
-        }
-        let Some(binding) = found else {
-            return Ok(());
-        };
-        let content = binding.name.content();
-        last.clear();
-        last.try_extend_from_slice(content)?;
+/// From a name to the one after it, if there is one: both read the same there.
+fn same_on(sign: &mut Sign, other: &mut Sign, last: &mut Out) -> Result<bool, &'static str> {
+    let mut one = Out::new();
+    let mut two = Out::new();
+    let name = Oid::of(last.as_slice()).ok_or("no name")?;
+    let found = asked(sign, Kind::GetNext, &name, &mut one)?;
+    if found != asked(other, Kind::GetNext, &name, &mut two)? {
+        return Err("another value");
     }
-    Err("no end".into())
+    let Some(binding) = found else {
+        return Ok(false);
+    };
+    put_name(last, binding.name.content())?;
+    Ok(true)
+}
+
+/// Both read the same, instance by instance from 0.0 on.
+fn check_same(sign: &mut Sign, other: &mut Sign) -> Result<(), &'static str> {
+    let mut last = Out::new();
+    put_name(&mut last, &[0])?;
+    for _ in 0..3000 {
+        if !same_on(sign, other, &mut last)? {
+            return Ok(());
+        }
+    }
+    Err("no end")
 }
 
 /// What is shown, drawn under its own copy of the defaults: the digit of a lit cell's colour, and a point where nothing is lit.
@@ -329,14 +361,22 @@ fn picture(alloc: Global, sign: &Sign) -> Result<String, Fail> {
     Ok(text)
 }
 
+/// What is shown after a script, drawn.
+fn picture_after(alloc: Global, sign: &mut Sign, script: &str) -> Result<String, Fail> {
+    play(sign, script)?;
+    picture(alloc, sign)
+}
+
 /// A message keeps the font under which it came up, until it is activated again.
 #[test]
 fn pictures(rt: HostRuntime) -> Result<(), Fail> {
-    let alloc = rt.alloc();
-    let mut sign = bench_sign(alloc)?;
-    play(&mut sign, cases::PUT_UP)?;
-    assert_eq!(rt; picture(alloc, &sign)?.as_str(), cases::FONT_ONE);
-    play(&mut sign, cases::PUT_UP_AGAIN)?;
-    assert_eq!(rt; picture(alloc, &sign)?.as_str(), cases::FONT_TWO);
+    let mut sign = bench_sign(rt.alloc())?;
+    for (script, wanted) in [
+        (cases::PUT_UP, cases::FONT_ONE),
+        (cases::PUT_UP_AGAIN, cases::FONT_TWO),
+    ] {
+        let found = picture_after(rt.alloc(), &mut sign, script)?;
+        assert_eq!(rt; found.as_str(), wanted);
+    }
     Ok(())
 }

@@ -17,7 +17,7 @@ struct Pair {
 }
 
 impl Pair {
-    fn check_same(&mut self) -> Result<(), Fail> {
+    fn check_same(&mut self) -> Result<(), &'static str> {
         check_same(&mut self.sent, &mut self.untouched)
     }
 
@@ -26,16 +26,12 @@ impl Pair {
         self.sent.receive(datagram, &mut reply)
     }
 
-    fn check_dropped(&mut self, datagram: &[u8]) -> Result<(), Fail> {
-        if self.send(datagram) == Receipt::Dropped {
-            Ok(())
-        } else {
-            Err("a reply".into())
-        }
+    fn drops(&mut self, datagram: &[u8]) -> bool {
+        self.send(datagram) == Receipt::Dropped
     }
 }
 
-fn two_signs(rt: &HostRuntime) -> Result<Pair, Fail> {
+fn two_signs(rt: &HostRuntime) -> Result<Pair, &'static str> {
     Ok(Pair {
         sent: bench_sign(rt.alloc())?,
         untouched: bench_sign(rt.alloc())?,
@@ -46,7 +42,7 @@ fn two_signs(rt: &HostRuntime) -> Result<Pair, Fail> {
 fn no_message(rt: HostRuntime) -> Result<(), Fail> {
     let mut pair = two_signs(&rt)?;
     play(&mut pair.sent, cases::HOSTILE)?;
-    pair.check_same()
+    Ok(pair.check_same()?)
 }
 
 /// Each proper prefix, one to four octets more, and more octets than a datagram has.
@@ -54,17 +50,16 @@ fn no_message(rt: HostRuntime) -> Result<(), Fail> {
 fn other_lengths(rt: HostRuntime) -> Result<(), Fail> {
     let mut pair = two_signs(&rt)?;
     for size in 0..48 {
-        pair.check_dropped(&STATUS[..size])?;
+        assert!(rt; pair.drops(&STATUS[..size]), "of {size} octets");
     }
-    let mut more = Out::new();
-    more.try_extend_from_slice(&STATUS)?;
-    for octet in 0..4 {
-        more.try_push(octet)?;
-        pair.check_dropped(more.as_slice())?;
+    let mut more = [0; 52];
+    more[..48].copy_from_slice(&STATUS);
+    more[48..].copy_from_slice(&[0, 1, 2, 3]);
+    for size in 49..=52 {
+        assert!(rt; pair.drops(&more[..size]), "of {size} octets");
     }
-    pair.check_dropped(&[0; 1473])?;
-    pair.check_dropped(&[0x30; 1473])?;
-    pair.check_same()
+    assert!(rt; pair.drops(&[0; 1473]) && pair.drops(&[0x30; 1473]));
+    Ok(pair.check_same()?)
 }
 
 /// Each other value of each octet.
@@ -84,23 +79,29 @@ fn each_octet_changed(rt: HostRuntime) -> Result<(), Fail> {
     Ok(())
 }
 
+/// One after the other.
+fn joined(some: &[u8], more: &[u8]) -> Result<Out, &'static str> {
+    let mut octets = Out::new();
+    if octets.try_extend_from_slice(some).is_ok() && octets.try_extend_from_slice(more).is_ok() {
+        Ok(octets)
+    } else {
+        Err("too many octets")
+    }
+}
+
 /// Each pair of neighbours deleted, doubled and exchanged.
 #[test]
 fn neighbours(rt: HostRuntime) -> Result<(), Fail> {
     let mut pair = two_signs(&rt)?;
     for place in 0..47 {
-        let mut deleted = Out::new();
-        deleted.try_extend_from_slice(&STATUS[..place])?;
-        deleted.try_extend_from_slice(&STATUS[place + 2..])?;
+        let deleted = joined(&STATUS[..place], &STATUS[place + 2..])?;
         pair.send(deleted.as_slice());
-        let mut doubled = Out::new();
-        doubled.try_extend_from_slice(&STATUS[..place + 2])?;
-        doubled.try_extend_from_slice(&STATUS[place..])?;
+        let doubled = joined(&STATUS[..place + 2], &STATUS[place..])?;
         pair.send(doubled.as_slice());
         let mut exchanged = STATUS;
         exchanged[place] = STATUS[place + 1];
         exchanged[place + 1] = STATUS[place];
         pair.send(&exchanged);
     }
-    pair.check_same()
+    Ok(pair.check_same()?)
 }
