@@ -7,6 +7,7 @@ use dms_table::{
     Table, TableFault, Verdict, memory,
 };
 use std::alloc::Global;
+use std::process::Abort;
 use std::test::Fail;
 
 const TALL: &[u8] = b"font 1 height 7 space 1 line 1 version 0001
@@ -89,7 +90,7 @@ fn validated(
     text: &[u8],
     beacon: u8,
     pixel: u8,
-) -> Result<Option<Verdict>, Fail> {
+) -> Result<Option<Verdict>, Refused> {
     table.ask(FIRST, Ask::Modify)?;
     table.write(FIRST, Field::Text(text))?;
     table.write(FIRST, Field::Beacon(beacon))?;
@@ -104,7 +105,7 @@ fn validated(
 }
 
 /// A row in this status.
-fn brought_to(table: &mut Table, face: &Face, wanted: Status) -> Result<(), Fail> {
+fn brought_to(table: &mut Table, face: &Face, wanted: Status) -> Result<(), Refused> {
     if wanted == Status::NotUsed {
         return Ok(());
     }
@@ -122,97 +123,141 @@ fn brought_to(table: &mut Table, face: &Face, wanted: Status) -> Result<(), Fail
     Ok(())
 }
 
+/// The status of a row that was brought to one, whether it takes this, and its status after it was asked.
+fn asked(
+    alloc: Global,
+    face: &Face,
+    from: Status,
+    ask: Ask,
+) -> Result<(Option<Status>, bool, Option<Status>), Fail> {
+    let mut table = Table::new(alloc, bench_stock(&[]), face)?;
+    brought_to(&mut table, face, from)?;
+    let before = status(&table, FIRST);
+    let taken = table.ask(FIRST, ask).is_ok();
+    Ok((before, taken, status(&table, FIRST)))
+}
+
+fn check_asked(
+    rt: &impl Abort,
+    alloc: Global,
+    face: &Face,
+    from: Status,
+    ask: Ask,
+    next: Option<Status>,
+) -> Result<(), Fail> {
+    let after = next.unwrap_or(from);
+    assert_eq!(rt;
+        asked(alloc, face, from, ask)?,
+        (Some(from), next.is_some(), Some(after)),
+        "{from:?} {ask:?}"
+    );
+    Ok(())
+}
+
 #[test]
 fn statuses(rt: HostRuntime) -> Result<(), Fail> {
     let face = bench_face(rt.alloc())?;
-    let asks = [Ask::Modify, Ask::Validate, Ask::NotUsed];
-    let rows = [
-        (
-            Status::NotUsed,
-            [Some(Status::Modifying), None, Some(Status::NotUsed)],
-        ),
-        (
-            Status::Modifying,
-            [
-                Some(Status::Modifying),
-                Some(Status::Validating),
-                Some(Status::NotUsed),
-            ],
-        ),
-        (Status::Validating, [None, None, None]),
-        (
-            Status::Valid,
-            [
-                Some(Status::Modifying),
-                Some(Status::Validating),
-                Some(Status::NotUsed),
-            ],
-        ),
-        (
-            Status::Error,
-            [
-                Some(Status::Modifying),
-                Some(Status::Validating),
-                Some(Status::NotUsed),
-            ],
-        ),
-    ];
-    for (from, nexts) in rows {
-        for (ask, next) in asks.iter().zip(nexts.iter()) {
-            let mut table = Table::new(rt.alloc(), bench_stock(&[]), &face)?;
-            brought_to(&mut table, &face, from)?;
-            assert_eq!(rt; status(&table, FIRST), Some(from));
-            let answer = table.ask(FIRST, *ask);
-            assert_eq!(rt; answer.is_ok(), next.is_some(), "{from:?} {ask:?}");
-            assert_eq!(rt; status(&table, FIRST), Some(next.unwrap_or(from)));
-        }
+    let modifying = Some(Status::Modifying);
+    let validating = Some(Status::Validating);
+    let not_used = Some(Status::NotUsed);
+    for (from, modify, validate, end) in [
+        (Status::NotUsed, modifying, None, not_used),
+        (Status::Modifying, modifying, validating, not_used),
+        (Status::Validating, None, None, None),
+        (Status::Valid, modifying, validating, not_used),
+        (Status::Error, modifying, validating, not_used),
+    ] {
+        check_asked(&rt, rt.alloc(), &face, from, Ask::Modify, modify)?;
+        check_asked(&rt, rt.alloc(), &face, from, Ask::Validate, validate)?;
+        check_asked(&rt, rt.alloc(), &face, from, Ask::NotUsed, end)?;
     }
     Ok(())
+}
+
+/// Asserts the verdicts on the row with these texts, beacons and pixel services, one after the other.
+fn check_verdicts(
+    rt: &impl Abort,
+    alloc: Global,
+    stock: Stock<'_>,
+    rows: &[(&[u8], u8, u8, Verdict)],
+) -> Result<(), Fail> {
+    let face = bench_face(alloc)?;
+    let mut table = Table::new(alloc, stock, &face)?;
+    for (text, beacon, pixel, verdict) in rows {
+        let found = validated(&mut table, &face, &DEFAULTS, text, *beacon, *pixel)?;
+        assert_eq!(rt; found, Some(*verdict));
+    }
+    Ok(())
+}
+
+/// A verdict without a fault of the text.
+fn verdict_of(error: u8) -> Verdict {
+    Verdict { error, fault: None }
 }
 
 #[test]
 fn verdicts(rt: HostRuntime) -> Result<(), Fail> {
-    let face = bench_face(rt.alloc())?;
-    let mut table = Table::new(rt.alloc(), bench_stock(&[]), &face)?;
-    let syntax = Some(MultiFault {
-        code: MultiFaultCode::UnsupportedTag,
-        place: 0,
-    });
-    let rows: [(&[u8], u8, u8, u8, Option<MultiFault>); 4] = [
-        (b"A", 1, 0, 2, None),
-        (b"A", 0, 1, 4, None),
-        (b"[nl", 0, 0, 5, syntax),
-        (b"[nl", 0, 1, 4, None),
-    ];
-    for (text, beacon, pixel, error, fault) in rows {
-        let verdict = validated(&mut table, &face, &DEFAULTS, text, beacon, pixel)?;
-        assert_eq!(rt; verdict, Some(Verdict { error, fault }));
-    }
-    let before = validated(&mut table, &face, &DEFAULTS, b"[nl]A", 0, 0)?;
-    assert_eq!(rt; before.map(|verdict| verdict.error), Some(5));
-    let after = validated(&mut table, &face, &SMALL_DEFAULTS, b"[nl]A", 0, 0)?;
-    assert_eq!(rt; after.map(|verdict| verdict.error), Some(2));
-    assert_eq!(rt; table.settle(&face, &face.defaults()), None);
-    Ok(())
+    let syntax = Verdict {
+        error: 5,
+        fault: Some(MultiFault {
+            code: MultiFaultCode::UnsupportedTag,
+            place: 0,
+        }),
+    };
+    check_verdicts(
+        &rt,
+        rt.alloc(),
+        bench_stock(&[]),
+        &[
+            (b"A", 1, 0, verdict_of(2)),
+            (b"A", 0, 1, verdict_of(4)),
+            (b"[nl", 0, 0, syntax),
+            (b"[nl", 0, 1, verdict_of(4)),
+        ],
+    )
 }
 
 #[test]
 fn verdicts_of_a_sign_with_neither(rt: HostRuntime) -> Result<(), Fail> {
-    let face = bench_face(rt.alloc())?;
     let mut stock = bench_stock(&[]);
     stock.beacon = false;
-    let mut table = Table::new(rt.alloc(), stock, &face)?;
-    let rows: [(&[u8], u8, u8, u8); 4] = [
-        (b"A", 0, 0, 2),
-        (b"A", 1, 0, 3),
-        (b"A", 0, 1, 4),
-        (b"[nl", 1, 1, 3),
-    ];
-    for (text, beacon, pixel, error) in rows {
-        let verdict = validated(&mut table, &face, &DEFAULTS, text, beacon, pixel)?;
-        assert_eq!(rt; verdict, Some(Verdict { error, fault: None }));
-    }
+    check_verdicts(
+        &rt,
+        rt.alloc(),
+        stock,
+        &[
+            (b"A", 0, 0, verdict_of(2)),
+            (b"A", 1, 0, verdict_of(3)),
+            (b"A", 0, 1, verdict_of(4)),
+            (b"[nl", 1, 1, verdict_of(3)),
+        ],
+    )
+}
+
+fn error_of(verdict: Option<Verdict>) -> Option<u8> {
+    Some(verdict?.error)
+}
+
+/// A verdict is one under the defaults of its time, and there is none where no row is being validated.
+#[test]
+fn verdicts_under_defaults(rt: HostRuntime) -> Result<(), Fail> {
+    let face = bench_face(rt.alloc())?;
+    let mut table = Table::new(rt.alloc(), bench_stock(&[]), &face)?;
+    let before = validated(&mut table, &face, &DEFAULTS, b"[nl]A", 0, 0)?;
+    let after = validated(&mut table, &face, &SMALL_DEFAULTS, b"[nl]A", 0, 0)?;
+    assert_eq!(rt;
+        (
+            error_of(before),
+            error_of(after),
+            table.settle(&face, &face.defaults())
+        ),
+        (Some(5), Some(2), None)
+    );
     Ok(())
+}
+
+fn check_out_of_range(rt: &impl Abort, table: &mut Table, field: Field<'_>) {
+    assert_eq!(rt; table.write(FIRST, field), Err(Refused), "{field:?}");
 }
 
 #[test]
@@ -225,21 +270,30 @@ fn one_validation_at_a_time(rt: HostRuntime) -> Result<(), Fail> {
     };
     table.ask(volatile, Ask::Modify)?;
     brought_to(&mut table, &face, Status::Validating)?;
-    assert_eq!(rt; table.ask(volatile, Ask::Validate), Err(Refused));
+    let second = table.ask(volatile, Ask::Validate);
     table.after_power();
-    assert_eq!(rt; status(&table, FIRST), Some(Status::Modifying));
-    assert_eq!(rt; status(&table, volatile), Some(Status::NotUsed));
-    assert_eq!(rt; table.write(volatile, Field::Owner(b"me")), Err(Refused));
-    assert_eq!(rt; table.write(FIRST, Field::Owner(b"me")), Ok(()));
-    let out_of_range = [
+    assert_eq!(rt;
+        (
+            second,
+            (status(&table, FIRST), status(&table, volatile)),
+            table.write(volatile, Field::Owner(b"me")),
+            table.write(FIRST, Field::Owner(b"me"))
+        ),
+        (
+            Err(Refused),
+            (Some(Status::Modifying), Some(Status::NotUsed)),
+            Err(Refused),
+            Ok(())
+        )
+    );
+    for field in [
         Field::Text(&[65; 513]),
         Field::Owner(&[65; 128]),
         Field::Beacon(2),
         Field::Pixel(2),
         Field::Priority(0),
-    ];
-    for field in out_of_range {
-        assert_eq!(rt; table.write(FIRST, field), Err(Refused), "{field:?}");
+    ] {
+        check_out_of_range(&rt, &mut table, field);
     }
     Ok(())
 }
@@ -262,30 +316,44 @@ fn decision(
     }
 }
 
+/// What keeps a code from putting its message up under the small defaults while this is shown, and the cause's number.
+fn cause_of(
+    table: &Table,
+    face: &Face,
+    shown: &Shown,
+    code: [u8; 8],
+) -> Result<(Option<Cause>, u8), Fail> {
+    match decision(table, face, &SMALL_DEFAULTS, shown, code)? {
+        Ok(_) => Ok((None, 2)),
+        Err(cause) => Ok((Some(cause), cause.number())),
+    }
+}
+
 #[test]
 fn decisions(rt: HostRuntime) -> Result<(), Fail> {
     let face = bench_face(rt.alloc())?;
     let mut table = Table::new(rt.alloc(), bench_stock(&[B]), &face)?;
     validated(&mut table, &face, &DEFAULTS, b"A", 0, 0)?;
-    let start = blank();
-    let shown = decision(
-        &table,
-        &face,
-        &DEFAULTS,
-        &start,
-        [0, 5, 255, 3, 0, 1, 0x9a, 0x66],
-    )??;
-    assert_eq!(rt; shown.text.as_slice(), b"A".as_slice());
+    let code = [0, 5, 255, 3, 0, 1, 0x9a, 0x66];
+    let shown = decision(&table, &face, &DEFAULTS, &blank(), code)??;
     assert_eq!(rt;
-        (shown.priority, shown.mode, shown.remaining),
-        (200, 8, Some(300))
+        (
+            shown.text.as_slice(),
+            (shown.priority, shown.mode, shown.remaining),
+            shown.address
+        ),
+        (b"A".as_slice(), (200, 8, Some(300)), [192, 0, 2, 1])
     );
-    assert_eq!(rt; shown.address, [192, 0, 2, 1]);
+    check_causes(&rt, &table, &face, &shown)
+}
+
+/// Asserts the causes while row 1 is shown with its priority.
+fn check_causes(rt: &impl Abort, table: &Table, face: &Face, shown: &Shown) -> Result<(), Fail> {
     let fault = MultiFault {
         code: MultiFaultCode::CharacterNotDefined,
         place: 0,
     };
-    let rows = [
+    for (code, cause, number) in [
         ([255, 255, 255, 6, 0, 1, 0, 0], Some(Cause::MemoryType), 5),
         ([255, 255, 255, 3, 0, 3, 0x9a, 0x66], Some(Cause::Number), 6),
         ([255, 255, 255, 3, 0, 2, 0x0f, 0x47], Some(Cause::Status), 4),
@@ -312,79 +380,95 @@ fn decisions(rt: HostRuntime) -> Result<(), Fail> {
             Some(Cause::Checksum),
             7,
         ),
-    ];
-    for (code, cause, number) in rows {
-        let answer = decision(&table, &face, &SMALL_DEFAULTS, &shown, code)?;
-        let found = answer.err();
-        assert_eq!(rt; found, cause);
-        assert_eq!(rt; found.map_or(2, |cause| cause.number()), number);
+    ] {
+        assert_eq!(rt; cause_of(table, face, shown, code)?, (cause, number));
     }
     Ok(())
 }
 
+/// `B` as it comes up, and what is shown after it by another code under the small defaults.
+fn shown_after_b(alloc: Global, code: [u8; 8]) -> Result<(Shown, Shown), Fail> {
+    let face = bench_face(alloc)?;
+    let table = Table::new(alloc, bench_stock(&[B]), &face)?;
+    let up = [255, 255, 255, 2, 0, 1, 0x75, 2];
+    let b = decision(&table, &face, &DEFAULTS, &blank(), up)??;
+    let next = decision(&table, &face, &SMALL_DEFAULTS, &b, code)??;
+    Ok((b, next))
+}
+
 #[test]
 fn what_is_shown_stays(rt: HostRuntime) -> Result<(), Fail> {
-    let face = bench_face(rt.alloc())?;
-    let table = Table::new(rt.alloc(), bench_stock(&[B]), &face)?;
-    let b = decision(
-        &table,
-        &face,
-        &DEFAULTS,
-        &blank(),
-        [255, 255, 255, 2, 0, 1, 0x75, 2],
-    )??;
-    let kept = decision(
-        &table,
-        &face,
-        &SMALL_DEFAULTS,
-        &b,
-        [0, 1, 255, 5, 0, 1, 0x75, 2],
-    )??;
-    assert_eq!(rt; kept.text.as_slice(), b"B".as_slice());
+    let (b, kept) = shown_after_b(rt.alloc(), [0, 1, 255, 5, 0, 1, 0x75, 2])?;
     assert_eq!(rt;
-        (kept.source, kept.defaults, kept.remaining),
-        (b.source, DEFAULTS, Some(60))
-    );
-    let blanked = decision(
-        &table,
-        &face,
-        &SMALL_DEFAULTS,
-        &b,
-        [255, 255, 255, 7, 0, 255, 0x12, 0x34],
-    )??;
-    assert_eq!(rt; (blanked.source.crc, blanked.priority), (0x1234, 255));
-    assert_eq!(rt;
-        (blanked.text.len(), blanked.defaults, blanked.remaining),
-        (0, SMALL_DEFAULTS, None)
+        (
+            kept.text.as_slice(),
+            (kept.source, kept.defaults, kept.remaining)
+        ),
+        (b"B".as_slice(), (b.source, DEFAULTS, Some(60)))
     );
     Ok(())
 }
+
+#[test]
+fn what_is_shown_is_blanked(rt: HostRuntime) -> Result<(), Fail> {
+    let (_, blanked) = shown_after_b(rt.alloc(), [255, 255, 255, 7, 0, 255, 0x12, 0x34])?;
+    assert_eq!(rt;
+        (
+            (blanked.source.crc, blanked.priority),
+            (blanked.text.len(), blanked.defaults, blanked.remaining)
+        ),
+        ((0x1234, 255), (0, SMALL_DEFAULTS, None))
+    );
+    Ok(())
+}
+
+/// A row's text, priority, status and checksum.
+fn row_of(table: &Table, id: RowId) -> Option<(&[u8], u8, Status, u16)> {
+    let row = table.row(id)?;
+    Some((row.text, row.priority, row.status, row.checksum))
+}
+
+/// The only permanent row.
+const PERMANENT: RowId = RowId {
+    memory: 2,
+    number: 1,
+};
 
 #[test]
 fn tables(rt: HostRuntime) -> Result<(), Fail> {
     let face = bench_face(rt.alloc())?;
     let table = Table::new(rt.alloc(), bench_stock(&[B]), &face)?;
-    let row = table
-        .row(RowId {
-            memory: 2,
-            number: 1,
-        })
-        .ok_or("no row")?;
     assert_eq!(rt;
-        (row.text, row.priority, row.status, row.checksum),
-        (B.text, 100, Status::Valid, 29954)
+        row_of(&table, PERMANENT),
+        Some((B.text, 100, Status::Valid, 29954))
     );
     for (memory, rows, valid, unused) in [(2, 1, 1, 0), (3, 2, 0, 2), (4, 1, 0, 1), (7, 0, 0, 0)] {
-        assert_eq!(rt; table.row_count(memory), rows);
-        assert_eq!(rt; table.valid_count(memory), valid);
-        assert_eq!(rt; table.unused_count(memory), unused);
+        assert_eq!(rt;
+            (
+                table.row_count(memory),
+                table.valid_count(memory),
+                table.unused_count(memory)
+            ),
+            (rows, valid, unused)
+        );
     }
+    Ok(())
+}
+
+fn fault_of(alloc: Global, face: &Face, permanent: &[Permanent<'_>]) -> Option<TableFault> {
+    Table::new(alloc, bench_stock(permanent), face).err()
+}
+
+#[test]
+fn permanent_rows(rt: HostRuntime) -> Result<(), Fail> {
+    let face = bench_face(rt.alloc())?;
+    let long = [65; 513];
     let rows: [(&[u8], u8, u8, u8); 5] = [
         (b"B", 0, 1, 100),
         (b"B", 2, 0, 100),
         (b"B", 0, 0, 0),
         (b"C", 0, 0, 100),
-        (&[65; 513], 0, 0, 100),
+        (&long, 0, 0, 100),
     ];
     for (text, beacon, pixel, priority) in rows {
         let wrong = Permanent {
@@ -394,38 +478,47 @@ fn tables(rt: HostRuntime) -> Result<(), Fail> {
             pixel,
             priority,
         };
-        let refused = Table::new(rt.alloc(), bench_stock(&[B, wrong, wrong]), &face);
-        assert_eq!(rt; refused.err(), Some(TableFault::Permanent(2)));
+        assert_eq!(rt;
+            fault_of(rt.alloc(), &face, &[B, wrong, wrong]),
+            Some(TableFault::Permanent(2))
+        );
     }
-    let many = Table::new(rt.alloc(), bench_stock(&[B; 17]), &face);
-    assert_eq!(rt; many.err(), Some(TableFault::Counts));
+    assert_eq!(rt;
+        fault_of(rt.alloc(), &face, &[B; 17]),
+        Some(TableFault::Counts)
+    );
     Ok(())
+}
+
+/// How many permanent rows there are and are valid, and how many changeable and volatile ones are unused.
+fn counted(
+    alloc: Global,
+    face: &Face,
+    changeable: u8,
+    volatile: u8,
+) -> Result<[usize; 4], TableFault> {
+    let mut stock = bench_stock(&[B; 16]);
+    stock.changeable = changeable;
+    stock.volatile = volatile;
+    let table = Table::new(alloc, stock, face)?;
+    Ok([
+        table.row_count(2),
+        table.valid_count(2),
+        table.unused_count(3),
+        table.unused_count(4),
+    ])
 }
 
 #[test]
 fn counts(rt: HostRuntime) -> Result<(), Fail> {
     let face = bench_face(rt.alloc())?;
-    let rows = [
-        (0, 0, None),
-        (64, 16, None),
-        (65, 16, Some(TableFault::Counts)),
-        (64, 17, Some(TableFault::Counts)),
-    ];
-    for (changeable, volatile, fault) in rows {
-        let mut stock = bench_stock(&[B; 16]);
-        stock.changeable = changeable;
-        stock.volatile = volatile;
-        match Table::new(rt.alloc(), stock, &face) {
-            Ok(table) => {
-                assert_eq!(rt; fault, None);
-                assert_eq!(rt; (table.row_count(2), table.valid_count(2)), (16, 16));
-                assert_eq!(rt; table.unused_count(3), usize::from(changeable));
-                assert_eq!(rt; table.unused_count(4), usize::from(volatile));
-            }
-            Err(found) => {
-                assert_eq!(rt; Some(found), fault);
-            }
-        }
+    for (changeable, volatile, found) in [
+        (0, 0, Ok([16, 16, 0, 0])),
+        (64, 16, Ok([16, 16, 64, 16])),
+        (65, 16, Err(TableFault::Counts)),
+        (64, 17, Err(TableFault::Counts)),
+    ] {
+        assert_eq!(rt; counted(rt.alloc(), &face, changeable, volatile), found);
     }
     Ok(())
 }
@@ -452,18 +545,20 @@ fn table_or_out_of_memory(rt: HostRuntime) {
     };
     let table = made.ok().expect(&rt, "a table");
     assert_eq!(rt;
-        (table.row_count(2), table.row_count(3), table.row_count(4)),
-        (1, 2, 1)
+        (
+            (table.row_count(2), table.row_count(3), table.row_count(4)),
+            (table.unused_count(3), table.unused_count(4))
+        ),
+        ((1, 2, 1), (2, 1))
     );
-    let first = RowId {
-        memory: 2,
-        number: 1,
-    };
-    let read = table
-        .row(first)
-        .map(|row| (row.text, row.priority, row.status));
-    assert_eq!(rt; read, Some((b"B".as_slice(), 100, Status::Valid)));
-    assert_eq!(rt; (table.unused_count(3), table.unused_count(4)), (2, 1));
+    assert_eq!(rt;
+        row_of(&table, PERMANENT),
+        Some((B.text, 100, Status::Valid, 29954))
+    );
+}
+
+fn checksum(table: &Table, id: RowId) -> Option<u16> {
+    Some(table.row(id)?.checksum)
 }
 
 #[test]
@@ -474,14 +569,21 @@ fn example(rt: HostRuntime) -> Result<(), Fail> {
         memory: memory::CHANGEABLE,
         number: 1,
     };
-    assert_eq!(rt; table.ask(row, Ask::Modify), Ok(()));
-    assert_eq!(rt; table.write(row, Field::Text(b"A")), Ok(()));
-    assert_eq!(rt; table.ask(row, Ask::Validate), Ok(()));
-    assert_eq!(rt; table.takes(row, Ask::Modify), false);
-    assert_eq!(rt; table.settling(), Some(Place::Changeable(0)));
+    assert_eq!(rt;
+        (
+            table.ask(row, Ask::Modify),
+            table.write(row, Field::Text(b"A")),
+            table.ask(row, Ask::Validate),
+            table.takes(row, Ask::Modify),
+            table.settling()
+        ),
+        (Ok(()), Ok(()), Ok(()), false, Some(Place::Changeable(0)))
+    );
     let verdict = table.settle(&face, &face.defaults()).ok_or("no verdict")?;
-    assert_eq!(rt; (verdict.error, verdict.passes()), (2, true));
-    assert_eq!(rt; table.settling(), None);
-    assert_eq!(rt; table.row(row).map(|row| row.checksum), Some(0x9a66));
+    assert_eq!(rt;
+        (verdict.error, verdict.passes(), table.settling()),
+        (2, true, None)
+    );
+    assert_eq!(rt; checksum(&table, row), Some(0x9a66));
     Ok(())
 }
