@@ -2,9 +2,9 @@
 
 ghost use Rattle.std.specs.Prelude.{◌<◌};
 
-use crate::command_line::{Call, CodeWords, Drawing, SignWanted};
 use crate::fields::write_message;
 use crate::item_lines::write_items;
+use dms_calls::{Call, CodeWords, Drawing, SignWanted};
 use dms_codes::{Activation, MAX_TEXT, MessageId, Order, crc};
 use dms_description::Setup;
 use dms_face::{Face, MultiFault, check};
@@ -215,8 +215,8 @@ fn code<W: Write>(alloc: Global, words: &CodeWords<'_>, writer: &mut W) -> u8 {
         minutes: words.duration,
         priority: words.priority,
         id: MessageId {
-            memory: words.memory,
-            number: words.number,
+            memory: words.row.memory,
+            number: words.row.number,
             crc,
         },
         address,

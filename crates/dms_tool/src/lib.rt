@@ -1,4 +1,4 @@
-//! What the program does: the calls that a command line asks for, and what each prints.
+//! What the program does: each call of the command line, and what it prints.
 #![tactic(auto)]
 
 pub mod act;
@@ -6,6 +6,7 @@ pub mod command_line;
 mod fields;
 mod item_lines;
 mod names;
+mod subcommands;
 
 pub use act::act_saying;
-pub use command_line::{Call, asked};
+pub use command_line::asked;

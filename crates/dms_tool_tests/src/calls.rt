@@ -1,7 +1,8 @@
 //! Calls of the program by their words and their input, each with what it prints.
 
+use dms_calls::{Call, Drawing, SignWanted};
 use dms_tool::act::{act, act_saying};
-use dms_tool::command_line::{Call, Drawing, SignWanted, asked};
+use dms_tool::asked;
 use std::io;
 use std::io::Read;
 use std::test::Fail;

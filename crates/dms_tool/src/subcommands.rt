@@ -1,0 +1,180 @@
+//! The program's subcommands, their words and their help.
+
+use clap::{Arg, ArgAction, Command, value_parser};
+use std::alloc::{AllocError, Global};
+
+/// The program's subcommands.
+pub(crate) fn command<'a>(alloc: Global) -> Result<Command<'a>, AllocError> {
+    Command::new(alloc, "signtool")
+        .about("A dynamic message sign's controller on the command line")
+        .subcommand_required(true)
+        .subcommand(answer_command(alloc)?)?
+        .subcommand(check_command(alloc)?)?
+        .subcommand(pages_command(alloc)?)?
+        .subcommand(code_command(alloc)?)?
+        .subcommand(decode_command(alloc)?)?
+        .subcommand(items_command(alloc)?)?
+        .subcommand(replay_command(alloc))?
+        .subcommand(sign_command(alloc)?)?
+        .subcommand(centre_command(alloc)?)
+}
+
+fn answer_command<'a>(alloc: Global) -> Result<Command<'a>, AllocError> {
+    Command::new(alloc, "answer")
+        .about("Prints the sign's reply to a datagram")
+        .arg(sign(alloc))?
+        .arg(datagram(alloc))
+}
+
+/// A datagram, as a word.
+fn datagram<'a>(alloc: Global) -> Arg<'a> {
+    Arg::new(alloc, "HEX").required(true).help(
+        "the datagram, in hexadecimal digits; spaces and colons may stand between octets",
+    )
+}
+
+fn check_command<'a>(alloc: Global) -> Result<Command<'a>, AllocError> {
+    Command::new(alloc, "check")
+        .about("Prints the number of a text's pages on the sign, or the text's fault")
+        .arg(sign(alloc))?
+        .arg(text(alloc))
+}
+
+fn pages_command<'a>(alloc: Global) -> Result<Command<'a>, AllocError> {
+    Command::new(alloc, "pages")
+        .about("Prints the pages of a text on the sign, cell by cell, or the text's fault")
+        .arg(sign(alloc))?
+        .arg(flag(
+            alloc,
+            "svg",
+            "a picture (SVG), which a browser plays as the sign does",
+        ))?
+        .arg(page(alloc))?
+        .arg(text(alloc))
+}
+
+/// The option that names one page.
+fn page<'a>(alloc: Global) -> Arg<'a> {
+    Arg::new(alloc, "page")
+        .long("page")
+        .value_name("K")
+        .value_parser(value_parser!(u8).range(1..=6))
+        .help("one page alone, 1 to 6; a picture of it does not move")
+}
+
+fn decode_command<'a>(alloc: Global) -> Result<Command<'a>, AllocError> {
+    Command::new(alloc, "decode")
+        .about("Prints the fields of a datagram, or its fault")
+        .arg(datagram(alloc))
+}
+
+fn items_command<'a>(alloc: Global) -> Result<Command<'a>, AllocError> {
+    Command::new(alloc, "items")
+        .about("Prints the items of a text with their offsets in octets, or the text's fault")
+        .arg(text(alloc))
+}
+
+fn replay_command<'a>(alloc: Global) -> Command<'a> {
+    Command::new(alloc, "replay").about(
+        "Runs the script on the standard input, and prints the report",
+    )
+}
+
+fn sign_command<'a>(alloc: Global) -> Result<Command<'a>, AllocError> {
+    Command::new(alloc, "sign")
+        .about("Is a sign: answers each line of the standard input, as `datagram HEX` or `tick`")
+        .arg(sign(alloc))
+}
+
+fn centre_command<'a>(alloc: Global) -> Result<Command<'a>, AllocError> {
+    Command::new(alloc, "centre")
+        .about(
+            "Is a sign's central system: answers each line of the standard input, as `publish ..` or `tick`",
+        )
+        .arg(sign(alloc))
+}
+
+/// The option that names the sign which the standard input describes.
+fn sign<'a>(alloc: Global) -> Arg<'a> {
+    flag(
+        alloc,
+        "sign",
+        "the sign that the standard input describes, in place of the bench sign, which is 23 by 14 and has the characters 1 A B [ ]",
+    )
+}
+
+/// A message's text, as a word.
+fn text<'a>(alloc: Global) -> Arg<'a> {
+    Arg::new(alloc, "TEXT")
+        .required(true)
+        .help("the message's text, at most 512 octets")
+}
+
+fn code_command<'a>(alloc: Global) -> Result<Command<'a>, AllocError> {
+    let command = Command::new(alloc, "code")
+        .about("Prints a message's checksum and the code that activates it")
+        .arg(memory(alloc))?
+        .arg(number(alloc))?
+        .arg(text(alloc))?;
+    code_options(alloc, command)
+}
+
+/// A message's memory type, as a word.
+fn memory<'a>(alloc: Global) -> Arg<'a> {
+    Arg::new(alloc, "TYPE")
+        .required(true)
+        .value_parser(value_parser!(u8).range(2..=4))
+        .help("the memory type: 2 permanent, 3 changeable, 4 volatile")
+}
+
+/// A message's number, as a word.
+fn number<'a>(alloc: Global) -> Arg<'a> {
+    Arg::new(alloc, "NUMBER")
+        .required(true)
+        .value_parser(value_parser!(u16).range(1..))
+        .help("the message's number, 1 to 65535")
+}
+
+/// The options of `code`.
+fn code_options<'a>(alloc: Global, command: Command<'a>) -> Result<Command<'a>, AllocError> {
+    command
+        .arg(flag(alloc, "beacon", "the beacon is on"))?
+        .arg(flag(alloc, "pixel", "the pixel service is on"))?
+        .arg(flag(alloc, "swapped", "a checksum has its low octet first"))?
+        .arg(duration(alloc))?
+        .arg(priority(alloc))?
+        .arg(address(alloc))
+}
+
+fn duration<'a>(alloc: Global) -> Arg<'a> {
+    Arg::new(alloc, "duration")
+        .long("duration")
+        .value_name("MINUTES")
+        .value_parser(value_parser!(u16))
+        .default_value("65535")
+        .help("how long it is shown, 0 to 65535 minutes; 65535 is without end")
+}
+
+fn priority<'a>(alloc: Global) -> Arg<'a> {
+    Arg::new(alloc, "priority")
+        .long("priority")
+        .value_name("PRIORITY")
+        .value_parser(value_parser!(u8))
+        .default_value("255")
+        .help("the activation priority, 0 to 255")
+}
+
+fn address<'a>(alloc: Global) -> Arg<'a> {
+    Arg::new(alloc, "address")
+        .long("address")
+        .value_name("A.B.C.D")
+        .default_value("0.0.0.0")
+        .help("the source address")
+}
+
+fn flag<'a>(alloc: Global, name: &'a str, help: &'a str) -> Arg<'a> {
+    Arg::new(alloc, name)
+        .long(name)
+        .action(ArgAction::SetTrue)
+        .help(help)
+}
