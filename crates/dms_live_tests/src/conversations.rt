@@ -100,13 +100,17 @@ impl Sink for Small {
     }
 }
 
-/// What is written of a conversation over these octets, and how it ends.
+/// How a conversation ends, how often its writer failed, and whether it wrote what was wanted.
+type Ended = (Result<(), ConversationFault>, u64, bool);
+
+/// A conversation over these octets.
 fn said(
     alloc: Global,
     octets: &[u8],
     fails: bool,
     room: usize,
-) -> Result<(Small, Result<(), ConversationFault>), AllocError> {
+    wanted: &[u8],
+) -> Result<Ended, AllocError> {
     let source = Narrow {
         octets,
         fails,
@@ -119,7 +123,7 @@ fn said(
         failed: 0,
     };
     let ended = converse(alloc, &mut Echo { first: b'-' }, &mut input, &mut sink);
-    Ok((sink, ended))
+    Ok((ended, sink.failures(), sink.octets.bytes() == wanted))
 }
 
 const TALK: &[u8] = b"one\ntwo\r\n\nr\rn\r\r\nlast";
@@ -135,9 +139,8 @@ fn lines_are_answered_in_turn(rt: HostRuntime) -> Result<(), Fail> {
         (b"\r\n\r", b"-\n-\r\n"),
         (b"a\n", b"-a\n"),
     ] {
-        let (sink, ended) = said(rt.alloc(), octets, false, usize::MAX)?;
-        assert_eq!(rt; ended, Ok(()));
-        assert!(rt; sink.octets.bytes() == answers, "for {octets:?}");
+        let found = said(rt.alloc(), octets, false, usize::MAX, answers)?;
+        assert_eq!(rt; found, (Ok(()), 0, true), "for {octets:?}");
     }
     Ok(())
 }
@@ -145,9 +148,14 @@ fn lines_are_answered_in_turn(rt: HostRuntime) -> Result<(), Fail> {
 /// Where a call of the reader fails, all lines that came whole are answered.
 #[test]
 fn a_reader_that_fails(rt: HostRuntime) -> Result<(), Fail> {
-    let (sink, ended) = said(rt.alloc(), TALK, true, usize::MAX)?;
-    assert_eq!(rt; ended, Err(ConversationFault::Read));
-    assert!(rt; sink.octets.bytes() == b"-one\notwo\nt\n-r\rn\r\n".as_slice());
+    let found = said(
+        rt.alloc(),
+        TALK,
+        true,
+        usize::MAX,
+        b"-one\notwo\nt\n-r\rn\r\n",
+    )?;
+    assert_eq!(rt; found, (Err(ConversationFault::Read), 0, true));
     Ok(())
 }
 
@@ -155,13 +163,34 @@ fn a_reader_that_fails(rt: HostRuntime) -> Result<(), Fail> {
 #[test]
 fn a_writer_that_is_full(rt: HostRuntime) -> Result<(), Fail> {
     for room in 0..=ANSWERS.len() {
-        let (sink, ended) = said(rt.alloc(), TALK, false, room)?;
         let whole = room == ANSWERS.len();
-        assert_eq!(rt; ended.is_ok(), whole);
-        assert_eq!(rt; sink.failures(), u64::from(!whole));
-        assert!(rt; sink.octets.bytes() == &ANSWERS[..room]);
+        let (ended, failures, right) = said(rt.alloc(), TALK, false, room, &ANSWERS[..room])?;
+        assert_eq!(rt;
+            (ended.is_ok(), failures, right),
+            (whole, u64::from(!whole), true)
+        );
     }
     Ok(())
+}
+
+/// So many octets and then this end.
+fn long_talk(alloc: Global, length: usize, end: &str) -> Result<Vec<u8>, AllocError> {
+    let mut talk = Vec::new(alloc);
+    talk.resize(length, b'x')?;
+    talk.extend_from_slice(end.as_bytes())?;
+    Ok(talk)
+}
+
+/// How a conversation over these octets ends, how many octets it writes, and whether these are the last.
+fn ending(
+    alloc: Global,
+    octets: &[u8],
+    last: &[u8],
+) -> Result<(Result<(), ConversationFault>, usize, bool), AllocError> {
+    let mut input = Input::new(alloc, octets)?;
+    let mut sink = Gathered::new(alloc);
+    let ended = converse(alloc, &mut Echo { first: b'-' }, &mut input, &mut sink);
+    Ok((ended, sink.bytes().len(), sink.bytes().ends_with(last)))
 }
 
 /// Lines of so many octets, then a short one: a long line is refused, and the next is answered as if it had not been.
@@ -175,27 +204,43 @@ fn long_lines(rt: HostRuntime) -> Result<(), Fail> {
         (70_000, "\nb\n", true),
         (200_000, "\r\nb\n", true),
     ] {
-        let mut talk = Vec::new(rt.alloc());
-        talk.resize(length, b'x')?;
-        talk.extend_from_slice(end.as_bytes())?;
-        let mut input = Input::new(rt.alloc(), talk.as_slice())?;
-        let mut sink = Gathered::new(rt.alloc());
-        let ended = converse(rt.alloc(), &mut Echo { first: b'-' }, &mut input, &mut sink);
-        assert_eq!(rt; ended, Ok(()));
         let last: &[u8] = if refused {
             b"bad line\n-b\n"
         } else {
             b"x\nxb\n"
         };
-        assert!(rt; sink.bytes().ends_with(last), "for {length}");
-        assert_eq!(rt; sink.bytes().len() > 20, !refused);
+        let talk = long_talk(rt.alloc(), length, end)?;
+        let (ended, size, right) = ending(rt.alloc(), talk.as_slice(), last)?;
+        assert_eq!(rt;
+            (ended, size > 20, right),
+            (Ok(()), !refused, true),
+            "for {length}"
+        );
     }
     Ok(())
 }
 
+/// Whether this description is taken of a talk, how the conversation over the rest ends, and whether these are its answers.
+fn described_first(
+    alloc: Global,
+    talk: &str,
+    description: &str,
+    answers: &str,
+) -> Option<(bool, Result<(), ConversationFault>, bool)> {
+    let mut input = Input::new(alloc, talk.as_bytes()).ok()?;
+    let text = description_text(alloc, &mut input).ok()?;
+    let mut sink = Gathered::new(alloc);
+    let ended = converse(alloc, &mut Echo { first: b'-' }, &mut input, &mut sink);
+    Some((
+        text.as_slice() == description.as_bytes(),
+        ended,
+        sink.bytes() == answers.as_bytes(),
+    ))
+}
+
 /// What is taken up to the line `end`, and that the rest is talked about.
 #[test]
-fn a_description_comes_first(rt: HostRuntime) -> Result<(), Fail> {
+fn a_description_comes_first(rt: HostRuntime) {
     for (talk, description, answers) in [
         ("size\nend\none\n", "size\nend\n", "-one\n"),
         ("end", "end", ""),
@@ -204,15 +249,32 @@ fn a_description_comes_first(rt: HostRuntime) -> Result<(), Fail> {
         ("\nend\n\nend", "\nend\n", "-\n-end\n"),
         ("", "", ""),
     ] {
-        let mut input = Input::new(rt.alloc(), talk.as_bytes())?;
-        let text = description_text(rt.alloc(), &mut input)?;
-        assert!(rt; text.as_slice() == description.as_bytes(), "for {talk}");
-        let mut sink = Gathered::new(rt.alloc());
-        let ended = converse(rt.alloc(), &mut Echo { first: b'-' }, &mut input, &mut sink);
-        assert_eq!(rt; ended, Ok(()));
-        assert!(rt; sink.bytes() == answers.as_bytes(), "for {talk}");
+        assert_eq!(rt;
+            described_first(rt.alloc(), talk, description, answers),
+            Some((true, Ok(()), true)),
+            "for {talk}"
+        );
     }
-    Ok(())
+}
+
+/// How many octets a description has that is taken of these.
+fn taken(alloc: Global, octets: &[u8]) -> Result<Result<usize, ReadFault>, AllocError> {
+    let mut input = Input::new(alloc, octets)?;
+    match description_text(alloc, &mut input) {
+        Ok(text) => Ok(Ok(text.len())),
+        Err(fault) => Ok(Err(fault)),
+    }
+}
+
+/// How the taking of a description ends whose reader fails.
+fn fault_within(alloc: Global) -> Result<Option<ReadFault>, AllocError> {
+    let source = Narrow {
+        octets: b"size",
+        fails: true,
+        failed: 0,
+    };
+    let mut input = Input::new(alloc, source)?;
+    Ok(description_text(alloc, &mut input).err())
 }
 
 /// A description of 1,048,576 octets is taken, one more is too long, and a reader may fail within.
@@ -221,24 +283,13 @@ fn long_descriptions(rt: HostRuntime) -> Result<(), Fail> {
     let mut talk = Vec::new(rt.alloc());
     talk.resize(1_048_573, b'#')?;
     talk.extend_from_slice(b"\nend\n")?;
-    for (length, taken) in [
+    for (length, wanted) in [
         (1_048_576, Ok(1_048_576)),
         (1_048_577, Err(ReadFault::TooLong)),
         (1_048_578, Err(ReadFault::TooLong)),
     ] {
-        let mut input = Input::new(rt.alloc(), &talk[..length])?;
-        let found = description_text(rt.alloc(), &mut input).map(|text| text.len());
-        assert_eq!(rt; found, taken, "for {length}");
+        assert_eq!(rt; taken(rt.alloc(), &talk[..length])?, wanted, "for {length}");
     }
-    let source = Narrow {
-        octets: b"size",
-        fails: true,
-        failed: 0,
-    };
-    let mut input = Input::new(rt.alloc(), source)?;
-    assert_eq!(rt;
-        description_text(rt.alloc(), &mut input).err(),
-        Some(ReadFault::Read)
-    );
+    assert_eq!(rt; fault_within(rt.alloc())?, Some(ReadFault::Read));
     Ok(())
 }

@@ -16,6 +16,16 @@ fn with_line(alloc: Global, place: usize, text: &str) -> Result<String, AllocErr
     Ok(changed)
 }
 
+/// The fault of the description with this text in place of one line, if it is at fault.
+fn fault_with(
+    alloc: Global,
+    place: usize,
+    text: &str,
+) -> Result<Option<DescriptionFault>, AllocError> {
+    let changed = with_line(alloc, place, text)?;
+    Ok(description(alloc, changed.as_bytes()).err())
+}
+
 /// A line of the bench sign's description, another text, and the line of the fault.
 static FIRST_LINES: [(usize, &str, usize); 20] = [
     (1, "size 23", 1),
@@ -137,21 +147,24 @@ const OTHER_LINES: &str = "1 1 size
 17 17 end end
 17 17 sign-tick";
 
+/// Which line, the line of the fault, and the other text.
+fn case_of(case: &str) -> Option<(usize, usize, &str)> {
+    let (place, rest) = case.split_once(' ')?;
+    let (number, line) = rest.split_once(' ')?;
+    Some((place.parse().ok()?, number.parse().ok()?, line))
+}
+
 #[test]
 fn wrong_lines(rt: HostRuntime) -> Result<(), Fail> {
     for cases in [FIRST_LINES.as_slice(), LAST_LINES.as_slice()] {
         for (place, line, number) in cases {
-            let text = with_line(rt.alloc(), *place, line)?;
-            let fault = description(rt.alloc(), text.as_bytes()).err();
+            let fault = fault_with(rt.alloc(), *place, line)?;
             assert_eq!(rt; fault, Some(DescriptionFault::Line(*number)), "of {line:?}");
         }
     }
     for case in OTHER_LINES.lines() {
-        let (place, rest) = case.split_once(' ').ok_or("no place")?;
-        let (number, line) = rest.split_once(' ').ok_or("no number")?;
-        let text = with_line(rt.alloc(), place.parse::<usize>()?, line)?;
-        let fault = description(rt.alloc(), text.as_bytes()).err();
-        let number = number.parse::<usize>()?;
+        let (place, number, line) = case_of(case).ok_or("no case")?;
+        let fault = fault_with(rt.alloc(), place, line)?;
         assert_eq!(rt; fault, Some(DescriptionFault::Line(number)), "of {line:?}");
     }
     Ok(())
@@ -180,105 +193,143 @@ fn limits(rt: HostRuntime) -> Result<(), Fail> {
         (16, "# no glyph"),
         (17, "end\r\n\n# nothing more"),
     ] {
-        let text = with_line(rt.alloc(), place, line)?;
-        let found = description(rt.alloc(), text.as_bytes());
-        assert!(rt; found.is_ok(), "of {line:?}");
+        assert_eq!(rt; fault_with(rt.alloc(), place, line)?, None, "of {line:?}");
     }
     Ok(())
 }
 
+/// The fault with so many rows after the first.
+fn fault_of_rows(alloc: Global, more: usize) -> Result<Option<DescriptionFault>, AllocError> {
+    let mut rows = String::new(alloc);
+    rows.push_str("permanent 42 - 0 0 100")?;
+    for _ in 0..more {
+        rows.push_str("\npermanent 42 - 0 0 100")?;
+    }
+    fault_with(alloc, 8, rows.as_str())
+}
+
+const MORE_FONTS: &str = "font 3 height 5 space 1 line 1 version 0001
+font 4 height 5 space 1 line 1 version 0001
+font 5 height 5 space 1 line 1 version 0001
+end";
+
 /// With a 17th permanent row or a fifth font the fault is at `end`, as the sign with them cannot be made.
 #[test]
-fn too_many(rt: HostRuntime) -> Result<(), Fail> {
-    let mut rows = String::new(rt.alloc());
-    for _ in 0..15 {
-        rows.push_str("permanent 42 - 0 0 100\n")?;
-    }
-    rows.push_str("permanent 42 - 0 0 100")?;
-    let most = with_line(rt.alloc(), 8, rows.as_str())?;
-    assert!(rt; description(rt.alloc(), most.as_bytes()).is_ok());
-    rows.push_str("\npermanent 42 - 0 0 100")?;
-    let more = with_line(rt.alloc(), 8, rows.as_str())?;
-    let fault = description(rt.alloc(), more.as_bytes()).err();
-    assert_eq!(rt; fault, Some(DescriptionFault::Line(33)));
-    let mut fonts = String::new(rt.alloc());
-    for number in 3..6 {
-        write!(
-            fonts,
-            "font {number} height 5 space 1 line 1 version 0001\n"
-        )?;
-    }
-    fonts.push_str("end")?;
-    let more = with_line(rt.alloc(), 17, fonts.as_str())?;
-    let fault = description(rt.alloc(), more.as_bytes()).err();
-    assert_eq!(rt; fault, Some(DescriptionFault::Line(20)));
-    Ok(())
+fn too_many(rt: HostRuntime) {
+    assert_eq!(rt;
+        (
+            fault_of_rows(rt.alloc(), 15),
+            fault_of_rows(rt.alloc(), 16),
+            fault_with(rt.alloc(), 17, MORE_FONTS)
+        ),
+        (
+            Ok(None),
+            Ok(Some(DescriptionFault::Line(33))),
+            Ok(Some(DescriptionFault::Line(20)))
+        )
+    );
+}
+
+/// Width, height, fonts, how long a page is on, and glyphs of font 1.
+fn face_of(setup: &Setup) -> (u16, u16, usize, u8, Option<usize>) {
+    let face = setup.sign.face();
+    let glyphs = match face.font(1) {
+        Some(tall) => Some(tall.glyphs().len()),
+        None => None,
+    };
+    (
+        face.width(),
+        face.height(),
+        face.fonts().len(),
+        face.defaults().on,
+        glyphs,
+    )
 }
 
 #[test]
 fn bench_sign(rt: HostRuntime) -> Result<(), Fail> {
     let setup = bench(rt.alloc())?;
-    let face = setup.sign.face();
     assert_eq!(rt;
-        (face.width(), face.height(), face.fonts().len()),
-        (23, 14, 2)
+        (
+            face_of(&setup),
+            setup.sign.writer(),
+            setup.sign.order(),
+            setup.first
+        ),
+        (
+            (23, 14, 2, 30, Some(5)),
+            b"admin".as_slice(),
+            Order::High,
+            1
+        )
     );
-    assert_eq!(rt; face.defaults().on, 30);
-    let tall = face.font(1).ok_or("no font")?;
-    assert_eq!(rt; tall.glyphs().len(), 5);
-    assert!(rt; setup.sign.writer() == b"admin".as_slice());
-    assert_eq!(rt; setup.sign.order(), Order::High);
-    assert_eq!(rt; setup.first, 1);
     Ok(())
+}
+
+fn text_and_more(alloc: Global) -> Result<String, AllocError> {
+    let changed = with_line(alloc, 7, "# the first number\r\n\nfirst 0004294967\r")?;
+    let mut text = String::new(alloc);
+    text.push_str("# a sign\n\n")?;
+    text.push_str(changed.as_str())?;
+    text.push_str("sign-tick")?;
+    Ok(text)
+}
+
+/// The first number of a sign, the number of the line after it, and whether that line is this.
+fn line_after(alloc: Global, text: &[u8], wanted: &[u8]) -> Option<(u32, usize, bool)> {
+    let (setup, mut lines) = sign_of_lines(alloc, Lines::of(text)).ok()?;
+    let line = lines.next_line()?;
+    Some((setup.first, line.number, line.octets == wanted))
 }
 
 /// The lines after `end` are left, with their numbers; lines that are skipped may stand anywhere.
 #[test]
 fn first_lines_of_more(rt: HostRuntime) -> Result<(), Fail> {
-    let mut text = String::new(rt.alloc());
-    text.push_str("# a sign\n\n")?;
-    text.push_str(with_line(
-        rt.alloc(),
-        7,
-        "# the first number\r\n\nfirst 0004294967\r",
-    )?.as_str())?;
-    text.push_str("sign-tick")?;
-    let (setup, lines) = sign_of_lines(rt.alloc(), Lines::of(text.as_bytes()))?;
-    assert_eq!(rt; setup.first, 4_294_967);
-    let mut lines = lines;
-    let line = lines.next_line().ok_or("no line")?;
-    assert_eq!(rt; line.number, 22);
-    assert!(rt; line.octets == b"sign-tick".as_slice());
+    let text = text_and_more(rt.alloc())?;
+    assert_eq!(rt;
+        line_after(rt.alloc(), text.as_bytes(), b"sign-tick"),
+        Some((4_294_967, 22, true))
+    );
     Ok(())
 }
 
-fn check_bench_sign(setup: &Setup) -> Result<(), Fail> {
-    if setup.first == 1 && setup.sign.face().fonts().len() == 2 {
-        Ok(())
-    } else {
-        Err("another sign".into())
-    }
+fn is_bench_sign(setup: &Setup) -> bool {
+    setup.first == 1 && setup.sign.face().fonts().len() == 2
+}
+
+/// Whether the sign that is described is the bench sign.
+fn described(alloc: Global) -> Result<bool, DescriptionFault> {
+    Ok(is_bench_sign(&description(alloc, BENCH.as_bytes())?))
+}
+
+/// The same, and the number of the line that was read last.
+fn read(alloc: Global) -> Result<(bool, usize), DescriptionFault> {
+    let (setup, lines) = sign_of_lines(alloc, Lines::of(BENCH.as_bytes()))?;
+    Ok((is_bench_sign(&setup), lines.number()))
+}
+
+/// Whether the sign that is made is the bench sign.
+fn made(alloc: Global) -> Result<bool, AllocError> {
+    Ok(is_bench_sign(&bench(alloc)?))
 }
 
 /// Each call answers the sign, or out of memory where `rt try --test --fail-alloc N` refuses it; the same call then answers the sign.
 #[test]
-fn sign_or_out_of_memory(rt: HostRuntime) -> Result<(), Fail> {
-    let text = BENCH.as_bytes();
-    let described = match description(rt.alloc(), text) {
-        Err(DescriptionFault::Memory) => description(rt.alloc(), text),
-        answer => answer,
-    };
-    check_bench_sign(&described?)?;
-    let read = match sign_of_lines(rt.alloc(), Lines::of(text)) {
-        Err(DescriptionFault::Memory) => sign_of_lines(rt.alloc(), Lines::of(text)),
-        answer => answer,
-    };
-    let (setup, lines) = read?;
-    check_bench_sign(&setup)?;
-    assert_eq!(rt; lines.number(), 18);
-    let made = match bench(rt.alloc()) {
-        Err(_) => bench(rt.alloc()),
-        answer => answer,
-    };
-    check_bench_sign(&made?)
+fn sign_or_out_of_memory(rt: HostRuntime) {
+    let mut described_sign = described(rt.alloc());
+    if described_sign == Err(DescriptionFault::Memory) {
+        described_sign = described(rt.alloc());
+    }
+    let mut read_sign = read(rt.alloc());
+    if read_sign == Err(DescriptionFault::Memory) {
+        read_sign = read(rt.alloc());
+    }
+    let mut made_sign = made(rt.alloc());
+    if made_sign.is_err() {
+        made_sign = made(rt.alloc());
+    }
+    assert_eq!(rt;
+        (described_sign, read_sign, made_sign),
+        (Ok(true), Ok((true, 18)), Ok(true))
+    );
 }

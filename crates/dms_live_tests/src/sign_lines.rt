@@ -1,10 +1,12 @@
 //! The bench sign line by line, and the text of its pages.
 
+use dms_description::Setup;
 use dms_pages::pages;
 use dms_replay::bench;
+use dms_replay::fault::ReplayFault;
 use dms_sign_lines::answering::answer;
 use dms_sign_lines::page_text::pages_text;
-use std::io::Write;
+use std::alloc::{AllocError, Global};
 use std::test::Fail;
 
 /// Lines to the bench sign, each after `> `, and under each its answer.
@@ -143,20 +145,44 @@ const STATE_WITHOUT_POWER: &str = "shown 7 1 0000 mode 13 priority 1 remaining 6
 ok
 ";
 
+/// Each line that asks the bench sign, with its answer under it.
+fn talk(alloc: Global) -> Result<Vec<u8>, Fail> {
+    let mut setup = bench(alloc)?;
+    let mut found = Vec::new(alloc);
+    for line in TALK.lines() {
+        if let Some(asked) = line.strip_prefix("> ") {
+            put_answer(alloc, &mut setup, asked, &mut found)?;
+        }
+    }
+    Ok(found)
+}
+
+fn put_answer(
+    alloc: Global,
+    setup: &mut Setup,
+    asked: &str,
+    talk: &mut Vec<u8>,
+) -> Result<(), AllocError> {
+    let found = answer(alloc, &mut setup.sign, asked.as_bytes())?;
+    talk.extend_from_slice(b"> ")?;
+    talk.extend_from_slice(asked.as_bytes())?;
+    talk.push(b'\n')?;
+    talk.extend_from_slice(found.as_slice())
+}
+
 /// Each line has the answer that stands under it.
 #[test]
 fn answers(rt: HostRuntime) -> Result<(), Fail> {
-    let mut setup = bench(rt.alloc())?;
-    let mut found = Vec::new(rt.alloc());
-    for line in TALK.lines() {
-        if let Some(asked) = line.strip_prefix("> ") {
-            writeln!(found, "{line}")?;
-            let answer = answer(rt.alloc(), &mut setup.sign, asked.as_bytes())?;
-            found.extend_from_slice(answer.as_slice())?;
-        }
-    }
+    let found = talk(rt.alloc())?;
     assert!(rt; found.as_slice() == TALK.as_bytes());
     Ok(())
+}
+
+fn has_answer(alloc: Global, setup: &mut Setup, line: &str, wanted: &str) -> bool {
+    match answer(alloc, &mut setup.sign, line.as_bytes()) {
+        Ok(found) => found.as_slice() == wanted.as_bytes(),
+        Err(_) => false,
+    }
 }
 
 /// A line that spells no call is a bad line, and changes nothing.
@@ -193,38 +219,62 @@ fn bad_lines(rt: HostRuntime) -> Result<(), Fail> {
         "ok",
         "bad line",
     ] {
-        let found = answer(rt.alloc(), &mut setup.sign, line.as_bytes())?;
-        assert!(rt; found.as_slice() == "bad line\n".as_bytes(), "of {line:?}");
-        let state = answer(rt.alloc(), &mut setup.sign, b"state")?;
-        assert!(rt;
-            state.as_slice() == STATE_WITHOUT_POWER.as_bytes(),
-            "after {line:?}"
-        );
+        let bad = has_answer(rt.alloc(), &mut setup, line, "bad line\n");
+        let same = has_answer(rt.alloc(), &mut setup, "state", STATE_WITHOUT_POWER);
+        assert_eq!(rt; (bad, same), (true, true), "of {line:?}");
     }
     Ok(())
+}
+
+/// The text of the pages of a text on the bench sign.
+fn text_of_pages(alloc: Global, text: &[u8]) -> Option<Vec<u8>> {
+    let setup = bench(alloc).ok()?;
+    let shown = pages(alloc, setup.sign.face(), text).ok()?;
+    pages_text(alloc, shown.as_slice()).ok()
 }
 
 /// Two pages of other times and another background than the defaults, in two colours.
 #[test]
 fn two_pages(rt: HostRuntime) -> Result<(), Fail> {
-    let setup = bench(rt.alloc())?;
-    let shown = pages(
-        rt.alloc(),
-        setup.sign.face(),
-        b"[cb3][pt5o2]1[np][fo2][cf1]A",
-    )?;
-    let text = pages_text(rt.alloc(), shown.as_slice())?;
-    assert!(rt; text.as_slice() == TWO_PAGES.as_bytes());
+    let found = text_of_pages(rt.alloc(), b"[cb3][pt5o2]1[np][fo2][cf1]A").ok_or("no pages")?;
+    assert!(rt; found.as_slice() == TWO_PAGES.as_bytes());
     Ok(())
+}
+
+/// A line has this answer, and this mode is shown after it; out of memory leaves the mode as it was, and the line is handed once more.
+fn check_answer(
+    alloc: Global,
+    setup: &mut Setup,
+    line: &str,
+    mode: u8,
+    wanted: &str,
+) -> Result<(), &'static str> {
+    let before = setup.sign.shown().mode;
+    let right = match answer(alloc, &mut setup.sign, line.as_bytes()) {
+        Ok(found) => found.as_slice() == wanted.as_bytes(),
+        Err(_) if setup.sign.shown().mode != before => return Err("another mode out of memory"),
+        Err(_) => has_answer(alloc, setup, line, wanted),
+    };
+    if !right {
+        Err("another answer")
+    } else if setup.sign.shown().mode != mode {
+        Err("another mode")
+    } else {
+        Ok(())
+    }
+}
+
+fn bench_again(alloc: Global) -> Result<Setup, ReplayFault> {
+    match bench(alloc) {
+        Ok(setup) => Ok(setup),
+        Err(_) => bench(alloc),
+    }
 }
 
 /// Out of memory leaves the sign as it was; the same line then has its answer.
 #[test]
 fn answer_or_out_of_memory(rt: HostRuntime) -> Result<(), Fail> {
-    let mut setup = match bench(rt.alloc()) {
-        Ok(setup) => setup,
-        Err(_) => bench(rt.alloc())?,
-    };
+    let mut setup = bench_again(rt.alloc())?;
     for (line, mode, wanted) in [
         ("power-lost", 13, "ok\n"),
         ("power-back 7", 10, "ok\n"),
@@ -237,16 +287,8 @@ fn answer_or_out_of_memory(rt: HostRuntime) -> Result<(), Fail> {
         ),
         ("tock", 8, "bad line\n"),
     ] {
-        let before = setup.sign.shown().mode;
-        let found = match answer(rt.alloc(), &mut setup.sign, line.as_bytes()) {
-            Ok(found) => found,
-            Err(_) => {
-                assert_eq!(rt; setup.sign.shown().mode, before);
-                answer(rt.alloc(), &mut setup.sign, line.as_bytes())?
-            }
-        };
-        assert!(rt; found.as_slice() == wanted.as_bytes());
-        assert_eq!(rt; setup.sign.shown().mode, mode);
+        let checked = check_answer(rt.alloc(), &mut setup, line, mode, wanted);
+        assert_eq!(rt; checked, Ok(()), "of {line}");
     }
     Ok(())
 }

@@ -1,8 +1,8 @@
 //! Readers and writers by their values.
 
 use dms_streams::{Counted, Failed, Gathered, ReadFault, Sink, Source, read_whole, write_whole};
+use std::alloc::Global;
 use std::io::{Read, Write};
-use std::test::Fail;
 
 /// Gives an octet a call and never ends, but for the call that fails.
 #[derive(Drop)]
@@ -54,30 +54,37 @@ impl Write for Narrow {
     }
 }
 
-#[test]
-fn a_slice_is_read_and_written_whole(rt: HostRuntime) -> Result<(), Fail> {
-    let alloc = rt.alloc();
-    let mut text: &[u8] = b"all of it";
-    let read = read_whole(alloc, &mut text, 9)?;
+/// Whether these octets are read and written whole, and how often the reader and the writer failed.
+fn passed_on(alloc: Global, octets: &[u8]) -> Option<(bool, u64, u64)> {
+    let mut text = octets;
+    let read = read_whole(alloc, &mut text, octets.len()).ok()?;
     let mut out = Gathered::new(alloc);
-    write_whole(&mut out, read.as_slice())?;
-    assert!(rt; out.bytes() == b"all of it".as_slice());
-    assert_eq!(rt; (text.failures(), out.failures()), (0, 0));
-    let mut longer: &[u8] = b"all of it.";
-    match read_whole(alloc, &mut longer, 9) {
-        Err(ReadFault::TooLong) => Ok(()),
-        _ => Err("one octet too many".into()),
-    }
+    write_whole(&mut out, read.as_slice()).ok()?;
+    Some((out.bytes() == octets, text.failures(), out.failures()))
 }
 
 #[test]
-fn a_reader_of_std_is_counted(rt: HostRuntime) -> Result<(), Fail> {
-    let text: &[u8] = b"text";
+fn a_slice_is_read_and_written_whole(rt: HostRuntime) {
+    let mut longer: &[u8] = b"all of it.";
+    assert_eq!(rt;
+        (
+            passed_on(rt.alloc(), b"all of it"),
+            read_whole(rt.alloc(), &mut longer, 9).err()
+        ),
+        (Some((true, 0, 0)), Some(ReadFault::TooLong))
+    );
+}
+
+/// Whether a reader of std gives these octets, and how often it failed.
+fn counted(alloc: Global, text: &[u8]) -> Option<(bool, u64)> {
     let mut source = Counted::new(text);
-    let read = read_whole(rt.alloc(), &mut source, 4)?;
-    assert!(rt; read.as_slice() == b"text".as_slice());
-    assert_eq!(rt; source.failures(), 0);
-    Ok(())
+    let read = read_whole(alloc, &mut source, text.len()).ok()?;
+    Some((read.as_slice() == text, source.failures()))
+}
+
+#[test]
+fn a_reader_of_std_is_counted(rt: HostRuntime) {
+    assert_eq!(rt; counted(rt.alloc(), b"text"), Some((true, 0)));
 }
 
 #[test]
@@ -92,11 +99,8 @@ fn reading_ends(rt: HostRuntime) {
             before_failure,
             failed: 0,
         };
-        assert_eq!(rt;
-            read_whole(rt.alloc(), &mut endless, limit).err(),
-            Some(fault)
-        );
-        assert_eq!(rt; endless.failures(), failures);
+        let found = read_whole(rt.alloc(), &mut endless, limit).err();
+        assert_eq!(rt; (found, endless.failures()), (Some(fault), failures));
     }
 }
 
@@ -104,7 +108,7 @@ fn reading_ends(rt: HostRuntime) {
 fn a_writer_without_room_fails(rt: HostRuntime) {
     for (room, written, failures) in [(3, true, 0), (2, false, 1), (0, false, 1)] {
         let mut sink = Counted::new(Narrow { room });
-        assert_eq!(rt; write_whole(&mut sink, b"abc").is_ok(), written);
-        assert_eq!(rt; sink.failures(), failures);
+        let whole = write_whole(&mut sink, b"abc").is_ok();
+        assert_eq!(rt; (whole, sink.failures()), (written, failures));
     }
 }
