@@ -57,44 +57,70 @@ fn centre(rt: &impl Abort, alloc: Global, order: Order, first: u32) -> Centre {
     Centre::new(alloc, settings, first).expect(rt, "a central system")
 }
 
+/// A central system that has sent the first request of publishing `A` in row 1.
+fn publishing(rt: &impl Abort, alloc: Global) -> Centre {
+    let mut centre = centre(rt, alloc, Order::High, 1);
+    let (first, _) = cases::PUBLISHED[0];
+    check_sent(rt, &mut centre, publish(3, 1, b"A"), first);
+    centre
+}
+
+/// Whether a job is on, how the last one ended, and how many codes were sent.
+fn told(centre: &Centre) -> (bool, Ended, usize) {
+    (centre.busy(), centre.last(), centre.ledger().len())
+}
+
+fn check_octets(rt: &impl Abort, found: &[u8], wanted: &[u8]) {
+    assert_eq!(rt; found, wanted);
+}
+
 fn check_sent(rt: &impl Abort, centre: &mut Centre, command: Command<'_>, octets: &[u8]) {
     let mut out = Out::new();
     assert_eq!(rt; centre.command(command, &mut out), Ok(()));
-    assert_eq!(rt; out.as_slice(), octets);
+    check_octets(rt, &out, octets);
+}
+
+/// The command is taken, whatever is sent for it.
+fn check_taken(rt: &impl Abort, centre: &mut Centre, command: Command<'_>) {
+    assert_eq!(rt; centre.command(command, &mut Out::new()), Ok(()));
 }
 
 fn check_tick(rt: &impl Abort, centre: &mut Centre, octets: &[u8]) {
     let mut out = Out::new();
     assert_eq!(rt; centre.tick(&mut out), Ok(()));
-    assert_eq!(rt; out.as_slice(), octets);
+    check_octets(rt, &out, octets);
 }
 
 fn check_answer(rt: &impl Abort, centre: &mut Centre, datagram: &[u8], octets: &[u8]) {
     let mut out = Out::new();
     centre.receive(datagram, &mut out);
-    assert_eq!(rt; out.as_slice(), octets);
+    check_octets(rt, &out, octets);
 }
 
 fn check_entry(rt: &impl Abort, centre: &Centre, number: u32, code: Activation, outcome: Outcome) {
-    let entry = centre.ledger().get(&number).expect(rt, "an entry");
-    assert_eq!(rt; entry.code, code);
-    assert_eq!(rt; entry.outcome, outcome);
+    let entry = centre.ledger().get(&number).copied();
+    assert_eq!(rt; entry, Some(Entry { code, outcome }));
 }
 
-/// Answers the waiting request by each of these replies in turn, the activation after a tick.
+/// Answers the waiting request, which the next one follows: the activation after a tick.
+fn check_step(rt: &impl Abort, centre: &mut Centre, place: usize, reply: &[u8], next: &[u8]) {
+    if place == 5 {
+        check_answer(rt, centre, reply, &[]);
+        check_tick(rt, centre, next);
+    } else {
+        check_answer(rt, centre, reply, next);
+    }
+}
+
+/// Answers the waiting request by each of these replies in turn, so many of them.
 fn check_steps(rt: &impl Abort, centre: &mut Centre, steps: &[(&[u8], &[u8])], count: usize) {
     for place in 0..count.min(steps.len()) {
+        let (_, reply) = steps[place];
         let next = match steps.get(place + 1) {
             Some((request, _)) => *request,
             None => &[],
         };
-        let (_, reply) = steps[place];
-        if place == 5 {
-            check_answer(rt, centre, reply, &[]);
-            check_tick(rt, centre, next);
-        } else {
-            check_answer(rt, centre, reply, next);
-        }
+        check_step(rt, centre, place, reply, next);
     }
 }
 
@@ -104,16 +130,25 @@ const GET: [u8; 48] =
 
 /// A datagram that does not answer the first request of a job: nothing is sent, and the job goes on.
 fn check_unheard(rt: &impl Abort, centre: &mut Centre, datagram: &[u8]) {
-    check_answer(rt, centre, datagram, &[]);
-    assert!(rt; centre.busy() && centre.ledger().is_empty());
+    let mut out = Out::new();
+    centre.receive(datagram, &mut out);
+    assert_eq!(rt;
+        (out.is_empty(), told(centre)),
+        (true, (true, Ended::Never, 0))
+    );
+}
+
+/// The first request is answered, and the second one sent.
+fn check_goes_on(rt: &impl Abort, centre: &mut Centre) {
+    let (_, reply) = cases::PUBLISHED[0];
+    let (second, _) = cases::PUBLISHED[1];
+    check_answer(rt, centre, reply, second);
 }
 
 /// Each change of one octet of a Get is not heard: the request that waits is as old as before, and its reply is taken.
 #[test]
 fn changed_octets(rt: HostRuntime) {
-    let mut centre = centre(&rt, rt.alloc(), Order::High, 1);
-    let (first, reply) = cases::PUBLISHED[0];
-    check_sent(&rt, &mut centre, publish(3, 1, b"A"), first);
+    let mut centre = publishing(&rt, rt.alloc());
     for place in 0..GET.len() {
         let mut datagram = GET;
         for octet in 0..=255 {
@@ -121,19 +156,18 @@ fn changed_octets(rt: HostRuntime) {
             check_unheard(&rt, &mut centre, &datagram);
         }
     }
-    check_tick(&rt, &mut centre, &[]);
-    check_tick(&rt, &mut centre, &[]);
-    check_tick(&rt, &mut centre, first);
-    let (second, _) = cases::PUBLISHED[1];
-    check_answer(&rt, &mut centre, reply, second);
+    let (first, _) = cases::PUBLISHED[0];
+    for sent in [&[], &[], first] {
+        check_tick(&rt, &mut centre, sent);
+    }
+    check_goes_on(&rt, &mut centre);
 }
 
 /// Each proper prefix of the reply that is waited for, and the reply with one to four octets more, are not heard.
 #[test]
 fn cut_and_longer_replies(rt: HostRuntime) {
-    let mut centre = centre(&rt, rt.alloc(), Order::High, 1);
-    let (first, reply) = cases::PUBLISHED[0];
-    check_sent(&rt, &mut centre, publish(3, 1, b"A"), first);
+    let mut centre = publishing(&rt, rt.alloc());
+    let (_, reply) = cases::PUBLISHED[0];
     for (place, _) in reply.iter().enumerate() {
         check_unheard(&rt, &mut centre, &reply[..place]);
     }
@@ -143,24 +177,22 @@ fn cut_and_longer_replies(rt: HostRuntime) {
         assert!(rt; longer.try_extend_from_slice(&[octet]).is_ok());
         check_unheard(&rt, &mut centre, &longer);
     }
-    let (second, _) = cases::PUBLISHED[1];
-    check_answer(&rt, &mut centre, reply, second);
+    check_goes_on(&rt, &mut centre);
 }
 
 #[test]
 fn published(rt: HostRuntime) {
     let mut centre = centre(&rt, rt.alloc(), Order::High, 1);
-    assert_eq!(rt; centre.last(), Ended::Never);
+    assert_eq!(rt; told(&centre), (false, Ended::Never, 0));
     let (first, _) = cases::PUBLISHED[0];
     check_sent(&rt, &mut centre, publish(3, 1, b"A"), first);
-    assert!(rt; centre.busy());
+    assert_eq!(rt; told(&centre), (true, Ended::Never, 0));
     check_steps(&rt, &mut centre, &cases::PUBLISHED, 6);
     check_entry(&rt, &centre, 7, CODE, Outcome::Waiting);
     let (_, accepted) = cases::PUBLISHED[6];
     check_answer(&rt, &mut centre, accepted, &[]);
     check_entry(&rt, &centre, 7, CODE, Outcome::Accepted);
-    assert_eq!(rt; centre.last(), Ended::Accepted);
-    assert!(rt; !centre.busy());
+    assert_eq!(rt; told(&centre), (false, Ended::Accepted, 1));
 }
 
 #[test]
@@ -183,15 +215,13 @@ fn published_in_the_other_order(rt: HostRuntime) {
     let (first, _) = cases::PUBLISHED_SWAPPED[0];
     check_sent(&rt, &mut centre, command, first);
     check_steps(&rt, &mut centre, &cases::PUBLISHED_SWAPPED, 7);
-    assert_eq!(rt; centre.last(), Ended::Accepted);
-    assert_eq!(rt; centre.ledger().len(), 1);
+    assert_eq!(rt; told(&centre), (false, Ended::Accepted, 1));
 }
 
 #[test]
 fn sent_three_times(rt: HostRuntime) {
-    let mut centre = centre(&rt, rt.alloc(), Order::High, 1);
+    let mut centre = publishing(&rt, rt.alloc());
     let (first, _) = cases::PUBLISHED[0];
-    check_sent(&rt, &mut centre, publish(3, 1, b"A"), first);
     for tick in 1..10 {
         let again: &[u8] = if tick == 3 || tick == 6 { first } else { &[] };
         check_tick(&rt, &mut centre, again);
@@ -199,30 +229,29 @@ fn sent_three_times(rt: HostRuntime) {
     assert_eq!(rt; centre.last(), Ended::Failed(1, Why::NoReply));
     check_tick(&rt, &mut centre, &[]);
     let mut out = Out::new();
-    assert_eq!(rt; centre.command(publish(3, 1, b"A"), &mut out), Ok(()));
+    let taken = centre.command(publish(3, 1, b"A"), &mut out);
     // the octet of the request-id
-    assert_eq!(rt; out.as_slice().get(16).copied(), Some(2));
+    assert_eq!(rt; (taken, out.as_slice().get(16).copied()), (Ok(()), Some(2)));
+}
+
+/// A job that gets this reply after so many of those of `PUBLISHED` ends so, and no code was sent.
+fn check_ending(rt: &impl Abort, alloc: Global, count: usize, reply: &[u8], ended: Ended) {
+    let mut centre = publishing(rt, alloc);
+    check_steps(rt, &mut centre, &cases::PUBLISHED, count);
+    check_answer(rt, &mut centre, reply, &[]);
+    assert_eq!(rt; told(&centre), (false, ended, 0), "at {reply:?}");
 }
 
 #[test]
 fn failed(rt: HostRuntime) {
     for (count, reply, ended) in &cases::ENDINGS {
-        let mut centre = centre(&rt, rt.alloc(), Order::High, 1);
-        let (first, _) = cases::PUBLISHED[0];
-        check_sent(&rt, &mut centre, publish(3, 1, b"A"), first);
-        check_steps(&rt, &mut centre, &cases::PUBLISHED, *count);
-        check_answer(&rt, &mut centre, reply, &[]);
-        assert_eq!(rt; centre.last(), *ended, "at {reply:?}");
-        assert!(rt; !centre.busy());
-        assert!(rt; centre.ledger().is_empty());
+        check_ending(&rt, rt.alloc(), *count, reply, *ended);
     }
 }
 
 #[test]
 fn polled_ten_times(rt: HostRuntime) {
-    let mut centre = centre(&rt, rt.alloc(), Order::High, 1);
-    let (first, _) = cases::PUBLISHED[0];
-    check_sent(&rt, &mut centre, publish(3, 1, b"A"), first);
+    let mut centre = publishing(&rt, rt.alloc());
     check_steps(&rt, &mut centre, &cases::PUBLISHED, 4);
     for place in 0..10 {
         let (request, reply) = cases::POLLS[place];
@@ -234,26 +263,39 @@ fn polled_ten_times(rt: HostRuntime) {
     assert_eq!(rt; centre.last(), Ended::Failed(5, Why::StillValidating));
 }
 
+/// The numbers of the first three entries of the ledger.
+fn numbers(centre: &Centre) -> [Option<u32>; 3] {
+    let mut numbers = centre.ledger().keys();
+    [
+        numbers.next().copied(),
+        numbers.next().copied(),
+        numbers.next().copied(),
+    ]
+}
+
 #[test]
 fn refused_for_a_cause(rt: HostRuntime) {
     let mut centre = centre(&rt, rt.alloc(), Order::High, 1);
     check_sent(&rt, &mut centre, BLANK, &cases::BLANK);
     check_answer(&rt, &mut centre, &cases::BLANK_ACCEPTED, &[]);
     for number in 2..7 {
-        let mut out = Out::new();
-        assert_eq!(rt; centre.command(publish(3, number, b""), &mut out), Ok(()));
+        check_taken(&rt, &mut centre, publish(3, number, b""));
         centre.restart();
     }
-    let mut out = Out::new();
-    assert_eq!(rt; centre.command(Command::Activate(CODE), &mut out), Ok(()));
+    check_taken(&rt, &mut centre, Command::Activate(CODE));
     check_answer(&rt, &mut centre, &cases::REFUSED, &cases::WHY);
     check_answer(&rt, &mut centre, &cases::PRIORITY, &[]);
-    assert_eq!(rt; centre.last(), Ended::Failed(7, Why::Cause(3)));
-    let mut numbers = centre.ledger().keys();
-    assert_eq!(rt; numbers.next().copied(), Some(1));
-    assert_eq!(rt; numbers.next().copied(), Some(7));
-    assert_eq!(rt; numbers.next().copied(), None);
+    assert_eq!(rt;
+        (centre.last(), numbers(&centre)),
+        (Ended::Failed(7, Why::Cause(3)), [Some(1), Some(7), None])
+    );
     check_entry(&rt, &centre, 7, CODE, Outcome::Refused(5));
+}
+
+/// The type of memory and the outcome of an entry.
+fn entry_of(centre: &Centre, number: u32) -> Option<(u8, Outcome)> {
+    let entry = centre.ledger().get(&number)?;
+    Some((entry.code.id.memory, entry.outcome))
 }
 
 #[test]
@@ -263,17 +305,13 @@ fn restarted(rt: HostRuntime) {
     centre.restart();
     assert_eq!(rt; centre.last(), Ended::Failed(7, Why::Restarted));
     check_answer(&rt, &mut centre, &cases::BLANK_ACCEPTED, &[]);
-    let entry = centre.ledger().get(&1).expect(&rt, "an entry");
-    assert_eq!(rt; entry.outcome, Outcome::Unknown);
-    assert_eq!(rt; entry.code.id.memory, 7);
-    let mut out = Out::new();
-    assert_eq!(rt; centre.command(BLANK, &mut out), Ok(()));
+    assert_eq!(rt; entry_of(&centre, 1), Some((7, Outcome::Unknown)));
+    check_taken(&rt, &mut centre, BLANK);
     assert!(rt; centre.ledger().contains_key(&2));
     for _ in 0..9 {
-        assert_eq!(rt; centre.tick(&mut out), Ok(()));
+        assert_eq!(rt; centre.tick(&mut Out::new()), Ok(()));
     }
-    let entry = centre.ledger().get(&2).expect(&rt, "an entry");
-    assert_eq!(rt; entry.outcome, Outcome::NoReply);
+    assert_eq!(rt; entry_of(&centre, 2), Some((7, Outcome::NoReply)));
 }
 
 #[test]
@@ -286,34 +324,29 @@ fn last_number(rt: HostRuntime) {
         &cases::LAST_ACTIVATION,
     );
     check_answer(&rt, &mut centre, &cases::LAST_REFUSED, &[]);
-    assert_eq!(rt; centre.last(), Ended::Failed(8, Why::NumbersUsedUp));
     check_entry(&rt, &centre, 2_147_483_647, CODE, Outcome::Refused(5));
-    let mut out = Out::new();
+    let ended = centre.last();
+    let refused = centre.command(publish(2, 0, b""), &mut Out::new());
     assert_eq!(rt;
-        centre.command(publish(2, 0, b""), &mut out),
-        Err(CommandFault::NumbersUsedUp)
+        (ended, refused),
+        (
+            Ended::Failed(8, Why::NumbersUsedUp),
+            Err(CommandFault::NumbersUsedUp)
+        )
     );
 }
 
 #[test]
 fn not_answered_by(rt: HostRuntime) {
-    let mut centre = centre(&rt, rt.alloc(), Order::High, 1);
-    let (first, reply) = cases::PUBLISHED[0];
-    check_sent(&rt, &mut centre, publish(3, 1, b"A"), first);
+    let mut centre = publishing(&rt, rt.alloc());
     for datagram in &cases::FOREIGN {
-        check_answer(&rt, &mut centre, datagram, &[]);
-        assert!(rt; centre.busy(), "at {datagram:?}");
+        check_unheard(&rt, &mut centre, datagram);
     }
-    let (second, _) = cases::PUBLISHED[1];
-    check_answer(&rt, &mut centre, reply, second);
+    check_goes_on(&rt, &mut centre);
 }
 
-/// What is refused is not sent and changes nothing, and the first fault is reported.
-#[test]
-fn refused_commands(rt: HostRuntime) -> Result<(), Fail> {
-    let alloc = rt.alloc();
-    let text = vec![in alloc; b'A'; 513]?;
-    let owned = |owner, beacon, pixel, run_priority| Command::Publish {
+fn owned<'a>(owner: &'a [u8], beacon: u8, pixel: u8, run_priority: u8) -> Command<'a> {
+    Command::Publish {
         memory: 3,
         number: 1,
         text: b"A",
@@ -324,42 +357,68 @@ fn refused_commands(rt: HostRuntime) -> Result<(), Fail> {
         minutes: 1,
         priority: 1,
         address: ADDRESS,
-    };
-    let blank = |number| Command::Blank {
+    }
+}
+
+fn blank(number: u16) -> Command<'static> {
+    Command::Blank {
         number,
         minutes: 1,
         priority: 1,
         address: ADDRESS,
-    };
-    let bad = [
+    }
+}
+
+/// The command is refused for this fault: nothing is sent, and a job is on or not as it was.
+fn check_refused(
+    rt: &impl Abort,
+    centre: &mut Centre,
+    out: &mut Out,
+    command: Command<'_>,
+    fault: CommandFault,
+) {
+    let busy = centre.busy();
+    let refused = centre.command(command, out);
+    assert_eq!(rt;
+        (refused, out.is_empty(), centre.busy()),
+        (Err(fault), true, busy),
+        "{command:?}"
+    );
+}
+
+/// What is refused is not sent and changes nothing, and the first fault is reported.
+#[test]
+fn refused_commands(rt: HostRuntime) {
+    let text = [b'A'; 513];
+    let mut out = Out::new();
+    let mut centre = centre(&rt, rt.alloc(), Order::High, 1);
+    for command in [
         publish(2, 1, b""),
         publish(5, 1, b""),
         publish(3, 0, b""),
-        publish(4, 1, text.as_slice()),
+        publish(4, 1, &text),
         owned(&text[..128], 0, 0, 1),
         owned(b"", 2, 0, 1),
         owned(b"", 0, 2, 1),
         owned(b"", 0, 0, 0),
         blank(0),
         blank(256),
-    ];
-    let mut centre = centre(&rt, alloc, Order::High, 1);
-    let mut out = Out::new();
-    for command in bad {
-        assert_eq!(rt;
-            centre.command(command, &mut out),
-            Err(CommandFault::BadCommand),
-            "{command:?}"
+    ] {
+        check_refused(
+            &rt,
+            &mut centre,
+            &mut out,
+            command,
+            CommandFault::BadCommand,
         );
-        assert!(rt; out.is_empty() && !centre.busy());
     }
+    assert_eq!(rt; told(&centre), (false, Ended::Never, 0));
     assert_eq!(rt;
         centre.command(owned(&text[..127], 1, 1, 255), &mut out),
         Ok(())
     );
-    assert_eq!(rt; centre.command(blank(0), &mut out), Err(CommandFault::Busy));
-    assert!(rt; out.is_empty() && centre.busy());
-    Ok(())
+    check_refused(&rt, &mut centre, &mut out, blank(0), CommandFault::Busy);
+    assert!(rt; centre.busy());
 }
 
 #[test]
@@ -383,35 +442,54 @@ fn communities(rt: HostRuntime) {
     }
 }
 
+/// The fault of a blank message that is refused, whether nothing was sent then, and what the central system tells of itself.
+fn blank_refused(
+    centre: &mut Centre,
+    out: &mut Out,
+) -> Option<(CommandFault, bool, (bool, Ended, usize))> {
+    match centre.command(BLANK, out) {
+        Ok(()) => None,
+        Err(fault) => Some((fault, out.is_empty(), told(centre))),
+    }
+}
+
 /// With any allocation refused, a blank message and an activation that is due are out of memory, which changes nothing, and the same
 /// call succeeds with memory.
 #[test]
 fn entered_or_out_of_memory(rt: HostRuntime) {
     let mut centre = centre(&rt, rt.alloc(), Order::High, 1);
     let mut out = Out::new();
-    if let Err(fault) = centre.command(BLANK, &mut out) {
-        assert_eq!(rt; fault, CommandFault::Memory);
-        assert!(rt; out.is_empty() && !centre.busy() && centre.ledger().is_empty());
-        assert_eq!(rt; centre.command(BLANK, &mut out), Ok(()));
+    if let Some(refused) = blank_refused(&mut centre, &mut out) {
+        let unchanged = (CommandFault::Memory, true, (false, Ended::Never, 0));
+        assert_eq!(rt; refused, unchanged);
+        check_sent(&rt, &mut centre, BLANK, &cases::BLANK);
+    } else {
+        check_octets(&rt, &out, &cases::BLANK);
     }
-    assert_eq!(rt; out.as_slice(), cases::BLANK.as_slice());
+}
+
+/// Where a tick is out of memory, whether nothing was sent then, and what the central system tells of itself.
+fn tick_refused(centre: &mut Centre, out: &mut Out) -> Option<(bool, (bool, Ended, usize))> {
+    match centre.tick(out) {
+        Ok(()) => None,
+        Err(NoMemory) => Some((out.is_empty(), told(centre))),
+    }
 }
 
 #[test]
 fn due_or_out_of_memory(rt: HostRuntime) {
-    let mut centre = centre(&rt, rt.alloc(), Order::High, 1);
-    let (first, _) = cases::PUBLISHED[0];
-    check_sent(&rt, &mut centre, publish(3, 1, b"A"), first);
+    let mut centre = publishing(&rt, rt.alloc());
     check_steps(&rt, &mut centre, &cases::PUBLISHED, 5);
     let (_, checksum) = cases::PUBLISHED[5];
     check_answer(&rt, &mut centre, checksum, &[]);
-    let mut out = Out::new();
-    if let Err(NoMemory) = centre.tick(&mut out) {
-        assert!(rt; out.is_empty() && centre.busy() && centre.ledger().is_empty());
-        assert_eq!(rt; centre.tick(&mut out), Ok(()));
-    }
     let (activation, _) = cases::PUBLISHED[6];
-    assert_eq!(rt; out.as_slice(), activation);
+    let mut out = Out::new();
+    if let Some(refused) = tick_refused(&mut centre, &mut out) {
+        assert_eq!(rt; refused, (true, (true, Ended::Never, 0)));
+        check_tick(&rt, &mut centre, activation);
+    } else {
+        check_octets(&rt, &out, activation);
+    }
     check_entry(&rt, &centre, 7, CODE, Outcome::Waiting);
 }
 
@@ -427,8 +505,7 @@ fn check_text<T: Display + Drop>(
 }
 
 #[test]
-fn printed(rt: HostRuntime) -> Result<(), Fail> {
-    let alloc = rt.alloc();
+fn printed_outcomes(rt: HostRuntime) -> Result<(), Fail> {
     for (outcome, text) in [
         (Outcome::Waiting, "waiting"),
         (Outcome::Accepted, "accepted"),
@@ -437,8 +514,13 @@ fn printed(rt: HostRuntime) -> Result<(), Fail> {
         (Outcome::NoReply, "noreply"),
         (Outcome::Unknown, "unknown"),
     ] {
-        check_text(&rt, alloc, outcome, text)?;
+        check_text(&rt, rt.alloc(), outcome, text)?;
     }
+    Ok(())
+}
+
+#[test]
+fn printed_ends(rt: HostRuntime) -> Result<(), Fail> {
     for (ended, text) in [
         (Ended::Never, "no job has ended"),
         (Ended::Accepted, "accepted"),
@@ -476,8 +558,14 @@ fn printed(rt: HostRuntime) -> Result<(), Fail> {
             "failed at step 7: the central system was restarted",
         ),
     ] {
-        check_text(&rt, alloc, ended, text)?;
+        check_text(&rt, rt.alloc(), ended, text)?;
     }
+    Ok(())
+}
+
+#[test]
+fn printed(rt: HostRuntime) -> Result<(), Fail> {
+    let alloc = rt.alloc();
     check_text(
         &rt,
         alloc,

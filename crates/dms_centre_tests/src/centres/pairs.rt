@@ -1,6 +1,6 @@
 //! Replies of which two neighbouring octets were left out, doubled or exchanged.
 
-use super::{BLANK, cases, centre, publish};
+use super::{BLANK, cases, centre, check_taken, publish, told};
 use dms_centre::{Centre, Command};
 use dms_codes::Order;
 use dms_wire::{Kind, Out, heard};
@@ -36,16 +36,13 @@ fn is_reply(datagram: &[u8]) -> bool {
 /// A central system that sent this request, which waits for its reply.
 fn waiting(rt: &impl Abort, alloc: Global, command: Command<'_>) -> Centre {
     let mut centre = centre(rt, alloc, Order::High, 1);
-    let mut out = Out::new();
-    assert_eq!(rt; centre.command(command, &mut out), Ok(()));
+    check_taken(rt, &mut centre, command);
     centre
 }
 
 /// The two tell the same of themselves.
 fn check_same(rt: &impl Abort, one: &Centre, other: &Centre) {
-    assert_eq!(rt; one.busy(), other.busy());
-    assert_eq!(rt; one.last(), other.last());
-    assert_eq!(rt; one.ledger().len(), other.ledger().len());
+    assert_eq!(rt; told(one), told(other));
     for (number, entry) in other.ledger().iter() {
         assert!(rt; one.ledger().get(number) == Some(entry));
     }
@@ -61,8 +58,8 @@ fn check_unheard(rt: &impl Abort, alloc: Global, command: Command<'_>, datagram:
     check_same(rt, &one, &other);
     let mut wanted = Out::new();
     for _ in 0..10 {
-        assert_eq!(rt; one.tick(&mut sent), other.tick(&mut wanted));
-        assert!(rt; sent.as_slice() == wanted.as_slice());
+        let ticked = (one.tick(&mut sent), sent.as_slice());
+        assert!(rt; ticked == (other.tick(&mut wanted), wanted.as_slice()));
         check_same(rt, &one, &other);
     }
 }
