@@ -1,6 +1,15 @@
 //! Checksums of messages.
 
 use dms_codes::crc;
+use std::process::Abort;
+
+fn check_checksum(rt: &impl Abort, text: &str, beacon: u8, pixel: u8, want: u16) {
+    assert_eq!(rt;
+        crc(text.as_bytes(), beacon, pixel),
+        want,
+        "of {text:?}, {beacon}, {pixel}"
+    );
+}
 
 /// Checksums that another program computed: of a text, its beacon and its pixel service.
 #[test]
@@ -53,10 +62,6 @@ fn checksums_of_messages(rt: HostRuntime) {
         ("1[Bl[él l€é€  l 2pBé22l plAp[A]pn[B€B2]€", 0, 0, 0xe73d),
     ];
     for (text, beacon, pixel, want) in rows {
-        assert_eq!(rt;
-            crc(text.as_bytes(), beacon, pixel),
-            want,
-            "of {text:?}, {beacon}, {pixel}"
-        );
+        check_checksum(&rt, text, beacon, pixel, want);
     }
 }

@@ -22,11 +22,13 @@ const SWAPPED: [u8; 12] = [0xff, 0xff, 0xff, 3, 0, 1, 0x66, 0x9a, 192, 0, 2, 1];
 #[test]
 fn octets_of_codes(rt: HostRuntime) {
     for (order, octets) in [(Order::High, HIGH), (Order::Swapped, SWAPPED)] {
-        assert_eq!(rt; activation().to_bytes(order), octets);
-        assert_eq!(rt; Activation::from_bytes(order, &octets), Some(activation()));
         assert_eq!(rt;
-            MessageId::from_bytes(order, &octets[3..8]),
-            Some(activation().id)
+            (
+                activation().to_bytes(order),
+                Activation::from_bytes(order, &octets),
+                MessageId::from_bytes(order, &octets[3..8])
+            ),
+            (octets, Some(activation()), Some(activation().id))
         );
     }
     assert_eq!(rt;
@@ -38,8 +40,12 @@ fn octets_of_codes(rt: HostRuntime) {
 #[test]
 fn wrong_lengths(rt: HostRuntime) {
     for length in [0, 4, 6, 11] {
-        assert_eq!(rt; MessageId::from_bytes(Order::High, &HIGH[..length]), None);
-        assert_eq!(rt; Activation::from_bytes(Order::High, &HIGH[..length]), None);
+        let octets = &HIGH[..length];
+        assert!(rt;
+            MessageId::from_bytes(Order::High, octets).is_none()
+                && Activation::from_bytes(Order::High, octets).is_none(),
+            "{length}"
+        );
     }
-    assert_eq!(rt; Activation::from_bytes(Order::High, &[0; 13]), None);
+    assert!(rt; Activation::from_bytes(Order::High, &[0; 13]).is_none());
 }

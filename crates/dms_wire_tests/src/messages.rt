@@ -7,6 +7,7 @@ use dms_wire::{
     Value, WireFault, heard, read, write, write_around, write_response,
 };
 use std::alloc::Global;
+use std::fmt::Display;
 use std::process::Abort;
 use std::test::Fail;
 
@@ -28,6 +29,10 @@ fn check_faulty(rt: &impl Abort, cases: &[(&[u8], FaultKind, usize)]) {
     }
 }
 
+fn check_octets(rt: &impl Abort, found: &[u8], wanted: &[u8]) {
+    assert_eq!(rt; found, wanted);
+}
+
 /// Writes what was read, with these bindings.
 fn check_written(rt: &impl Abort, message: &Message<'_>, binds: &[Bind<'_>], canonical: &[u8]) {
     let parts = MessageParts {
@@ -40,16 +45,27 @@ fn check_written(rt: &impl Abort, message: &Message<'_>, binds: &[Bind<'_>], can
     };
     let mut out = Out::new();
     assert_eq!(rt; write(&parts, &mut out), Ok(()));
-    assert_eq!(rt; out.as_slice(), canonical);
+    check_octets(rt, &out, canonical);
+}
+
+/// Asserts that the octets' message is written so with its bindings, which can be walked twice.
+fn check_message(
+    rt: &impl Abort,
+    alloc: Global,
+    octets: &[u8],
+    canonical: &[u8],
+) -> Result<(), Fail> {
+    let message = read(octets)?;
+    let first: Vec<Bind<'_>> = message.binds.again().collect(alloc)?;
+    let second: Vec<Bind<'_>> = message.binds.again().collect(alloc)?;
+    check_written(rt, &message, &first, canonical);
+    check_written(rt, &message, &second, canonical);
+    Ok(())
 }
 
 fn check_spelled(rt: &impl Abort, alloc: Global, cases: &[(&[u8], &[u8])]) -> Result<(), Fail> {
     for (octets, canonical) in cases {
-        let message = read(octets)?;
-        let first: Vec<Bind<'_>> = message.binds.again().collect(alloc)?;
-        let second: Vec<Bind<'_>> = message.binds.again().collect(alloc)?;
-        check_written(rt, &message, &first, canonical);
-        check_written(rt, &message, &second, canonical);
+        check_message(rt, alloc, octets, canonical)?;
     }
     Ok(())
 }
@@ -125,11 +141,8 @@ fn example(rt: HostRuntime) -> Result<(), Fail> {
     }
     let answer =
         b"\x30\x2f\x02\x01\x00\x04\x06public\xa2\x22\x02\x01\x01\x02\x01\x00\x02\x01\x00\x30\x17\x30\x15\x06\x10\x2b\x06\x01\x04\x01\x89\x36\x04\x02\x03\x05\x08\x01\x09\x03\x01\x02\x01\x07";
-    assert_eq!(rt; out.as_slice(), answer.as_slice());
-    assert_eq!(rt;
-        write_response(&message, ErrorStatus::NoSuchName, 1, &mut out),
-        Ok(())
-    );
+    check_octets(&rt, &out, answer);
+    write_response(&message, ErrorStatus::NoSuchName, 1, &mut out)?;
     let refusal = datagram_of(
         &rt,
         &[
@@ -138,9 +151,17 @@ fn example(rt: HostRuntime) -> Result<(), Fail> {
             &GET[24..],
         ],
     );
-    assert_eq!(rt; out.as_slice(), refusal.as_slice());
-    assert!(rt; heard(&GET).is_some());
-    assert!(rt; heard(&GET[1..]).is_none());
+    check_octets(&rt, &out, &refusal);
+    assert!(rt; heard(&GET).is_some() && heard(&GET[1..]).is_none());
+    Ok(())
+}
+
+/// Asserts the Response without an error that repeats the request's bindings.
+fn check_response(rt: &impl Abort, request: &[u8], response: &[u8]) -> Result<(), Fail> {
+    let mut out = Out::new();
+    let message = read(request)?;
+    write_response(&message, ErrorStatus::NoError, 0, &mut out)?;
+    check_octets(rt, &out, response);
     Ok(())
 }
 
@@ -183,13 +204,7 @@ fn responses(rt: HostRuntime) -> Result<(), Fail> {
                 &GET[30..],
             ],
         );
-        let mut out = Out::new();
-        let message = read(&request)?;
-        assert_eq!(rt;
-            write_response(&message, ErrorStatus::NoError, 0, &mut out),
-            Ok(())
-        );
-        assert_eq!(rt; out.as_slice(), response.as_slice());
+        check_response(&rt, &request, &response)?;
     }
     Ok(())
 }
@@ -291,17 +306,21 @@ fn values(rt: HostRuntime) -> Result<(), Fail> {
         binds: &expected,
     };
     let mut out = Out::new();
-    assert_eq!(rt; write(&parts, &mut out), Ok(()));
-    assert_eq!(rt; out.as_slice(), datagram_of(&rt, RESPONSE).as_slice());
-    let mut message = read(&out)?;
-    assert_eq!(rt; message.community, b"public".as_slice());
-    assert_eq!(rt; message.kind, Kind::Response);
+    write(&parts, &mut out)?;
+    check_octets(&rt, &out, &datagram_of(&rt, RESPONSE));
+    check_read(&rt, &out, &expected)
+}
+
+/// Asserts the header of the Response, and its bindings.
+fn check_read(rt: &impl Abort, octets: &[u8], binds: &[Bind<'_>]) -> Result<(), Fail> {
+    let mut message = read(octets)?;
+    check_octets(rt, message.community, b"public");
     assert_eq!(rt;
-        (message.request, message.status, message.index),
-        (-2147483648, 2, 300)
+        (message.kind, message.request, message.status, message.index),
+        (Kind::Response, -2147483648, 2, 300)
     );
-    for bind in &expected {
-        let found = message.binds.next().expect(&rt, "a binding");
+    for bind in binds {
+        let found = message.binds.next().expect(rt, "a binding");
         assert!(rt; found == *bind);
     }
     assert!(rt; message.binds.next().is_none());
@@ -321,8 +340,8 @@ fn get_of<'a>(community: &'a [u8]) -> MessageParts<'a> {
 
 fn check_too_big(rt: &impl Abort, parts: &MessageParts<'_>) {
     let mut out = datagram_of(rt, &[&GET]);
-    assert_eq!(rt; write(parts, &mut out), Err(TooBig));
-    assert!(rt; out.is_empty());
+    let written = write(parts, &mut out);
+    assert_eq!(rt; (written, out.len()), (Err(TooBig), 0));
 }
 
 #[test]
@@ -338,8 +357,8 @@ fn limit(rt: HostRuntime) {
             b"\xa0\x0b\x02\x01\x01\x02\x01\x00\x02\x01\x00\x30\x00",
         ],
     );
+    check_octets(&rt, &out, &largest);
     assert_eq!(rt; largest.len(), 1472);
-    assert_eq!(rt; out.as_slice(), largest.as_slice());
     check_too_big(&rt, &get_of(&octets[..1449]));
     check_too_big(&rt, &get_of(&octets));
     let binds = [binding(&rt, b"\x2b", Value::Octets(&octets))];
@@ -354,9 +373,20 @@ fn limit(rt: HostRuntime) {
     check_too_big(&rt, &parts);
 }
 
+fn check_text<T: Display + Drop>(
+    rt: &impl Abort,
+    alloc: Global,
+    value: T,
+    text: &str,
+) -> Result<(), Fail> {
+    let printed = format!(in alloc; "{value}")?;
+    assert_eq!(rt; printed.as_str(), text);
+    Ok(())
+}
+
 #[test]
 fn texts(rt: HostRuntime) -> Result<(), Fail> {
-    let kinds = [
+    for (kind, text) in [
         (FaultKind::Truncated, "truncated"),
         (FaultKind::BadTag, "unexpected tag"),
         (FaultKind::BadLength, "bad length"),
@@ -366,21 +396,14 @@ fn texts(rt: HostRuntime) -> Result<(), Fail> {
         (FaultKind::BadVersion, "version is not 0"),
         (FaultKind::TrailingBytes, "trailing octets"),
         (FaultKind::TooLong, "datagram over 1472 octets"),
-    ];
-    for (kind, text) in kinds {
-        assert_eq!(rt; kind.to_string(rt.alloc())?.as_str(), text);
+    ] {
+        check_text(&rt, rt.alloc(), kind, text)?;
     }
     let fault = WireFault {
         kind: FaultKind::BadTag,
         place: 13,
     };
-    assert_eq!(rt;
-        fault.to_string(rt.alloc())?.as_str(),
-        "unexpected tag at octet 13"
-    );
-    assert_eq!(rt;
-        TooBig.to_string(rt.alloc())?.as_str(),
-        "the message has more than 1472 octets"
-    );
-    Ok(())
+    check_text(&rt, rt.alloc(), fault, "unexpected tag at octet 13")?;
+    let text = "the message has more than 1472 octets";
+    check_text(&rt, rt.alloc(), TooBig, text)
 }

@@ -2,6 +2,11 @@
 
 use dms_codes::RowId;
 use dms_objects::{Column, Instance, Name, Scalar};
+use std::process::Abort;
+
+fn check_number(rt: &impl Abort, column: Column, number: u8) {
+    assert_eq!(rt; column.number(), number, "{column:?}");
+}
 
 #[test]
 fn columns(rt: HostRuntime) {
@@ -17,7 +22,7 @@ fn columns(rt: HostRuntime) {
         (Column::Status, 9),
     ];
     for (column, number) in numbers {
-        assert_eq!(rt; column.number(), number, "{column:?}");
+        check_number(&rt, column, number);
     }
 }
 
@@ -28,6 +33,14 @@ fn example(rt: HostRuntime) {
         name.oid().content(),
         [43, 6, 1, 4, 1, 137, 54, 4, 2, 3, 6, 3, 0].as_slice()
     );
+}
+
+/// Asserts the octets of a row's status after those of dmsMessageEntry.
+fn check_row(rt: &impl Abort, memory: u8, number: u16, octets: &[u8]) {
+    let name = Name::of(Instance::Cell(Column::Status, RowId { memory, number }));
+    let entry = [43, 6, 1, 4, 1, 137, 54, 4, 2, 3, 5, 8, 1];
+    let found = name.oid().content().strip_prefix(entry.as_slice());
+    assert!(rt; found == Some(octets), "for row {number}");
 }
 
 /// The octets after those of dmsMessageEntry: a column, a type of memory, and a row's number of one, two and three octets.
@@ -42,9 +55,6 @@ fn rows(rt: HostRuntime) {
         (255, 65535, &[9, 129, 127, 131, 255, 127]),
     ];
     for (memory, number, octets) in rows {
-        let name = Name::of(Instance::Cell(Column::Status, RowId { memory, number }));
-        let entry = [43, 6, 1, 4, 1, 137, 54, 4, 2, 3, 5, 8, 1];
-        let found = name.oid().content().strip_prefix(entry.as_slice());
-        assert!(rt; found == Some(octets), "for row {number}");
+        check_row(&rt, memory, number, octets);
     }
 }
