@@ -1,6 +1,7 @@
 //! Scripts with their whole reports.
 
 use dms_description::BENCH;
+use dms_replay::fault::ReplayFault;
 use dms_replay::replaying::replay;
 use dms_streams::Gathered;
 use std::alloc::{AllocError, Global};
@@ -67,7 +68,7 @@ const OTHER_TEXT: &str =
     "forge-sign 302e020100040561646d696ea3220201010201000201003017301506102b060104018936040203050801090301020106
 forge-sign 302e020100040561646d696ea3220201010201000201003017301506102b060104018936040203050801030301040142";
 
-fn put_sign(script: &mut String, first: u32, order: &str) -> Result<(), Fail> {
+fn put_sign(script: &mut String, first: u32, order: &str) -> Result<(), AllocError> {
     for line in BENCH.lines() {
         if line.starts_with("first ") {
             writeln!(script, "first {first}")?;
@@ -80,22 +81,22 @@ fn put_sign(script: &mut String, first: u32, order: &str) -> Result<(), Fail> {
     Ok(())
 }
 
-fn put_both(script: &mut String, first: u32, last: u32) -> Result<(), Fail> {
+fn put_both(script: &mut String, first: u32, last: u32) -> Result<(), AllocError> {
     for place in first..=last {
         writeln!(script, "to-sign {place}\nto-centre {place}")?;
     }
     Ok(())
 }
 
-fn put_letter(script: &mut String, memory: u8, minutes: u16) -> Result<(), Fail> {
+fn put_letter(script: &mut String, memory: u8, minutes: u16) -> Result<(), AllocError> {
     writeln!(
         script,
         "publish {memory} 1 41 - 0 0 200 {minutes} 255 192.0.2.1"
     )?;
     put_both(script, 0, 3)?;
-    writeln!(script, "sign-tick")?;
+    script.push_str("sign-tick\n")?;
     put_both(script, 4, 5)?;
-    writeln!(script, "centre-tick")?;
+    script.push_str("centre-tick\n")?;
     put_both(script, 6, 6)
 }
 
@@ -106,23 +107,22 @@ fn put_times(script: &mut String, count: u32, text: &str) -> Result<(), AllocErr
     Ok(())
 }
 
-fn put_lines(script: &mut String, count: u32, lines: &str) -> Result<(), Fail> {
+fn put_lines(script: &mut String, count: u32, lines: &str) -> Result<(), AllocError> {
     for _ in 0..count {
         writeln!(script, "{lines}")?;
     }
     Ok(())
 }
 
-fn put_long(script: &mut String, text: u32, owner: u32) -> Result<(), Fail> {
+fn put_long(script: &mut String, text: u32, owner: u32) -> Result<(), AllocError> {
     script.push_str("publish 3 1 ")?;
     put_times(script, text, "41")?;
     script.push_str(" ")?;
     put_times(script, owner, "42")?;
-    writeln!(script, " 0 0 200 65535 255 0.0.0.0")?;
-    Ok(())
+    script.push_str(" 0 0 200 65535 255 0.0.0.0\n")
 }
 
-fn put_part(script: &mut String, part: Part) -> Result<(), Fail> {
+fn put_part(script: &mut String, part: Part) -> Result<(), AllocError> {
     match part {
         Part::Sign(first, order) => put_sign(script, first, order),
         Part::Lines(lines) => put_lines(script, 1, lines),
@@ -133,7 +133,7 @@ fn put_part(script: &mut String, part: Part) -> Result<(), Fail> {
     }
 }
 
-fn script_of(alloc: Global, parts: &[Part]) -> Result<String, Fail> {
+fn script_of(alloc: Global, parts: &[Part]) -> Result<String, AllocError> {
     let mut script = String::new(alloc);
     for part in parts {
         put_part(&mut script, *part)?;
@@ -142,7 +142,7 @@ fn script_of(alloc: Global, parts: &[Part]) -> Result<String, Fail> {
 }
 
 /// The report of the script of these parts.
-fn report_of(alloc: Global, parts: &[Part]) -> Result<Gathered, Fail> {
+fn report_of(alloc: Global, parts: &[Part]) -> Result<Gathered, ReplayFault> {
     let script = script_of(alloc, parts)?;
     let mut writer = Gathered::new(alloc);
     replay(alloc, &mut script.as_bytes(), &mut writer)?;
@@ -150,7 +150,7 @@ fn report_of(alloc: Global, parts: &[Part]) -> Result<Gathered, Fail> {
 }
 
 /// Messages that are published, activated and refused.
-const PUBLICATIONS: [(&[Part], &str); 9] = [
+static PUBLICATIONS: [(&[Part], &str); 9] = [
     (
         &[Part::Lines("bench"), Part::Letter(3, 65535)],
         "events 17
@@ -306,7 +306,7 @@ ledger 7 ffffff0300019a66c0000201 accepted
 ];
 
 /// The centre's requests without a reply, its numbers at their end, and commands that it does not take.
-const LEDGERS: [(&[Part], &str); 10] = [
+static LEDGERS: [(&[Part], &str); 10] = [
     (
         &[Part::Lines("bench\nblank 255 65535 255 0.0.0.0")],
         "events 1
@@ -434,7 +434,7 @@ shown 7 1 0000 mode 10 priority 1 remaining 65535 text -
 ];
 
 /// Losses of power and of communications.
-const LOSSES: [(&[Part], &str); 14] = [
+static LOSSES: [(&[Part], &str); 14] = [
     // without power nothing is heard and no time passes
     (
         &[
@@ -638,7 +638,7 @@ ledger 7 0001ff0300019a66c0000201 accepted
 ];
 
 /// Defaults that are written.
-const DEFAULTS: [(&[Part], &str); 5] = [
+static DEFAULTS: [(&[Part], &str); 5] = [
     // the permanent message has a character that font 2 has not
     (
         &[

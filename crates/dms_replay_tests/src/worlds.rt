@@ -51,7 +51,7 @@ const CODE: Activation = Activation {
     address: [0; 4],
 };
 
-const PUBLICATION: [Event<'static>; 17] = [
+static PUBLICATION: [Event<'static>; 17] = [
     Event::Command(PUBLISH),
     Event::ToSign(0),
     Event::ToCentre(0),
@@ -123,7 +123,10 @@ fn acceptance(world: &World, place: usize) -> Option<(usize, bool)> {
 
 /// The number of an event, where a stop after so many makes the run count anew.
 fn recounted(event: usize, stop: usize) -> usize {
-    if event > stop { event - stop } else { event }
+    match event.saturating_sub(stop) {
+        0 => event,
+        number => number,
+    }
 }
 
 /// Goes on after a stop, which only an event that may want memory is a cause of. How many events had happened at the stop.
@@ -180,47 +183,28 @@ fn same_datagrams(some: &[Out], others: &[Out]) -> bool {
             .all(|(one, other)| one.as_slice() == other.as_slice())
 }
 
-/// What is to be seen of a world after a publication and a second activation that no reply came to.
-type Sight = (
-    (usize, usize, usize, bool),
-    (Option<Outcome>, Option<Outcome>),
-    (Option<(usize, bool)>, Option<(usize, bool)>),
-);
-
-fn sight(world: &World) -> Sight {
-    (
-        counts(world),
-        (outcome(world, 7), outcome(world, 8)),
-        (acceptance(world, 0), acceptance(world, 1)),
-    )
+/// Whether a world is as wanted after a publication and a second activation that no reply came to, where the run stopped after so many
+/// events: its counts, what became of both requests, and both acceptances.
+fn as_wanted(world: &World, stop: usize) -> [bool; 5] {
+    [
+        counts(world) == (8, 8, 2, true),
+        outcome(world, 7) == Some(Outcome::Accepted),
+        outcome(world, 8) == Some(Outcome::Waiting),
+        acceptance(world, 0) == Some((recounted(16, stop), true)),
+        acceptance(world, 1) == Some((recounted(21, stop), true)),
+    ]
 }
 
-/// What is wanted, where the run stopped after so many events.
-fn wanted(stop: usize) -> Sight {
-    (
-        (8, 8, 2, true),
-        (Some(Outcome::Accepted), Some(Outcome::Waiting)),
-        (
-            Some((recounted(16, stop), true)),
-            Some((recounted(21, stop), true)),
-        ),
-    )
-}
-
-/// What is to be seen of two worlds after the same events, what is wanted of each, and whether the same datagrams were sent in both.
-fn two_sights(
+/// Whether two worlds are as wanted after the same events, and whether the same datagrams were sent in both.
+fn two_worlds(
     alloc: Global,
     events: &[Event<'_>],
-) -> Result<((Sight, Sight), (Sight, Sight), bool), &'static str> {
+) -> Result<([bool; 5], [bool; 5], bool), &'static str> {
     let (one, stop) = after_all(alloc, events)?;
     let (other, other_stop) = after_all(alloc, events)?;
     let same = same_datagrams(one.to_sign.as_slice(), other.to_sign.as_slice())
         && same_datagrams(one.to_centre.as_slice(), other.to_centre.as_slice());
-    Ok((
-        (sight(&one), sight(&other)),
-        (wanted(stop), wanted(other_stop)),
-        same,
-    ))
+    Ok((as_wanted(&one, stop), as_wanted(&other, other_stop), same))
 }
 
 /// A publication, a loss of power and forged datagrams, where memory is refused once or never, as `rt try --test --fail-alloc N` refuses it:
@@ -235,29 +219,31 @@ fn world_or_out_of_memory(rt: HostRuntime) -> Result<(), Fail> {
     events[20] = Event::ToSign(7);
     events[21] = Event::ForgeCentre(b"0");
     events[22] = Event::ForgeSign(b"0");
-    let (found, wanted, same) = two_sights(rt.alloc(), &events)?;
-    assert!(rt; same);
-    assert_eq!(rt; found, wanted);
+    assert_eq!(rt;
+        two_worlds(rt.alloc(), &events)?,
+        ([true; 5], [true; 5], true)
+    );
     Ok(())
 }
+
+static IN_VAIN: [Event<'static>; 6] = [
+    Event::Command(PUBLISH),
+    Event::Command(PUBLISH),
+    Event::ToSign(1),
+    Event::ToCentre(0),
+    Event::PowerLost,
+    Event::ToSign(0),
+];
 
 /// A second command, a delivery of what was never sent and a delivery to a sign without power change nothing.
 #[test]
 fn nothing_happens(rt: HostRuntime) -> Result<(), Fail> {
-    let events = [
-        Event::Command(PUBLISH),
-        Event::Command(PUBLISH),
-        Event::ToSign(1),
-        Event::ToCentre(0),
-        Event::PowerLost,
-        Event::ToSign(0),
-    ];
-    let (mut world, _) = after_all(rt.alloc(), &events)?;
+    let (mut world, _) = after_all(rt.alloc(), &IN_VAIN)?;
     let before = counts(&world);
-    run_through(&mut world, &[Event::PowerBack(1), Event::ToSign(0)])?;
+    let stop = run_through(&mut world, &[Event::PowerBack(1), Event::ToSign(0)]);
     assert_eq!(rt;
-        (before, counts(&world)),
-        ((1, 0, 0, false), (1, 1, 0, false))
+        (before, stop, counts(&world)),
+        ((1, 0, 0, false), Ok(0), (1, 1, 0, false))
     );
     Ok(())
 }
