@@ -3,6 +3,7 @@
 use crate::bench::{DEFAULTS, SMALL, TALL, bench, defaults_of, fonts_of};
 use dms_face::{Face, MultiFault, MultiFaultCode, check, check_with};
 use std::alloc::{AllocError, Global};
+use std::process::Abort;
 use std::test::Fail;
 
 /// The number of pages, or the code's number and the place.
@@ -13,6 +14,10 @@ fn answer(given: Result<usize, MultiFault>) -> Answer {
         Ok(pages) => Ok(pages),
         Err(fault) => Err((fault.code.number(), fault.place)),
     }
+}
+
+fn check_text(rt: &impl Abort, face: &Face, text: &str, expected: Answer) {
+    assert_eq!(rt; answer(check(face, text.as_bytes())), expected);
 }
 
 #[test]
@@ -45,7 +50,7 @@ fn texts_on_the_bench_sign(rt: HostRuntime) -> Result<(), Fail> {
         ("AAAAA]", Err((5, 4))),
         ("AAAA]", Err((3, 4))),
     ] {
-        assert_eq!(rt; answer(check(&face, text.as_bytes())), expected);
+        check_text(&rt, &face, text, expected);
     }
     Ok(())
 }
@@ -58,6 +63,10 @@ fn answer_with(face: &Face, defaults: [u8; 9], text: &str) -> Option<Answer> {
     } else {
         None
     }
+}
+
+fn check_text_with(rt: &impl Abort, face: &Face, defaults: [u8; 9], text: &str, expected: Answer) {
+    assert_eq!(rt; answer_with(face, defaults, text), Some(expected));
 }
 
 #[test]
@@ -73,7 +82,7 @@ fn other_defaults(rt: HostRuntime) -> Result<(), Fail> {
         (right, "A[jl3]A", Err((11, 1))),
         (right, "A[jp3]A", Err((11, 1))),
     ] {
-        assert_eq!(rt; answer_with(&face, defaults, text), Some(expected));
+        check_text_with(&rt, &face, defaults, text, expected);
     }
     Ok(())
 }
@@ -93,13 +102,8 @@ fn each_default(rt: HostRuntime) -> Result<(), Fail> {
         ([0, 9, 5, 5, 1, 3, 2, 40, 0], "[pt]A", Ok(1), Ok(1)),
         ([0, 9, 5, 5, 1, 3, 2, 30, 2], "[pt]A", Ok(1), Ok(1)),
     ] {
-        assert_eq!(rt;
-            (
-                answer(check(&face, text.as_bytes())),
-                answer_with(&face, defaults, text)
-            ),
-            (own, Some(expected))
-        );
+        check_text(&rt, &face, text, own);
+        check_text_with(&rt, &face, defaults, text, expected);
     }
     Ok(())
 }

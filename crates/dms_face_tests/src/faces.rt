@@ -5,6 +5,7 @@ use dms_face::{
     Defaults, Face, FaceFault, Font, FontFault, FontFaultKind, MultiFault, MultiFaultCode, check,
 };
 use std::alloc::Global;
+use std::process::Abort;
 use std::test::Fail;
 
 const SMALL: &[u8] =
@@ -32,14 +33,19 @@ fn example(rt: HostRuntime) -> Result<(), Fail> {
     Ok(())
 }
 
-fn face_fault(
+/// Asserts the fault of a face of this width and height with the fonts of these texts.
+fn check_face_fault(
+    rt: &impl Abort,
     alloc: Global,
-    width: u16,
-    height: u16,
+    size: (u16, u16),
     texts: &[&[u8]],
     defaults: Defaults,
-) -> Result<Option<FaceFault>, Fail> {
-    Ok(Face::new(width, height, fonts_of(alloc, texts)?, defaults).err())
+    fault: Option<FaceFault>,
+) -> Result<(), Fail> {
+    let (width, height) = size;
+    let found = Face::new(width, height, fonts_of(alloc, texts)?, defaults).err();
+    assert_eq!(rt; found, fault);
+    Ok(())
 }
 
 const THIRD: [u8; 9] = [0, 9, 5, 5, 3, 3, 2, 30, 0];
@@ -68,10 +74,7 @@ fn faults_of_a_face(rt: HostRuntime) -> Result<(), Fail> {
         (23, 14, both, third, Some(FaceFault::Default)),
         (23, 14, both, colour, Some(FaceFault::Default)),
     ] {
-        assert_eq!(rt;
-            face_fault(rt.alloc(), width, height, fonts, defaults)?,
-            fault
-        );
+        check_face_fault(&rt, rt.alloc(), (width, height), fonts, defaults, fault)?;
     }
     Ok(())
 }
@@ -95,6 +98,10 @@ fn a_face(rt: HostRuntime) -> Result<(), Fail> {
     Ok(())
 }
 
+fn check_fits(rt: &impl Abort, face: &Face, defaults: [u8; 9], fits: bool) {
+    assert_eq!(rt; defaults_of(defaults).fits(face), fits, "{defaults:?}");
+}
+
 #[test]
 fn defaults_that_fit(rt: HostRuntime) -> Result<(), Fail> {
     let face = bench(rt.alloc())?;
@@ -110,7 +117,7 @@ fn defaults_that_fit(rt: HostRuntime) -> Result<(), Fail> {
         ([0, 9, 5, 5, 1, 3, 1, 30, 0], false),
         ([0, 9, 5, 5, 1, 3, 5, 30, 0], false),
     ] {
-        assert_eq!(rt; defaults_of(defaults).fits(&face), fits, "{defaults:?}");
+        check_fits(&rt, &face, defaults, fits);
     }
     Ok(())
 }
@@ -138,11 +145,10 @@ fn face_or_out_of_memory(rt: HostRuntime) {
     let wanted = Ok(Some([Ok(2), Err(TOO_BIG)]));
     let first = answers(rt.alloc());
     let second = answers(rt.alloc());
-    if first == wanted {
-        assert!(rt; second == wanted || second == Err(REFUSED), "{second:?}");
-    } else {
-        assert_eq!(rt; (first, second), (Err(REFUSED), wanted));
-    }
+    assert!(rt;
+        first == wanted && (second == wanted || second == Err(REFUSED))
+            || first == Err(REFUSED) && second == wanted
+    );
 }
 
 #[test]

@@ -171,6 +171,10 @@ fn cell_of(alloc: Global, face: &Face, text: &str, number: usize, x: u16, y: u16
     }
 }
 
+fn check_cell(rt: &impl Abort, found: Option<Cell>, cell: Cell) {
+    assert_eq!(rt; found, Some(cell));
+}
+
 #[test]
 fn cells(rt: HostRuntime) -> Result<(), Fail> {
     let face = bench(rt.alloc())?;
@@ -189,10 +193,8 @@ fn cells(rt: HostRuntime) -> Result<(), Fail> {
         ("A[fo2]A", 0, 14, 1, false, 0, None),
         ("A[fo2]A", 0, 14, 2, true, 9, None),
     ] {
-        assert_eq!(rt;
-            cell_of(rt.alloc(), &face, text, number, x, y),
-            Some(Cell { lit, colour, flash })
-        );
+        let cell = Cell { lit, colour, flash };
+        check_cell(&rt, cell_of(rt.alloc(), &face, text, number, x, y), cell);
     }
     Ok(())
 }
@@ -224,26 +226,28 @@ fn a_fault_as_text(rt: HostRuntime) -> Result<(), Fail> {
     Ok(())
 }
 
-/// The answer of the check, how many pages there are, the first one's background, time and time off, the place of its first lit cell,
-/// and that cell.
-type Look = (
-    Result<usize, MultiFault>,
-    usize,
-    (u8, u8, u8),
-    ((u16, u16), Cell),
-);
+/// A page's background, time and time off, the place of its first lit cell, and that cell.
+type Look = ((u8, u8, u8), ((u16, u16), Cell));
 
-/// What a text looks like under these defaults, where they fit.
-fn look(alloc: Global, face: &Face, defaults: [u8; 9], text: &str) -> Option<Look> {
+fn look_of(page: &Page) -> Option<Look> {
+    let times = (page.back(), page.on(), page.off());
+    Some((times, first_lit(page)?))
+}
+
+/// The check's answer to a text, how many pages it has, and the look of the first one, under these defaults, where they fit.
+fn look_under(
+    alloc: Global,
+    face: &Face,
+    defaults: [u8; 9],
+    text: &[u8],
+) -> Option<(Result<usize, MultiFault>, usize, Option<Look>)> {
     let defaults = defaults_of(defaults);
     if !defaults.fits(face) {
         return None;
     }
-    let answer = check_with(face, &defaults, text.as_bytes());
-    let shown = pages_with(alloc, face, &defaults, text.as_bytes()).ok()?;
-    let page = shown.get(0)?;
-    let times = (page.back(), page.on(), page.off());
-    Some((answer, shown.len(), times, first_lit(page)?))
+    let answer = check_with(face, &defaults, text);
+    let shown = pages_with(alloc, face, &defaults, text).ok()?;
+    Some((answer, shown.len(), look_of(shown.get(0)?)))
 }
 
 /// Where a text says nothing, and where its tags have no values, the defaults hold.
@@ -274,8 +278,8 @@ fn each_default(rt: HostRuntime) -> Result<(), Fail> {
             "[cb5][cf2][fo2][jl2][jp4][pt99o99][cb][cf][fo][jl][jp][pt][fl]A",
         ] {
             assert_eq!(rt;
-                look(rt.alloc(), &face, defaults, text),
-                Some((Ok(1), 1, page, (at, cell)))
+                look_under(rt.alloc(), &face, defaults, text.as_bytes()),
+                Some((Ok(1), 1, Some((page, (at, cell)))))
             );
         }
     }
