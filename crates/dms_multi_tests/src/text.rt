@@ -2,6 +2,7 @@
 
 use dms_text::{Lines, Words, number, octets, version};
 use std::alloc::{AllocError, Global};
+use std::process::Abort;
 use std::test::Fail;
 
 /// The address that a word spells: four numbers up to 255, with a dot between two.
@@ -38,6 +39,10 @@ fn lines_and_their_words(rt: HostRuntime) {
     assert_eq!(rt; (lines.next_line().is_none(), lines.number()), (true, 5));
 }
 
+fn check_address(rt: &impl Abort, word: &str, read: Option<[u8; 4]>) {
+    assert_eq!(rt; address(word.as_bytes()), read, "of {word:?}");
+}
+
 #[test]
 fn addresses(rt: HostRuntime) {
     for (word, read) in [
@@ -49,7 +54,7 @@ fn addresses(rt: HostRuntime) {
         ("0192.0.2.1", None),
         ("", None),
     ] {
-        assert_eq!(rt; address(word.as_bytes()), read, "of {word:?}");
+        check_address(&rt, word, read);
     }
 }
 
