@@ -92,10 +92,14 @@ fn validated(
     pixel: u8,
 ) -> Result<Option<Verdict>, Refused> {
     table.ask(FIRST, Ask::Modify)?;
-    table.write(FIRST, Field::Text(text))?;
-    table.write(FIRST, Field::Beacon(beacon))?;
-    table.write(FIRST, Field::Pixel(pixel))?;
-    table.write(FIRST, Field::Priority(200))?;
+    for field in [
+        Field::Text(text),
+        Field::Beacon(beacon),
+        Field::Pixel(pixel),
+        Field::Priority(200),
+    ] {
+        table.write(FIRST, field)?;
+    }
     table.ask(FIRST, Ask::Validate)?;
     if defaults.fits(face) {
         Ok(table.settle(face, defaults))
@@ -146,10 +150,12 @@ fn check_asked(
     next: Option<Status>,
 ) -> Result<(), Fail> {
     let after = next.unwrap_or(from);
-    assert_eq!(rt;
-        asked(alloc, face, from, ask)?,
-        (Some(from), next.is_some(), Some(after)),
-        "{from:?} {ask:?}"
+    let found = asked(alloc, face, from, ask)?;
+    assert!(rt;
+        found == (Some(from), next.is_some(), Some(after)),
+        "status {}, asked {}",
+        from.number(),
+        ask.number()
     );
     Ok(())
 }
@@ -238,21 +244,20 @@ fn error_of(verdict: Option<Verdict>) -> Option<u8> {
     Some(verdict?.error)
 }
 
+/// The verdicts on a text under the defaults and then under the small ones, and one more where no row is being validated.
+fn three_verdicts(alloc: Global) -> Result<[Option<u8>; 3], Fail> {
+    let face = bench_face(alloc)?;
+    let mut table = Table::new(alloc, bench_stock(&[]), &face)?;
+    let before = validated(&mut table, &face, &DEFAULTS, b"[nl]A", 0, 0)?;
+    let after = validated(&mut table, &face, &SMALL_DEFAULTS, b"[nl]A", 0, 0)?;
+    let none = table.settle(&face, &face.defaults());
+    Ok([error_of(before), error_of(after), error_of(none)])
+}
+
 /// A verdict is one under the defaults of its time, and there is none where no row is being validated.
 #[test]
 fn verdicts_under_defaults(rt: HostRuntime) -> Result<(), Fail> {
-    let face = bench_face(rt.alloc())?;
-    let mut table = Table::new(rt.alloc(), bench_stock(&[]), &face)?;
-    let before = validated(&mut table, &face, &DEFAULTS, b"[nl]A", 0, 0)?;
-    let after = validated(&mut table, &face, &SMALL_DEFAULTS, b"[nl]A", 0, 0)?;
-    assert_eq!(rt;
-        (
-            error_of(before),
-            error_of(after),
-            table.settle(&face, &face.defaults())
-        ),
-        (Some(5), Some(2), None)
-    );
+    assert_eq!(rt; three_verdicts(rt.alloc())?, [Some(5), Some(2), None]);
     Ok(())
 }
 
@@ -260,30 +265,38 @@ fn check_out_of_range(rt: &impl Abort, table: &mut Table, field: Field<'_>) {
     assert_eq!(rt; table.write(FIRST, field), Err(Refused), "{field:?}");
 }
 
+/// A row of volatile memory.
+const VOLATILE: RowId = RowId {
+    memory: 4,
+    number: 1,
+};
+
+/// A table after a loss of power, before which one row was being validated, and whether another one could be too.
+fn after_one_validation(alloc: Global) -> Result<(Table, bool), Fail> {
+    let face = bench_face(alloc)?;
+    let mut table = Table::new(alloc, bench_stock(&[]), &face)?;
+    table.ask(VOLATILE, Ask::Modify)?;
+    brought_to(&mut table, &face, Status::Validating)?;
+    let second = table.ask(VOLATILE, Ask::Validate);
+    table.after_power();
+    Ok((table, second.is_ok()))
+}
+
 #[test]
 fn one_validation_at_a_time(rt: HostRuntime) -> Result<(), Fail> {
-    let face = bench_face(rt.alloc())?;
-    let mut table = Table::new(rt.alloc(), bench_stock(&[]), &face)?;
-    let volatile = RowId {
-        memory: 4,
-        number: 1,
-    };
-    table.ask(volatile, Ask::Modify)?;
-    brought_to(&mut table, &face, Status::Validating)?;
-    let second = table.ask(volatile, Ask::Validate);
-    table.after_power();
+    let (mut table, second) = after_one_validation(rt.alloc())?;
     assert_eq!(rt;
         (
             second,
-            (status(&table, FIRST), status(&table, volatile)),
-            table.write(volatile, Field::Owner(b"me")),
-            table.write(FIRST, Field::Owner(b"me"))
+            (status(&table, FIRST), status(&table, VOLATILE)),
+            table.write(VOLATILE, Field::Owner(b"me")).is_ok(),
+            table.write(FIRST, Field::Owner(b"me")).is_ok()
         ),
         (
-            Err(Refused),
+            false,
             (Some(Status::Modifying), Some(Status::NotUsed)),
-            Err(Refused),
-            Ok(())
+            false,
+            true
         )
     );
     for field in [
@@ -422,10 +435,10 @@ fn what_is_shown_is_blanked(rt: HostRuntime) -> Result<(), Fail> {
     Ok(())
 }
 
-/// A row's text, priority, status and checksum.
-fn row_of(table: &Table, id: RowId) -> Option<(&[u8], u8, Status, u16)> {
+/// Whether a row has the text `B`, and its priority, status and checksum.
+fn row_of(table: &Table, id: RowId) -> Option<(bool, u8, Status, u16)> {
     let row = table.row(id)?;
-    Some((row.text, row.priority, row.status, row.checksum))
+    Some((row.text == B.text, row.priority, row.status, row.checksum))
 }
 
 /// The only permanent row.
@@ -434,29 +447,51 @@ const PERMANENT: RowId = RowId {
     number: 1,
 };
 
+/// How many rows of a memory there are, are valid and are unused.
+fn counted(table: &Table, memory: u8) -> (usize, usize, usize) {
+    (
+        table.row_count(memory),
+        table.valid_count(memory),
+        table.unused_count(memory),
+    )
+}
+
+/// The counts of four memories; whether the permanent row has the text `B`, and its priority, status and checksum.
+type Told = ([(usize, usize, usize); 4], Option<(bool, u8, Status, u16)>);
+
+const TOLD: Told = (
+    [(1, 1, 0), (2, 0, 2), (1, 0, 1), (0, 0, 0)],
+    Some((true, 100, Status::Valid, 29954)),
+);
+
+/// What a table with the row `B` tells of itself.
+fn told(alloc: Global, face: &Face) -> Result<Told, TableFault> {
+    let table = Table::new(alloc, bench_stock(&[B]), face)?;
+    let counts = [
+        counted(&table, 2),
+        counted(&table, 3),
+        counted(&table, 4),
+        counted(&table, 7),
+    ];
+    Ok((counts, row_of(&table, PERMANENT)))
+}
+
 #[test]
 fn tables(rt: HostRuntime) -> Result<(), Fail> {
     let face = bench_face(rt.alloc())?;
-    let table = Table::new(rt.alloc(), bench_stock(&[B]), &face)?;
-    assert_eq!(rt;
-        row_of(&table, PERMANENT),
-        Some((B.text, 100, Status::Valid, 29954))
-    );
-    for (memory, rows, valid, unused) in [(2, 1, 1, 0), (3, 2, 0, 2), (4, 1, 0, 1), (7, 0, 0, 0)] {
-        assert_eq!(rt;
-            (
-                table.row_count(memory),
-                table.valid_count(memory),
-                table.unused_count(memory)
-            ),
-            (rows, valid, unused)
-        );
-    }
+    assert_eq!(rt; told(rt.alloc(), &face), Ok(TOLD));
     Ok(())
 }
 
-fn fault_of(alloc: Global, face: &Face, permanent: &[Permanent<'_>]) -> Option<TableFault> {
-    Table::new(alloc, bench_stock(permanent), face).err()
+fn check_permanent(
+    rt: &impl Abort,
+    alloc: Global,
+    face: &Face,
+    permanent: &[Permanent<'_>],
+    fault: TableFault,
+) {
+    let found = Table::new(alloc, bench_stock(permanent), face).err();
+    assert_eq!(rt; found, Some(fault));
 }
 
 #[test]
@@ -478,20 +513,20 @@ fn permanent_rows(rt: HostRuntime) -> Result<(), Fail> {
             pixel,
             priority,
         };
-        assert_eq!(rt;
-            fault_of(rt.alloc(), &face, &[B, wrong, wrong]),
-            Some(TableFault::Permanent(2))
+        check_permanent(
+            &rt,
+            rt.alloc(),
+            &face,
+            &[B, wrong, wrong],
+            TableFault::Permanent(2),
         );
     }
-    assert_eq!(rt;
-        fault_of(rt.alloc(), &face, &[B; 17]),
-        Some(TableFault::Counts)
-    );
+    check_permanent(&rt, rt.alloc(), &face, &[B; 17], TableFault::Counts);
     Ok(())
 }
 
 /// How many permanent rows there are and are valid, and how many changeable and volatile ones are unused.
-fn counted(
+fn counted_of(
     alloc: Global,
     face: &Face,
     changeable: u8,
@@ -518,7 +553,7 @@ fn counts(rt: HostRuntime) -> Result<(), Fail> {
         (65, 16, Err(TableFault::Counts)),
         (64, 17, Err(TableFault::Counts)),
     ] {
-        assert_eq!(rt; counted(rt.alloc(), &face, changeable, volatile), found);
+        assert_eq!(rt; counted_of(rt.alloc(), &face, changeable, volatile), found);
     }
     Ok(())
 }
@@ -536,25 +571,11 @@ fn table_or_out_of_memory(rt: HostRuntime) {
     let Some(face) = face_of_one_font(rt.alloc()) else {
         return;
     };
-    let made = match Table::new(rt.alloc(), bench_stock(&[B]), &face) {
-        Ok(table) => Ok(table),
-        Err(fault) => {
-            assert_eq!(rt; fault, TableFault::Memory);
-            Table::new(rt.alloc(), bench_stock(&[B]), &face)
-        }
+    let made = match told(rt.alloc(), &face) {
+        Err(TableFault::Memory) => told(rt.alloc(), &face),
+        made => made,
     };
-    let table = made.ok().expect(&rt, "a table");
-    assert_eq!(rt;
-        (
-            (table.row_count(2), table.row_count(3), table.row_count(4)),
-            (table.unused_count(3), table.unused_count(4))
-        ),
-        ((1, 2, 1), (2, 1))
-    );
-    assert_eq!(rt;
-        row_of(&table, PERMANENT),
-        Some((B.text, 100, Status::Valid, 29954))
-    );
+    assert_eq!(rt; made, Ok(TOLD));
 }
 
 fn checksum(table: &Table, id: RowId) -> Option<u16> {
@@ -564,7 +585,7 @@ fn checksum(table: &Table, id: RowId) -> Option<u16> {
 #[test]
 fn example(rt: HostRuntime) -> Result<(), Fail> {
     let face = bench_face(rt.alloc())?;
-    let mut table = Table::new(rt.alloc(), bench_stock(&[]), &face).map_err(|_| "no table")?;
+    let mut table = Table::new(rt.alloc(), bench_stock(&[]), &face)?;
     let row = RowId {
         memory: memory::CHANGEABLE,
         number: 1,
