@@ -3,6 +3,7 @@
 use dms_calls::{Call, Drawing, SignWanted};
 use dms_tool::act::{act, act_saying};
 use dms_tool::asked;
+use std::alloc::Global;
 use std::io;
 use std::io::Read;
 use std::test::Fail;
@@ -89,22 +90,34 @@ const ANSWERS: [(&str, &str, u8); 16] = [
     ("-", "not hex\n", 2),
 ];
 
-#[test]
-fn answers(rt: HostRuntime) -> Result<(), Fail> {
-    for (hex, printed, status) in ANSWERS {
-        let mut output = Vec::new(rt.alloc());
-        let mut input: &[u8] = &[];
-        let sign = SignWanted::Bench;
-        let found = act(
-            rt.alloc(),
-            &Call::Answer { hex, sign },
-            &mut input,
-            &mut output,
-        );
-        assert!(rt; output.as_slice() == printed.as_bytes(), "for {hex}");
-        assert_eq!(rt; found, status, "for {hex}");
+/// The call that these words are, if they are one.
+fn call_of<'a>(alloc: Global, words: &'a [&'a str]) -> Option<Call<'a>> {
+    asked(alloc, words).ok()
+}
+
+/// The status of a call over this standard input, and whether this is printed.
+fn acted(alloc: Global, call: &Call<'_>, input: &str, printed: &str) -> (u8, bool) {
+    let mut input = input.as_bytes();
+    let mut output = Vec::new(alloc);
+    let status = act(alloc, call, &mut input, &mut output);
+    (status, output.as_slice() == printed.as_bytes())
+}
+
+/// The same of the call that these words are, if they are one.
+fn called(alloc: Global, words: &[&str], input: &str, printed: &str) -> Option<(u8, bool)> {
+    match call_of(alloc, words) {
+        Some(call) => Some(acted(alloc, &call, input, printed)),
+        None => None,
     }
-    Ok(())
+}
+
+#[test]
+fn answers(rt: HostRuntime) {
+    let sign = SignWanted::Bench;
+    for (hex, printed, status) in ANSWERS {
+        let found = acted(rt.alloc(), &Call::Answer { hex, sign }, "", printed);
+        assert_eq!(rt; found, (status, true), "for {hex}");
+    }
 }
 
 /// Command lines, and what they print with which exit status.
@@ -188,18 +201,11 @@ const CALLS: [(&[&str], &str, u8); 16] = [
 ];
 
 #[test]
-fn calls(rt: HostRuntime) -> Result<(), Fail> {
+fn calls(rt: HostRuntime) {
     for (words, printed, status) in CALLS {
-        let Ok(call) = asked(rt.alloc(), words) else {
-            return Err(Fail::from("no call"));
-        };
-        let mut output = Vec::new(rt.alloc());
-        let mut input: &[u8] = &[];
-        let found = act(rt.alloc(), &call, &mut input, &mut output);
-        assert!(rt; output.as_slice() == printed.as_bytes(), "for {words:?}");
-        assert_eq!(rt; found, status, "for {words:?}");
+        let found = called(rt.alloc(), words, "", printed);
+        assert_eq!(rt; found, Some((status, true)), "for {words:?}");
     }
-    Ok(())
 }
 
 #[test]
@@ -208,67 +214,69 @@ fn refuses_a_long_text(rt: HostRuntime) -> Result<(), Fail> {
     for (length, status) in [(512, 0), (513, 1)] {
         let text = std::str::from_utf8(&long[..length])?;
         let words = ["signtool", "code", "3", "1", text];
-        let Ok(call) = asked(rt.alloc(), words.as_slice()) else {
-            return Err(Fail::from("no call"));
-        };
-        let mut output = Vec::new(rt.alloc());
-        let mut input: &[u8] = &[];
-        assert_eq!(rt; act(rt.alloc(), &call, &mut input, &mut output), status);
-        assert_eq!(rt;
-            output.as_slice() == b"text too long\n".as_slice(),
-            status == 1
-        );
+        let found = called(rt.alloc(), &words, "", "text too long\n");
+        assert_eq!(rt; found, Some((status, status == 1)));
     }
     Ok(())
 }
 
 #[test]
 fn reads_the_command_line(rt: HostRuntime) -> Result<(), Fail> {
-    let Ok(Call::Answer { hex, sign }) = asked(rt.alloc(), &["signtool", "answer", "30"]) else {
-        return Err(Fail::from("no call"));
+    let Some(Call::Answer { hex, sign }) = call_of(rt.alloc(), &["signtool", "answer", "30"]) else {
+        return Err("no answer".into());
     };
     assert!(rt; hex == "30" && sign == SignWanted::Bench);
-    let Ok(Call::Check { text, sign }) = asked(rt.alloc(), &["signtool", "check", "--sign", "A"])
-    else {
-        return Err(Fail::from("no call"));
+    let Some(Call::Check { text, sign }) = call_of(
+        rt.alloc(),
+        &["signtool", "check", "--sign", "A"],
+    ) else {
+        return Err("no check".into());
     };
     assert!(rt; text == "A" && sign == SignWanted::Described);
-    assert!(rt; asked(rt.alloc(), &["signtool", "replay", "A"]).is_err());
-    assert!(rt; asked(rt.alloc(), &["signtool"]).is_err());
-    assert!(rt; asked(rt.alloc(), &["signtool", "answer"]).is_err());
-    assert!(rt; asked(rt.alloc(), &["signtool", "answer", "30", "31"]).is_err());
-    assert!(rt; asked(rt.alloc(), &["signtool", "reply", "30"]).is_err());
-    assert!(rt; asked(rt.alloc(), &["signtool", "--help"]).is_err());
-    assert!(rt; asked(rt.alloc(), &["signtool", "code", "3", "1"]).is_err());
-    assert!(rt; asked(rt.alloc(), &["signtool", "code", "1", "1", "A"]).is_err());
-    assert!(rt; asked(rt.alloc(), &["signtool", "code", "5", "1", "A"]).is_err());
-    assert!(rt; asked(rt.alloc(), &["signtool", "code", "3", "0", "A"]).is_err());
-    assert!(rt; asked(rt.alloc(), &["signtool", "code", "3", "65536", "A"]).is_err());
-    assert!(rt;
-        asked(
-            rt.alloc(),
-            &["signtool", "code", "3", "1", "A", "--duration", "65536"]
-        )
-        .is_err()
-    );
-    assert!(rt;
-        asked(
-            rt.alloc(),
-            &["signtool", "code", "3", "1", "A", "--priority", "256"]
-        )
-        .is_err()
-    );
-    assert!(rt; asked(rt.alloc(), &["signtool", "help"]).is_err());
-    let Ok(Call::Sign { sign }) = asked(rt.alloc(), &["signtool", "sign", "--sign"]) else {
-        return Err(Fail::from("no call"));
+    let Some(Call::Sign { sign }) = call_of(rt.alloc(), &["signtool", "sign", "--sign"]) else {
+        return Err("no sign".into());
     };
-    assert!(rt; sign == SignWanted::Described);
-    let Ok(Call::Centre { sign }) = asked(rt.alloc(), &["signtool", "centre"]) else {
-        return Err(Fail::from("no call"));
+    let Some(Call::Centre { sign: bench }) = call_of(rt.alloc(), &["signtool", "centre"]) else {
+        return Err("no centre".into());
     };
-    assert!(rt; sign == SignWanted::Bench);
-    assert!(rt; asked(rt.alloc(), &["signtool", "sign", "tick"]).is_err());
+    assert!(rt; sign == SignWanted::Described && bench == SignWanted::Bench);
     Ok(())
+}
+
+/// Words that are no call.
+const NO_CALLS: [&[&str]; 15] = [
+    &["signtool", "replay", "A"],
+    &["signtool"],
+    &["signtool", "answer"],
+    &["signtool", "answer", "30", "31"],
+    &["signtool", "reply", "30"],
+    &["signtool", "--help"],
+    &["signtool", "code", "3", "1"],
+    &["signtool", "code", "1", "1", "A"],
+    &["signtool", "code", "5", "1", "A"],
+    &["signtool", "code", "3", "0", "A"],
+    &["signtool", "code", "3", "65536", "A"],
+    &["signtool", "code", "3", "1", "A", "--duration", "65536"],
+    &["signtool", "code", "3", "1", "A", "--priority", "256"],
+    &["signtool", "help"],
+    &["signtool", "sign", "tick"],
+];
+
+#[test]
+fn refuses_other_command_lines(rt: HostRuntime) {
+    for words in NO_CALLS {
+        assert!(rt; call_of(rt.alloc(), words).is_none(), "for {words:?}");
+    }
+}
+
+/// The status of a call whose output takes nothing.
+fn status_where_full(alloc: Global, words: &[&str]) -> Option<u8> {
+    let mut input: &[u8] = &[];
+    let mut output: &mut [u8] = &mut [];
+    match call_of(alloc, words) {
+        Some(call) => Some(act(alloc, &call, &mut input, &mut output)),
+        None => None,
+    }
 }
 
 /// Where the output takes nothing, the status says so, whatever was to be printed.
@@ -282,12 +290,7 @@ fn full_output(rt: HostRuntime) {
         &["signtool", "code", "3", "1", "A"],
     ];
     for words in calls {
-        let mut input: &[u8] = &[];
-        let mut output: &mut [u8] = &mut [];
-        let Ok(call) = asked(rt.alloc(), words) else {
-            continue;
-        };
-        assert_eq!(rt; act(rt.alloc(), &call, &mut input, &mut output), 1);
+        assert_eq!(rt; status_where_full(rt.alloc(), words), Some(1));
     }
 }
 
@@ -295,17 +298,14 @@ fn full_output(rt: HostRuntime) {
 #[test]
 fn bad_address_first(rt: HostRuntime) -> Result<(), Fail> {
     let text = [b'A'; 513];
-    let long = str::from_utf8(&text).map_err(|_| "no text")?;
+    let long = str::from_utf8(&text)?;
     for (address, printed, status) in [
         ("1.2.3", "bad address\n", 2),
         ("1.2.3.4", "text too long\n", 1),
     ] {
         let words = ["signtool", "code", "3", "1", long, "--address", address];
-        let call = asked(rt.alloc(), &words).map_err(|_| "no call")?;
-        let mut input: &[u8] = &[];
-        let mut output = Vec::new(rt.alloc());
-        assert_eq!(rt; act(rt.alloc(), &call, &mut input, &mut output), status);
-        assert!(rt; output.as_slice() == printed.as_bytes());
+        let found = called(rt.alloc(), &words, "", printed);
+        assert_eq!(rt; found, Some((status, true)));
     }
     Ok(())
 }
@@ -406,18 +406,11 @@ const WITH_INPUT: [(&[&str], &str, &str, u8); 18] = [
 ];
 
 #[test]
-fn calls_with_input(rt: HostRuntime) -> Result<(), Fail> {
+fn calls_with_input(rt: HostRuntime) {
     for (words, input, printed, status) in WITH_INPUT {
-        let Ok(call) = asked(rt.alloc(), words) else {
-            return Err(Fail::from("no call"));
-        };
-        let mut output = Vec::new(rt.alloc());
-        let mut input = input.as_bytes();
-        let found = act(rt.alloc(), &call, &mut input, &mut output);
-        assert!(rt; output.as_slice() == printed.as_bytes(), "for {words:?}");
-        assert_eq!(rt; found, status, "for {words:?}");
+        let found = called(rt.alloc(), words, input, printed);
+        assert_eq!(rt; found, Some((status, true)), "for {words:?}");
     }
-    Ok(())
 }
 
 /// A reader that gives so many `#` and then fails, or then ends.
@@ -439,9 +432,22 @@ impl Read for Filler {
     }
 }
 
+/// The status of a call that reads so many `#`, after which its input fails or ends, and whether this is printed.
+fn filled(
+    alloc: Global,
+    call: &Call<'_>,
+    (left, fails): (usize, bool),
+    printed: &str,
+) -> (u8, bool) {
+    let mut input = Filler { left, fails };
+    let mut output = Vec::new(alloc);
+    let status = act(alloc, call, &mut input, &mut output);
+    (status, output.as_slice() == printed.as_bytes())
+}
+
 /// Whatever reads the standard input says that it fails, and that it is too long.
 #[test]
-fn bad_inputs(rt: HostRuntime) -> Result<(), Fail> {
+fn bad_inputs(rt: HostRuntime) {
     let sign = SignWanted::Described;
     for call in [
         Call::Check { text: "A", sign },
@@ -461,18 +467,15 @@ fn bad_inputs(rt: HostRuntime) -> Result<(), Fail> {
             (1_048_577, false, "too long\n"),
             (1_048_576, false, "line 2\n"),
         ] {
-            let mut input = Filler { left, fails };
-            let mut output = Vec::new(rt.alloc());
-            assert_eq!(rt; act(rt.alloc(), &call, &mut input, &mut output), 1);
-            assert!(rt; output.as_slice() == printed.as_bytes(), "after {left}");
+            let found = filled(rt.alloc(), &call, (left, fails), printed);
+            assert_eq!(rt; found, (1, true), "after {left}");
         }
     }
-    Ok(())
 }
 
 /// Where a whole input is read first, an octet past the limit decides before a call that would fail after it.
 #[test]
-fn too_long_before_a_failure(rt: HostRuntime) -> Result<(), Fail> {
+fn too_long_before_a_failure(rt: HostRuntime) {
     let sign = SignWanted::Described;
     for call in [
         Call::Check { text: "A", sign },
@@ -484,20 +487,14 @@ fn too_long_before_a_failure(rt: HostRuntime) -> Result<(), Fail> {
         Call::Answer { hex: "30", sign },
         Call::Replay,
     ] {
-        let mut input = Filler {
-            left: 1_048_577,
-            fails: true,
-        };
-        let mut output = Vec::new(rt.alloc());
-        assert_eq!(rt; act(rt.alloc(), &call, &mut input, &mut output), 1);
-        assert!(rt; output.as_slice() == b"too long\n".as_slice());
+        let found = filled(rt.alloc(), &call, (1_048_577, true), "too long\n");
+        assert_eq!(rt; found, (1, true));
     }
-    Ok(())
 }
 
 /// A long line is refused, the lines around it are answered, and a reader that fails within a line is told after them.
 #[test]
-fn long_lines_are_refused(rt: HostRuntime) -> Result<(), Fail> {
+fn long_lines_are_refused(rt: HostRuntime) {
     let sign = SignWanted::Bench;
     for (call, fails, printed) in [
         (Call::Sign { sign }, false, "bad line\n"),
@@ -505,16 +502,9 @@ fn long_lines_are_refused(rt: HostRuntime) -> Result<(), Fail> {
         (Call::Sign { sign }, true, "read\n"),
         (Call::Centre { sign }, true, "read\n"),
     ] {
-        let mut input = Filler {
-            left: 200_000,
-            fails,
-        };
-        let mut output = Vec::new(rt.alloc());
-        let found = act(rt.alloc(), &call, &mut input, &mut output);
-        assert_eq!(rt; found, u8::from(fails));
-        assert!(rt; output.as_slice() == printed.as_bytes());
+        let found = filled(rt.alloc(), &call, (200_000, fails), printed);
+        assert_eq!(rt; found, (u8::from(fails), true));
     }
-    Ok(())
 }
 
 /// An output that is full after each octet in turn has a prefix of what is to be printed, and the status says that it is not all.
@@ -548,6 +538,21 @@ fn full_after_each_octet(rt: HostRuntime) {
             assert!(rt; buffer[..room] == printed[..room]);
         }
     }
+}
+
+/// The status of a call, and whether this is printed, or that there is no memory.
+fn acted_or_memory(alloc: Global, call: &Call<'_>, input: &str, printed: &str) -> (u8, bool, bool) {
+    let mut buffer = [0_u8; 256];
+    let mut output: &mut [u8] = &mut buffer;
+    let mut input = input.as_bytes();
+    let status = act(alloc, call, &mut input, &mut output);
+    let written = 256_usize.saturating_sub(output.len());
+    let text = &buffer[..written];
+    (
+        status,
+        text == printed.as_bytes(),
+        text == b"memory\n".as_slice(),
+    )
 }
 
 /// Where memory is refused once, as `rt try --test --fail-alloc N` refuses it, each call prints what it prints without, or `memory` with
@@ -592,23 +597,12 @@ fn printed_or_out_of_memory(rt: HostRuntime) {
         (Call::Sign { sign: bench }, "tick", "ok\n", 0),
         (Call::Centre { sign: bench }, "tick", "ok\n", 0),
     ] {
-        let mut refused = false;
-        for _ in 0..2 {
-            let mut buffer = [0_u8; 256];
-            let mut output: &mut [u8] = &mut buffer;
-            let mut input = input.as_bytes();
-            let found = act(rt.alloc(), &call, &mut input, &mut output);
-            let written = 256_usize.saturating_sub(output.len());
-            let text = &buffer[..written];
-            if found == status && text == printed.as_bytes() {
+        for refused in [false, true] {
+            let (found, whole, memory) = acted_or_memory(rt.alloc(), &call, input, printed);
+            if found == status && whole {
                 break;
             }
-            assert!(rt;
-                found == 1 && text == b"memory\n".as_slice(),
-                "for {call:?}"
-            );
-            assert!(rt; !refused, "for {call:?}");
-            refused = true;
+            assert_eq!(rt; (found, memory, refused), (1, true, false), "for {call:?}");
         }
     }
 }
@@ -704,44 +698,58 @@ const READERS: [(&[&str], &str, u8, &str); 14] = [
     ),
 ];
 
+/// The status of the call that these words are, and whether this is printed and that is said on the standard error.
+fn called_saying(
+    alloc: Global,
+    words: &[&str],
+    printed: &str,
+    said: &str,
+) -> Option<(u8, bool, bool)> {
+    let call = call_of(alloc, words)?;
+    let mut output = Vec::new(alloc);
+    let mut errors = Vec::new(alloc);
+    let mut input: &[u8] = &[];
+    let status = act_saying(alloc, &call, &mut input, &mut output, &mut errors);
+    Some((
+        status,
+        output.as_slice() == printed.as_bytes(),
+        errors.as_slice() == said.as_bytes(),
+    ))
+}
+
 #[test]
-fn readers(rt: HostRuntime) -> Result<(), Fail> {
+fn readers(rt: HostRuntime) {
     for (words, printed, status, said) in READERS {
-        let Ok(call) = asked(rt.alloc(), words) else {
-            return Err(Fail::from("no call"));
-        };
-        let mut output = Vec::new(rt.alloc());
-        let mut errors = Vec::new(rt.alloc());
-        let mut input: &[u8] = &[];
-        let found = act_saying(rt.alloc(), &call, &mut input, &mut output, &mut errors);
-        assert!(rt; output.as_slice() == printed.as_bytes(), "for {words:?}");
-        assert!(rt; errors.as_slice() == said.as_bytes(), "for {words:?}");
-        assert_eq!(rt; found, status, "for {words:?}");
+        let found = called_saying(rt.alloc(), words, printed, said);
+        assert_eq!(rt; found, Some((status, true, true)), "for {words:?}");
     }
-    Ok(())
+}
+
+/// The status of two pages that are drawn so, whether a document is printed, or page 2, and in how many lines.
+fn drawn(alloc: Global, drawing: Drawing) -> (u8, bool, bool, usize) {
+    let call = Call::Pages {
+        text: "A[np]B",
+        sign: SignWanted::Bench,
+        drawing,
+    };
+    let mut output = Vec::new(alloc);
+    let mut input: &[u8] = &[];
+    let status = act(alloc, &call, &mut input, &mut output);
+    let text = output.as_slice();
+    (
+        status,
+        text.starts_with(b"<svg ") && text.ends_with(b"</svg>\n"),
+        text.starts_with(b"page 2 on 30 off 0 back 0\n"),
+        text.iter().filter(|octet| **octet == b'\n').count(),
+    )
 }
 
 /// A picture begins and ends as a document; a page alone is as many rows as the sign has, and the line before them.
 #[test]
-fn pictures(rt: HostRuntime) -> Result<(), Fail> {
-    let sign = SignWanted::Bench;
+fn pictures(rt: HostRuntime) {
     for (svg, page) in [(true, None), (true, Some(2)), (false, Some(2))] {
-        let drawing = Drawing { svg, page };
-        let call = Call::Pages {
-            text: "A[np]B",
-            sign,
-            drawing,
-        };
-        let mut output = Vec::new(rt.alloc());
-        let mut input: &[u8] = &[];
-        assert_eq!(rt; act(rt.alloc(), &call, &mut input, &mut output), 0);
-        let text = output.as_slice();
-        if svg {
-            assert!(rt; text.starts_with(b"<svg ") && text.ends_with(b"</svg>\n"));
-        } else {
-            assert!(rt; text.starts_with(b"page 2 on 30 off 0 back 0\n"));
-            assert_eq!(rt; text.iter().filter(|octet| **octet == b'\n').count(), 15);
-        }
+        let (status, document, second, lines) = drawn(rt.alloc(), Drawing { svg, page });
+        assert_eq!(rt; (status, document, second), (0, svg, !svg));
+        assert!(rt; svg || lines == 15);
     }
-    Ok(())
 }
