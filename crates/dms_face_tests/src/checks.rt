@@ -23,34 +23,38 @@ fn check_text(rt: &impl Abort, face: &Face, text: &str, expected: Answer) {
 #[test]
 fn texts_on_the_bench_sign(rt: HostRuntime) -> Result<(), Fail> {
     let face = bench(rt.alloc())?;
-    for (text, expected) in [
-        ("", Ok(1)),
-        ("[[A]]", Ok(1)),
-        ("[NL03]", Err((5, 6))),
-        ("AAAA", Ok(1)),
-        ("AAA[[1", Err((5, 5))),
-        ("[nl][fo2]A", Ok(1)),
-        ("[nl]A", Err((5, 4))),
-        ("A[np]A[np]A[np]A[np]A[np]A", Ok(6)),
-        ("A[np]A[np]A[np]A[np]A[np]A[np]A", Err((12, 26))),
-        ("[jl3]A[jl2]A", Err((11, 6))),
-        ("[tr1,1,5,5]", Err((3, 0))),
-        ("[cf255,0,0]", Err((4, 0))),
-        ("[jl2]AAA[jl4]A", Ok(1)),
-        ("[jl2]AAA[jl4]AA", Err((5, 14))),
-        ("[jl3][jl2]A", Ok(1)),
-        ("[jp2]A[jp4]A", Ok(1)),
-        ("[jp2]A[jp3]A", Err((5, 11))),
-        ("[jp4]A[jp2]A", Err((11, 6))),
-        ("[fl]A[/fl]A", Ok(1)),
-        ("[fo3]A", Err((6, 0))),
-        ("[fo2,0001]A", Err((13, 0))),
-        ("[fo2,0002]AAAAAA", Ok(1)),
-        ("A[fo2]B", Err((7, 6))),
-        ("AAAAA]", Err((5, 4))),
-        ("AAAA]", Err((3, 4))),
+    for (text, pages) in [
+        ("", 1),
+        ("[[A]]", 1),
+        ("AAAA", 1),
+        ("[nl][fo2]A", 1),
+        ("A[np]A[np]A[np]A[np]A[np]A", 6),
+        ("[jl2]AAA[jl4]A", 1),
+        ("[jl3][jl2]A", 1),
+        ("[jp2]A[jp4]A", 1),
+        ("[fl]A[/fl]A", 1),
+        ("[fo2,0002]AAAAAA", 1),
     ] {
-        check_text(&rt, &face, text, expected);
+        check_text(&rt, &face, text, Ok(pages));
+    }
+    for (text, code, place) in [
+        ("[NL03]", 5, 6),
+        ("AAA[[1", 5, 5),
+        ("[nl]A", 5, 4),
+        ("A[np]A[np]A[np]A[np]A[np]A[np]A", 12, 26),
+        ("[jl3]A[jl2]A", 11, 6),
+        ("[tr1,1,5,5]", 3, 0),
+        ("[cf255,0,0]", 4, 0),
+        ("[jl2]AAA[jl4]AA", 5, 14),
+        ("[jp2]A[jp3]A", 5, 11),
+        ("[jp4]A[jp2]A", 11, 6),
+        ("[fo3]A", 6, 0),
+        ("[fo2,0001]A", 13, 0),
+        ("A[fo2]B", 7, 6),
+        ("AAAAA]", 5, 4),
+        ("AAAA]", 3, 4),
+    ] {
+        check_text(&rt, &face, text, Err((code, place)));
     }
     Ok(())
 }
