@@ -74,7 +74,7 @@ def groups(edits):
 
 def edits_of(base):
     """The edits of a crate."""
-    return [Edit(base, path) for path in sorted((base / "must-fail").glob("*.edit"))]
+    return [Edit(base, path) for folder in ("must-fail", "wrong-bodies") for path in sorted((base / folder).glob("*.edit"))]
 
 
 def applicable(base):
