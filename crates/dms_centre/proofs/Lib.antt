@@ -6,12 +6,3 @@ pub mod Checksums
 pub mod Lengths
 pub mod Requests
 pub mod Written
-pub mod Lists
-pub mod Numbers
-pub mod Keeping
-pub mod NumberLaws
-pub mod LedgerKeeping
-pub mod LedgerLaws
-pub mod Working
-pub mod Ordered
-pub mod Worked

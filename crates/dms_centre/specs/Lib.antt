@@ -12,9 +12,6 @@ pub mod Texts
 -- What its laws are stated in.
 pub mod History
 pub mod Requests
-pub mod RequestNumbers
-pub mod Ledger
 -- What only proofs go through.
-pub mod Numbered
 pub mod ByPhase
 pub mod Invariant

@@ -8,11 +8,11 @@ use Rattle.dms_centre.specs.Sending.{Move}
 use Rattle.dms_centre.specs.Commands.{commanded}
 use Rattle.dms_centre.specs.Inputs.{received, ticked}
 use Rattle.dms_centre.specs.History.{Input, History, move_at}
-use Rattle.dms_centre.specs.RequestNumbers.{HasNumber, Sends, Nothing, Again, New}
-use Rattle.dms_centre.proofs.Lists.{on_left, in_push}
-use Rattle.dms_centre.proofs.Numbers.{one_number, request_number}
-use Rattle.dms_centre.proofs.Keeping.{keeps_input}
-use Rattle.dms_centre.proofs.LedgerLaws.{IsKept}
+use Rattle.dms_centre_laws.specs.RequestNumbers.{HasNumber, Sends, Nothing, Again, New}
+use Rattle.dms_centre_laws.proofs.Lists.{on_left, in_push}
+use Rattle.dms_centre_laws.proofs.Numbers.{one_number, request_number}
+use Rattle.dms_centre_laws.proofs.Keeping.{keeps_input}
+use Rattle.dms_centre_laws.proofs.LedgerLaws.{IsKept}
 use Rattle.dms_world.specs.Event.{EventModel, command, sign_tick, centre_tick, to_sign, to_centre, power_lost, power_back, centre_restart, forge_sign, forge_centre}
 use Rattle.dms_world.specs.World.{WorldModel, noted, by_sign, by_centre, at_sign, at_centre, happens, happens_if, world_at, IsFresh}
 use Rattle.dms_world.specs.Backed.{Has}

@@ -27,9 +27,9 @@ use Rattle.dms_centre.specs.declared.outcome.Outcome.TheVariants.{Accepted, Refu
 use Rattle.dms_centre.specs.declared.step.Step.TheVariants.{Activating}
 use Rattle.dms_centre.specs.State.{Showing, Entry}
 use Rattle.dms_centre.specs.Steps.{request_of}
-use Rattle.dms_centre.specs.RequestNumbers.{HasNumber}
-use Rattle.dms_centre.specs.Ledger.{Answers, PutsUp}
-use Rattle.dms_centre.proofs.Lists.{at_end}
+use Rattle.dms_centre_laws.specs.RequestNumbers.{HasNumber}
+use Rattle.dms_centre_laws.specs.Ledger.{Answers, PutsUp}
+use Rattle.dms_centre_laws.proofs.Lists.{at_end}
 use Rattle.dms_world.specs.Event.{EventModel, to_sign, forge_centre}
 use Rattle.dms_world.specs.World.{WorldModel, noted, by_sign, world_at, world_after, IsFresh}
 use Rattle.dms_world.specs.Backed.{Has}

@@ -21,7 +21,7 @@ use Rattle.dms_sign.specs.State.{SignState}
 use Rattle.dms_access.specs.Access.{Write, SetNumber, SetCode, SetField, AskRow, Activate, SetRemaining, is_command}
 use Rattle.dms_sign.specs.SetRequest.{SetCause, causes, assigned}
 use Rattle.dms_sign.specs.Requests.{found_unless, as_decided, as_asked, commanded, commanded_if, writes_of, set_unless, may_write, answer_by, primary}
-use Rattle.dms_centre.proofs.Lists.{by_test}
+use Rattle.dms_centre_laws.proofs.Lists.{by_test}
 use Rattle.dms_world.specs.Honest.{shown_checksum}
 
 -- what a code of a row put up has its checksum

@@ -2,11 +2,11 @@
 use Rattle.std.proofs.Common.{◌≡◌, ℕ, zero, suc, List, Option, Some, None, length, refl, sym, ◌∙◌, subst}
 use Rattle.dms_centre.specs.State.{SettingsModel, Job, Pending, Awaits}
 use Rattle.dms_centre.specs.History.{Input, History}
-use Rattle.dms_centre.specs.RequestNumbers.{AreRequests, EqualNumbersMeanEqualOctets, ThreeSendsAtMost}
-use Rattle.dms_centre.specs.Numbered.{IsOut, IsAwaited}
-use Rattle.dms_centre.specs.Ledger.{LedgerIsSent, NumbersPutUpTheirCodes}
-use Rattle.dms_centre.proofs.Keeping.{keeps_input}
-use Rattle.dms_centre.proofs.LedgerLaws.{IsKept, is_kept_made, is_kept_input, put_up_by}
+use Rattle.dms_centre_laws.specs.RequestNumbers.{AreRequests, EqualNumbersMeanEqualOctets, ThreeSendsAtMost}
+use Rattle.dms_centre_laws.specs.Numbered.{IsOut, IsAwaited}
+use Rattle.dms_centre_laws.specs.Ledger.{LedgerIsSent, NumbersPutUpTheirCodes}
+use Rattle.dms_centre_laws.proofs.Keeping.{keeps_input}
+use Rattle.dms_centre_laws.proofs.LedgerLaws.{IsKept, is_kept_made, is_kept_input, put_up_by}
 use Rattle.dms_world.specs.Event.{EventModel}
 use Rattle.dms_world.specs.World.{WorldModel, world_at, IsFresh}
 use Rattle.dms_world.specs.Headline.{AreEvents}

@@ -5,9 +5,9 @@ use Rattle.dms_centre.specs.State.{Work, Entry, CentreState}
 use Rattle.dms_centre.specs.Steps.{code_of}
 use Rattle.dms_centre.specs.Commands.{CommandModel, refusal_of, job_of}
 use Rattle.dms_centre.specs.History.{Input, Hears, IsInput, History, move_at, after_input}
-use Rattle.dms_centre.specs.Ledger.{LedgerMoves}
-use Rattle.dms_centre.proofs.LedgerLaws.{IsKept, ledger_move}
-use Rattle.dms_centre.proofs.Working.{OfTaken, AreOf, are_of_input}
+use Rattle.dms_centre_laws.specs.Ledger.{LedgerMoves}
+use Rattle.dms_centre_laws.proofs.LedgerLaws.{IsKept, ledger_move}
+use Rattle.dms_centre_laws.proofs.Working.{OfTaken, AreOf, are_of_input}
 use Rattle.dms_world.specs.Event.{EventModel, command, sign_tick, centre_tick, to_sign, to_centre, power_lost, power_back, centre_restart, forge_sign, forge_centre}
 use Rattle.dms_world.specs.World.{WorldModel, world_at, IsFresh}
 use Rattle.dms_world.specs.Headline.{AreEvents}

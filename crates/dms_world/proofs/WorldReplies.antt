@@ -18,7 +18,7 @@ use Rattle.dms_sign.specs.Reply as sign_reply
 use Rattle.dms_sign.specs.Reply.{response_of, most_octets, is_heard, heard, dropped, on_message_if}
 use Rattle.dms_sign.specs.InRange.{response_sent}
 use Rattle.dms_sign.proofs.Replies.{is_set_answer}
-use Rattle.dms_centre.proofs.Lists.{in_push}
+use Rattle.dms_centre_laws.proofs.Lists.{in_push}
 use Rattle.dms_world.specs.Event.{EventModel, command, sign_tick, centre_tick, to_sign, to_centre, power_lost, power_back, centre_restart, forge_sign, forge_centre}
 use Rattle.dms_world.specs.World.{WorldModel, by_sign, at_sign, at_centre, happens, happens_if, world_at, IsFresh}
 use Rattle.dms_world.specs.Headline.{is_forged, NothingIsForged}

@@ -7,10 +7,10 @@ use Rattle.dms_codes.specs.Codes.{octets_of_activation}
 use Rattle.dms_centre.specs.declared.step.Step.TheVariants.{Activating}
 use Rattle.dms_centre.specs.State.{SettingsModel, Showing, Entry}
 use Rattle.dms_centre.specs.Steps.{request_of}
-use Rattle.dms_centre.specs.RequestNumbers.{HasNumber}
-use Rattle.dms_centre.specs.Ledger.{PutsUp}
-use Rattle.dms_centre.proofs.Numbers.{below_next}
-use Rattle.dms_centre.proofs.LedgerLaws.{puts_up_number}
+use Rattle.dms_centre_laws.specs.RequestNumbers.{HasNumber}
+use Rattle.dms_centre_laws.specs.Ledger.{PutsUp}
+use Rattle.dms_centre_laws.proofs.Numbers.{below_next}
+use Rattle.dms_centre_laws.proofs.LedgerLaws.{puts_up_number}
 use Rattle.dms_world.specs.Event.{EventModel}
 use Rattle.dms_world.specs.World.{WorldModel, world_at, IsFresh}
 use Rattle.dms_world.specs.Backed.{Has}

@@ -14,7 +14,7 @@ use Rattle.dms_centre.specs.declared.outcome.Outcome.TheVariants.{Accepted, Refu
 use Rattle.dms_centre.specs.State.{Entry}
 use Rattle.dms_centre.specs.Steps.{code_of}
 use Rattle.dms_centre.specs.Commands.{CommandModel, job_of, refusal_of}
-use Rattle.dms_centre.specs.RequestNumbers.{HasNumber, EqualNumbersMeanEqualOctets, ThreeSendsAtMost}
+use Rattle.dms_centre_laws.specs.RequestNumbers.{HasNumber, EqualNumbersMeanEqualOctets, ThreeSendsAtMost}
 use Rattle.dms_world.specs.Event.{EventModel, command, to_sign}
 use Rattle.dms_world.specs.World.{WorldModel, world_at, world_after}
 use Rattle.dms_world.specs.Backed.{Has}

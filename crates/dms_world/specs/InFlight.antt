@@ -4,7 +4,7 @@ use Rattle.dms_wire.specs.Message.{SnmpMessage}
 use Rattle.dms_wire.specs.MessageOf.{message_of}
 use Rattle.dms_sign.specs.Reply.{received as sign_received}
 use Rattle.dms_centre.specs.State.{Job, Pending, Awaits}
-use Rattle.dms_centre.specs.RequestNumbers.{HasNumber}
+use Rattle.dms_centre_laws.specs.RequestNumbers.{HasNumber}
 use Rattle.dms_world.specs.Event.{EventModel, to_sign}
 use Rattle.dms_world.specs.World.{WorldModel, world_at, world_after}
 use Rattle.dms_world.specs.Backed.{Has, IsBackedAt}

@@ -1,4 +1,4 @@
-use Rattle.dms_centre.proofs.NumberLaws.{are_requests, numbers_rise, next_number}
+use Rattle.dms_centre_laws.proofs.NumberLaws.{are_requests, numbers_rise, next_number}
 use Rattle.dms_centre.proofs.laws.numbers_rise.Goals as goal
 
 pub returns-clause-requests : goal.returns-clause-requests

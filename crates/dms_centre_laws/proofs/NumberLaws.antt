@@ -3,9 +3,9 @@ use Rattle.std.proofs.Common.{◌≡◌, ℕ, List, [], ◌∷◌, refl, ◌∙�
 use Rattle.std.specs.List.{AllByRecursion}
 use Rattle.dms_centre.specs.State.{SettingsModel}
 use Rattle.dms_centre.specs.History.{AreSettings, Input, IsInput, History, made, move_at, after_input, after_inputs}
-use Rattle.dms_centre.specs.RequestNumbers.{AreRequests, NumbersRise, EqualNumbersMeanEqualOctets, ThreeSendsAtMost, Sends}
-use Rattle.dms_centre.specs.Numbered.{HistoryIsNumbered}
-use Rattle.dms_centre.proofs.Keeping.{keeps_input, numbered_made, numbered_after}
+use Rattle.dms_centre_laws.specs.RequestNumbers.{AreRequests, NumbersRise, EqualNumbersMeanEqualOctets, ThreeSendsAtMost, Sends}
+use Rattle.dms_centre_laws.specs.Numbered.{HistoryIsNumbered}
+use Rattle.dms_centre_laws.proofs.Keeping.{keeps_input, numbered_made, numbered_after}
 
 settings_stay : (inputs : List Input) (history : History) → HistoryIsNumbered history → AllByRecursion IsInput inputs
     → (after_inputs history inputs).state.settings ≡ history.state.settings

@@ -12,7 +12,7 @@ use Rattle.dms_centre.specs.Steps.{code_of, request_of}
 use Rattle.dms_centre.specs.Sending.{Move}
 use Rattle.dms_centre.specs.Commands.{CommandModel, refusal_of, job_of}
 use Rattle.dms_centre.specs.History.{Input, Commands, Hears, Ticks, Restarts, made, after_inputs}
-use Rattle.dms_centre.specs.RequestNumbers.{HasNumber}
+use Rattle.dms_centre_laws.specs.RequestNumbers.{HasNumber}
 
 -- ---- at one input
 

@@ -1,4 +1,4 @@
-use Rattle.dms_centre.proofs.NumberLaws.{three_sends}
+use Rattle.dms_centre_laws.proofs.NumberLaws.{three_sends}
 use Rattle.dms_centre.proofs.laws.three_sends_at_most.Goals as goal
 
 pub returns : goal.returns

@@ -1,4 +1,4 @@
-use Rattle.dms_centre.proofs.NumberLaws.{equal_numbers}
+use Rattle.dms_centre_laws.proofs.NumberLaws.{equal_numbers}
 use Rattle.dms_centre.proofs.laws.equal_numbers_mean_equal_octets.Goals as goal
 
 pub returns : goal.returns

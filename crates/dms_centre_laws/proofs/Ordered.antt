@@ -5,9 +5,9 @@ use Rattle.std.proofs.lemmas.Option.{none-some}
 use Rattle.dms_centre.specs.State.{SettingsModel}
 use Rattle.dms_centre.specs.Commands.{CommandModel, refusal_of, job_of}
 use Rattle.dms_centre.specs.History.{AreSettings, Input, Commands, Hears, Ticks, Restarts, IsInput, History, made, after_input, after_inputs}
-use Rattle.dms_centre.specs.Ledger.{IsOrdered, CodesAreOrdered}
-use Rattle.dms_centre.proofs.LedgerLaws.{IsKept, is_kept_input, is_kept_made}
-use Rattle.dms_centre.proofs.Working.{OfTaken, AreOf, are_of_input}
+use Rattle.dms_centre_laws.specs.Ledger.{IsOrdered, CodesAreOrdered}
+use Rattle.dms_centre_laws.proofs.LedgerLaws.{IsKept, is_kept_input, is_kept_made}
+use Rattle.dms_centre_laws.proofs.Working.{OfTaken, AreOf, are_of_input}
 
 after_more : (history : History) (inputs more : List Input) → after_inputs history (inputs ++ more) ≡ after_inputs (after_inputs history inputs) more
 after_more history [] more = refl

@@ -8,8 +8,8 @@ use Rattle.dms_wire.specs.MessageOf.{message_of}
 use Rattle.dms_centre.specs.State.{SettingsModel}
 use Rattle.dms_centre.specs.Steps.{request_of}
 use Rattle.dms_centre.specs.Requests.{IsRequest}
-use Rattle.dms_centre.specs.RequestNumbers.{HasNumber, is_number_of, has_number, AreRequests, NumbersRise, EqualNumbersMeanEqualOctets, ThreeSendsAtMost}
-use Rattle.dms_centre.proofs.Lists.{in_push, count_push, count_none}
+use Rattle.dms_centre_laws.specs.RequestNumbers.{HasNumber, is_number_of, has_number, AreRequests, NumbersRise, EqualNumbersMeanEqualOctets, ThreeSendsAtMost}
+use Rattle.dms_centre_laws.proofs.Lists.{in_push, count_push, count_none}
 
 -- ---- the number of a datagram
 

@@ -8,14 +8,14 @@ use Rattle.dms_centre.specs.State.{SettingsModel, Showing, Entry}
 use Rattle.dms_centre.specs.Steps.{request_of}
 use Rattle.dms_centre.specs.Sending.{Move}
 use Rattle.dms_centre.specs.History.{AreSettings, Input, IsInput, History, made, move_at, with_move, after_input, after_inputs}
-use Rattle.dms_centre.specs.RequestNumbers.{HasNumber, AreRequests, EqualNumbersMeanEqualOctets, Sends, Nothing, Again, New}
-use Rattle.dms_centre.specs.Numbered.{HistoryIsNumbered, Keeps}
-use Rattle.dms_centre.specs.Ledger.{EntryMoves, PutsUp, IsNewEntry, LedgerMoves, WasSent, LedgerIsSent, NumbersPutUpTheirCodes}
-use Rattle.dms_centre.proofs.Lists.{on_left, at_end}
-use Rattle.dms_centre.proofs.Numbers.{below_next}
-use Rattle.dms_centre.proofs.Keeping.{keeps_input, numbered_made}
-use Rattle.dms_centre.proofs.LedgerKeeping.{IsOpen, AreBelow, Ready, LedgerKept, kept_input}
-use Rattle.dms_centre.proofs.NumberLaws.{settings_are}
+use Rattle.dms_centre_laws.specs.RequestNumbers.{HasNumber, AreRequests, EqualNumbersMeanEqualOctets, Sends, Nothing, Again, New}
+use Rattle.dms_centre_laws.specs.Numbered.{HistoryIsNumbered, Keeps}
+use Rattle.dms_centre_laws.specs.Ledger.{EntryMoves, PutsUp, IsNewEntry, LedgerMoves, WasSent, LedgerIsSent, NumbersPutUpTheirCodes}
+use Rattle.dms_centre_laws.proofs.Lists.{on_left, at_end}
+use Rattle.dms_centre_laws.proofs.Numbers.{below_next}
+use Rattle.dms_centre_laws.proofs.Keeping.{keeps_input, numbered_made}
+use Rattle.dms_centre_laws.proofs.LedgerKeeping.{IsOpen, AreBelow, Ready, LedgerKept, kept_input}
+use Rattle.dms_centre_laws.proofs.NumberLaws.{settings_are}
 
 -- ---- what is kept up
 

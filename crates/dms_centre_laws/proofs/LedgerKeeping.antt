@@ -30,11 +30,11 @@ use Rattle.dms_centre.specs.Resending.{is_waiting, given_up, gives_up, older, se
 use Rattle.dms_centre.specs.Inputs.{on_message, on_datagram, received, on_tick, ticked, forgets, restarted}
 use Rattle.dms_centre.specs.History.{AreSettings, Input, Commands, Hears, Ticks, Restarts, IsInput, OfCommand, OfDatagram, OfTick, OfRestart, move_at}
 use Rattle.dms_centre.specs.Requests.{IsWork}
-use Rattle.dms_centre.specs.Numbered.{IsAtWork}
-use Rattle.dms_centre.specs.Ledger.{Answers, Becomes, Stays, IsAccepted, IsRefused, IsUnheard, IsForgotten, EntryMoves, PutsUp, IsNewEntry, LedgerMoves}
-use Rattle.dms_centre.proofs.Lists.{either_way, by_test, on_left, in_push}
+use Rattle.dms_centre_laws.specs.Numbered.{IsAtWork}
+use Rattle.dms_centre_laws.specs.Ledger.{Answers, Becomes, Stays, IsAccepted, IsRefused, IsUnheard, IsForgotten, EntryMoves, PutsUp, IsNewEntry, LedgerMoves}
+use Rattle.dms_centre_laws.proofs.Lists.{either_way, by_test, on_left, in_push}
 use Rattle.dms_centre.proofs.Requests.{request_reads}
-use Rattle.dms_centre.proofs.Keeping.{is_begun}
+use Rattle.dms_centre_laws.proofs.Keeping.{is_begun}
 
 -- ---- what is kept up
 

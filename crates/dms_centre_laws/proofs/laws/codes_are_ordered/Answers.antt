@@ -1,4 +1,4 @@
-use Rattle.dms_centre.proofs.Ordered.{codes_are_ordered}
+use Rattle.dms_centre_laws.proofs.Ordered.{codes_are_ordered}
 use Rattle.dms_centre.proofs.laws.codes_are_ordered.Goals as goal
 
 pub returns : goal.returns

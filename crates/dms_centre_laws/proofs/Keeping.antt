@@ -24,10 +24,10 @@ use Rattle.dms_centre.specs.Resending.{gives_up, older, sent_again, sends_again,
 use Rattle.dms_centre.specs.Inputs.{on_message, on_datagram, received, on_tick, ticked, forgets, restarted}
 use Rattle.dms_centre.specs.History.{AreSettings, Input, IsInput, OfCommand, OfDatagram, OfTick, OfRestart, History, made, move_at, after_input, after_inputs}
 use Rattle.dms_centre.specs.Requests.{IsWork, OfPublishing, OfShowing, IsRequest}
-use Rattle.dms_centre.specs.RequestNumbers.{HasNumber, Nothing, Again, New}
-use Rattle.dms_centre.specs.Numbered.{IsAwaited, IsAtWork, IsNumbered, HistoryIsNumbered, Keeps}
-use Rattle.dms_centre.proofs.Lists.{either_way, by_test, on_left, at_end}
-use Rattle.dms_centre.proofs.Numbers.{request_number, requests_push, rise_push, same_push, few_push, count_more, count_of_none, below_next}
+use Rattle.dms_centre_laws.specs.RequestNumbers.{HasNumber, Nothing, Again, New}
+use Rattle.dms_centre_laws.specs.Numbered.{IsAwaited, IsAtWork, IsNumbered, HistoryIsNumbered, Keeps}
+use Rattle.dms_centre_laws.proofs.Lists.{either_way, by_test, on_left, at_end}
+use Rattle.dms_centre_laws.proofs.Numbers.{request_number, requests_push, rise_push, same_push, few_push, count_more, count_of_none, below_next}
 use Rattle.dms_centre.proofs.Requests.{request_reads}
 
 -- ---- three moves

@@ -18,8 +18,8 @@ use Rattle.dms_centre.specs.Commands.{CommandModel, refusal_of, job_of, begins, 
 use Rattle.dms_centre.specs.Resending.{gives_up, older, sends_again}
 use Rattle.dms_centre.specs.Inputs.{on_message, on_datagram, received, on_tick, ticked, forgets, restarted}
 use Rattle.dms_centre.specs.History.{Input, Commands, Hears, Ticks, Restarts, History, move_at, IsInput}
-use Rattle.dms_centre.proofs.Lists.{either_way}
-use Rattle.dms_centre.proofs.LedgerLaws.{IsKept, ledger_move}
+use Rattle.dms_centre_laws.proofs.Lists.{either_way}
+use Rattle.dms_centre_laws.proofs.LedgerLaws.{IsKept, ledger_move}
 
 -- the job of a phase puts up what P holds of
 abbrev pub OfJob : (Work → Type 0) → Phase → Type 0

@@ -1,4 +1,4 @@
-use Rattle.dms_centre.proofs.LedgerLaws.{ledger_moves}
+use Rattle.dms_centre_laws.proofs.LedgerLaws.{ledger_moves}
 use Rattle.dms_centre.proofs.laws.ledger_is_kept.Goals as goal
 
 pub returns : goal.returns

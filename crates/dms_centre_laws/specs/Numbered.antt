@@ -4,7 +4,7 @@ use Rattle.dms_centre.specs.State.{SettingsModel, Pending, Phase, Idle, Awaits, 
 use Rattle.dms_centre.specs.Sending.{Move}
 use Rattle.dms_centre.specs.History.{AreSettings, History}
 use Rattle.dms_centre.specs.Requests.{IsWork, IsRequest}
-use Rattle.dms_centre.specs.RequestNumbers.{has_number, AreRequests, NumbersRise, EqualNumbersMeanEqualOctets, ThreeSendsAtMost, Sends}
+use Rattle.dms_centre_laws.specs.RequestNumbers.{has_number, AreRequests, NumbersRise, EqualNumbersMeanEqualOctets, ThreeSendsAtMost, Sends}
 
 -- The waiting request was sent as often as it says, three times at most, and has the newest number.
 pub record IsOut (settings : SettingsModel) (next : ℕ) (pending : Pending) (sent : List (List ℕ)) : Type 0 where

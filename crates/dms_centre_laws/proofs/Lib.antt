@@ -1,0 +1,9 @@
+pub mod Lists
+pub mod Numbers
+pub mod Keeping
+pub mod NumberLaws
+pub mod LedgerKeeping
+pub mod LedgerLaws
+pub mod Working
+pub mod Ordered
+pub mod Worked
