@@ -1,5 +1,7 @@
-//! Tests of the central system, commands and octets in, octets out.
+//! Tests of the central system, commands and octets in, octets out; and of runs of both ends.
 #![tactic(auto)]
 
 #[cfg(test)]
 mod centres;
+#[cfg(test)]
+mod worlds;

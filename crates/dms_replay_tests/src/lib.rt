@@ -1,4 +1,4 @@
-//! Tests of runs of both ends, of scripts and of their reports.
+//! Tests of scripts and of their reports.
 #![tactic(auto)]
 
 #[cfg(test)]
@@ -9,5 +9,3 @@ mod reports;
 mod scripts;
 #[cfg(test)]
 mod streams;
-#[cfg(test)]
-mod worlds;

@@ -7,7 +7,7 @@ use Rattle.dms_wire.specs.Canonical.{canonical}
 use Rattle.dms_objects.specs.declared.column.Column.TheVariants.{MultiString, Status}
 use Rattle.dms_objects.specs.Names.{cell_name}
 use Rattle.dms_world.specs.Event.{EventModel, sign_tick, power_lost, power_back}
-use Rattle.dms_replay.proofs.BenchWorld.{bench, after, hex, seconds, request, set_number, set_code, set_cell, sets, Seen, seen, status_and_index, errors, statuses, fills, puts_up}
+use Rattle.dms_worked.proofs.BenchWorld.{bench, after, hex, seconds, request, set_number, set_code, set_cell, sets, Seen, seen, status_and_index, errors, statuses, fills, puts_up}
 
 -- "A" is valid in the first changeable row, with the run-time priority 200
 abbrev valid_row : List EventModel

@@ -9,7 +9,7 @@ use Rattle.dms_centre.specs.declared.ended.Ended.TheVariants.{Failed}
 use Rattle.dms_centre.specs.declared.ended.Why.TheVariants.{Cause}
 use Rattle.dms_world.specs.Event.{EventModel, sign_tick, to_sign, to_centre, power_lost, power_back, forge_sign}
 use Rattle.dms_world.specs.World.{WorldModel}
-use Rattle.dms_replay.proofs.BenchWorld.{bench, after, report, hex, activate, request, set_number, set_code, sets, status_and_index, errors, statuses, fills, puts_up}
+use Rattle.dms_worked.proofs.BenchWorld.{bench, after, report, hex, activate, request, set_number, set_code, sets, status_and_index, errors, statuses, fills, puts_up}
 
 -- defaultFont becomes 2
 abbrev font_two : EventModel

@@ -6,7 +6,7 @@ use Rattle.dms_wire.specs.Message.{octet_string, null}
 use Rattle.dms_wire.specs.Canonical.{canonical}
 use Rattle.dms_objects.specs.Names.{object_name}
 use Rattle.dms_world.specs.Event.{EventModel, power_lost, power_back, forge_sign}
-use Rattle.dms_replay.proofs.BenchWorld.{bench, after, report, hex, seconds, request, set_number, set_code, sets, Seen, seen}
+use Rattle.dms_worked.proofs.BenchWorld.{bench, after, report, hex, seconds, request, set_number, set_code, sets, Seen, seen}
 
 -- the only seconds of silence that are a loss: one minute
 abbrev one_minute : EventModel

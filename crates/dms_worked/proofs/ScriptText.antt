@@ -10,7 +10,7 @@ use Rattle.dms_description.specs.Fields.{SpellsFourOctets}
 use Rattle.dms_replay.specs.EventFields.{SpellsAddressPart}
 use Rattle.dms_replay.specs.EventLine.{SpellsEvent}
 use Rattle.dms_replay.specs.Script.{SpellsScript, the_bench}
-use Rattle.dms_replay.proofs.BenchWorld.{publish}
+use Rattle.dms_worked.proofs.BenchWorld.{publish}
 use Rattle.dms_description.proofs.BenchValue.{bench_sign}
 use Rattle.dms_description.proofs.BenchText.{spells_octet, spells_decimal, spells_the_bench_sign}
 

@@ -4,7 +4,7 @@ use Rattle.std.specs.Prelude.{pos, codes}
 use Rattle.dms_centre.specs.declared.ended.Ended.TheVariants.{Failed}
 use Rattle.dms_centre.specs.declared.ended.Why.TheVariants.{OtherChecksum, Cause}
 use Rattle.dms_world.specs.Event.{EventModel, sign_tick, centre_tick, to_sign, to_centre, forge_centre}
-use Rattle.dms_replay.proofs.BenchWorld.{bench, after, report, hex, publish, activate, both}
+use Rattle.dms_worked.proofs.BenchWorld.{bench, after, report, hex, publish, activate, both}
 
 -- ---- a message is published: seven requests, and seven replies
 

@@ -19,7 +19,7 @@ use Rattle.dms_world.specs.Event.{EventModel, sign_tick, centre_tick, to_sign, t
 use Rattle.dms_world.specs.World.{world_at, world_after}
 use Rattle.dms_world.specs.Backed.{WasPutUp, WasHeld}
 use Rattle.dms_world.specs.Honest.{WasSent, WasOrdered, Carries, shown_checksum}
-use Rattle.dms_replay.proofs.BenchWorld.{bench, after, hex, publish, activate, both}
+use Rattle.dms_worked.proofs.BenchWorld.{bench, after, hex, publish, activate, both}
 
 -- ---- "A" is published
 

@@ -1,0 +1,7 @@
+mod BenchWorld
+mod ScriptText
+mod Silence
+mod Altered
+mod TableRows
+mod WorkedHeadline
+mod Worked
