@@ -1,5 +1,5 @@
 use Rattle.dms_centre_laws.proofs.LedgerLaws.{ledger_moves}
-use Rattle.dms_centre.proofs.laws.ledger_is_kept.Goals as goal
+use Rattle.dms_centre_laws.proofs.laws.ledger_is_kept.Goals as goal
 
 pub returns : goal.returns
 returns c = ledger_moves

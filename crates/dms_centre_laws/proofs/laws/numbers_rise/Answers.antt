@@ -1,5 +1,5 @@
 use Rattle.dms_centre_laws.proofs.NumberLaws.{are_requests, numbers_rise, next_number}
-use Rattle.dms_centre.proofs.laws.numbers_rise.Goals as goal
+use Rattle.dms_centre_laws.proofs.laws.numbers_rise.Goals as goal
 
 pub returns-clause-requests : goal.returns-clause-requests
 returns-clause-requests c = are_requests
