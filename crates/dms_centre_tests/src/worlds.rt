@@ -5,8 +5,7 @@ use dms_codes::{Activation, MessageId, Order};
 use dms_face::{Defaults, Face, Font};
 use dms_sign::{Config, Sign};
 use dms_table::Stock;
-use dms_wire::Out;
-use dms_world::{Event, World, run};
+use dms_world::{Datagrams, Event, World, run};
 use std::alloc::Global;
 use std::test::Fail;
 
@@ -175,12 +174,8 @@ fn publication(rt: HostRuntime) -> Result<(), Fail> {
     Ok(())
 }
 
-fn same_datagrams(some: &[Out], others: &[Out]) -> bool {
-    some.len() == others.len()
-        && some
-            .iter()
-            .zip(others.iter())
-            .all(|(one, other)| one.as_slice() == other.as_slice())
+fn same_datagrams(some: &Datagrams, others: &Datagrams) -> bool {
+    some.len() == others.len() && (0..some.len()).all(|place| some.get(place) == others.get(place))
 }
 
 /// Whether a world is as wanted after a publication and a second activation that no reply came to, where the run stopped after so many
@@ -202,8 +197,8 @@ fn two_worlds(
 ) -> Result<([bool; 5], [bool; 5], bool), &'static str> {
     let (one, stop) = after_all(alloc, events)?;
     let (other, other_stop) = after_all(alloc, events)?;
-    let same = same_datagrams(one.to_sign.as_slice(), other.to_sign.as_slice())
-        && same_datagrams(one.to_centre.as_slice(), other.to_centre.as_slice());
+    let same = same_datagrams(&one.to_sign, &other.to_sign)
+        && same_datagrams(&one.to_centre, &other.to_centre);
     Ok((as_wanted(&one, stop), as_wanted(&other, other_stop), same))
 }
 

@@ -1,5 +1,5 @@
 -- A line of the report that is put in parts.
-use Rattle.std.proofs.Common.{◌≡◌, ℕ, suc, List, [], ◌∷◌, ◌++◌, length, map, flat_map, refl, ap, ◌∙◌, append_assoc}
+use Rattle.std.proofs.Common.{◌≡◌, ℕ, List, [], ◌∷◌, ◌++◌, map, flat_map, refl, ap, ◌∙◌, append_assoc}
 
 regroup : (old source mode_word mode priority_word priority left_word left text_word text end : List ℕ)
     → (((old ++ source) ++ (mode_word ++ mode ++ priority_word ++ priority)) ++ (left_word ++ left)) ++ (text_word ++ text ++ end)
@@ -30,11 +30,6 @@ five_parts old first second third fourth last events sent shown accepted ledger 
     five
     ∙ ap (λ xs. xs ++ ledger) (four ∙ ap (λ xs. xs ++ accepted) (three ∙ ap (λ xs. xs ++ shown) (two ∙ ap (λ xs. xs ++ sent) one)))
     ∙ regroup_five old events sent shown accepted ledger
-
--- as many are seen as there are
-pub lengths_seen : {A B : Type 0} (f : A → B) (xs : List A) → length (map f xs) ≡ length xs
-lengths_seen f [] = refl
-lengths_seen f (x ∷ xs) = ap suc (lengths_seen f xs)
 
 pub flat_seen : {A B : Type 0} (lines : B → List ℕ) (model : A → B) (xs : List A) → flat_map (λ x. lines (model x)) xs ≡ flat_map lines (map model xs)
 flat_seen lines model [] = refl

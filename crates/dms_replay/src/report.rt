@@ -69,7 +69,6 @@ fn put_events(report: &mut Vec<u8>, events: usize) -> io::Result<()>
 }
 
 /// How many datagrams were sent to the sign, and to the centre.
-#[tactic(auto, using(crate::proofs::ReportLines::lengths_seen))]
 fn put_sent(report: &mut Vec<u8>, world: &World) -> io::Result<()>
     ensures { OnOk result (report.new.items ≡ report.old.items ++ sent_line (seen world.now)) }
 {

@@ -1,3 +1,4 @@
+mod DatagramLists
 mod WorldSign
 mod WorldSignRows
 mod WorldSignSteps

@@ -26,9 +26,7 @@ use Rattle.dms_sign.specs.InRange.{IsMadeOfOctets, IsRowInRange, IsSignInRange}
 use Rattle.dms_sign.proofs.InRangeStart.{faultless_is_stocked}
 use Rattle.dms_centre.specs.State.{CentreState}
 use Rattle.dms_centre.specs.History.{AreSettings}
-use Rattle.arrayvec.specs.ArrayVec.{ArrayVec}
 use Rattle.dms_codes.specs.declared.codes.Activation.{Activation}
-use Rattle.dms_world.specs.CodeView.{datagrams}
 use Rattle.dms_world.specs.World.{WorldModel, IsFresh, beginning}
 use Rattle.dms_world.specs.Construction.{IsNewSign, IsNewCentre}
 
@@ -139,8 +137,8 @@ made_fresh sign centre range face settings new_sign new_centre =
     }
 
 -- a world with no datagram and no activation
-pub no_datagram_yet : (sign : SignState) (centre : CentreState) (to_sign to_centre : List (ArrayVec ℕ)) (accepted : List (ℕ × Activation)) → to_sign ≡ []
+pub no_datagram_yet : (sign : SignState) (centre : CentreState) (to_sign to_centre : List (List ℕ)) (accepted : List (ℕ × Activation)) → to_sign ≡ []
     → to_centre ≡ [] → accepted ≡ []
     → ◌≡◌ {A = WorldModel} (beginning sign centre)
-    (record { sign = sign; centre = centre; to_sign = datagrams to_sign; to_centre = datagrams to_centre; accepted = accepted })
+    (record { sign = sign; centre = centre; to_sign = to_sign; to_centre = to_centre; accepted = accepted })
 no_datagram_yet sign centre to_sign to_centre accepted a b c = rw (a, b, c) refl

@@ -1,6 +1,5 @@
 -- What the code's events and worlds say (this profile).
 use Rattle.std.specs.Prelude.{ℕ, List, ◌++◌, map, take, codes, decimal, Result, Ok, Err}
-use Rattle.arrayvec.specs.ArrayVec.{ArrayVec}
 use Rattle.dms_centre.specs.CodeView.{command_model}
 use Rattle.dms_world.specs.declared.event.Event.{Event}
 use Rattle.dms_world.specs.declared.event.Event.TheVariants as events
@@ -24,17 +23,13 @@ event_model (events.ForgeCentre datagram) = forge_centre datagram.now
 abbrev pub events_model : List Event → List EventModel
 events_model events = map event_model events
 
--- the octets of each datagram
-abbrev pub datagrams : List (ArrayVec ℕ) → List (List ℕ)
-datagrams sent = map (λ datagram. datagram.items) sent
-
 -- what a world of the code says
 abbrev pub seen : World → WorldModel
 seen world = record {
   sign = world.sign;
   centre = world.centre.state;
-  to_sign = datagrams world.to_sign.items;
-  to_centre = datagrams world.to_centre.items;
+  to_sign = world.to_sign.sent;
+  to_centre = world.to_centre.sent;
   accepted = world.accepted.items;
 }
 

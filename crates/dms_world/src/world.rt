@@ -1,15 +1,16 @@
 //! A sign and a centre in one world, with every datagram that was ever sent between them.
 
-ghost use Rattle.std.specs.Prelude.{◌≡◌, ◌<◌, ◌++◌, true, None, OnOk, OnErr, option_to_list, vec_len, vec_capacity};
+ghost use Rattle.std.specs.Prelude.{◌≡◌, ◌++◌, true, None, OnOk, OnErr, option_to_list};
 ghost use Rattle.dms_sign.specs.Reply.{received as sign_received};
 ghost use Rattle.dms_centre.specs.CodeView.{command_model, sent_in};
 ghost use Rattle.dms_centre.specs.Commands.{commanded, refusal_of};
 ghost use Rattle.dms_centre.specs.Inputs.{received as centre_received, ticked};
-ghost use Rattle.dms_world.specs.CodeView.{datagrams, event_model, seen};
+ghost use Rattle.dms_world.specs.CodeView.{event_model, seen};
 ghost use Rattle.dms_world.specs.Construction.{IsNewCentre, IsNewSign};
 ghost use Rattle.dms_world.specs.Growing.{may_grow};
 ghost use Rattle.dms_world.specs.World.{IsFresh, beginning, happens, noted};
 
+use crate::datagrams::Datagrams;
 use crate::event::Event;
 use dms_centre::laws::centres_are_kept;
 use dms_centre::{Centre, Command};
@@ -26,11 +27,13 @@ pub struct World {
     pub sign: Sign,
     pub centre: Centre,
     /// The datagrams that the centre ever sent, the oldest first.
-    pub to_sign: Vec<Out>,
+    pub to_sign: Datagrams,
     /// The datagrams that the sign ever sent, the oldest first.
-    pub to_centre: Vec<Out>,
+    pub to_centre: Datagrams,
     /// Each activation that the sign accepted, beside the number of its event: events are counted from 1 in each call of `run`.
     pub accepted: Vec<(usize, Activation)>,
+    /// What an end sends is written here, before it is kept.
+    buffer: Out,
 }
 
 impl World {
@@ -45,9 +48,10 @@ impl World {
         World {
             sign,
             centre,
-            to_sign: Vec::new(alloc),
-            to_centre: Vec::new(alloc),
+            to_sign: Datagrams::new(alloc),
+            to_centre: Datagrams::new(alloc),
             accepted: Vec::new(alloc),
+            buffer: Out::new(),
         }
     }
 
@@ -59,26 +63,35 @@ impl World {
         ensures grows { OnErr result (may_grow (seen self.old) (event_model event.now) ≡ true) }
     {
         match *event {
-            Event::Command(command) => {
-                command_centre(&mut self.centre, &mut self.to_sign, command)
-            }
+            Event::Command(command) => command_centre(
+                &mut self.centre,
+                &mut self.to_sign,
+                command,
+                &mut self.buffer,
+            ),
             Event::SignTick => {
                 self.sign.tick();
                 Ok(())
             }
-            Event::CentreTick => tick_centre(&mut self.centre, &mut self.to_sign),
-            Event::ToSign(place) => match self.to_sign.as_slice().get(place as usize) {
+            Event::CentreTick => tick_centre(&mut self.centre, &mut self.to_sign, &mut self.buffer),
+            Event::ToSign(place) => match self.to_sign.get(place as usize) {
                 Some(datagram) => hand_to_sign(
                     &mut self.sign,
                     &mut self.to_centre,
                     &mut self.accepted,
                     number,
                     datagram,
+                    &mut self.buffer,
                 ),
                 None => Ok(()),
             },
-            Event::ToCentre(place) => match self.to_centre.as_slice().get(place as usize) {
-                Some(datagram) => hand_to_centre(&mut self.centre, &mut self.to_sign, datagram),
+            Event::ToCentre(place) => match self.to_centre.get(place as usize) {
+                Some(datagram) => hand_to_centre(
+                    &mut self.centre,
+                    &mut self.to_sign,
+                    datagram,
+                    &mut self.buffer,
+                ),
                 None => Ok(()),
             },
             Event::PowerLost => {
@@ -99,10 +112,14 @@ impl World {
                 &mut self.accepted,
                 number,
                 datagram,
+                &mut self.buffer,
             ),
-            Event::ForgeCentre(datagram) => {
-                hand_to_centre(&mut self.centre, &mut self.to_sign, datagram)
-            }
+            Event::ForgeCentre(datagram) => hand_to_centre(
+                &mut self.centre,
+                &mut self.to_sign,
+                datagram,
+                &mut self.buffer,
+            ),
         }
     }
 }
@@ -110,26 +127,26 @@ impl World {
 /// The sign is handed a datagram, at the event of this number.
 fn hand_to_sign(
     sign: &mut Sign,
-    to_centre: &mut Vec<Out>,
+    to_centre: &mut Datagrams,
     accepted: &mut Vec<(usize, Activation)>,
     number: usize,
     datagram: &[u8],
+    reply: &mut Out,
 ) -> Result<(), AllocError>
     ensures sign { OnOk result (sign.new ≡ (sign_received sign.old datagram.now).after) }
-    ensures sent { OnOk result (datagrams to_centre.new.items ≡ datagrams to_centre.old.items ++ option_to_list (sign_received sign.old datagram.now).reply) }
+    ensures sent { OnOk result (to_centre.new.sent ≡ to_centre.old.sent ++ option_to_list (sign_received sign.old datagram.now).reply) }
     ensures accepted { OnOk result (accepted.new.items ≡ accepted.old.items ++ noted number (sign_received sign.old datagram.now).accepted) }
     ensures sign_kept { OnErr result (sign.new ≡ sign.old) }
-    ensures sent_kept { OnErr result (to_centre.new.items ≡ to_centre.old.items) }
+    ensures sent_kept { OnErr result (to_centre.new.sent ≡ to_centre.old.sent) }
     ensures accepted_kept { OnErr result (accepted.new.items ≡ accepted.old.items) }
 {
-    to_centre.reserve(1)?;
+    to_centre.reserve_one()?;
     accepted.reserve(1)?;
-    let mut reply = Out::new();
-    match sign.receive(datagram, &mut reply) {
+    match sign.receive(datagram, reply) {
         Receipt::Dropped => {}
-        Receipt::Replied => to_centre.push_reserved(reply),
+        Receipt::Replied => to_centre.push(reply),
         Receipt::Accepted(code) => {
-            to_centre.push_reserved(reply);
+            to_centre.push(reply);
             accepted.push_reserved((number, code));
         }
     }
@@ -139,17 +156,17 @@ fn hand_to_sign(
 /// The centre is handed a datagram.
 fn hand_to_centre(
     centre: &mut Centre,
-    to_sign: &mut Vec<Out>,
+    to_sign: &mut Datagrams,
     datagram: &[u8],
+    request: &mut Out,
 ) -> Result<(), AllocError>
     ensures state { OnOk result (centre.new.state ≡ (centre_received centre.old.state datagram.now).state) }
-    ensures sent { OnOk result (datagrams to_sign.new.items ≡ datagrams to_sign.old.items ++ option_to_list (centre_received centre.old.state datagram.now).sent) }
+    ensures sent { OnOk result (to_sign.new.sent ≡ to_sign.old.sent ++ option_to_list (centre_received centre.old.state datagram.now).sent) }
     ensures state_kept { OnErr result (centre.new.state ≡ centre.old.state) }
-    ensures sent_kept { OnErr result (to_sign.new.items ≡ to_sign.old.items) }
+    ensures sent_kept { OnErr result (to_sign.new.sent ≡ to_sign.old.sent) }
 {
-    to_sign.reserve(1)?;
-    let mut request = Out::new();
-    centre.receive(datagram, &mut request);
+    to_sign.reserve_one()?;
+    centre.receive(datagram, request);
     keep(to_sign, request);
     Ok(())
 }
@@ -158,21 +175,21 @@ fn hand_to_centre(
 #[tactic(auto, unfolding(dms_centre::specs::Commands::commanded))]
 fn command_centre(
     centre: &mut Centre,
-    to_sign: &mut Vec<Out>,
+    to_sign: &mut Datagrams,
     command: Command<'_>,
+    request: &mut Out,
 ) -> Result<(), AllocError>
     ensures state { OnOk result (centre.new.state ≡ (commanded centre.old.state (command_model command.entry)).state) }
-    ensures sent { OnOk result (datagrams to_sign.new.items ≡ datagrams to_sign.old.items ++ option_to_list (commanded centre.old.state (command_model command.entry)).sent) }
+    ensures sent { OnOk result (to_sign.new.sent ≡ to_sign.old.sent ++ option_to_list (commanded centre.old.state (command_model command.entry)).sent) }
     ensures state_kept { OnErr result (centre.new.state ≡ centre.old.state) }
-    ensures sent_kept { OnErr result (to_sign.new.items ≡ to_sign.old.items) }
+    ensures sent_kept { OnErr result (to_sign.new.sent ≡ to_sign.old.sent) }
     ensures taken { OnErr result (refusal_of centre.old.state (command_model command.entry) ≡ None) }
 {
     if centre.refusal(&command).is_some() {
         return Ok(());
     }
-    to_sign.reserve(1)?;
-    let mut request = Out::new();
-    match centre.command(command, &mut request) {
+    to_sign.reserve_one()?;
+    match centre.command(command, request) {
         Ok(()) => {
             keep(to_sign, request);
             Ok(())
@@ -182,15 +199,18 @@ fn command_centre(
 }
 
 /// The centre's clock ticks.
-fn tick_centre(centre: &mut Centre, to_sign: &mut Vec<Out>) -> Result<(), AllocError>
+fn tick_centre(
+    centre: &mut Centre,
+    to_sign: &mut Datagrams,
+    request: &mut Out,
+) -> Result<(), AllocError>
     ensures state { OnOk result (centre.new.state ≡ (ticked centre.old.state).state) }
-    ensures sent { OnOk result (datagrams to_sign.new.items ≡ datagrams to_sign.old.items ++ option_to_list (ticked centre.old.state).sent) }
+    ensures sent { OnOk result (to_sign.new.sent ≡ to_sign.old.sent ++ option_to_list (ticked centre.old.state).sent) }
     ensures state_kept { OnErr result (centre.new.state ≡ centre.old.state) }
-    ensures sent_kept { OnErr result (to_sign.new.items ≡ to_sign.old.items) }
+    ensures sent_kept { OnErr result (to_sign.new.sent ≡ to_sign.old.sent) }
 {
-    to_sign.reserve(1)?;
-    let mut request = Out::new();
-    match centre.tick(&mut request) {
+    to_sign.reserve_one()?;
+    match centre.tick(request) {
         Ok(()) => {
             keep(to_sign, request);
             Ok(())
@@ -200,11 +220,11 @@ fn tick_centre(centre: &mut Centre, to_sign: &mut Vec<Out>) -> Result<(), AllocE
 }
 
 /// Keeps what was sent, where there is room for it; an empty buffer is nothing.
-fn keep(sent: &mut Vec<Out>, datagram: Out)
-    requires { vec_len sent.old < vec_capacity sent.old }
-    ensures { datagrams sent.new.items ≡ datagrams sent.old.items ++ option_to_list (sent_in datagram.items) }
+fn keep(kept: &mut Datagrams, datagram: &Out)
+    requires { kept.old.has_room ≡ true }
+    ensures { kept.new.sent ≡ kept.old.sent ++ option_to_list (sent_in datagram.now.items) }
 {
     if !datagram.is_empty() {
-        sent.push_reserved(datagram);
+        kept.push(datagram);
     }
 }
