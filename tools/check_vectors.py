@@ -1,8 +1,8 @@
 #!/usr/bin/env python3
-"""Runs the program over vectors/*.jsonl: `tools/check_vectors.py [--program PATH]` prints `N passed, N failed`.
+"""Runs the program over vectors/*.jsonl: `tools/check_vectors.py [--program PATH] [--count N]` prints `N passed, N failed`.
 
 Datagrams go through `decode`, texts through `items`, `check` and `pages`, codes through `code`, requests through `answer`, scripts
-through `replay`. Names of objects are those of mibs/DMS-PROFILE-MIB.
+through `replay`. Names of objects are those of mibs/DMS-PROFILE-MIB. With --count only so many cases of each file are taken.
 """
 
 import argparse
@@ -118,12 +118,14 @@ def calls(kind, case):
 
 
 def main():
-    words = argparse.ArgumentParser(description="the program over the vectors")
+    words = argparse.ArgumentParser(description=__doc__, formatter_class=argparse.RawDescriptionHelpFormatter)
     words.add_argument("--program", default=str(TOP / "crates/signtool/out/signtool"))
-    program = words.parse_args().program
+    words.add_argument("--count", type=int, help="the cases that are taken of each file")
+    asked = words.parse_args()
+    program = asked.program
     passed = failed = 0
     for path in sorted((TOP / "vectors").glob("*.jsonl")):
-        for line in path.read_text(encoding="ascii").splitlines():
+        for line in path.read_text(encoding="ascii").splitlines()[:asked.count]:
             case = json.loads(line)
             for call, stdin, output, status in calls(path.stem, case):
                 ended = subprocess.run([program, *call], input=stdin.encode(), capture_output=True, timeout=60, check=False)

@@ -6,6 +6,7 @@
 With --sign a description comes first, up to its line `end`; else the sign is the bench sign.
 """
 
+import argparse
 import sys
 
 from model import layout, text
@@ -77,9 +78,13 @@ def centre_answer(world, words):
     raise ValueError
 
 
-def main(words):
+def main():
+    words = argparse.ArgumentParser(description=__doc__, formatter_class=argparse.RawDescriptionHelpFormatter)
+    words.add_argument("end", choices=("sign", "centre"))
+    words.add_argument("--sign", action="store_true", help="a description comes first")
+    asked = words.parse_args()
     described = text.bench()
-    if "--sign" in words:
+    if asked.sign:
         lines = []
         for line in sys.stdin.buffer:
             lines.append(line)
@@ -95,7 +100,7 @@ def main(words):
             return 1
     world = text.World(described)
     assert isinstance(world.centre, Centre)
-    answer = {"sign": sign_answer, "centre": centre_answer}[words[0]]
+    answer = {"sign": sign_answer, "centre": centre_answer}[asked.end]
     for line in map(without_newline, sys.stdin.buffer):
         try:
             parts = line.split(b" ")
@@ -108,4 +113,4 @@ def main(words):
 
 
 if __name__ == "__main__":
-    sys.exit(main(sys.argv[1:]))
+    sys.exit(main())

@@ -2,6 +2,7 @@
 """Which definitions a reader must believe: the files that each crate's specs/Lib.antt names first, with their lines.
 
 Without arguments it prints the table of docs/PROVED.md; with --check it fails where that has another."""
+import argparse
 import pathlib
 import sys
 
@@ -37,8 +38,11 @@ def rows():
 
 
 def main():
+    words = argparse.ArgumentParser(description=__doc__)
+    words.add_argument("--check", action="store_true", help="prints nothing, and fails where docs/PROVED.md has another table")
+    only_checks = words.parse_args().check
     table = "\n".join(["| crate | files of specs/ with their lines | lines |", "|---|---|---|", *rows()])
-    if "--check" not in sys.argv[1:]:
+    if not only_checks:
         print(table)
     elif table not in (TOP / "docs/PROVED.md").read_text():
         sys.exit("docs/PROVED.md has another table of definitions; run tools/definitions.py")

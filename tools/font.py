@@ -98,6 +98,9 @@ def check(path):
 
 
 def main(words):
+    if words in (["--help"], ["-h"]):
+        print(__doc__)
+        return 0
     if len(words) < 2 or words[0] not in ("lines", "drawing", "write", "check"):
         print(__doc__, file=sys.stderr)
         return 2

@@ -6,6 +6,7 @@ which is written from docs/PROFILE.md; the program has no part in them.
     tools/make_vectors.py --check   fails where a file is not what would be written
 """
 
+import argparse
 import json
 import pathlib
 import sys
@@ -384,8 +385,10 @@ def script_cases():
 FILES = {"datagrams": datagram_cases, "texts": text_cases, "codes": code_cases, "requests": request_cases, "scripts": script_cases}
 
 
-def main(words):
-    failed = 0
+def main():
+    words = argparse.ArgumentParser(description=__doc__, formatter_class=argparse.RawDescriptionHelpFormatter)
+    words.add_argument("--check", action="store_true", help="writes nothing")
+    only_checks, failed = words.parse_args().check, 0
     FOLDER.mkdir(exist_ok=True)
     for name, cases in FILES.items():
         made = list(cases())
@@ -393,7 +396,7 @@ def main(words):
         assert len(set(names)) == len(names), [word for word in names if names.count(word) > 1][:3]
         lines = "".join(json.dumps(case, ensure_ascii=True) + "\n" for case in made)
         path = FOLDER / f"{name}.jsonl"
-        if words == ["--check"]:
+        if only_checks:
             failed += not path.exists() or path.read_text(encoding="ascii") != lines
         else:
             path.write_text(lines, encoding="ascii")
@@ -402,4 +405,4 @@ def main(words):
 
 
 if __name__ == "__main__":
-    sys.exit(main(sys.argv[1:]))
+    sys.exit(main())

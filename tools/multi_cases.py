@@ -6,8 +6,9 @@ usage: tools/multi_cases.py VECTORS.jsonl > crates/dms_multi_tests/src/multi/cas
 Each vector has `text` and `canonical` (octets in hexadecimal), `spots` (first, past, item) and `fault` (code, place, or null).
 Taken are short texts of printable ASCII, as many as LIMIT.
 """
+import argparse
 import json
-import sys
+import pathlib
 
 LIMIT = 160
 LONGEST = 40
@@ -51,8 +52,10 @@ def printable(octets):
 
 
 def main():
+    words = argparse.ArgumentParser(description=__doc__, formatter_class=argparse.RawDescriptionHelpFormatter)
+    words.add_argument("vectors", type=pathlib.Path)
     cases = []
-    for line in open(sys.argv[1], encoding="ascii"):
+    for line in words.parse_args().vectors.read_text(encoding="ascii").splitlines():
         vector = json.loads(line)
         if vector["canonical"] is None:
             continue
@@ -69,4 +72,5 @@ def main():
     print('";')
 
 
-main()
+if __name__ == "__main__":
+    main()

@@ -1,6 +1,7 @@
 #!/usr/bin/env bash
 # Counts calls of malloc over a hundred thousand calls of what takes no memory: `tools/no_memory.sh` prints `N passed, N failed`.
 set -eu
+case " $* " in *" --help "*) sed -n '2,/^[^#]/s/^# \{0,1\}//p' "$0"; exit ;; esac
 tools=$(cd "$(dirname "$0")" && pwd)
 crate=$tools/../crates/dms_bench
 build=$crate/out

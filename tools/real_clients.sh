@@ -4,6 +4,7 @@
 # Needed are Debian's snmp, smitools, tshark and python3-pysnmp4. The co-process is signtool, or another that answers the same
 # lines: tools/coprocess_model.py. One datagram in five is lost where a centre of ours publishes to the sign.
 set -u
+case " $* " in *" --help "*) sed -n '2,/^[^#]/s/^# \{0,1\}//p' "$0"; exit ;; esac
 top=$(cd "$(dirname "$0")/.." && pwd)
 program=${1:-$top/crates/signtool/out/signtool}
 for needed in snmpget snmpgetnext snmpset snmpwalk smilint tshark; do

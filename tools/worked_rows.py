@@ -2,6 +2,7 @@
 """The worked rows that proofs compute, by name: `worked_rows.py` lists them; `worked_rows.py --check` says which names of the
 table "Worked rows" in docs/MAP.md stand in no file of proofs/, and which of the table "From a rule to its code" not in the file that
 it names, and ends with 1 where there are such."""
+import argparse
 import pathlib
 import re
 import sys
@@ -40,7 +41,9 @@ def stands(path, name):
 
 
 def main():
-    if sys.argv[1:] == ["--check"]:
+    words = argparse.ArgumentParser(description=__doc__)
+    words.add_argument("--check", action="store_true", help="fails where a name of docs/MAP.md does not stand")
+    if words.parse_args().check:
         missing = [(path, name) for path, name in listed() if name not in rows(TOP / "crates" / path)]
         missing += [(path, name) for path, name in places() if not stands(path, name)]
         for path, name in missing:

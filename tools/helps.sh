@@ -1,0 +1,43 @@
+#!/usr/bin/env bash
+# Asks each tool for its help: `tools/helps.sh [TOOL..]` prints `N passed, N failed`.
+#
+# Every file of tools/ that begins with `#!` has to be executable, and no other; `--help` has to print and to end with 0, without
+# input, without errors and without a change to the repository.
+set -u
+case " $* " in *" --help "*) sed -n '2,/^[^#]/s/^# \{0,1\}//p' "$0"; exit ;; esac
+cd "$(dirname "$0")/.." || exit 2
+folder=$(mktemp -d)
+trap 'rm -rf "$folder"' EXIT
+passed=0
+failed=0
+
+# what stands in the repository, and when it was last written
+standing() { find . -path ./.git -prune -o -path '*/out' -prune -o -name __pycache__ -prune -o -type f -printf '%p %s %T@\n' | sort; }
+
+# is NAME FAULT: nothing is wrong where the fault is empty
+is() {
+    if [ -z "$2" ]; then passed=$((passed + 1)); else failed=$((failed + 1)); echo "$1: $2"; fi
+}
+
+[ $# != 0 ] || set -- tools/*.py tools/*.sh
+for tool in "$@"; do
+    fault=
+    if [ "$(head -c 2 "$tool")" != '#!' ]; then
+        [ ! -x "$tool" ] || fault="executable, and its first line names no program"
+    elif [ ! -x "$tool" ]; then
+        fault="not executable"
+    else
+        standing > "$folder/before"
+        timeout 20 "$tool" --help < /dev/null > "$folder/out" 2> "$folder/err"
+        status=$?
+        standing > "$folder/after"
+        [ "$status" = 0 ] || fault="--help ends with $status"
+        [ -s "$folder/out" ] || fault="--help prints nothing"
+        [ ! -s "$folder/err" ] || fault="--help says '$(head -c 200 "$folder/err")' on standard error"
+        cmp -s "$folder/before" "$folder/after" || fault="--help changes $(diff "$folder/before" "$folder/after" | head -2 | tail -1)"
+    fi
+    is "$tool" "$fault"
+done
+
+echo "$passed passed, $failed failed"
+[ "$failed" = 0 ]
