@@ -1,7 +1,7 @@
 //! Readers and writers by their values.
 
 use dms_streams::{Counted, Failed, Gathered, ReadFault, Sink, Source, read_whole, write_whole};
-use std::alloc::Global;
+use std::alloc::{AllocError, Global};
 use std::io::{Read, Write};
 
 /// Gives an octet a call and never ends, but for the call that fails.
@@ -73,6 +73,23 @@ fn a_slice_is_read_and_written_whole(rt: HostRuntime) {
         ),
         (Some((true, 0, 0)), Some(ReadFault::TooLong))
     );
+}
+
+/// Whether these octets are written whole into room for them, how often the writer failed, and whether it holds them.
+fn written_in_room(alloc: Global, octets: &[u8]) -> Result<(bool, u64, bool), AllocError> {
+    let mut out = Gathered::with_room(alloc, octets.len())?;
+    let whole = write_whole(&mut out, octets).is_ok();
+    Ok((whole, out.failures(), out.bytes() == octets))
+}
+
+/// Memory can be wanting for the room, and within it for nothing.
+#[test]
+fn room_or_out_of_memory(rt: HostRuntime) {
+    let mut found = written_in_room(rt.alloc(), b"all of it");
+    if found.is_err() {
+        found = written_in_room(rt.alloc(), b"all of it");
+    }
+    assert_eq!(rt; found.ok(), Some((true, 0, true)));
 }
 
 /// Whether a reader of std gives these octets, and how often it failed.

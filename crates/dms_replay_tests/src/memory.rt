@@ -23,10 +23,12 @@ accepted 16 ffffff0300019a66c0000201
 ledger 7 ffffff0300019a66c0000201 accepted
 ";
 
-/// How the script is replayed: its answer, how often the writer failed, and whether the report was written, and nothing.
-fn replayed(alloc: Global) -> (Result<(), ReplayFault>, u64, bool, bool) {
+/// An answer, how often the writer failed, and whether the report was written, and nothing.
+type Replayed = (Result<(), ReplayFault>, u64, bool, bool);
+
+/// How the script is replayed to this writer.
+fn replayed_to(alloc: Global, mut writer: Gathered) -> Replayed {
     let mut reader = SCRIPT.as_bytes();
-    let mut writer = Gathered::new(alloc);
     let found = replay(alloc, &mut reader, &mut writer);
     (
         found,
@@ -34,6 +36,18 @@ fn replayed(alloc: Global) -> (Result<(), ReplayFault>, u64, bool, bool) {
         writer.bytes() == REPORT.as_bytes(),
         writer.bytes().is_empty(),
     )
+}
+
+fn replayed(alloc: Global) -> Replayed {
+    replayed_to(alloc, Gathered::new(alloc))
+}
+
+/// How it is replayed into room for its report.
+fn replayed_in_room(alloc: Global) -> Replayed {
+    match Gathered::with_room(alloc, REPORT.len()) {
+        Ok(writer) => replayed_to(alloc, writer),
+        Err(_) => (Err(ReplayFault::Memory), 0, false, true),
+    }
 }
 
 /// Out of memory leaves nothing written, also where it is the writer's own, which then has failed once. The same script is then replayed
@@ -53,6 +67,16 @@ fn report_or_out_of_memory(rt: HostRuntime) {
         };
         assert_eq!(rt; (found, failures, empty, refused), wanted);
     }
+}
+
+/// Where there is room for the report, `Write` does not come: whatever memory is refused, `Memory` is answered, and nothing is written.
+#[test]
+fn report_in_room_or_out_of_memory(rt: HostRuntime) {
+    let mut found = replayed_in_room(rt.alloc());
+    if found == (Err(ReplayFault::Memory), 0, false, true) {
+        found = replayed_in_room(rt.alloc());
+    }
+    assert_eq!(rt; found, (Ok(()), 0, true, false));
 }
 
 /// Whether the answer is the bench sign.

@@ -1,10 +1,11 @@
 -- A loop of calls of a writer writes a prefix of the octets, and tells which call failed.
-use Rattle.std.proofs.Common.{◌≡◌, ℕ, List, [], ◌∷◌, ◌++◌, take, drop, length, refl, sym, ◌∙◌, ap, subst, Option, Result, Ok, append_assoc, ◌==◌, false, if◌then◌else◌, arith}
+use Rattle.std.proofs.Common.{◌≡◌, ℕ, List, [], ◌∷◌, ◌++◌, take, drop, length, refl, sym, ◌∙◌, ap, subst, Option, Result, Ok, ◌+◌, append_assoc, ◌==◌, false, if◌then◌else◌, arith}
 use Rattle.std.proofs.lemmas.Bool.Decides.{nat_tests}
-use Rattle.std.proofs.lemmas.List.{take-append-drop}
+use Rattle.std.proofs.lemmas.List.{take-append-drop, length-drop}
 use Rattle.std.specs.Io.KnownBytes.{Appends, WriteAppends}
 use Rattle.std.proofs.KnownBytes.{Appends-trans}
 use Rattle.dms_streams.specs.Calls.{one_more, after_write}
+use Rattle.dms_streams.specs.Room.{HasRoom, TakesWithinRoom}
 
 whole_still : (octets prefix rest after : List ℕ) (count : ℕ) → octets ≡ prefix ++ rest → after ≡ drop count rest
     → octets ≡ (prefix ++ take count rest) ++ after
@@ -37,3 +38,20 @@ pub took_none : {E : Type 0} (before after count : ℕ) (octets : List ℕ) (res
 took_none before after count [] result counted is_ok none some = absurd (some refl)
 took_none {E} before after count (octet ∷ octets) result counted is_ok none some =
     counted ∙ ap (λ r. after_write {E = E} before r (octet ∷ octets)) (is_ok ∙ ap (λ n. Ok n) none)
+
+-- ---- room
+
+all_taken : {E : Type 0} (now next : Option ℕ) (rest : List ℕ) (more count : ℕ) (result : Result ℕ E) → HasRoom now (length rest + more)
+    → result ≡ Ok count → TakesWithinRoom now next result rest → (count ≡ length rest) × HasRoom next more
+all_taken {E} now next rest more count result has is_ok takes =
+    let took = takes more has in
+    let same : ◌≡◌ {A = Result ℕ E} (Ok count) (Ok (length rest)) = sym is_ok ∙ took.0 in
+    (cc, took.1)
+
+-- a call that took what there was room for leaves room for what is to follow
+pub room_still : {E : Type 0} (now next : Option ℕ) (rest after : List ℕ) (more count : ℕ) (result : Result ℕ E) → HasRoom now (length rest + more)
+    → result ≡ Ok count → TakesWithinRoom now next result rest → after ≡ drop count rest → HasRoom next (length after + more)
+room_still now next rest after more count result has is_ok takes cut =
+    let took = all_taken now next rest more count result has is_ok takes in
+    let none : more ≡ length after + more = omega (arith, ap length cut ∙ length-drop count rest, took.0) in
+    subst (HasRoom next) none took.1
