@@ -1,8 +1,8 @@
 #!/usr/bin/env bash
 # Asks each tool for its help: `tools/helps.sh [TOOL..]` prints `N passed, N failed`.
 #
-# Every file of tools/ that begins with `#!` has to be executable, and no other; `--help` has to print and to end with 0, without
-# input, without errors and without a change to the repository.
+# Every file of tools/ that begins with `#!` has to be executable, and no other; `--help` has to print and to end with
+# 0, without input, without errors and without a change to the repository.
 set -u
 case " $* " in *" --help "*) sed -n '2,/^[^#]/s/^# \{0,1\}//p' "$0"; exit ;; esac
 cd "$(dirname "$0")/.." || exit 2
@@ -12,7 +12,9 @@ passed=0
 failed=0
 
 # what stands in the repository, and when it was last written
-standing() { find . -path ./.git -prune -o -path '*/out' -prune -o -name __pycache__ -prune -o -type f -printf '%p %s %T@\n' | sort; }
+standing() {
+    find . \( -path ./.git -o -name out -o -name __pycache__ \) -prune -o -type f -printf '%p %s %T@\n' | sort
+}
 
 # is NAME FAULT: nothing is wrong where the fault is empty
 is() {
@@ -34,7 +36,8 @@ for tool in "$@"; do
         [ "$status" = 0 ] || fault="--help ends with $status"
         [ -s "$folder/out" ] || fault="--help prints nothing"
         [ ! -s "$folder/err" ] || fault="--help says '$(head -c 200 "$folder/err")' on standard error"
-        cmp -s "$folder/before" "$folder/after" || fault="--help changes $(diff "$folder/before" "$folder/after" | head -2 | tail -1)"
+        changed=$(diff "$folder/before" "$folder/after" | sed -n 2p)
+        [ -z "$changed" ] || fault="--help changes $changed"
     fi
     is "$tool" "$fault"
 done

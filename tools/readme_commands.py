@@ -4,8 +4,8 @@
 Each block of `sh` that begins with `./signtool` or `cp` is run at a copy of signs/ and the built program, line by line (a
 here-document is one line). The block of the SNMP tools is run whole, without its `apt-get`, where they are installed, and else
 skipped, which is said; with --short it is left out. A block
-without a language right after it is what its last command, or the whole block, prints. The two commands that prove, `rt run`
-and the gate, are left to the gate.
+without a language right after it is what its last command, or the whole block, prints. The two commands that prove,
+`tools/build.py` and the gate, are left to the gate.
 """
 
 import argparse
