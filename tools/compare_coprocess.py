@@ -14,7 +14,8 @@ import random
 import re
 import sys
 
-from udp_sign import TOP, CoProcess
+from door.process import CoProcess
+from door.setting import TOP
 
 WORDS = ["tick", "ticks", "state", "show", "status", "restart", "datagram", "power-lost", "power-back", "publish", "-", "", "0",
          "4294967295", "4294967296", "zz", "3", "#", "end", "30"]

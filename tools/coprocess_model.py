@@ -39,9 +39,14 @@ def sign_answer(world, words):
     if keyword == b"power-back":
         world.sign.power_back(text.number(text.wants(words, keyword, 1)[0], 0, 2 ** 32 - 1, 10))
         return ["ok"]
+    if keyword == b"ticks":
+        world.sign.ticks(text.number(text.wants(words, keyword, 1)[0], 0, 2 ** 32 - 1, 10))
+        return ["ok"]
     text.wants(words, keyword, 0)
     if keyword == b"tick":
         world.sign.tick()
+    elif keyword == b"heard":
+        world.sign.heard()
     elif keyword == b"power-lost":
         world.sign.power_lost()
     elif keyword == b"state":

@@ -1,74 +1,71 @@
 #!/usr/bin/env python3
 """A centre over UDP: a door between a socket and `signtool centre`.
 
-    tools/udp_centre.py --to HOST:PORT [--signtool PATH] [--sign FILE] [--tick SECONDS] [--wait SECONDS]
+    tools/udp_centre.py --to HOST:PORT [--signtool PATH] [--sign FILE] [--journal FILE [--fresh]] [--first N]
+        [--log FILE|- [--json]] [--tick SECONDS] [--wait SECONDS]
 
 Its standard input has an operator's commands, a line each as in a script: `publish ..`, `blank ..`, `activate ..`. Each is
-carried out until the centre is idle, and how it ended is printed with the ledger's lines. `status` prints the same at any time.
+carried out until the centre is idle, and how it ended is printed with the ledger's lines; one that takes longer than --wait is
+given up, and the next one waits for its end. `publish-text ..` is `publish ..` with its text and its owner as they are read,
+in quotes; `status` prints how things are at any time. With a journal (docs/JOURNAL.md) a centre goes on where it was; without
+one its request numbers begin at the description's, or at --first, which has to be above any that was used. The exit status is 0
+where every command ended accepted, 1 where one did not, and 2 where it could not begin.
 """
 
 import argparse
-import pathlib
-import socket
+import math
 import sys
-import time
 
-from udp_sign import TOP, CoProcess
-
-
-class Door:
-    def __init__(self, centre, to, tick):
-        self.centre, self.to, self.tick = centre, to, tick
-        self.socket = socket.socket(socket.AF_INET, socket.SOCK_DGRAM)
-        self.socket.bind(("127.0.0.1" if to[0] == "127.0.0.1" else "", 0))
-
-    def hand(self, line):
-        """The centre's answer to a line; what it sends goes out."""
-        answer = self.centre.send(line)
-        if answer[-1].startswith("send "):
-            self.socket.sendto(bytes.fromhex(answer[-1].removeprefix("send ")), self.to)
-        return answer
-
-    def carry_out(self, command, wait):
-        """A command, until the centre is idle or so many seconds went by."""
-        answer = self.hand(command)
-        if answer[-1].split(" ")[0] in ("refused", "bad"):
-            return answer
-        begun = due = time.monotonic()
-        due += self.tick
-        while time.monotonic() - begun < wait:
-            self.socket.settimeout(max(0.001, due - time.monotonic()))
-            try:
-                self.hand(f"datagram {self.socket.recvfrom(65535)[0].hex() or '-'}")
-            except (TimeoutError, ConnectionRefusedError):
-                if time.monotonic() >= due:
-                    self.hand("tick")
-                    due += self.tick
-            status = self.centre.send("status")
-            if status[0] == "idle":
-                return status[:-1]
-        return self.centre.send("status")[:-1]
+from door import commands, description
+from door.centre_door import CentreDoor
+from door.records import Head
+from door.refusal import Refusal, status_of
+from door.setting import begun, checked, journal_of, log_of, options
+from door.sockets import connected, host_and_port
 
 
-def main():
-    words = argparse.ArgumentParser(description="a centre over UDP")
-    words.add_argument("--to", required=True, help="HOST:PORT of the sign")
-    words.add_argument("--signtool", default=str(TOP / "crates/signtool/out/signtool"))
-    words.add_argument("--sign", type=pathlib.Path, help="the description of the sign; else the bench sign")
-    words.add_argument("--tick", type=float, default=1.0, help="seconds from tick to tick")
-    words.add_argument("--wait", type=float, default=120.0, help="seconds that a command may take")
+def seconds(word: str) -> float:
+    """A time above 0."""
+    found = float(word)
+    if not 0 < found < math.inf:
+        raise ValueError
+    return found
+
+
+def asked_for() -> argparse.Namespace:
+    """The options, as far as they go together."""
+    words = options("a centre over UDP")
+    words.add_argument("--to", required=True, metavar="HOST:PORT", help="where the sign is; an IPv6 address stands in brackets")
+    words.add_argument("--first", type=int, metavar="N", help="the number of the first request; else the description's")
+    words.add_argument("--tick", type=seconds, default=1.0, metavar="SECONDS", help="from tick to tick")
+    words.add_argument("--wait", type=seconds, default=120.0, metavar="SECONDS", help="how long a command may take")
     asked = words.parse_args()
-    host, _, port = asked.to.rpartition(":")
-    door = Door(CoProcess(asked.signtool, ["centre"], asked.sign), (host, int(port)), asked.tick)
-    for line in sys.stdin:
-        line = line.strip()
-        if line == "status":
-            print("\n".join(door.centre.send("status")[:-1]), flush=True)
-        elif line and not line.startswith("#"):
-            print("\n".join(door.carry_out(line, asked.wait)), flush=True)
-    door.centre.end()
-    return 0
+    checked(asked)
+    if asked.first is not None and not 0 <= asked.first < 2 ** 32:
+        raise Refusal(f"--first {asked.first} is no number of a request: 0 to 4294967295")
+    return asked
+
+
+def main() -> int:
+    asked = asked_for()
+    log = log_of(asked)
+    text = description.read(asked.sign)
+    first = description.first_of(text) if asked.first is None else asked.first
+    with connected(*host_and_port(asked.to)) as socket:
+        journal = journal_of(asked, Head("centre", description.digest(text), first)) if asked.journal else None
+        if journal and journal.head.first is not None:
+            first = journal.head.first
+        door = CentreDoor(begun(asked, "centre", first, journal), socket, journal, log, asked.tick, asked.wait)
+        is_well = True
+        if door.status()[0] == "busy":
+            is_well = door.finish([])
+        for line in commands.lines(door.waiting):
+            if line is None:
+                print("bad line: no UTF-8, or longer than 65536 octets", flush=True)
+            is_well = line is not None and door.carry_out(line) and is_well
+        door.centre.end()
+    return 0 if is_well and not door.waiting.is_stopped else 1
 
 
 if __name__ == "__main__":
-    sys.exit(main())
+    sys.exit(status_of(main))

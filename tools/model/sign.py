@@ -218,6 +218,19 @@ class Sign:
             if self.silence == limit:
                 self.activate_own(12, COMMUNICATIONS_LOSS)
 
+    def ticks(self, seconds):
+        """So many seconds; where one leaves all as it is, so do those after it."""
+        for _ in range(seconds):
+            before = (self.shown, self.silence, self.is_validating())
+            self.tick()
+            if before == (self.shown, self.silence, False):
+                return
+
+    def heard(self):
+        """What a Get that is answered leaves."""
+        if self.power:
+            self.silence = 0
+
     def power_lost(self):
         if self.power:
             self.kept = self.shown

@@ -1,0 +1,131 @@
+"""A centre behind a UDP socket: an operator's commands, each carried out until the centre is idle."""
+
+import socket
+import time
+
+from .journal import Journal, NotKept
+from .log import Log
+from .mib import Mib
+from .process import CoProcess
+from .refusal import Refusal, reason, say
+from .sockets import Address, Waiting, received
+from .texts import ended, published
+
+COMMANDS = ("publish", "blank", "activate")
+
+
+class CentreDoor:
+    """`tick` is the time from tick to tick, `wait` how long a command may take, in seconds."""
+
+    def __init__(self, centre: CoProcess, door: socket.socket, journal: Journal | None, log: Log | None, tick: float, wait: float) -> None:
+        self.centre, self.door, self.journal, self.log = centre, door, journal, log
+        self.every, self.wait, self.mib = tick, wait, Mib.read()
+        self.to: Address = door.getpeername()
+        self.waiting = Waiting()
+
+    def status(self) -> list[str]:
+        """Whether it is busy, how the last job ended, and the ledger."""
+        return [line.decode("latin-1") for line in self.centre.ask(b"status")[:-1]]
+
+    def hand(self, line: bytes) -> bytes:
+        """Records a line, hands it over, and sends what goes out: the answer."""
+        if self.journal:
+            self.journal.keep([line])
+        answer = self.centre.hand([line])[0]
+        if answer.startswith(b"send "):
+            self.send(bytes.fromhex(answer[5:].decode()))
+        return answer
+
+    def send(self, octets: bytes) -> None:
+        """Sends a datagram; the fault of an earlier one is no fault of this one."""
+        for _ in range(2):
+            try:
+                self.door.send(octets)
+                break
+            except ConnectionError:
+                continue
+            except OSError as fault:
+                say(f"a request is lost: {reason(fault)}")
+                break
+        if self.log:
+            self.log.datagram("out", self.to, octets)
+
+    def carry_on(self) -> bool:
+        """Hands over ticks and replies until the centre is idle; False where that takes too long, or it is stopped."""
+        begun = time.monotonic()
+        ends, due = begun + self.wait, begun + self.every
+        while self.status()[0] == "busy":
+            now = time.monotonic()
+            if now >= ends or self.waiting.is_stopped:
+                return False
+            try:
+                due = self.step(now, due, ends)
+            except NotKept:
+                due = max(due, time.monotonic() + self.every)
+        return True
+
+    def step(self, now: float, due: float, ends: float) -> float:
+        """A tick that is due, or a reply: when the next tick is due."""
+        if now >= due:
+            self.hand(b"tick")
+            return due + self.every
+        self.waiting.until([self.door.fileno()], min(due, ends) - now)
+        heard = received(self.door)
+        if heard is not None:
+            if self.log:
+                self.log.datagram("in", self.to, heard[0])
+            self.hand(b"datagram " + (heard[0].hex().encode() or b"-"))
+        return due
+
+    def finish(self, before: list[str]) -> bool:
+        """Carries on, and prints how the job ended with the ledger's lines that are new: whether it was accepted."""
+        is_done = self.carry_on()
+        if not is_done:
+            print("stopped: the job is not done" if self.waiting.is_stopped else f"given up after {self.wait:g} seconds: the job is not done")
+        now = self.status()
+        self.tell([*now[:2], *(line for line in now[2:] if line not in before)])
+        return is_done and now[1] == "last accepted"
+
+    def tell(self, lines: list[str]) -> None:
+        """Prints lines of a status."""
+        print("\n".join(ended(self.mib, line) for line in lines), flush=True)
+
+    def carry_out(self, line: str) -> bool:
+        """Whether a line of the operator's was in order, and ended accepted if it was a command."""
+        if line == "status":
+            self.tell(self.status())
+            return True
+        try:
+            command = published(line) if line.split(" ")[0] == "publish-text" else line
+        except Refusal as refused:
+            print(f"bad line: {refused}", flush=True)
+            return False
+        if command.split(" ")[0] not in COMMANDS:
+            print("bad line", flush=True)
+            return False
+        return self.command(command)
+
+    def command(self, command: str) -> bool:
+        """Whether a command was accepted. One that finds a job begun earlier waits for its end."""
+        before = self.status()
+        if before[0] == "busy" and not self.carry_on():
+            print("not begun: the job before it is not done", flush=True)
+            return False
+        self.late()
+        try:
+            answer = self.hand(command.encode("utf-8")).decode("latin-1")
+        except NotKept:
+            print("not begun: it cannot be recorded", flush=True)
+            return False
+        if self.log:
+            self.log.event("command", None, {"line": command, "answer": answer.split(" ")[0]})
+        if answer.split(" ")[0] in ("refused", "bad"):
+            print(answer, flush=True)
+            return False
+        return self.finish(before)
+
+    def late(self) -> None:
+        """What comes while no job is under way answers nothing, and is let go."""
+        while (heard := received(self.door)) is not None:
+            if self.log:
+                self.log.datagram("late", self.to, heard[0])

@@ -1,0 +1,51 @@
+"""Which time it is, and what the time without a process was."""
+
+import pathlib
+import time
+from dataclasses import dataclass
+
+BOOT = pathlib.Path("/proc/sys/kernel/random/boot_id")
+MOST_MADE_UP = 86_400  # seconds that are made up by ticks after a process died
+MOST_SECONDS = 2 ** 32 - 1
+
+
+@dataclass(frozen=True)
+class Moment:
+    """A boot of the machine by its kernel's id, the wall clock in seconds since 1970, and the seconds since that boot."""
+
+    boot: str
+    wall: int
+    up: int
+
+    def start(self) -> bytes:
+        """The record that a start begins with."""
+        return f"start {self.boot} {self.wall} {self.up}".encode()
+
+    def clock(self) -> bytes:
+        """The record of the clock."""
+        return f"clock {self.wall} {self.up}".encode()
+
+    def later(self, seconds: int) -> "Moment":
+        return Moment(self.boot, self.wall + seconds, self.up + seconds)
+
+    @staticmethod
+    def now() -> "Moment":
+        try:
+            boot = BOOT.read_text(encoding="ascii").strip() or "-"
+        except (OSError, ValueError):
+            boot = "-"
+        return Moment(boot, max(0, int(time.time())), int(time.clock_gettime(time.CLOCK_BOOTTIME)))
+
+    @staticmethod
+    def of(start: bytes, clock: bytes) -> "Moment":
+        """The moment that a record of the clock says, in the boot of a start's record."""
+        return Moment(start.split(b" ")[1].decode(), *(int(word) for word in clock.split(b" ")[1:3]))
+
+
+def down(last: Moment, now: Moment, overruled: str | None = None) -> list[bytes]:
+    """The lines that tell a sign what the time without a process was: a loss of power, or the seconds that passed."""
+    if overruled == "power" or overruled is None and last.boot != now.boot:
+        return [b"power-lost", b"power-back %d" % min(max(0, now.wall - last.wall), MOST_SECONDS)]
+    passed = now.up - last.up if last.boot == now.boot else now.wall - last.wall
+    made_up = min(max(0, passed), MOST_MADE_UP)
+    return [b"ticks %d" % made_up] if made_up else []

@@ -1,0 +1,33 @@
+"""The lines of an operator on standard input."""
+
+import os
+import sys
+from typing import Iterator
+
+from .sockets import Waiting
+
+MOST_LINE = 65_536
+
+
+def lines(waiting: Waiting) -> Iterator[str | None]:
+    """Each line without spaces around it; None for one that is no UTF-8, or too long. Empty ones and comments are skipped."""
+    left, has_more = b"", True
+    file = sys.stdin.fileno()
+    while not waiting.is_stopped and (has_more or left):
+        if has_more and b"\n" not in left:
+            if file in waiting.until([file], None):
+                more = os.read(file, 65_536)
+                left, has_more = left + more, bool(more)
+            continue
+        line, _, left = left.partition(b"\n")
+        text = line.strip(b" \t\r")
+        if text and not text.startswith(b"#"):
+            yield decoded(text)
+
+
+def decoded(line: bytes) -> str | None:
+    """The line as text."""
+    try:
+        return line.decode("utf-8") if len(line) <= MOST_LINE else None
+    except UnicodeDecodeError:
+        return None

@@ -1,0 +1,165 @@
+"""A journal: the lines that a co-process was handed, kept over its end."""
+
+import mmap
+import os
+from typing import Iterator
+
+from .clock import Moment
+from .files import cut, opened, put_aside, synced_folder
+from .records import SUM, Head, checksum_at, is_torn, lines_of, records, whole
+from .refusal import Refusal, reason, say
+
+
+class NotKept(Exception):
+    """A record could not be written, and the file is as it was: what it is of counts as lost."""
+
+
+class Journal:
+    """The open file, locked; `append` writes to its end. Lines that may wait for the next record are `owed`."""
+
+    def __init__(self, path: str, file: int, head: Head) -> None:
+        self.path, self.file, self.head = path, file, head
+        self.size = self.checksum = 0
+        self.last: Moment | None = None  # of the last record, its seconds since the clock counted in
+        self.owed: list[bytes] = []
+        self.refused = ""  # why the disk refused last, until it takes a record again
+
+    @staticmethod
+    def opened(path: str, head: Head) -> "Journal":
+        """The journal of a file that is there, or of a new one; a torn end is cut away."""
+        journal = Journal(path, opened(path), head)
+        if not journal.read():
+            cut(journal.file, 0, path)
+            journal.begin()
+        return journal
+
+    @staticmethod
+    def fresh(path: str, head: Head) -> "Journal":
+        """A new journal in the place of an old one, which is put aside under a name with the date."""
+        file, aside = put_aside(path, lambda file: Journal(path, file, head).begin())
+        say(f"{path}: put aside as {aside}")
+        journal = Journal(path, file, head)
+        journal.read()
+        return journal
+
+    def begin(self) -> None:
+        """The first record of a file without octets."""
+        try:
+            self.append([self.head.line()], synced=True)
+            synced_folder(self.path)
+        except NotKept as fault:
+            raise Refusal(f"{self.path}: no journal can be begun", 1) from fault
+
+    def text(self) -> mmap.mmap | bytes:
+        """The file's octets."""
+        size = os.fstat(self.file).st_size
+        return mmap.mmap(self.file, size, access=mmap.ACCESS_READ) if size else b""
+
+    def read(self) -> bool:
+        """Finds the end of the whole records and cuts what is torn; False where there is nothing yet."""
+        text = self.text()
+        size = whole(text)
+        if not size and self.is_begun(text[:1000].rstrip(b"\0")):
+            return False
+        self.compare(text[:text.find(b"\n", 0, size) + 1])
+        if not is_torn(text, size):
+            raise Refusal(f"{self.path}: what stands at octet {size} was not written by a door (--fresh begins anew)")
+        kept = self.started(text, size)
+        if kept < len(text):
+            say(f"{self.path}: {len(text) - kept} octets of records that were not finished are cut away")
+            cut(self.file, kept, self.path)
+        self.size, self.checksum = kept, checksum_at(text, kept)
+        return True
+
+    def is_begun(self, octets: bytes) -> bool:
+        """Whether a file without a whole record is what a door leaves that was killed at the first one."""
+        return b"\n" not in octets[:-1] and self.head.line().startswith(octets.split(b" #")[0])
+
+    def compare(self, first: bytes) -> None:
+        """Refuses a journal of something else, by what differs."""
+        found = Head.of(first[:-SUM - 1])
+        if found is None:
+            raise Refusal(f"{self.path} is no journal")
+        wanted = self.head
+        for name, has, asked in (("form", found.form, wanted.form), ("end", found.end, wanted.end), ("rules", found.rules, wanted.rules)):
+            if has != asked:
+                raise Refusal(f"{self.path}: its {name} is {has}, and this door's {asked} (--fresh begins anew)")
+        if found.digest != wanted.digest:
+            raise Refusal(f"{self.path} is the journal of another description (--fresh begins anew)")
+        self.head = found
+
+    def started(self, text: mmap.mmap | bytes, size: int) -> int:
+        """The length of the records up to a start that was not finished, and the moment of the last record."""
+        start, clock = text.rfind(b"\nstart ", 0, size) + 1, text.rfind(b"\nclock ", 0, size) + 1
+        if clock < start:
+            return self.started(text, start)
+        if start:
+            line = text[start:text.find(b"\n", start)]
+            at = text.find(b"\n", clock) + 1
+            moment = Moment.of(line, text[clock:at])
+            self.last = moment.later(sum(map(seconds_of, (line for lines in lines_of(text, at, size) for line in lines))))
+        return size
+
+    def lines(self) -> Iterator[list[bytes]]:
+        """The lines that were handed over, many at a time."""
+        text = self.text()
+        return lines_of(text, text.find(b"\n", 0, self.size) + 1, self.size)
+
+    def keep(self, lines: list[bytes]) -> None:
+        """These lines are on the disk after it, and what was owed before them; raises NotKept where they are not."""
+        self.append(self.owed + lines, synced=True)
+        self.owed = []
+
+    def owe(self, line: bytes) -> None:
+        """A line that goes with the next record; it is written now if the disk takes it."""
+        self.owed.append(line)
+        try:
+            self.append(self.owed, synced=False)
+        except NotKept:
+            return
+        self.owed = []
+
+    def append(self, lines: list[bytes], synced: bool) -> None:
+        """Writes records. After a write that failed the file is cut back; what is on the disk is not known where that, or
+        the sync, fails."""
+        octets, checksum = records(lines, self.checksum)
+        try:
+            written = 0
+            while written < len(octets):
+                written += os.write(self.file, octets[written:])
+        except OSError as fault:
+            cut(self.file, self.size, self.path)
+            self.tell(reason(fault))
+            raise NotKept from fault
+        if synced:
+            sync(self.file, self.path)
+        self.size, self.checksum = self.size + len(octets), checksum
+        self.tell("")
+
+    def tell(self, refused: str) -> None:
+        """Says why the disk refuses, once, and when it takes records again."""
+        if refused != self.refused:
+            say(f"{self.path}: {refused}: what is not recorded is not answered" if refused else f"{self.path}: it is written again")
+        self.refused = refused
+
+
+def sync(file: int, path: str) -> None:
+    """What was written is on the disk; a failure ends the door, since what is there is not known."""
+    try:
+        os.fdatasync(file)
+    except OSError as fault:
+        raise Refusal(f"{path}: {reason(fault)}: what is on the disk is not known", 1) from fault
+
+
+def seconds_of(line: bytes) -> int:
+    """The seconds that a recorded line counts."""
+    word, _, count = line.partition(b" ")
+    return int(count) if word == b"ticks" else int(line == b"tick")
+
+
+def count_of_records(file: int) -> int:
+    """How many lines a file has, whatever they are."""
+    count, at = 1, 0
+    while octets := os.pread(file, 1 << 20, at):
+        count, at = count + octets.count(b"\n"), at + len(octets)
+    return count

@@ -1,0 +1,40 @@
+"""What a user is told in place of a traceback."""
+
+import sys
+from typing import Callable
+
+
+class Refusal(Exception):
+    """Why a door does not go on, in words. Status 2: what it was given is not in order; 1: something failed."""
+
+    def __init__(self, words: str, status: int = 2) -> None:
+        super().__init__(words)
+        self.status = status
+
+
+def reason(fault: OSError) -> str:
+    """The system's words for a fault, with the file's name where it has one."""
+    words = fault.strerror or str(fault)
+    return f"{fault.filename}: {words}" if fault.filename else words
+
+
+def say(words: str) -> None:
+    """A line on standard error, as far as that can be written."""
+    try:
+        print(words, file=sys.stderr, flush=True)
+    except (OSError, ValueError):
+        pass
+
+
+def status_of(door: Callable[[], int]) -> int:
+    """The exit status of a door, its refusals in words on standard error."""
+    try:
+        return door()
+    except Refusal as refused:
+        say(str(refused))
+        return refused.status
+    except OSError as fault:
+        say(reason(fault))
+        return 1
+    except KeyboardInterrupt:
+        return 1

@@ -1,0 +1,81 @@
+"""What both doors do on their way: options, a journal of a description, and a co-process that is where the journal left it."""
+
+import argparse
+import dataclasses
+import os
+import pathlib
+
+from . import description
+from .files import opened
+from .journal import Journal, count_of_records
+from .log import Log
+from .process import CoProcess
+from .records import SUM, Head
+from .refusal import Refusal, say
+
+TOP = pathlib.Path(__file__).resolve().parents[2]
+PROGRAM = str(TOP / "crates/signtool/out/signtool")
+
+
+def options(about: str) -> argparse.ArgumentParser:
+    """The options that both doors have."""
+    words = argparse.ArgumentParser(description=about)
+    words.add_argument("--signtool", default=PROGRAM, metavar="PATH")
+    words.add_argument("--sign", metavar="FILE", help="the description of the sign, as in signs/; else the bench sign")
+    words.add_argument("--journal", metavar="FILE", help="what is handed over is kept here, over the end of the process")
+    words.add_argument("--fresh", action="store_true", help="puts the journal's file aside and begins anew")
+    words.add_argument("--log", metavar="FILE", help="a line an event is written here; - is standard output")
+    words.add_argument("--json", action="store_true", help="the log's lines are JSON")
+    return words
+
+
+def checked(asked: argparse.Namespace) -> None:
+    """Refuses options that go with none that is there."""
+    if asked.fresh and not asked.journal:
+        raise Refusal("--fresh is of a --journal FILE")
+    if asked.json and not asked.log:
+        raise Refusal("--json is of a --log FILE")
+
+
+def log_of(asked: argparse.Namespace) -> Log | None:
+    return Log(asked.log, asked.json) if asked.log else None
+
+
+def number_above(path: str, file: int, end: str) -> int | None:
+    """A number above all that the centre of a journal used: each of its records sent at most one request of a new number."""
+    text = os.pread(file, 1 << 12, 0)
+    found = Head.of(text.split(b"\n")[0][:-SUM])
+    if found is None and text.strip(b"\0"):
+        raise Refusal(f"{path} is no journal: it is not put aside" + (", and --first says no number above its own" if end == "centre" else ""))
+    if found is not None and found.end != end:
+        raise Refusal(f"{path} is the journal of a {found.end}: it is not put aside")
+    return None if found is None or found.first is None else found.first + count_of_records(file)
+
+
+def journal_of(asked: argparse.Namespace, head: Head) -> Journal:
+    """The journal that is asked for, cut to its whole records."""
+    if not asked.fresh or not os.path.lexists(asked.journal):
+        return Journal.opened(asked.journal, head)
+    old = opened(asked.journal)
+    above = number_above(asked.journal, old, head.end)
+    if above is not None and head.first is not None:
+        head = dataclasses.replace(head, first=max(above, head.first))
+    journal = Journal.fresh(asked.journal, head)
+    os.close(old)
+    return journal
+
+
+def begun(asked: argparse.Namespace, end: str, first: int | None, journal: Journal | None) -> CoProcess:
+    """The co-process, where the lines of the journal left it."""
+    text = description.read(asked.sign)
+    if first is not None:
+        text = description.with_first(text, first)
+    process = CoProcess(asked.signtool, [end], text)
+    process.begin(b"state" if end == "sign" else b"status", asked.sign or "the bench sign")
+    if journal is not None:
+        if end == "sign" and process.hand([b"ticks 0"]) != [b"ok"]:
+            raise Refusal(f"{asked.signtool} has no line `ticks`, which a journal needs")
+        process.replay(journal.lines())
+    else:
+        say("nothing is kept: no --journal")
+    return process

@@ -1,0 +1,109 @@
+"""A sign behind a UDP port: what waits is recorded, handed over and answered, many datagrams at a time."""
+
+import socket
+import time
+
+from .datagrams import is_get
+from .keeper import Keeper
+from .log import Log
+from .process import CoProcess
+from .refusal import reason, say
+from .sockets import MOST_DATAGRAM, Address, Waiting, received
+
+AT_ONCE = 16  # datagrams that are recorded with one sync, and handed over together
+Heard = tuple[bytes, Address]
+
+
+class SignDoor:
+    """`lose`: every so many datagrams one is lost, 0 for none. Without a keeper nothing is kept."""
+
+    def __init__(self, sign: CoProcess, door: socket.socket, keeper: Keeper | None, log: Log | None, lose: int = 0,
+                 is_quiet: bool = False) -> None:
+        self.sign, self.door, self.keeper, self.log = sign, door, keeper, log
+        self.lose, self.is_quiet, self.count = lose, is_quiet, 0
+
+    def serve(self, waiting: Waiting, has_ticks: bool) -> None:
+        """Until it is stopped."""
+        due = time.monotonic() + 1
+        while not waiting.is_stopped:
+            left = due - time.monotonic() if has_ticks else None
+            if left is not None and left <= 0:
+                passed = 1 + int(-left)
+                self.tick(passed)
+                due += passed
+            elif waiting.until([self.door.fileno()], left):
+                self.answer(self.waiting_datagrams())
+        if self.keeper:
+            self.keeper.end()
+
+    def tick(self, seconds: int) -> None:
+        """Seconds pass."""
+        while seconds:
+            some = min(seconds, 1000)
+            self.sign.hand([b"tick"] * some)
+            if self.keeper:
+                self.keeper.tick(some)
+            seconds -= some
+
+    def waiting_datagrams(self) -> list[Heard]:
+        """What waits, at most so many at once; one that is longer than this profile's counts as lost."""
+        found: list[Heard] = []
+        while len(found) < AT_ONCE and (one := received(self.door)) is not None:
+            self.count += 1
+            if self.lose and self.count % self.lose == 0 or len(one[0]) > MOST_DATAGRAM:
+                if self.log:
+                    self.log.event("lost", one[1], {"octets": len(one[0])})
+                continue
+            found.append(one)
+        return found
+
+    def answer(self, heard: list[Heard]) -> None:
+        """Records what is no Get, hands all over, and sends the replies in order. What the disk refuses is not handed over."""
+        lines = [(b"datagram " + (octets.hex().encode() or b"-"), octets, sender) for octets, sender in heard]
+        kept = set()
+        if self.keeper:
+            kept = {at for at, (_, octets, _) in enumerate(lines) if not is_get(octets)}
+            if kept and not self.keeper.keep([lines[at][0] for at in sorted(kept)]):
+                lines, kept = self.without(lines, kept), set()
+        if self.log:
+            for _, octets, sender in lines:
+                self.log.datagram("in", sender, octets)
+        if not lines:
+            return
+        answers = self.sign.hand([line for line, _, _ in lines])
+        answered = {at for at, (answer, (_, _, sender)) in enumerate(zip(answers, lines)) if self.reply(answer, sender)}
+        if self.keeper and answered:
+            self.keeper.heard(by_kept=bool(answered & kept))
+
+    def without(self, lines: list[tuple[bytes, bytes, Address]], refused: set[int]) -> list[tuple[bytes, bytes, Address]]:
+        """The Gets alone, since the rest cannot be recorded."""
+        if self.log:
+            for at in sorted(refused):
+                self.log.event("not recorded", lines[at][2], {"octets": len(lines[at][1])})
+        return [line for at, line in enumerate(lines) if at not in refused]
+
+    def reply(self, answer: bytes, sender: Address) -> bool:
+        """Sends a reply, where there is one, and says what was accepted."""
+        word, _, rest = answer.partition(b" ")
+        if word not in (b"reply", b"accepted"):
+            if self.log:
+                self.log.event(answer.decode("latin-1"), sender)
+            return False
+        if word == b"accepted":
+            code, _, rest = rest.partition(b" ")
+            self.accepted(code.decode(), sender)
+        octets = bytes.fromhex(rest.decode())
+        try:
+            self.door.sendto(octets, sender)
+        except OSError as fault:
+            say(f"a reply is lost: {reason(fault)}")
+        if self.log:
+            self.log.datagram("out", sender, octets)
+        return True
+
+    def accepted(self, code: str, sender: Address) -> None:
+        """Tells of an activation."""
+        if not self.is_quiet:
+            print("accepted", code, flush=True)
+        if self.log:
+            self.log.event("accepted", sender, {"code": code})

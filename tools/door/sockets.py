@@ -1,0 +1,95 @@
+"""UDP addresses of either family, and sockets over them."""
+
+import re
+import select
+import signal
+import socket
+from typing import Any, Callable
+
+from .refusal import Refusal
+
+MOST_DATAGRAM = 1472  # octets of a datagram of this profile
+Address = tuple[Any, ...]
+
+
+def named(address: Address) -> str:
+    """HOST:PORT, an IPv6 host in brackets."""
+    host, port = address[:2]
+    return f"[{host}]:{port}" if ":" in host else f"{host}:{port}"
+
+
+def host_and_port(words: str) -> tuple[str, int]:
+    """Of `HOST:PORT` or `[ADDRESS]:PORT`."""
+    found = re.fullmatch(r"\[([^\[\]]+)\]:([0-9]{1,5})|([^:\[\]]+):([0-9]{1,5})", words)
+    port = int(found[2] or found[4]) if found else 0
+    if not found or not 1 <= port <= 65535:
+        raise Refusal(f"{words!r} is no HOST:PORT (an IPv6 address stands in brackets, and a port is 1 to 65535)")
+    return found[1] or found[3], port
+
+
+def resolved(host: str, port: int) -> tuple[int, Address]:
+    """The family and the address of a host's name or address."""
+    try:
+        found = socket.getaddrinfo(host, port, type=socket.SOCK_DGRAM)[0]
+    except (OSError, UnicodeError) as fault:
+        raise Refusal(f"{host}: {getattr(fault, 'strerror', None) or 'no such host'}") from fault
+    return found[0], found[4]
+
+
+def bound(host: str, port: int) -> socket.socket:
+    """A socket at this address."""
+    if not 0 <= port <= 65535:
+        raise Refusal(f"{port} is no port: 0 to 65535")
+    family, address = resolved(host, port)
+    made = socket.socket(family, socket.SOCK_DGRAM)
+    try:
+        made.bind(address)
+    except OSError as fault:
+        raise Refusal(f"{named(address)}: {fault.strerror}") from fault
+    return made
+
+
+def connected(host: str, port: int) -> socket.socket:
+    """A socket that sends to this address, and takes datagrams from it alone."""
+    family, address = resolved(host, port)
+    made = socket.socket(family, socket.SOCK_DGRAM)
+    try:
+        made.connect(address)
+    except OSError as fault:
+        raise Refusal(f"{named(address)}: {fault.strerror}") from fault
+    return made
+
+
+def received(door: socket.socket) -> tuple[bytes, Address] | None:
+    """A datagram that waits, with its sender; None where none does. An error that an earlier datagram met is no datagram."""
+    while True:
+        try:
+            return door.recvfrom(MOST_DATAGRAM + 1, socket.MSG_DONTWAIT)
+        except BlockingIOError:
+            return None
+        except ConnectionError:
+            continue
+
+
+class Waiting:
+    """Waits for a file or a socket, and for an interrupt or a SIGTERM, which is seen between two steps and never within one."""
+
+    def __init__(self) -> None:
+        self.is_stopped = False
+        self.woken, self.waker = socket.socketpair()
+        self.waker.setblocking(False)
+        signal.set_wakeup_fd(self.waker.fileno(), warn_on_full_buffer=False)
+        stop: Callable[..., None] = self.stop
+        for number in (signal.SIGINT, signal.SIGTERM):
+            signal.signal(number, stop)
+
+    def stop(self, *_: Any) -> None:
+        self.is_stopped = True
+
+    def until(self, files: list[int], seconds: float | None) -> list[int]:
+        """Which of these files can be read, after at most so many seconds."""
+        ready = select.poll()
+        for file in (*files, self.woken.fileno()):
+            ready.register(file, select.POLLIN)
+        found = ready.poll(None if seconds is None else max(0, 1000 * seconds))
+        return [] if self.is_stopped else [file for file, _ in found if file in files]
