@@ -28,9 +28,13 @@ class Journal:
     def opened(path: str, head: Head) -> "Journal":
         """The journal of a file that is there, or of a new one; a torn end is cut away."""
         journal = Journal(path, opened(path), head)
-        if not journal.read():
-            cut(journal.file, 0, path)
-            journal.begin()
+        try:
+            if not journal.read():
+                cut(journal.file, 0, path)
+                journal.begin()
+        except Refusal:
+            os.close(journal.file)
+            raise
         return journal
 
     @staticmethod
@@ -73,7 +77,8 @@ class Journal:
 
     def is_begun(self, octets: bytes) -> bool:
         """Whether a file without a whole record is what a door leaves that was killed at the first one."""
-        return b"\n" not in octets[:-1] and self.head.line().startswith(octets.split(b" #")[0])
+        begun = self.head.line() + b" #"
+        return b"\n" not in octets[:-1] and (begun.startswith(octets) or octets.startswith(begun))
 
     def compare(self, first: bytes) -> None:
         """Refuses a journal of something else, by what differs."""

@@ -9,6 +9,7 @@ RULES = 1  # the rules' number of docs/PROFILE.md: it goes up only where an answ
 TAIL = 9  # the eight digits of a sum and the newline
 SUM = 10  # a space, a number sign and the eight digits
 CHUNK = 1 << 20
+SECTOR = 512
 OWN = (b"journal ", b"start ", b"clock ")  # records of the door's own; all others are lines that are handed over
 
 
@@ -79,7 +80,17 @@ def whole(text: Octets) -> int:
 def is_torn(text: Octets, size: int) -> bool:
     """Whether what follows the whole records is what a kill or a loss of power leaves: at most one line, or octets that never
     reached the disk. Anything else was written by another hand."""
-    return text.find(b"\n", size) in (-1, len(text) - 1) or text.find(b"\0", size) != -1
+    return text.find(b"\n", size) in (-1, len(text) - 1) or is_hole(text, text.find(b"\0", size))
+
+
+def is_hole(text: Octets, at: int) -> bool:
+    """Whether zeros from there run up to the end of a sector, or of the file."""
+    if at == -1:
+        return False
+    end = at + 1
+    while end % SECTOR and text[end:end + 1] == b"\0":
+        end += 1
+    return end >= len(text) or end % SECTOR == 0
 
 
 def lines_of(text: Octets, at: int, size: int) -> Iterator[list[bytes]]:

@@ -1,0 +1,25 @@
+"""What the time without a process was."""
+
+from door.clock import MOST_MADE_UP, Moment, down
+
+LAST = Moment("one", 1_000_000, 500)
+ROWS = [
+    ("the process died for no second", Moment("one", 1_000_000, 500), None, []),
+    ("for ten seconds", Moment("one", 1_000_010, 510), None, [b"ticks 10"]),
+    ("for ten seconds, and the wall clock was set meanwhile", Moment("one", 9_000_000, 510), None, [b"ticks 10"]),
+    ("for longer than is made up", Moment("one", 2_000_000, 1_000_500), None, [b"ticks %d" % MOST_MADE_UP]),
+    ("the power was lost", Moment("two", 1_000_060, 20), None, [b"power-lost", b"power-back 60"]),
+    ("the power was lost, and the clock went back", Moment("two", 10, 20), None, [b"power-lost", b"power-back 0"]),
+    ("a restart that was no loss of power", Moment("two", 1_000_060, 20), "process", [b"ticks 60"]),
+    ("a loss of power that the machine outlived", Moment("one", 1_000_007, 507), "power", [b"power-lost", b"power-back 7"]),
+]
+
+
+def test_the_lines_of_the_time_without_a_process() -> None:
+    for name, now, overruled, lines in ROWS:
+        assert down(LAST, now, overruled) == lines, name
+
+
+def test_a_moment_is_read_as_it_is_written() -> None:
+    assert Moment.of(LAST.start() + b" #00000000", LAST.clock() + b" #00000000\n") == LAST
+    assert LAST.later(3) == Moment("one", 1_000_003, 503)
