@@ -7,6 +7,7 @@ With --sign a description comes first, up to its line `end`; else the sign is th
 """
 
 import argparse
+import os
 import sys
 
 from model import layout, text
@@ -22,8 +23,11 @@ def without_newline(line):
 
 
 def say(*lines):
-    sys.stdout.write("".join(line + "\n" for line in lines))
-    sys.stdout.flush()
+    """Writes lines; where nobody reads them any more, that is the end."""
+    try:
+        os.write(1, "".join(line + "\n" for line in lines).encode())
+    except BrokenPipeError:
+        os._exit(1)
 
 
 def sign_answer(world, words):

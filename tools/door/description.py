@@ -21,7 +21,7 @@ def read(path: str | None) -> bytes | None:
         raise Refusal(reason(fault)) from fault
     ended = re.search(rb"^end(\r?\n|\Z)", text, re.MULTILINE)
     if ended is None:
-        return text if text.endswith(b"\n") else text + b"\n"
+        raise Refusal(f"{path}: line {len(text.splitlines()) + 1}: there is no line `end`")
     after = [line for line in text[ended.end():].split(b"\n") if line.rstrip(b"\r") and not line.startswith(b"#")]
     if after:
         raise Refusal(f"{path}: after its line `end` there is more: no description of a sign")

@@ -10,7 +10,7 @@ from .records import SUM, Head, checksum_at, is_torn, lines_of, records, whole
 from .refusal import Refusal, reason, say
 
 
-class NotKept(Exception):
+class NotKept(Refusal):
     """A record could not be written, and the file is as it was: what it is of counts as lost."""
 
 
@@ -48,11 +48,8 @@ class Journal:
 
     def begin(self) -> None:
         """The first record of a file without octets."""
-        try:
-            self.append([self.head.line()], synced=True)
-            synced_folder(self.path)
-        except NotKept as fault:
-            raise Refusal(f"{self.path}: no journal can be begun", 1) from fault
+        self.append([self.head.line()], synced=True)
+        synced_folder(self.path)
 
     def text(self) -> mmap.mmap | bytes:
         """The file's octets."""
@@ -135,11 +132,15 @@ class Journal:
         except OSError as fault:
             cut(self.file, self.size, self.path)
             self.tell(reason(fault))
-            raise NotKept from fault
+            raise NotKept(f"{self.path}: nothing can be recorded", 1) from fault
         if synced:
             sync(self.file, self.path)
         self.size, self.checksum = self.size + len(octets), checksum
         self.tell("")
+
+    def close(self) -> None:
+        """Lets the file go."""
+        os.close(self.file)
 
     def tell(self, refused: str) -> None:
         """Says why the disk refuses, once, and when it takes records again."""

@@ -71,7 +71,7 @@ def begun(asked: argparse.Namespace, end: str, first: int | None, journal: Journ
     if first is not None:
         text = description.with_first(text, first)
     process = CoProcess(asked.signtool, [end], text)
-    process.begin(b"state" if end == "sign" else b"status", asked.sign or "the bench sign")
+    process.begin(b"state" if end == "sign" else b"status", asked.sign or asked.signtool)
     if journal is not None:
         if end == "sign" and process.hand([b"ticks 0"]) != [b"ok"]:
             raise Refusal(f"{asked.signtool} has no line `ticks`, which a journal needs")

@@ -144,7 +144,7 @@ class Refusing(Journal):
     """A journal whose disk takes no record."""
 
     def append(self, lines: list[bytes], synced: bool) -> None:
-        raise NotKept
+        raise NotKept("the disk is full", 1)
 
 
 def test_seconds_that_could_not_be_recorded_go_with_the_next_record() -> None:

@@ -1,0 +1,60 @@
+#!/usr/bin/env python3
+"""Ends that outlive their process: doors that are killed, disks that refuse, journals that are changed.
+
+    tools/lasting.py [--short] [--seed 1] [--only WORD] [PROGRAM]
+
+The program is signtool, or another that answers the same lines: tools/coprocess_model.py. The short form takes at most two
+minutes. It prints what does not hold, and last `N passed, N failed`, with `, N skipped` where something cannot be tried here.
+It needs no network but loopback, and leaves no process and no file.
+"""
+
+import argparse
+import os
+import pathlib
+import random
+import sys
+import tempfile
+import time
+from typing import Callable
+
+from door.setting import PROGRAM
+from trials import centres, disks, faults, files, gets, kills, words
+from trials.bench import Trial
+
+TRIALS: dict[str, Callable[[Trial], None]] = {
+    "kills": lambda trial: kills.run(trial, 24 if trial.is_short else 1000),
+    "faults": faults.run,
+    "files": files.run,
+    "gets": gets.run,
+    "disks": disks.run,
+    "words": words.run,
+    "centres": lambda trial: centres.run(trial, 10 if trial.is_short else 200),
+}
+
+
+def main() -> int:
+    options = argparse.ArgumentParser(description="doors that are killed, disks that refuse, journals that are changed")
+    options.add_argument("program", nargs="?", default=PROGRAM)
+    options.add_argument("--short", action="store_true", help="at most two minutes")
+    options.add_argument("--seed", type=int, default=1)
+    options.add_argument("--only", choices=sorted(TRIALS), help="one kind of trial alone")
+    asked = options.parse_args()
+    if not os.access(asked.program, os.X_OK):
+        print(f"no program at {asked.program}: (cd crates/signtool && rt run -- --help) builds it", file=sys.stderr)
+        return 2
+    with tempfile.TemporaryDirectory() as folder:
+        trial = Trial(os.path.abspath(asked.program), asked.short, random.Random(asked.seed), pathlib.Path(folder))
+        try:
+            for name, run in TRIALS.items():
+                if asked.only in (None, name):
+                    begun = time.monotonic()
+                    run(trial)
+                    print(f"{name}: {time.monotonic() - begun:.0f} s", flush=True)
+        finally:
+            trial.end()
+    print(f"{trial.passed} passed, {trial.failed} failed" + (f", {trial.skipped} skipped" if trial.skipped else ""))
+    return 1 if trial.failed else 0
+
+
+if __name__ == "__main__":
+    sys.exit(main())

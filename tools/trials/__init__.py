@@ -1,0 +1,1 @@
+"""What tools/lasting.py tries: a file a kind of trial."""

@@ -1,0 +1,208 @@
+"""What each trial needs: doors that are started and killed, requests, and a count of what held."""
+
+import os
+import pathlib
+import random
+import re
+import select
+import signal
+import socket
+import subprocess
+import sys
+import tempfile
+import threading
+import time
+from dataclasses import dataclass, field
+from typing import Callable
+
+from door.setting import TOP
+from model import wire
+
+Name = tuple[int, ...]
+DMS: Name = (1, 3, 6, 1, 4, 1, 1206, 4, 2, 3)
+PATIENCE = 20.0  # seconds that a door may take to start or to end
+
+
+@dataclass
+class Trial:
+    """A folder of its own, the program, chance, whether it is the short form, and what came of it."""
+
+    program: str
+    is_short: bool
+    chance: random.Random
+    folder: pathlib.Path
+    passed: int = 0
+    failed: int = 0
+    skipped: int = 0
+    doors: list["Door"] = field(default_factory=list)
+
+    def holds(self, name: str, is_well: bool, found: object = "") -> bool:
+        """Counts one thing that was looked at."""
+        self.passed, self.failed = self.passed + is_well, self.failed + (not is_well)
+        if not is_well:
+            print(f"FAILED {name}: {str(found)[:2000]}", flush=True)
+        return is_well
+
+    def skip(self, name: str, why: str) -> None:
+        """Says what cannot be tried here."""
+        self.skipped += 1
+        print(f"skipped: {name}: {why}", flush=True)
+
+    def new_folder(self) -> pathlib.Path:
+        """An empty folder."""
+        return pathlib.Path(tempfile.mkdtemp(dir=self.folder))
+
+    def door(self, tool: str, *words: str, environment: dict[str, str] | None = None, stdin: int | None = subprocess.DEVNULL) -> "Door":
+        """A door that is started."""
+        door = Door([sys.executable, str(TOP / "tools" / tool), "--signtool", self.program, *words], environment, stdin)
+        self.doors.append(door)
+        return door
+
+    def sign(self, *words: str, environment: dict[str, str] | None = None) -> "Door":
+        """A sign at a port of its own, which it tells."""
+        door = self.door("udp_sign.py", "--port", "0", *words, environment=environment)
+        door.wait_for_port()
+        return door
+
+    def end(self) -> None:
+        """Nothing that was started goes on."""
+        for door in self.doors:
+            door.kill()
+            door.forget()
+        self.doors.clear()
+
+
+class Door:
+    """A door's process, and what it printed."""
+
+    def __init__(self, call: list[str], environment: dict[str, str] | None, stdin: int | None) -> None:
+        self.process = subprocess.Popen(call, stdin=stdin, stdout=subprocess.PIPE, stderr=subprocess.PIPE,
+                                        env={**os.environ, **(environment or {})})
+        self.output, self.errors, self.port = b"", b"", 0
+        self.readers = [threading.Thread(target=self.read, args=(name,), daemon=True) for name in ("output", "errors")]
+        for reader in self.readers:
+            reader.start()
+
+    def read(self, name: str) -> None:
+        """Collects what is printed."""
+        file = self.process.stdout if name == "output" else self.process.stderr
+        assert file is not None
+        while octets := os.read(file.fileno(), 65_536):
+            setattr(self, name, getattr(self, name) + octets)
+
+    def wait_for_port(self) -> None:
+        """Until the sign is announced, or the process ended."""
+        ends = time.monotonic() + PATIENCE
+        while time.monotonic() < ends:
+            found = re.search(rb"a sign at .*:(\d+)\n", self.output)
+            if found:
+                self.port = int(found[1])
+                return
+            if self.process.poll() is not None:
+                return
+            time.sleep(0.002)
+
+    def inner(self) -> int | None:
+        """The co-process, by its number."""
+        number = self.process.pid
+        try:
+            words = pathlib.Path(f"/proc/{number}/task/{number}/children").read_text(encoding="ascii").split()
+        except OSError:
+            return None
+        return int(words[0]) if words else None
+
+    def kill(self, which: str = "door") -> None:
+        """SIGKILL to the door, to its co-process, or to both."""
+        numbers = [self.inner()] if which in ("co-process", "both") else []
+        numbers += [self.process.pid] if which in ("door", "both") and self.process.poll() is None else []
+        for number in numbers:
+            if number is not None:
+                try:
+                    os.kill(number, signal.SIGKILL)
+                except ProcessLookupError:
+                    pass
+
+    def ended(self) -> int:
+        """The exit status, once it ended by itself; 999 where it does not."""
+        try:
+            status = self.process.wait(PATIENCE)
+        except subprocess.TimeoutExpired:
+            return 999
+        for reader in self.readers:
+            reader.join(2)
+        return status
+
+    def forget(self) -> None:
+        """Waits for its end and closes what it has open."""
+        self.ended()
+        for file in (self.process.stdin, self.process.stdout, self.process.stderr):
+            if file is not None:
+                file.close()
+
+    def stop(self) -> int:
+        """Asks it to end, as a user would."""
+        if self.process.poll() is None:
+            self.process.send_signal(signal.SIGTERM)
+        return self.ended()
+
+
+class Manager:
+    """One who asks a sign, a request at a time."""
+
+    def __init__(self, port: int, community: bytes = b"admin") -> None:
+        self.socket = socket.socket(socket.AF_INET, socket.SOCK_DGRAM)
+        self.socket.connect(("127.0.0.1", port))
+        self.community, self.number = community, 0
+
+    def close(self) -> None:
+        self.socket.close()
+
+    def exchange(self, octets: bytes, patience: float = 2.0) -> bytes | None:
+        """The reply to a datagram, None where none comes."""
+        try:
+            self.socket.send(octets)
+            if not select.select([self.socket], [], [], patience)[0]:
+                return None
+            return self.socket.recv(65_535)
+        except OSError:
+            return None
+
+    def request(self, kind: int, bindings: list[tuple[Name, tuple[int, object]]]) -> bytes:
+        """A request under a new number."""
+        self.number += 1
+        return wire.written(wire.Message(kind, self.community, self.number, 0, 0, bindings))
+
+    def get(self, names: list[Name], patience: float = 2.0) -> list[tuple[Name, tuple[int, object]]]:
+        """The values of names; none where no reply came."""
+        reply = self.exchange(self.request(wire.GET, [(name, (wire.NULL, b"")) for name in names]), patience)
+        message = None if reply is None else wire.spelled(reply)
+        return [] if message is None or message.status else message.bindings
+
+    def values(self, names: list[Name], at_once: int = 20) -> dict[Name, tuple[int, object]]:
+        """The values of many names."""
+        found: dict[Name, tuple[int, object]] = {}
+        for at in range(0, len(names), at_once):
+            some = self.get(names[at:at + at_once])
+            found |= dict(some or [one for name in names[at:at + at_once] for one in self.get([name])])
+        return found
+
+
+def eventually(holds: Callable[[], bool], seconds: float = 5.0) -> bool:
+    """Whether something holds within so many seconds."""
+    ends = time.monotonic() + seconds
+    while not holds():
+        if time.monotonic() > ends:
+            return False
+        time.sleep(0.005)
+    return True
+
+
+def is_gone(number: int | None) -> bool:
+    """Whether a process has ended."""
+    if number is None:
+        return True
+    try:
+        words = pathlib.Path(f"/proc/{number}/stat").read_text(encoding="latin-1")
+    except OSError:
+        return True
+    return words.rpartition(")")[2].split()[0] == "Z"

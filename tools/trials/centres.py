@@ -1,0 +1,154 @@
+"""A centre's door, its co-process, or both are killed again and again over one journal, while it publishes to a sign."""
+
+import pathlib
+import select
+import socket
+import subprocess
+import threading
+import time
+
+from model import text, wire
+
+from .bench import DMS, Door, Trial
+from .follower import lines_of
+from .kills import killed_later
+
+ACTIVATE = DMS + (6, 3, 0)
+
+
+class Relay(threading.Thread):
+    """Stands between a centre and a sign, remembers all datagrams, and loses some."""
+
+    def __init__(self, trial: Trial, port: int) -> None:
+        super().__init__(daemon=True)
+        self.trial = trial
+        self.centre, self.sign = (socket.socket(socket.AF_INET, socket.SOCK_DGRAM) for _ in range(2))
+        self.centre.bind(("127.0.0.1", 0))
+        self.sign.connect(("127.0.0.1", port))
+        self.requests: list[bytes] = []
+        self.replies: list[bytes] = []
+        self.is_done = False
+
+    def run(self) -> None:
+        """Until it is done."""
+        peer = None
+        while not self.is_done:
+            for file in select.select([self.centre, self.sign], [], [], 0.05)[0]:
+                try:
+                    octets, sender = file.recvfrom(65_535)
+                except OSError:
+                    continue
+                is_lost = self.trial.chance.random() < 0.15
+                if file is self.centre:
+                    peer = sender
+                    self.requests.append(octets)
+                    if not is_lost:
+                        self.sign.send(octets)
+                else:
+                    self.replies.append(octets)
+                    if not is_lost and peer is not None:
+                        self.centre.sendto(octets, peer)
+
+    def port(self) -> int:
+        return int(self.centre.getsockname()[1])
+
+    def end(self) -> None:
+        self.is_done = True
+        self.join()
+        self.centre.close()
+        self.sign.close()
+
+
+class Centres:
+    """Lives of a centre over one journal."""
+
+    def __init__(self, trial: Trial, relay: Relay, path: pathlib.Path) -> None:
+        self.trial, self.relay, self.path = trial, relay, path
+        self.commands = self.killed = 0
+        self.printed: set[str] = set()
+
+    def command(self) -> str:
+        """What an operator asks for."""
+        self.commands += 1
+        if self.trial.chance.random() < 0.3:
+            return f"blank {self.trial.chance.randint(1, 255)} 65535 255 127.0.0.1"
+        text = self.trial.chance.choice(["A", "B", "AB", "A[nl]B"])
+        return f'publish-text {self.trial.chance.choice(["3 1", "3 2", "4 1"])} "{text}" "me" 0 0 1 65535 255 127.0.0.1'
+
+    def life(self, which: str | None, command: str) -> Door:
+        """A life with a command, which is killed at a random moment, or ends by itself."""
+        door = self.trial.door("udp_centre.py", "--to", f"127.0.0.1:{self.relay.port()}", "--journal", str(self.path), "--tick", "0.15", "--wait", "20",
+                               stdin=subprocess.PIPE)
+        assert door.process.stdin is not None
+        try:
+            door.process.stdin.write(command.encode() + b"\n")
+            door.process.stdin.close()
+        except BrokenPipeError:
+            pass
+        if which is not None:
+            timer = killed_later(door, which, self.trial.chance.uniform(0.05, 1.8))
+            door.ended()
+            timer.cancel()
+            self.killed += 1
+        self.trial.holds("a centre's door ends", door.ended() != 999)
+        self.trial.holds("a centre's door prints no traceback", b"Traceback" not in door.errors, door.errors.decode())
+        self.printed |= {line for line in door.output.decode().splitlines() if line.startswith("ledger ") and line.endswith(" accepted")}
+        self.trial.doors.remove(door)
+        return door
+
+    def look(self, status: list[str]) -> None:
+        """What holds over all lives: the numbers, the ledger, the model that is handed the journal."""
+        sent: dict[int, list[bytes]] = {}
+        activations: set[int] = set()
+        for octets in list(self.relay.requests):
+            message = wire.spelled(octets)
+            if self.trial.holds("a centre sends messages", message is not None, octets.hex()) and message is not None:
+                sent.setdefault(message.number, []).append(octets)
+                if message.kind == wire.SET and message.bindings[0][0] == ACTIVATE:
+                    activations.add(message.number)
+        for number, datagrams in sent.items():
+            self.trial.holds(f"number {number} has the same octets each time", len(set(datagrams)) == 1, datagrams)
+            self.trial.holds(f"number {number} is sent three times at most", len(datagrams) <= 3, len(datagrams))
+        ledger = {int(line.split()[1]): line for line in status if line.startswith("ledger ")}
+        by_sign = {message.number for message in map(wire.spelled, list(self.relay.replies)) if message is not None and message.status == 0}
+        for number, line in ledger.items():
+            if line.endswith(" accepted"):
+                self.trial.holds(f"{line}: the sign accepted it", number in by_sign and number in activations, sorted(by_sign))
+        self.trial.holds("each activation that was sent stands in the ledger", activations <= set(ledger), (activations, ledger))
+        self.trial.holds("each acceptance that was told stands in the ledger", self.printed <= set(ledger.values()), (self.printed, ledger))
+        self.trial.holds("no command is activated twice", len(ledger) <= self.commands, (self.commands, ledger))
+        self.trial.holds("the status is the model's, handed the journal", status == self.foretold(), (status, self.foretold()))
+
+    def foretold(self) -> list[str]:
+        """The status that the model has after the journal's lines."""
+        world = text.World(text.bench())
+        centre = world.centre
+        for line in lines_of(self.path.read_bytes())[1:]:
+            words = line.split(b" ")
+            if words[0] == b"datagram":
+                centre.receive(text.octets(words[1]))
+            elif words[0] == b"tick":
+                centre.tick()
+            else:
+                centre.command(text.event(words, False))
+        return ["busy" if centre.job else "idle", f"last {centre.last or 'none'}", *world.report()[3:]]
+
+
+def run(trial: Trial, count: int) -> None:
+    """So many kills, and a last life that tells the ledger."""
+    begun = time.monotonic()
+    folder = trial.new_folder()
+    sign = trial.sign("--journal", str(folder / "sign"))
+    if not trial.holds("a sign for the centre", sign.port != 0, sign.errors.decode()):
+        return
+    relay = Relay(trial, sign.port)
+    relay.start()
+    centres = Centres(trial, relay, folder / "centre")
+    for _ in range(count):
+        centres.life(trial.chance.choice(["door", "co-process", "both"]), centres.command())
+    door = centres.life(None, "status")
+    status = door.output.decode().splitlines()
+    centres.look([line.split(",")[0] for line in status[max(at for at, line in enumerate(status) if line in ("idle", "busy")):]])
+    relay.end()
+    trial.holds("the sign goes on", sign.stop() == 0, sign.errors.decode())
+    print(f"kills of a centre: {centres.killed}, {len(relay.requests)} requests, {time.monotonic() - begun:.0f} s", flush=True)

@@ -1,0 +1,151 @@
+"""Journals as files: prefixes, changed octets, exchanged records, those of something else."""
+
+import contextlib
+import io
+import pathlib
+import re
+
+from door import records
+from door.journal import Journal
+from door.records import Head
+from door.refusal import Refusal
+from door.setting import TOP
+from model import wire
+
+from .bench import Door, Manager, Trial
+from .follower import Follower, lines_of
+from .requests import Changes
+
+HEAD = Head("sign", "bench")
+
+
+class Files:
+    """A journal that a door wrote, and what becomes of it."""
+
+    def __init__(self, trial: Trial) -> None:
+        self.trial, self.path = trial, trial.new_folder() / "journal"
+        self.written = b""
+        self.written = self.made()
+        self.ends = [0, *(found.end() for found in re.finditer(rb"\n", self.written))]
+
+    def made(self) -> bytes:
+        """What a life of several SETs and a Get leaves."""
+        changes = Changes(self.trial.chance)
+        door = self.trial.sign("--journal", str(self.path), "--no-ticks")
+        manager = Manager(door.port)
+        for _ in range(6):
+            manager.exchange(changes.next(manager))
+            manager.get([Changes.COUNTER])
+        manager.close()
+        self.trial.holds("a life ends at a SIGTERM", door.stop() == 0, door.errors.decode())
+        return self.path.read_bytes()
+
+    def opened(self, octets: bytes) -> list[bytes] | str:
+        """The lines that a door has of these octets, or why it refuses them."""
+        self.path.write_bytes(octets)
+        try:
+            with contextlib.redirect_stderr(io.StringIO()):
+                journal = Journal.opened(str(self.path), HEAD)
+        except Refusal as refused:
+            return str(refused)
+        lines = [line for some in journal.lines() for line in some]
+        journal.close()
+        return lines
+
+    def lines(self, octets: bytes) -> list[bytes]:
+        """The lines of whole records, without the door's own."""
+        return [line for line in lines_of(octets) if not line.startswith(records.OWN)]
+
+    def started(self, name: str, octets: bytes) -> None:
+        """A door on these octets goes on where they end."""
+        self.path.write_bytes(octets)
+        follower = Follower(self.path)
+        door = self.trial.sign("--journal", str(self.path), "--no-ticks")
+        if self.trial.holds(f"{name}: a door starts", door.port != 0, door.errors.decode()):
+            manager = Manager(door.port)
+            for line in lines_of(self.path.read_bytes()):
+                follower.take(line)
+            follower.compare(self.trial, name, manager)
+            manager.close()
+        self.trial.holds(f"{name}: and ends", door.stop() == 0, door.errors.decode())
+
+    def prefixes(self) -> None:
+        """Each prefix gives the lines that are whole, and some are started."""
+        for size in range(0, len(self.written) + 1, 13 if self.trial.is_short else 1):
+            found, wanted = self.opened(self.written[:size]), self.lines(self.written[:size])
+            if found != wanted:
+                self.trial.holds(f"the first {size} octets", False, (found, wanted))
+        self.trial.holds("each prefix gives its whole records", True)
+        sizes = {*self.ends, *(end - 1 for end in self.ends[1:]), *(self.trial.chance.randrange(len(self.written)) for _ in range(20))}
+        for size in sorted(sizes) if not self.trial.is_short else self.trial.chance.sample(sorted(sizes), 6):
+            self.started(f"the first {size} octets", self.written[:size])
+
+    def changed(self) -> None:
+        """Each octet of the last record changed: it is cut away. An octet before it: a refusal that leaves the file as it is."""
+        last = self.ends[-2]
+        for at in range(last, len(self.written), 5 if self.trial.is_short else 1):
+            octets = self.written[:at] + bytes([self.written[at] ^ self.trial.chance.randint(1, 255)]) + self.written[at + 1:]
+            found = self.opened(octets)
+            if found != self.lines(self.written[:last]):
+                self.trial.holds(f"octet {at} changed", b"\n" in octets[last:-1] and isinstance(found, str), (octets[last:], found))
+        self.trial.holds("each octet of the last record changed", True)
+        self.started("a changed last record", self.written[:-3] + b"!" + self.written[-2:])
+        for first, second, third in zip(self.ends, self.ends[1:], self.ends[2:]):
+            octets = self.written[:first] + self.written[second:third] + self.written[first:second] + self.written[third:]
+            self.refused(f"records at {first} exchanged", octets, "is no journal" if first == 0 else "was not written by a door")
+
+    def refused(self, name: str, octets: bytes, words: str) -> None:
+        """Octets that are no journal of this sign are refused, and stay."""
+        found = self.opened(octets)
+        self.trial.holds(f"{name}: refused", isinstance(found, str) and words in found, found)
+        self.trial.holds(f"{name}: the file stays", self.path.read_bytes() == octets)
+
+    def others(self) -> None:
+        """Journals of something else, and doors beside one another."""
+        for head, words in ((Head("sign", "bench", rules=2), "its rules is 2"), (Head("sign", "bench", form=2), "its form is 2"),
+                            (Head("centre", "bench", 1), "its end is centre"), (Head("sign", "0" * 64), "another description")):
+            octets, _ = records.records([head.line(), b"ticks 5"], 0)
+            self.refused(words, octets, words)
+            self.says(words, octets, words)
+        self.path.write_bytes(self.written)
+        self.says("another description by --sign", self.written, "another description", "--sign", str(TOP / "signs/roadside.sign"))
+        self.started("an empty file", b"")
+        self.started("an untouched file", self.written)
+        door = self.trial.sign("--journal", str(self.path), "--no-ticks")
+        second = self.trial.sign("--journal", str(self.path), "--no-ticks")
+        self.trial.holds("a second door ends at once", second.ended() == 2 and b"another door holds this journal" in second.errors, second.errors.decode())
+        self.trial.holds("and the first goes on", self.answers(door) and door.stop() == 0, door.errors.decode())
+
+    def says(self, name: str, octets: bytes, words: str, *more: str) -> None:
+        """A door on these octets ends with status 2 and these words."""
+        self.path.write_bytes(octets)
+        door = self.trial.sign("--journal", str(self.path), *more)
+        self.trial.holds(f"{name}: the door says so and ends", door.ended() == 2 and words.encode() in door.errors and not door.output, door.errors.decode())
+
+    def answers(self, door: Door) -> bool:
+        """Whether a sign answers."""
+        manager = Manager(door.port)
+        found = manager.get([Changes.COUNTER])
+        manager.close()
+        return bool(found)
+
+    def fresh(self) -> None:
+        """`--fresh` keeps the old file, and a centre goes on above its numbers."""
+        self.path.write_bytes(self.written)
+        door = self.trial.sign("--journal", str(self.path), "--fresh", "--no-ticks")
+        manager = Manager(door.port)
+        found = manager.get([Changes.COUNTER])
+        manager.close()
+        self.trial.holds("a fresh sign is as it was made", bool(found) and found[0][1] == (wire.INTEGER, 0), found)
+        aside = [path for path in self.path.parent.iterdir() if path != self.path]
+        self.trial.holds("its old journal is kept", len(aside) == 1 and aside[0].read_bytes() == self.written, aside)
+        self.trial.holds("a fresh sign ends", door.stop() == 0)
+
+
+def run(trial: Trial) -> None:
+    """All of it."""
+    files = Files(trial)
+    files.prefixes()
+    files.changed()
+    files.others()
+    files.fresh()

@@ -1,0 +1,89 @@
+"""The model beside a journal: what the file says, read anew here, and the sign that its lines leave."""
+
+import pathlib
+import zlib
+
+from model import text
+from model.sign import Sign
+
+from .bench import Manager, Name, Trial
+
+
+def lines_of(octets: bytes) -> list[bytes]:
+    """The lines of the whole records of a journal, by docs/JOURNAL.md."""
+    found: list[bytes] = []
+    begin = 0
+    sum_so_far = 0
+    while (end := octets.find(b"\n", begin)) != -1:
+        summed = octets[begin:end - 8]
+        sum_so_far = zlib.crc32(summed, sum_so_far)
+        if not summed.endswith(b" #") or octets[end - 8:end] != b"%08x" % sum_so_far:
+            break
+        found.append(summed[:-2])
+        sum_so_far = zlib.crc32(octets[end - 8:end + 1], sum_so_far)
+        begin = end + 1
+    return found
+
+
+class Follower:
+    """The model of a sign that is handed what its journal has, as it grows; and what was asked of the sign meanwhile."""
+
+    def __init__(self, path: pathlib.Path, description: bytes | None = None) -> None:
+        self.path = path
+        self.sign = Sign(text.bench() if description is None else text.described(description))
+        self.names: list[Name] = self.sign.instances()
+        self.seen: list[bytes] = []
+        self.asked: list[tuple[bytes, bool]] = []  # datagrams that are no Gets, and whether each was answered
+        self.at = 0  # of these, how many the journal has or will never have
+
+    def ask(self, manager: Manager, octets: bytes, patience: float = 2.0) -> bytes | None:
+        """Asks a sign, and remembers it."""
+        reply = manager.exchange(octets, patience)
+        self.asked.append((octets, reply is not None))
+        return reply
+
+    def catch_up(self, trial: Trial, name: str) -> None:
+        """The file still begins as it did; what was answered is in it, in its order; nothing is in it that was not asked. The
+        model is handed what is new."""
+        lines = lines_of(self.path.read_bytes())
+        trial.holds(f"{name}: the journal begins as it did", lines[:len(self.seen)] == self.seen, self.path)
+        new = lines[len(self.seen):]
+        self.seen = lines
+        wanted = [bytes.fromhex(line[9:].decode()) for line in new if line.startswith(b"datagram ")]
+        for octets in wanted:
+            while self.at < len(self.asked) and self.asked[self.at][0] != octets:
+                trial.holds(f"{name}: what was answered is in the journal", not self.asked[self.at][1], self.asked[self.at][0].hex())
+                self.at += 1
+            if not trial.holds(f"{name}: what is in the journal was asked", self.at < len(self.asked), octets.hex()):
+                break
+            self.at += 1
+        for octets, is_answered in self.asked[self.at:]:
+            trial.holds(f"{name}: what was answered is in the journal", not is_answered, octets.hex())
+        self.at = len(self.asked)
+        for line in new:
+            self.take(line)
+
+    def take(self, line: bytes) -> None:
+        """What a line leaves."""
+        word, _, rest = line.partition(b" ")
+        if word == b"datagram":
+            self.sign.receive(b"" if rest == b"-" else bytes.fromhex(rest.decode()))
+        elif word == b"ticks":
+            self.sign.ticks(int(rest))
+        elif word == b"tick":
+            self.sign.tick()
+        elif word == b"heard":
+            self.sign.heard()
+        elif word == b"power-lost":
+            self.sign.power_lost()
+        elif word == b"power-back":
+            self.sign.power_back(int(rest))
+        else:
+            assert word in (b"journal", b"start", b"clock"), line
+
+    def compare(self, trial: Trial, name: str, manager: Manager) -> None:
+        """The sign has the value that the model has, of each instance."""
+        found = manager.values(self.names)
+        wanted = {one: self.sign.value(one) for one in self.names}
+        other = [(".".join(map(str, one)), found.get(one), wanted[one]) for one in self.names if found.get(one) != wanted[one]]
+        trial.holds(f"{name}: the whole walk is the model's", not other, other[:5])
