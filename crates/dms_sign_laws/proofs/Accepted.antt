@@ -259,7 +259,7 @@ activate_writes : (face : FaceModel) (octets : List ℕ) (write : Write)
 unfolding write_of object_write
 activate_writes face octets write e = writes_twelve (nat_le 12 (length octets) && nat_le (length octets) 12) octets write e
 
-what_is_written : (s : SignState) (octets : List ℕ) (o : Option Write) → write_at s (activates octets) ≡ o → is_none o ≡ false
+pub what_is_written : (s : SignState) (octets : List ℕ) (o : Option Write) → write_at s (activates octets) ≡ o → is_none o ≡ false
     → o ≡ Some (Activate octets)
 what_is_written s octets None is some = absurd (cc)
 what_is_written s octets (Some write) is some =
@@ -291,7 +291,7 @@ decided_succeeds : (old new : SignState) (bindings : List VarBind) (index : ℕ)
 decided_succeeds old new bindings index octets (Ok shown) e = refl
 decided_succeeds old new bindings index octets (Err cause) e = absurd (cc)
 
-if_succeeds : (old new : SignState) (bindings : List VarBind) (index : ℕ) (octets : List ℕ) (o : Option Write) → o ≡ Some (Activate octets)
+pub if_succeeds : (old new : SignState) (bindings : List VarBind) (index : ℕ) (octets : List ℕ) (o : Option Write) → o ≡ Some (Activate octets)
     → (commanded_if old new bindings index o).status ≡ NoError
     → (commanded_if old new bindings index o).accepted ≡ Some (activation_of old.table.order octets)
 if_succeeds old new bindings index octets o is =

@@ -1,4 +1,5 @@
 pub mod Accepted
+pub mod AcceptedAmong
 pub mod OneValidating
 pub mod InRangeReplies
 pub mod StepEvents

@@ -1,6 +1,7 @@
 //! Laws on what a sign answers and on its rows, stated as functions with nothing to run.
 
 ghost use Rattle.std.specs.Prelude.{◌≡◌, ◌↔◌, ℕ, List, [], ◌∷◌, length, Some};
+ghost use Rattle.std.specs.List.{Contains};
 ghost use Rattle.dms_wire.specs.declared.message.Kind.TheVariants.{Set};
 ghost use Rattle.dms_wire.specs.declared.error_status.ErrorStatus.TheVariants.{NoError};
 ghost use Rattle.dms_wire.specs.ErrorStatus.{error_status_number};
@@ -37,11 +38,14 @@ pub fn no_success_is_replaced()
         → reply_to m (primary s m) ≡ canonical (response_to m (error_status_number (primary s m).status) (primary s m).index) }
 {}
 
-/// A SET of dmsActivateMessage alone is answered by no error where its activation was accepted, and there alone; and an activation is
-/// accepted where a binding of a SET asks for it, and no error is answered.
+/// A SET of dmsActivateMessage alone is answered by no error where its activation was accepted, and there alone. A SET that has it among
+/// other bindings is answered by no error only where it was accepted; and an activation is accepted only where a binding of a SET asks for
+/// it, and no error is answered.
 pub fn accepted_where_no_error()
     ensures one { (s : SignState) (m : SnmpMessage) (octets : List ℕ) → m.kind ≡ Set → m.bindings ≡ activates octets ∷ []
         → ((primary s m).status ≡ NoError) ↔ ((primary s m).accepted ≡ Some (activation_of s.table.order octets)) }
+    ensures among { (s : SignState) (m : SnmpMessage) (octets : List ℕ) → m.kind ≡ Set → Contains m.bindings (activates octets)
+        → (primary s m).status ≡ NoError → (primary s m).accepted ≡ Some (activation_of s.table.order octets) }
     ensures only { (s : SignState) (m : SnmpMessage) (activation : Activation) → (primary s m).accepted ≡ Some activation
         → ((primary s m).status ≡ NoError) × AsksFor s m activation }
 {}

@@ -20,3 +20,5 @@ mod WorldHonest
 pub mod Runs
 pub mod Made
 mod WorldInFlight
+mod WorldNoError
+mod WorldAlways

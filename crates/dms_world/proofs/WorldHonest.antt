@@ -211,7 +211,7 @@ no_error_is NoSuchName e = absurd (omega arith)
 no_error_is BadValue e = absurd (omega arith)
 no_error_is GenErr e = absurd (omega arith)
 
-status_zero : (status : ErrorStatus) → pos (error_status_number status) ≡ pos 0 → status ≡ NoError
+pub status_zero : (status : ErrorStatus) → pos (error_status_number status) ≡ pos 0 → status ≡ NoError
 status_zero status e = no_error_is status (number_zero (error_status_number status) e)
 
 -- an activation is accepted for what it says

@@ -1,4 +1,4 @@
--- What a sign shows is blank, or a message that was validated and whose checksum stands in the code that activate it (this profile).
+-- What a sign shows is blank, or a message that was validated and whose checksum stands in the code that activated it (this profile).
 use Rattle.std.specs.Prelude.{◌≡◌, ◌⊎◌, ℕ, ◌≤◌, List, [], length, slice_get, Option, Some}
 use Rattle.dms_face.specs.declared.defaults.Defaults.{Defaults}
 use Rattle.dms_face.specs.Layout.{under}
@@ -25,7 +25,7 @@ pub record IsBlank (shown : ShownModel) : Type 0 where
   pub beacon : shown.beacon ≡ 0
   pub pixel : shown.pixel ≡ 0
 
--- ---- the code that activate it
+-- ---- the code that activated it
 
 -- after the first events, so many of them, an activation with this code had been accepted
 abbrev pub WasPutUp : WorldModel → List EventModel → ℕ → MessageId → Type 0

@@ -1,5 +1,5 @@
 -- What the code's events and worlds say (this profile).
-use Rattle.std.specs.Prelude.{ℕ, List, ◌++◌, map, take, codes, decimal, Result, Ok, Err}
+use Rattle.std.specs.Prelude.{◌≡◌, ℕ, List, ◌++◌, map, take, codes, decimal, vec_capacity, Result, Ok, Err}
 use Rattle.dms_centre.specs.CodeView.{command_model}
 use Rattle.dms_world.specs.declared.event.Event.{Event}
 use Rattle.dms_world.specs.declared.event.Event.TheVariants as events
@@ -32,6 +32,12 @@ seen world = record {
   to_centre = world.to_centre.sent;
   accepted = world.accepted.items;
 }
+
+-- no list of the world has memory
+pub record HasNoMemory (world : World) : Type 0 where
+  pub to_sign : world.to_sign.memory ≡ 0
+  pub to_centre : world.to_centre.memory ≡ 0
+  pub accepted : vec_capacity world.accepted ≡ 0
 
 -- the events that happened: all of them, or those before the one at which the run stopped
 abbrev pub happened : Result (Unit {0}) Stopped → List Event → List EventModel

@@ -36,7 +36,7 @@ pub record LedgerIsTrue (world : WorldModel) (events : List EventModel) : Type 0
   pub refused : RefusedWasRefused world events
 
 -- No number is given to two requests: a request that is sent again is the same one. What is shown is blank, or a validated message whose
--- checksum stands in the code that activate it. Rows and defaults are as they should be. Each code of the ledger was an operator's; and,
+-- checksum stands in the code that activated it. Rows and defaults are as they should be. Each code of the ledger was an operator's; and,
 -- where nothing is forged, a code is recorded as accepted or refused only after the sign accepted or refused it.
 pub record Headline (world : WorldModel) (events : List EventModel) : Type 0 where
   pub requests_agree : RequestsAgree world events

@@ -9,4 +9,5 @@ pub mod GoodRows
 pub mod Honest
 pub mod InFlight
 pub mod Headline
+pub mod Always
 pub mod CodeView

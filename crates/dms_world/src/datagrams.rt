@@ -15,7 +15,7 @@ pub struct Datagrams {
 }
 
 impl Model for Datagrams {
-    ghost use Rattle.std.specs.Prelude.{All, length, vec_len, vec_capacity};
+    ghost use Rattle.std.specs.Prelude.{◌+◌, All, length, vec_len, vec_capacity};
     ghost use Rattle.dms_world.specs.Datagrams.{DatagramsModel, datagrams_at, is_room, IsWithin};
 
     ghost Value = { DatagramsModel };
@@ -23,6 +23,7 @@ impl Model for Datagrams {
     ghost view = { λ kept. record {
       sent = datagrams_at kept.octets.items kept.places.items;
       has_room = is_room (vec_len kept.octets) (vec_capacity kept.octets) (vec_len kept.places) (vec_capacity kept.places);
+      memory = vec_capacity kept.octets + vec_capacity kept.places;
     } };
 
     ghost invariant = { λ kept. All (IsWithin (length kept.octets.items)) kept.places.items };
@@ -31,7 +32,8 @@ impl Model for Datagrams {
 impl Datagrams {
     /// No datagram yet. It takes no memory.
     pub(crate) fn new(alloc: Global) -> Datagrams
-        ensures { result.sent ≡ [] }
+        ensures sent { result.sent ≡ [] }
+        ensures memory { result.memory ≡ 0 }
     {
         Datagrams {
             octets: Vec::new(alloc),
@@ -46,7 +48,7 @@ impl Datagrams {
         self.places.len()
     }
 
-    /// The octets of the datagram of this place, from 0.
+    /// The octets of the datagram of this place, from 0; `None` from the place after the last one on.
     pub fn get(&self, place: usize) -> Option<&[u8]>
         ensures { option_map (λ datagram. datagram.now) result ≡ slice_get self.now.sent place }
     {

@@ -4,11 +4,16 @@ ghost use Rattle.std.specs.Prelude.{List};
 ghost use Rattle.dms_world.specs.Event.{EventModel};
 ghost use Rattle.dms_world.specs.World.{WorldModel, IsFresh};
 ghost use Rattle.dms_world.specs.Headline.{AreEvents, NothingIsForged};
-ghost use Rattle.dms_world.specs.InFlight.{KeptIsBacked, NumbersAreBelowNext, RepliesAreTheSigns, WaitingWasSent};
+ghost use Rattle.dms_world.specs.InFlight.{KeptIsBacked, NoErrorWasAccepted, NumbersAreBelowNext, RepliesAreTheSigns, WaitingWasSent};
 
 /// What a sign kept at a loss of power is blank, or a validated message, as what it shows is.
 pub fn kept_is_backed()
     ensures { (world : WorldModel) (events : List EventModel) → IsFresh world → KeptIsBacked world events }
+{}
+
+/// A noError that the sign answered to an activation has its code among those accepted, at its event.
+pub fn no_error_was_accepted()
+    ensures { (world : WorldModel) (events : List EventModel) → IsFresh world → NoErrorWasAccepted world events }
 {}
 
 /// Where nothing is forged, each datagram to the centre is what the sign answered to the request of its number.

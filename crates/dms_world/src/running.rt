@@ -4,6 +4,7 @@ ghost use Rattle.std.specs.Prelude.{◌≡◌, IfErr};
 ghost use Rattle.dms_world.specs.CodeView.{events_model, happened, seen};
 ghost use Rattle.dms_world.specs.Growing.{StopsAt};
 ghost use Rattle.dms_world.specs.World.{IsFresh, world_after};
+ghost use Rattle.dms_world.specs.Always.{Always};
 ghost use Rattle.dms_world.specs.Backed.{CopiedDefaults, IsBacked};
 ghost use Rattle.dms_world.specs.GoodRows.{DefaultsFit, OneRowIsValidating, ValidRowsWereGood};
 ghost use Rattle.dms_world.specs.Honest.{LedgerWasOrdered, RequestsAgree};
@@ -39,7 +40,7 @@ impl Error for Stopped {}
 /// memory. A command that the centre refuses for another reason changes nothing.
 ///
 /// What holds of the events that happened, from a fresh world on, is said beside: no request number is given to two requests; what is shown
-/// is blank, or a validated message whose checksum stands in the code that activate it; and, where nothing is forged, the centre records a
+/// is blank, or a validated message whose checksum stands in the code that activated it; and, where nothing is forged, the centre records a
 /// code as accepted only after the sign accepted it.
 pub fn run(world: &mut World, events: &[Event<'_>]) -> Result<(), Stopped>
     ensures world { seen world.new ≡ world_after (seen world.old) (happened result events.now) }
@@ -53,6 +54,7 @@ pub fn run(world: &mut World, events: &[Event<'_>]) -> Result<(), Stopped>
     ensures ledger_was_ordered { IsFresh (seen world.old) → LedgerWasOrdered (seen world.old) (happened result events.now) }
     ensures ledger_is_true { IsFresh (seen world.old) → NothingIsForged (happened result events.now)
         → LedgerIsTrue (seen world.old) (happened result events.now) }
+    ensures always { IsFresh (seen world.old) → Always (seen world.old) (happened result events.now) }
 {
     happen_each(world, events)
 }

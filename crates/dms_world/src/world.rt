@@ -5,7 +5,7 @@ ghost use Rattle.dms_sign.specs.Reply.{received as sign_received};
 ghost use Rattle.dms_centre.specs.CodeView.{command_model, sent_in};
 ghost use Rattle.dms_centre.specs.Commands.{commanded, refusal_of};
 ghost use Rattle.dms_centre.specs.Inputs.{received as centre_received, ticked};
-ghost use Rattle.dms_world.specs.CodeView.{event_model, seen};
+ghost use Rattle.dms_world.specs.CodeView.{event_model, seen, HasNoMemory};
 ghost use Rattle.dms_world.specs.Construction.{IsNewCentre, IsNewSign};
 ghost use Rattle.dms_world.specs.Growing.{may_grow};
 ghost use Rattle.dms_world.specs.World.{IsFresh, beginning, happens, noted};
@@ -41,6 +41,7 @@ impl World {
     pub fn new(alloc: Global, sign: Sign, centre: Centre) -> World
         ensures world { seen result ≡ beginning sign centre.state }
         ensures fresh { IsNewSign sign → IsNewCentre centre.state → IsFresh (seen result) }
+        ensures memory { HasNoMemory result }
     {
         signs_are_kept(&sign);
         faces_are_within_their_limits(sign.face());

@@ -7,6 +7,7 @@ use Rattle.dms_world.proofs.WorldSignFit.{defaults_fit_after}
 use Rattle.dms_world.proofs.WorldSignGood.{valid_rows_were_good}
 use Rattle.dms_world.proofs.WorldSignBacked as backing
 use Rattle.dms_world.proofs.WorldHonest as honest
+use Rattle.dms_world.proofs.WorldAlways.{always}
 use Rattle.dms_world.proofs.running.run.Goals as goal
 
 pub returns-clause-requests_agree : goal.returns-clause-requests_agree
@@ -35,3 +36,6 @@ returns-clause-ledger_was_ordered c = λ fresh.
 pub returns-clause-ledger_is_true : goal.returns-clause-ledger_is_true
 returns-clause-ledger_is_true c = λ fresh fair.
     honest.ledger_is_true (seen c.args.world.now) (happened c.happen_each.result c.args.events.now) fresh c.happen_each.ensures.ranges fair
+
+pub returns-clause-always : goal.returns-clause-always
+returns-clause-always c = λ fresh. always (seen c.args.world.now) (happened c.happen_each.result c.args.events.now) fresh c.happen_each.ensures.ranges

@@ -1,0 +1,150 @@
+-- An activation among the bindings of a SET that succeeds was accepted.
+use Rattle.std.proofs.Common.{◌≡◌, ℕ, zero, suc, ◌+◌, ◌&&◌, ◌||◌, not, Bool, true, false, cond, List, [], ◌∷◌, ◌++◌, length, Option, Some, None, refl, sym, ap, subst, ◌∙◌, arith}
+use Rattle.std.specs.Prelude.{option_map, is_none, unwrap_or, filter_map, find}
+use Rattle.std.specs.List.{cons_option, list_any, AllByRecursion, Contains}
+use Rattle.dms_wire.specs.declared.message.Kind.{Kind}
+use Rattle.dms_wire.specs.declared.message.Kind.TheVariants.{Get, GetNext, Response, Set}
+use Rattle.dms_wire.specs.declared.error_status.ErrorStatus.{ErrorStatus}
+use Rattle.dms_wire.specs.declared.error_status.ErrorStatus.TheVariants.{NoError, NoSuchName, BadValue, GenErr}
+use Rattle.dms_wire.specs.Message.{VarBind, SnmpMessage}
+use Rattle.dms_codes.specs.Codes.{activation_of}
+use Rattle.dms_access.specs.Access.{Write, Activate, is_command}
+use Rattle.dms_access.specs.MetNames.{is_among}
+use Rattle.dms_sign.specs.State.{SignState}
+use Rattle.dms_sign.specs.SetRequest.{SetCause, settable_instance, write_at, is_command_at, is_refused_field, cause_if, causes_after, causes, assigned}
+use Rattle.dms_sign.specs.Requests.{writes_of, set_unless, may_write, answer_by, primary}
+use Rattle.dms_sign.specs.Promises.{activates}
+use Rattle.dms_sign.proofs.Replies.{IsCause, are_causes}
+use Rattle.dms_sign_laws.proofs.Accepted.{what_is_written, if_succeeds}
+
+-- ---- tests
+
+not_true : (b : Bool) → (b ≡ true → ⊥) → b ≡ false
+not_true true fails = absurd (fails refl)
+not_true false fails = refl
+
+not_both : (a b : Bool) → (a && b) ≡ false → b ≡ true → a ≡ false
+not_both true b e passed = absurd (cc)
+not_both false b e passed = refl
+
+or_later : (a b c : Bool) → (a || b) ≡ true → (b ≡ true → c ≡ true) → (a || c) ≡ true
+or_later true b c e more = refl
+or_later false b c e more = more e
+
+or_second : (a b : Bool) → b ≡ true → (a || b) ≡ true
+or_second true b e = refl
+or_second false b e = e
+
+or_first : (a b : Bool) → a ≡ true → (a || b) ≡ true
+or_first true b e = refl
+or_first false b e = absurd (cc)
+
+still_any : (p : VarBind → Bool) (xs : List VarBind) (x : VarBind) → list_any p xs ≡ true → list_any p (xs ++ x ∷ []) ≡ true
+still_any p [] x e = absurd (cc)
+still_any p (y ∷ xs) x e = or_later (p y) (list_any p xs) (list_any p (xs ++ x ∷ [])) e (λ h. still_any p xs x h)
+
+last_any : (p : VarBind → Bool) (xs : List VarBind) (x : VarBind) → p x ≡ true → list_any p (xs ++ x ∷ []) ≡ true
+last_any p [] x e = or_first (p x) false e
+last_any p (y ∷ xs) x e = or_second (p y) (list_any p (xs ++ x ∷ [])) (last_any p xs x e)
+
+-- the tests of a binding, none of which fails
+all_pass : (a b c d e : Bool) (k l m n o : ErrorStatus) (index : ℕ) (more : List SetCause)
+    → filter_map (cause_if index) ((a, k) ∷ (b, l) ∷ (c, m) ∷ (d, n) ∷ (e, o) ∷ []) ++ more ≡ [] → (b ≡ false) × (d ≡ false) × (more ≡ [])
+all_pass true b c d e k l m n o index more none = absurd (cc)
+all_pass false true c d e k l m n o index more none = absurd (cc)
+all_pass false false true d e k l m n o index more none = absurd (cc)
+all_pass false false false true e k l m n o index more none = absurd (cc)
+all_pass false false false false true k l m n o index more none = absurd (cc)
+all_pass false false false false false k l m n o index more none = (refl, refl, none)
+
+-- ---- a SET without a cause
+
+-- its first binding writes something, is no second command, and none after it is a cause
+record Passes (s : SignState) (may : Bool) (before : List VarBind) (first : VarBind) (more : List VarBind) : Type 0 where
+  writes : is_none (write_at s first) ≡ false
+  no_second : (is_command_at s first && list_any (is_command_at s) before) ≡ false
+  later : causes_after s may (before ++ first ∷ []) more ≡ []
+
+passes : (s : SignState) (may : Bool) (before : List VarBind) (first : VarBind) (more : List VarBind) → causes_after s may before (first ∷ more) ≡ []
+    → Passes s may before first more
+passes s may before first more none =
+    let all = all_pass (not may || is_none (settable_instance s first.name)) (is_none (write_at s first)) (is_among first.name before)
+    (is_command_at s first && list_any (is_command_at s) before) (unwrap_or (option_map (is_refused_field s.table) (write_at s first)) false)
+    NoSuchName BadValue GenErr GenErr GenErr (length before + 1) (causes_after s may (before ++ first ∷ []) more) none in
+    record { writes = all.0; no_second = all.1; later = all.2 }
+
+all_write : (s : SignState) (may : Bool) (before bindings : List VarBind) (binding : VarBind) → causes_after s may before bindings ≡ []
+    → Contains bindings binding → is_none (write_at s binding) ≡ false
+all_write s may before [] binding none there = absurd (omega (arith, there.1))
+all_write s may before (first ∷ more) binding none (zero, within, same) =
+    subst (λ b. is_none (write_at s b) ≡ false) same (passes s may before first more none).writes
+all_write s may before (first ∷ more) binding none (suc place, within, same) =
+    all_write s may (before ++ first ∷ []) more binding (passes s may before first more none).later (place, omega (arith, within), same)
+
+-- none is a command after one
+none_after : (s : SignState) (may : Bool) (before bindings : List VarBind) (binding : VarBind) → causes_after s may before bindings ≡ []
+    → list_any (is_command_at s) before ≡ true → Contains bindings binding → is_command_at s binding ≡ false
+none_after s may before [] binding none any there = absurd (omega (arith, there.1))
+none_after s may before (first ∷ more) binding none any (zero, within, same) =
+    subst (λ b. is_command_at s b ≡ false) same
+    (not_both (is_command_at s first) (list_any (is_command_at s) before) (passes s may before first more none).no_second any)
+none_after s may before (first ∷ more) binding none any (suc place, within, same) =
+    none_after s may (before ++ first ∷ []) more binding (passes s may before first more none).later
+    (still_any (is_command_at s) before first any) (place, omega (arith, within), same)
+
+-- ---- the command of a SET
+
+writes_it : (s : SignState) (octets : List ℕ) → is_none (write_at s (activates octets)) ≡ false → write_at s (activates octets) ≡ Some (Activate octets)
+writes_it s octets some = what_is_written s octets (write_at s (activates octets)) refl some
+
+skip_test : (b : Bool) (write : Write) (rest goal : Option Write) → b ≡ false → rest ≡ goal → cond b (Some write) rest ≡ goal
+skip_test true write rest goal fails e = absurd (cc)
+skip_test false write rest goal fails e = e
+
+skip : (o : Option Write) (rest : List Write) (goal : Option Write) → unwrap_or (option_map is_command o) false ≡ false
+    → find is_command rest ≡ goal → find is_command (cons_option o rest) ≡ goal
+skip None rest goal fails e = e
+skip (Some write) rest goal fails e = skip_test (is_command write) write (find is_command rest) goal fails e
+
+found : (s : SignState) (may : Bool) (before bindings : List VarBind) (octets : List ℕ) → causes_after s may before bindings ≡ []
+    → Contains bindings (activates octets) → find is_command (writes_of s bindings) ≡ Some (Activate octets)
+found s may before [] octets none there = absurd (omega (arith, there.1))
+found s may before (first ∷ more) octets none (zero, within, same) =
+    let writes : is_none (write_at s (activates octets)) ≡ false =
+    subst (λ b. is_none (write_at s b) ≡ false) same (passes s may before first more none).writes in
+    ap (λ o. find is_command (cons_option o (writes_of s more))) (ap (write_at s) same ∙ writes_it s octets writes)
+found s may before (first ∷ more) octets none (suc place, within, same) =
+    let later = (passes s may before first more none).later in
+    let there : Contains more (activates octets) = (place, omega (arith, within), same) in
+    let writes = writes_it s octets (all_write s may (before ++ first ∷ []) more (activates octets) later there) in
+    let commands : is_command_at s (activates octets) ≡ true = ap (λ o. unwrap_or (option_map is_command o) false) writes in
+    let fails : is_command_at s first ≡ false =
+    not_true (is_command_at s first) (λ passed.
+    let other : is_command_at s (activates octets) ≡ false =
+    none_after s may (before ++ first ∷ []) more (activates octets) later (last_any (is_command_at s) before first passed) there in
+    let wrong : true ≡ false = sym commands ∙ other in
+    absurd (cc)) in
+    skip (write_at s first) (writes_of s more) (Some (Activate octets)) fails (found s may (before ++ first ∷ []) more octets later there)
+
+-- ---- the law
+
+set_among : (s : SignState) (may : Bool) (bindings : List VarBind) (octets : List ℕ) (found_causes : List SetCause) → causes s may bindings ≡ found_causes
+    → AllByRecursion (IsCause (length bindings)) found_causes → Contains bindings (activates octets)
+    → (set_unless s bindings found_causes).status ≡ NoError → (set_unless s bindings found_causes).accepted ≡ Some (activation_of s.table.order octets)
+unfolding causes
+set_among s may bindings octets (cause ∷ more) are each there e = absurd (each.0.fails e)
+set_among s may bindings octets [] are each there e =
+    if_succeeds s (assigned s (writes_of s bindings)) bindings _ octets (find is_command (writes_of s bindings)) (found s may [] bindings octets are there) e
+
+answer_among : (s : SignState) (m : SnmpMessage) (octets : List ℕ) (kind : Kind) → kind ≡ Set → Contains m.bindings (activates octets)
+    → (answer_by s m kind).status ≡ NoError → (answer_by s m kind).accepted ≡ Some (activation_of s.table.order octets)
+answer_among s m octets Set is there e =
+    set_among s (may_write s m) m.bindings octets (causes s (may_write s m) m.bindings) refl (are_causes s (may_write s m) m.bindings) there e
+answer_among s m octets Get is there e = absurd (cc)
+answer_among s m octets GetNext is there e = absurd (cc)
+answer_among s m octets Response is there e = absurd (cc)
+
+pub accepted_among : (s : SignState) (m : SnmpMessage) (octets : List ℕ) → m.kind ≡ Set → Contains m.bindings (activates octets)
+    → (primary s m).status ≡ NoError → (primary s m).accepted ≡ Some (activation_of s.table.order octets)
+unfolding primary
+accepted_among s m octets is there e = answer_among s m octets m.kind is there e
