@@ -32,7 +32,7 @@ pub struct Shown {
     pub source: MessageId,
     /// How it came up (dmsMsgSourceMode).
     pub mode: u8,
-    /// The network address of the one who activate it.
+    /// The network address of the one who activated it.
     pub address: [u8; 4],
     /// The seconds until it ends; none without an end.
     pub remaining: Option<u32>,
