@@ -14,10 +14,11 @@ import random
 import re
 import sys
 
+from door import description
 from door.process import CoProcess
 from door.setting import TOP
 
-WORDS = ["tick", "ticks", "state", "show", "status", "restart", "datagram", "power-lost", "power-back", "publish", "-", "", "0",
+WORDS = ["tick", "ticks", "heard", "state", "show", "status", "restart", "datagram", "power-lost", "power-back", "publish", "-", "", "0",
          "4294967295", "4294967296", "zz", "3", "#", "end", "30"]
 TEXTS = ["41", "-", "41415b6e705d42", "5b6e6c395d", "5b6e6c305d41", "5b66315d41", "30"]
 
@@ -62,10 +63,18 @@ class Lines:
         if kind < 0.7:
             return "tick"
         if kind < 0.85:
-            return self.command() if end == "centre" else self.chance.choice(["state", "show", "power-lost", "power-back 5", "power-back 4294967295"])
+            others = ["state", "show", "power-lost", "power-back 5", "power-back 4294967295", "heard", "ticks 0", "ticks 3", "ticks 0000000060"]
+            return self.command() if end == "centre" else self.chance.choice(others)
         if kind < 0.95:
             return self.chance.choice(["status", "restart", "status"] if end == "centre" else ["state", "show"])
         return self.other()
+
+
+def begun(program, end, sign):
+    """A co-process that took the description."""
+    process = CoProcess(program, [end], description.read(sign))
+    process.begin(b"state" if end == "sign" else b"status", sign or program)
+    return process
 
 
 def main():
@@ -76,7 +85,7 @@ def main():
     words.add_argument("--sign", help="a description, as in signs/; else the bench sign")
     asked = words.parse_args()
     model = str(pathlib.Path(__file__).resolve().parent / "coprocess_model.py")
-    ends = {end: [CoProcess(program, [end], asked.sign) for program in (asked.signtool, model)] for end in ("sign", "centre")}
+    ends = {end: [begun(program, end, asked.sign) for program in (asked.signtool, model)] for end in ("sign", "centre")}
     lines, passed, failed = Lines(random.Random(asked.seed), datagrams()), 0, 0
     for _ in range(asked.count):
         end, other = lines.chance.choice([("sign", "centre"), ("centre", "sign")])

@@ -18,16 +18,21 @@ import time
 from typing import Callable
 
 from door.setting import PROGRAM
-from trials import centres, disks, faults, files, gets, kills, words
+from trials import centres, disks, downs, faults, files, gets, kills, parts, speed, words, year
 from trials.bench import Trial
 
+SHARES = {"kills": 20, "faults": 16, "files": 6, "gets": 8, "centres": 12}  # seconds of the short form, after which each goes on no more
 TRIALS: dict[str, Callable[[Trial], None]] = {
+    "parts": parts.run,
     "kills": lambda trial: kills.run(trial, 24 if trial.is_short else 1000),
     "faults": faults.run,
     "files": files.run,
     "gets": gets.run,
     "disks": disks.run,
+    "downs": downs.run,
     "words": words.run,
+    "year": year.run,
+    "speed": speed.run,
     "centres": lambda trial: centres.run(trial, 10 if trial.is_short else 200),
 }
 
@@ -48,6 +53,7 @@ def main() -> int:
             for name, run in TRIALS.items():
                 if asked.only in (None, name):
                     begun = time.monotonic()
+                    trial.ends = begun + SHARES.get(name, 0)
                     run(trial)
                     print(f"{name}: {time.monotonic() - begun:.0f} s", flush=True)
         finally:

@@ -19,7 +19,7 @@ import sys
 from door import commands, description
 from door.centre_door import CentreDoor
 from door.records import Head
-from door.refusal import Refusal, status_of
+from door.refusal import Refusal, say, status_of, tell
 from door.setting import begun, checked, journal_of, log_of, options
 from door.sockets import connected, host_and_port
 
@@ -46,6 +46,13 @@ def asked_for() -> argparse.Namespace:
     return asked
 
 
+def begun_with(first: int, wanted: int | None, is_fresh: bool) -> int:
+    """The number that a journal began with; another one is wanted of a new journal alone."""
+    if wanted not in (None, first) and not is_fresh:
+        raise Refusal(f"--first {wanted}: the journal began with {first}, and goes on where it was")
+    return first
+
+
 def main() -> int:
     asked = asked_for()
     log = log_of(asked)
@@ -53,15 +60,17 @@ def main() -> int:
     first = description.first_of(text) if asked.first is None else asked.first
     with connected(*host_and_port(asked.to)) as socket:
         journal = journal_of(asked, Head("centre", description.digest(text), first)) if asked.journal else None
-        if journal and journal.head.first is not None:
-            first = journal.head.first
+        if journal is None:
+            say(f"request numbers begin at {first}: no journal tells which were used")
+        elif journal.head.first is not None:
+            first = begun_with(journal.head.first, asked.first, asked.fresh)
         door = CentreDoor(begun(asked, "centre", first, journal), socket, journal, log, asked.tick, asked.wait)
         is_well = True
         if door.status()[0] == "busy":
             is_well = door.finish([])
         for line in commands.lines(door.waiting):
             if line is None:
-                print("bad line: no UTF-8, or longer than 65536 octets", flush=True)
+                tell("bad line: no UTF-8, or longer than 65536 octets")
             is_well = line is not None and door.carry_out(line) and is_well
         door.centre.end()
     return 0 if is_well and not door.waiting.is_stopped else 1

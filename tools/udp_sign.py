@@ -17,7 +17,7 @@ from door import description
 from door.clock import Moment
 from door.keeper import Keeper
 from door.records import Head
-from door.refusal import Refusal, status_of
+from door.refusal import Refusal, status_of, tell
 from door.setting import begun, checked, journal_of, log_of, options
 from door.sign_door import SignDoor
 from door.sockets import Waiting, bound, named
@@ -50,10 +50,15 @@ def main() -> int:
         lines = keeper.start(Moment.now(), asked.down) if keeper else []
         if lines:
             sign.hand(lines)
+        at = door.getsockname()
+        if log:
+            log.event("start", at, {"down": b", ".join(lines).decode()} if lines else {})
         if not asked.quiet:
-            print(f"a sign at {named(door.getsockname() if ':' in door.getsockname()[0] else (asked.host, door.getsockname()[1]))}", flush=True)
+            tell(f"a sign at {named(at if ':' in at[0] else (asked.host, at[1]))}")
         SignDoor(sign, door, keeper, log, asked.lose, asked.quiet).serve(waiting, not asked.no_ticks)
     sign.end()
+    if log:
+        log.event("end")
     return 0
 
 

@@ -7,7 +7,7 @@ from .journal import Journal, NotKept
 from .log import Log
 from .mib import Mib
 from .process import CoProcess
-from .refusal import Refusal, reason, say
+from .refusal import Refusal, reason, say, tell
 from .sockets import Address, Waiting, received
 from .texts import ended, published
 
@@ -81,27 +81,28 @@ class CentreDoor:
         """Carries on, and prints how the job ended with the ledger's lines that are new: whether it was accepted."""
         is_done = self.carry_on()
         if not is_done:
-            print("stopped: the job is not done" if self.waiting.is_stopped else f"given up after {self.wait:g} seconds: the job is not done")
+            why = "stopped" if self.waiting.is_stopped else f"given up after {self.wait:g} seconds"
+            tell(f"{why}: the job is not done")
         now = self.status()
-        self.tell([*now[:2], *(line for line in now[2:] if line not in before)])
+        self.show([*now[:2], *(line for line in now[2:] if line not in before)])
         return is_done and now[1] == "last accepted"
 
-    def tell(self, lines: list[str]) -> None:
+    def show(self, lines: list[str]) -> None:
         """Prints lines of a status."""
-        print("\n".join(ended(self.mib, line) for line in lines), flush=True)
+        tell("\n".join(ended(self.mib, line) for line in lines))
 
     def carry_out(self, line: str) -> bool:
         """Whether a line of the operator's was in order, and ended accepted if it was a command."""
         if line == "status":
-            self.tell(self.status())
+            self.show(self.status())
             return True
         try:
             command = published(line) if line.split(" ")[0] == "publish-text" else line
         except Refusal as refused:
-            print(f"bad line: {refused}", flush=True)
+            tell(f"bad line: {refused}")
             return False
         if command.split(" ")[0] not in COMMANDS:
-            print("bad line", flush=True)
+            tell("bad line")
             return False
         return self.command(command)
 
@@ -109,18 +110,18 @@ class CentreDoor:
         """Whether a command was accepted. One that finds a job begun earlier waits for its end."""
         before = self.status()
         if before[0] == "busy" and not self.carry_on():
-            print("not begun: the job before it is not done", flush=True)
+            tell("not begun: the job before it is not done")
             return False
         self.late()
+        if self.log:
+            self.log.event("command", None, {"line": command})
         try:
             answer = self.hand(command.encode("utf-8")).decode("latin-1")
         except NotKept:
-            print("not begun: it cannot be recorded", flush=True)
+            tell("not begun: it cannot be recorded")
             return False
-        if self.log:
-            self.log.event("command", None, {"line": command, "answer": answer.split(" ")[0]})
         if answer.split(" ")[0] in ("refused", "bad"):
-            print(answer, flush=True)
+            tell(answer)
             return False
         return self.finish(before)
 

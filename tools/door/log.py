@@ -1,6 +1,7 @@
 """A line an event: with the time, the peer, and what was said in words."""
 
 import datetime
+import io
 import json
 import os
 import sys
@@ -16,6 +17,8 @@ from .sockets import Address, named
 def file_of(path: str) -> TextIO:
     """The file that is written to at its end; `-` is standard output."""
     if path == "-":
+        if isinstance(sys.stdout, io.TextIOWrapper):
+            sys.stdout.reconfigure(errors="backslashreplace")
         return sys.stdout
     try:
         file = os.open(path, os.O_WRONLY | os.O_CREAT | os.O_APPEND | os.O_CLOEXEC, MODE)

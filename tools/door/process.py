@@ -17,14 +17,13 @@ class CoProcess:
     def __init__(self, program: str, words: Sequence[str], description: bytes | None = None) -> None:
         call = [program, *words] + (["--sign"] if description is not None else [])
         try:
-            self.process = subprocess.Popen(call, stdin=subprocess.PIPE, stdout=subprocess.PIPE, bufsize=0)
+            self.process = subprocess.Popen(call, stdin=subprocess.PIPE, stdout=subprocess.PIPE, bufsize=0, process_group=0)
         except OSError as fault:
             raise Refusal(f"{program}: {reason(fault) if fault.filename != program else fault.strerror}") from fault
         assert self.process.stdin is not None and self.process.stdout is not None
         self.input, self.output = self.process.stdin.fileno(), self.process.stdout.fileno()
         self.left = b""
-        if description is not None:
-            self.write(description)
+        self.description = description or b""
 
     def write(self, octets: bytes) -> None:
         """Hands octets over whole."""
@@ -73,9 +72,9 @@ class CoProcess:
         return [answer.decode("latin-1") for answer in self.ask(line.encode())]
 
     def begin(self, line: bytes, name: str) -> None:
-        """Asks for something that changes nothing: refuses the description where it is not taken."""
-        self.write(line + b"\n")
+        """Hands the description over, and asks for something that changes nothing: refuses what is not taken."""
         try:
+            self.write(self.description + line + b"\n")
             answer = self.lines(1)[0]
         except Refusal as refused:
             raise Refusal(f"{name}: {refused}") from refused

@@ -1,5 +1,6 @@
 """What a user is told in place of a traceback."""
 
+import os
 import sys
 from typing import Callable
 
@@ -24,6 +25,14 @@ def say(words: str) -> None:
         print(words, file=sys.stderr, flush=True)
     except (OSError, ValueError):
         pass
+
+
+def tell(words: str) -> None:
+    """A line on standard output; where nobody reads it any more a door goes on."""
+    try:
+        print(words, flush=True)
+    except (OSError, ValueError):
+        os.dup2(os.open(os.devnull, os.O_WRONLY), 1)
 
 
 def status_of(door: Callable[[], int]) -> int:

@@ -7,7 +7,7 @@ from .datagrams import is_get
 from .keeper import Keeper
 from .log import Log
 from .process import CoProcess
-from .refusal import reason, say
+from .refusal import reason, say, tell
 from .sockets import MOST_DATAGRAM, Address, Waiting, received
 
 AT_ONCE = 16  # datagrams that are recorded with one sync, and handed over together
@@ -104,6 +104,6 @@ class SignDoor:
     def accepted(self, code: str, sender: Address) -> None:
         """Tells of an activation."""
         if not self.is_quiet:
-            print("accepted", code, flush=True)
+            tell(f"accepted {code}")
         if self.log:
             self.log.event("accepted", sender, {"code": code})

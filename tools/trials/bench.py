@@ -35,6 +35,7 @@ class Trial:
     failed: int = 0
     skipped: int = 0
     doors: list["Door"] = field(default_factory=list)
+    ends: float = 0.0  # in the short form, when a kind of trial goes on no more
 
     def holds(self, name: str, is_well: bool, found: object = "") -> bool:
         """Counts one thing that was looked at."""
@@ -42,6 +43,10 @@ class Trial:
         if not is_well:
             print(f"FAILED {name}: {str(found)[:2000]}", flush=True)
         return is_well
+
+    def is_late(self) -> bool:
+        """Whether the short form goes on to the next kind of trial."""
+        return self.is_short and time.monotonic() > self.ends
 
     def skip(self, name: str, why: str) -> None:
         """Says what cannot be tried here."""

@@ -134,6 +134,21 @@ class Centres:
         return ["busy" if centre.job else "idle", f"last {centre.last or 'none'}", *world.report()[3:]]
 
 
+def again(trial: Trial, centres: Centres) -> None:
+    """A fresh journal of a centre, whose numbers are above all that it used."""
+    used = max(message.number for message in map(wire.spelled, list(centres.relay.requests)) if message is not None)
+    before = len(centres.relay.requests)
+    door = trial.door("udp_centre.py", "--to", f"127.0.0.1:{centres.relay.port()}", "--journal", str(centres.path), "--fresh", "--tick", "0.15",
+                      stdin=subprocess.PIPE)
+    assert door.process.stdin is not None
+    door.process.stdin.write(b"blank 3 65535 255 127.0.0.1\n")
+    door.process.stdin.close()
+    status = door.ended()
+    numbers = [message.number for message in map(wire.spelled, centres.relay.requests[before:]) if message is not None]
+    trial.holds("a fresh centre begins above all numbers", bool(numbers) and min(numbers) > used, (used, numbers, status, door.errors.decode()))
+    trial.holds("a fresh centre keeps the old journal", len(list(centres.path.parent.glob("centre.2*"))) == 1)
+
+
 def run(trial: Trial, count: int) -> None:
     """So many kills, and a last life that tells the ledger."""
     begun = time.monotonic()
@@ -145,10 +160,13 @@ def run(trial: Trial, count: int) -> None:
     relay.start()
     centres = Centres(trial, relay, folder / "centre")
     for _ in range(count):
+        if trial.is_late():
+            break
         centres.life(trial.chance.choice(["door", "co-process", "both"]), centres.command())
     door = centres.life(None, "status")
     status = door.output.decode().splitlines()
     centres.look([line.split(",")[0] for line in status[max(at for at, line in enumerate(status) if line in ("idle", "busy")):]])
+    again(trial, centres)
     relay.end()
     trial.holds("the sign goes on", sign.stop() == 0, sign.errors.decode())
     print(f"kills of a centre: {centres.killed}, {len(relay.requests)} requests, {time.monotonic() - begun:.0f} s", flush=True)

@@ -101,6 +101,8 @@ def run(trial: Trial) -> None:
     faults = Faults(trial, library)
     most = 4 if trial.is_short else SETS + 4
     for at in range(1, most):
+        if trial.is_late():
+            break
         faults.life("write", at, errno.ENOSPC)
         faults.life("write", at, errno.EIO, short=20)
         faults.life("fdatasync", at, errno.EIO)

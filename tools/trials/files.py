@@ -78,6 +78,8 @@ class Files:
         self.trial.holds("each prefix gives its whole records", True)
         sizes = {*self.ends, *(end - 1 for end in self.ends[1:]), *(self.trial.chance.randrange(len(self.written)) for _ in range(20))}
         for size in sorted(sizes) if not self.trial.is_short else self.trial.chance.sample(sorted(sizes), 6):
+            if self.trial.is_late():
+                break
             self.started(f"the first {size} octets", self.written[:size])
 
     def changed(self) -> None:

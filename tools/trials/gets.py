@@ -83,6 +83,8 @@ def run(trial: Trial) -> None:
     every = [octets for octets, _ in requests()]
     changing = [octets for octets, changes in requests() if changes]
     for form in forms() if not trial.is_short else [(0, 0, 0, 0), (0, 0, 0, 1), (1, 1, 1, 1)]:
+        if trial.is_late():
+            break
         life(trial, form, changing if trial.is_short else every)
         for octets in [] if trial.is_short else changing:
             life(trial, form, [octets])

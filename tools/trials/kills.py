@@ -105,7 +105,8 @@ def run(trial: Trial, count: int) -> None:
     begun = time.monotonic()
     kills = Kills(trial, trial.new_folder())
     for at in range(count):
-        kills.life(at)
+        if not trial.is_late():
+            kills.life(at)
     kills.life(3)
     print(f"kills of a sign: {kills.killed}, {kills.answered} SETs answered, a journal of {kills.path.stat().st_size} octets, "
           f"{time.monotonic() - begun:.0f} s", flush=True)

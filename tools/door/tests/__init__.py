@@ -1,0 +1,1 @@
+"""Tests of the doors' parts: `pytest tools/door/tests`, or `tools/lasting.py --only parts`."""

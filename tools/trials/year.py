@@ -1,0 +1,96 @@
+"""A journal of a year, and one of a gigabyte of ticks: how large, and how long a start takes."""
+
+import os
+import pathlib
+import resource
+import time
+from typing import Iterator
+
+from door import records
+from door.clock import Moment
+from door.records import Head
+from model import wire
+
+from .bench import DMS, Manager, Trial
+
+MINUTES = 365 * 24 * 60
+BATCH = 20_000  # lines that are made at once
+
+
+def minute(at: int, now: Moment) -> Iterator[bytes]:
+    """What a door records in a minute: ten Gets each ten seconds, a SET, each second, the clock."""
+    for poll in range(6):
+        if poll == 3:
+            bindings = [(DMS + (6, 10, 0), (wire.INTEGER, at % 65_536))]
+            yield b"ticks 4"
+            yield b"datagram " + wire.written(wire.Message(wire.SET, b"admin", at, 0, 0, bindings)).hex().encode()
+            yield b"ticks 6"
+        else:
+            yield b"ticks 10"
+        yield b"heard"
+    yield now.later(60 * (at + 1)).clock()
+
+
+def year(now: Moment, minutes: int) -> Iterator[bytes]:
+    """The lines of so many minutes up to a moment."""
+    begun = now.later(-60 * minutes)
+    yield begun.start()
+    yield begun.clock()
+    for at in range(minutes):
+        yield from minute(at, begun)
+
+
+def ticks(now: Moment, count: int) -> Iterator[bytes]:
+    """So many records of ten seconds."""
+    yield now.start()
+    yield now.clock()
+    for _ in range(count):
+        yield b"ticks 10"
+
+
+def write(path: pathlib.Path, lines: Iterator[bytes]) -> int:
+    """Writes a journal of a sign: how many lines."""
+    count, checksum = 0, 0
+    with open(path, "wb") as file:
+        some = [Head("sign", "bench").line()]
+        while some:
+            octets, checksum = records.records(some, checksum)
+            file.write(octets)
+            count += len(some)
+            some = [line for line, _ in zip(lines, range(BATCH))]
+    os.chmod(path, 0o600)
+    return count
+
+
+def start(trial: Trial, name: str, path: pathlib.Path, count: int, counter: int) -> float:
+    """The seconds that a start over a journal takes."""
+    begun = time.monotonic()
+    door = trial.door("udp_sign.py", "--port", "0", "--journal", str(path), "--down", "process", "--no-ticks")
+    while not door.port and door.process.poll() is None and time.monotonic() < begun + 600:
+        door.wait_for_port()
+    seconds = time.monotonic() - begun
+    size = path.stat().st_size
+    if trial.holds(f"{name}: a door starts", door.port != 0, door.errors.decode()):
+        manager = Manager(door.port)
+        found = manager.get([DMS + (6, 10, 0)])
+        trial.holds(f"{name}: it is where the journal ends", bool(found) and found[0][1] == (wire.INTEGER, counter), found)
+        manager.close()
+    trial.holds(f"{name}: and ends", door.stop() == 0, door.errors.decode())
+    print(f"{name}: {count} lines, {size / 1e6:.1f} MB, a start in {seconds:.1f} s, at most "
+          f"{resource.getrusage(resource.RUSAGE_CHILDREN).ru_maxrss // 1024} MiB", flush=True)
+    return seconds
+
+
+def run(trial: Trial) -> None:
+    """In the short form a week, and ten megabytes of ticks."""
+    path = trial.new_folder() / "journal"
+    minutes = 7 * 24 * 60 if trial.is_short else MINUTES
+    count = write(path, year(Moment.now(), minutes))
+    size = path.stat().st_size
+    seconds = start(trial, "a week" if trial.is_short else "a year", path, count, (minutes - 1) % 65_536)
+    if not trial.is_short:
+        trial.holds("a year is under 300 MB, and starts in under 30 s", size < 300e6 and seconds < 30, (size, seconds))
+    path.unlink()
+    count = write(path, ticks(Moment.now().later(-10 ** 9), 10 ** 7 // 19 if trial.is_short else 10 ** 9 // 19))
+    start(trial, "ten megabytes of ticks" if trial.is_short else "a gigabyte of ticks", path, count, 0)
+    path.unlink()
