@@ -67,7 +67,7 @@ def main() -> int:
         door = CentreDoor(begun(asked, "centre", first, journal), socket, journal, log, asked.tick, asked.wait)
         is_well = True
         if door.status()[0] == "busy":
-            is_well = door.finish([])
+            is_well = door.finish([], asked.wait)
         for line in commands.lines(door.waiting):
             if line is None:
                 tell("bad line: no UTF-8, or longer than 65536 octets")

@@ -1,5 +1,6 @@
 """A centre behind a UDP socket: an operator's commands, each carried out until the centre is idle."""
 
+import math
 import socket
 import time
 
@@ -50,10 +51,10 @@ class CentreDoor:
         if self.log:
             self.log.datagram("out", self.to, octets)
 
-    def carry_on(self) -> bool:
-        """Hands over ticks and replies until the centre is idle; False where that takes too long, or it is stopped."""
+    def carry_on(self, wait: float) -> bool:
+        """Hands over ticks and replies until the centre is idle; False where that takes longer, or it is stopped."""
         begun = time.monotonic()
-        ends, due = begun + self.wait, begun + self.every
+        ends, due = begun + wait, begun + self.every
         while self.status()[0] == "busy":
             now = time.monotonic()
             if now >= ends or self.waiting.is_stopped:
@@ -77,11 +78,11 @@ class CentreDoor:
             self.hand(b"datagram " + (heard[0].hex().encode() or b"-"))
         return due
 
-    def finish(self, before: list[str]) -> bool:
+    def finish(self, before: list[str], wait: float) -> bool:
         """Carries on, and prints how the job ended with the ledger's lines that are new: whether it was accepted."""
-        is_done = self.carry_on()
+        is_done = self.carry_on(wait)
         if not is_done:
-            why = "stopped" if self.waiting.is_stopped else f"given up after {self.wait:g} seconds"
+            why = "stopped" if self.waiting.is_stopped else f"given up after {wait:g} seconds"
             tell(f"{why}: the job is not done")
         now = self.status()
         self.show([*now[:2], *(line for line in now[2:] if line not in before)])
@@ -107,10 +108,12 @@ class CentreDoor:
         return self.command(command)
 
     def command(self, command: str) -> bool:
-        """Whether a command was accepted. One that finds a job begun earlier waits for its end."""
+        """Whether a command was accepted. One that finds a job not done waits for its end, however long that takes."""
         before = self.status()
-        if before[0] == "busy" and not self.carry_on():
-            tell("not begun: the job before it is not done")
+        if before[0] == "busy":
+            self.finish(before, math.inf)
+            before = self.status()
+        if self.waiting.is_stopped:
             return False
         self.late()
         if self.log:
@@ -123,7 +126,7 @@ class CentreDoor:
         if answer.split(" ")[0] in ("refused", "bad"):
             tell(answer)
             return False
-        return self.finish(before)
+        return self.finish(before, self.wait)
 
     def late(self) -> None:
         """What comes while no job is under way answers nothing, and is let go."""

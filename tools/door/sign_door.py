@@ -2,6 +2,7 @@
 
 import socket
 import time
+from binascii import hexlify, unhexlify
 
 from .datagrams import is_get
 from .keeper import Keeper
@@ -12,6 +13,11 @@ from .sockets import MOST_DATAGRAM, Address, Waiting, received
 
 AT_ONCE = 16  # datagrams that are recorded with one sync, and handed over together
 Heard = tuple[bytes, Address]
+
+
+def line_of(octets: bytes) -> bytes:
+    """The line that hands a datagram over."""
+    return b"datagram " + (hexlify(octets) or b"-")
 
 
 class SignDoor:
@@ -59,28 +65,23 @@ class SignDoor:
 
     def answer(self, heard: list[Heard]) -> None:
         """Records what is no Get, hands all over, and sends the replies in order. What the disk refuses is not handed over."""
-        lines = [(b"datagram " + (octets.hex().encode() or b"-"), octets, sender) for octets, sender in heard]
-        kept = set()
-        if self.keeper:
-            kept = {at for at, (_, octets, _) in enumerate(lines) if not is_get(octets)}
-            if kept and not self.keeper.keep([lines[at][0] for at in sorted(kept)]):
-                lines, kept = self.without(lines, kept), set()
+        changing = [one for one in heard if not is_get(one[0])] if self.keeper else []
+        if self.keeper and changing and not self.keeper.keep([line_of(octets) for octets, _ in changing]):
+            heard, changing = self.without(heard, changing), []
         if self.log:
-            for _, octets, sender in lines:
+            for octets, sender in heard:
                 self.log.datagram("in", sender, octets)
-        if not lines:
-            return
-        answers = self.sign.hand([line for line, _, _ in lines])
-        answered = {at for at, (answer, (_, _, sender)) in enumerate(zip(answers, lines)) if self.reply(answer, sender)}
+        answers = self.sign.hand([line_of(octets) for octets, _ in heard]) if heard else []
+        answered = [one for one, answer in zip(heard, answers) if self.reply(answer, one[1])]
         if self.keeper and answered:
-            self.keeper.heard(by_kept=bool(answered & kept))
+            self.keeper.heard(by_kept=any(one in changing for one in answered))
 
-    def without(self, lines: list[tuple[bytes, bytes, Address]], refused: set[int]) -> list[tuple[bytes, bytes, Address]]:
+    def without(self, heard: list[Heard], refused: list[Heard]) -> list[Heard]:
         """The Gets alone, since the rest cannot be recorded."""
         if self.log:
-            for at in sorted(refused):
-                self.log.event("not recorded", lines[at][2], {"octets": len(lines[at][1])})
-        return [line for at, line in enumerate(lines) if at not in refused]
+            for octets, sender in refused:
+                self.log.event("not recorded", sender, {"octets": len(octets)})
+        return [one for one in heard if one not in refused]
 
     def reply(self, answer: bytes, sender: Address) -> bool:
         """Sends a reply, where there is one, and says what was accepted."""
@@ -92,7 +93,7 @@ class SignDoor:
         if word == b"accepted":
             code, _, rest = rest.partition(b" ")
             self.accepted(code.decode(), sender)
-        octets = bytes.fromhex(rest.decode())
+        octets = unhexlify(rest)
         try:
             self.door.sendto(octets, sender)
         except OSError as fault:

@@ -112,11 +112,20 @@ class Files:
         self.path.write_bytes(self.written)
         self.says("another description by --sign", self.written, "another description", "--sign", str(TOP / "signs/roadside.sign"))
         self.started("an empty file", b"")
+        self.older()
         self.started("an untouched file", self.written)
         door = self.trial.sign("--journal", str(self.path), "--no-ticks")
         second = self.trial.sign("--journal", str(self.path), "--no-ticks")
         self.trial.holds("a second door ends at once", second.ended() == 2 and b"another door holds this journal" in second.errors, second.errors.decode())
         self.trial.holds("and the first goes on", self.answers(door) and door.stop() == 0, door.errors.decode())
+
+    def older(self) -> None:
+        """A journal that another program wrote under the same rules."""
+        program, self.trial.program = self.trial.program, str(TOP / "tools/coprocess_model.py")
+        self.path.unlink()
+        octets = self.made()
+        self.trial.program = program
+        self.started("a journal of another program with the same rules", octets)
 
     def says(self, name: str, octets: bytes, words: str, *more: str) -> None:
         """A door on these octets ends with status 2 and these words."""

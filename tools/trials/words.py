@@ -87,8 +87,10 @@ def operated(trial: Trial) -> None:
     with socket.socket(socket.AF_INET, socket.SOCK_DGRAM) as silent:
         silent.bind(("127.0.0.1", 0))
         status, lines = commanded(trial, silent.getsockname()[1], "blank 5 65535 255 127.0.0.1\nblank 6 65535 255 127.0.0.1\n", "--wait", "0.3")
-    told = ["given up after 0.3 seconds: the job is not done" in lines, "not begun: the job before it is not done" in lines]
-    trial.holds("a silent sign is given up", status == 1 and all(told), (status, lines))
+    wanted = ["given up after 0.3 seconds: the job is not done", "busy", "last none", "ledger 1 ffffff07000500007f000001 waiting", "idle",
+              "last failed at step 7: no reply", "ledger 1 ffffff07000500007f000001 noreply", "given up after 0.3 seconds: the job is not done",
+              "busy", "last failed at step 7: no reply", "ledger 2 ffffff07000600007f000001 waiting"]
+    trial.holds("a silent sign is given up, and the next command waits for the job's end", status == 1 and lines == wanted, (status, lines))
     status, lines = commanded(trial, silent_port(), "blank 5 65535 255 127.0.0.1\n")
     trial.holds("no sign there", status == 1 and "last failed at step 7: no reply" in lines, (status, lines))
 
