@@ -1,12 +1,16 @@
 #!/usr/bin/env python3
-"""Tries a crate's wrong bodies many at a time: `tools/try_edits.py [CRATE..]` in a clone that may be written to.
+"""Tries a crate's wrong bodies many at a time, in a clone that may be written to. With no crate it tries those of all.
 
-The gate tries one a check. Here a check tries as many as change functions of their own: an edit is refused where the function
-that it changes is not proved, and not only because it calls another. An edit of a constant or a table, and one whose text another
-edit touches, has a check of its own. It prints what was not refused, and last `N passed, N failed`. With no crate it tries those
-of all; with --apply it only looks that each can be applied, in a second.
+The gate tries one a check. Here a check tries as many as change functions of their own. An edit is refused where a goal stays open
+of the function that it changes, and not only because that function calls another; where it changes a function that no line of the
+check names, a constant or a table, or a text that another edit touches, it has a check of its own, in which any goal counts. A proof
+file that names what the edit took away says nothing of a contract, so such an edit is not refused by it. What was not refused is
+printed, and last `N passed, N failed`.
 """
 
+import argparse
+import collections
+import dataclasses
 import pathlib
 import re
 import subprocess
@@ -14,49 +18,164 @@ import sys
 
 TOP = pathlib.Path(__file__).resolve().parent.parent
 
+# What a proof file says where it names what the edit took away, or cites a proof that does.
+UNREAD = re.compile(r"has no field|is not in scope|has no `|was not admitted|is no name")
 
+FUNCTION = re.compile(r"^(?P<indent> *)(?:pub(?:\([a-z]+\))? )?(?:const )?fn (?P<name>\w+)")
+BLOCK = re.compile(r"^(?:pub(?:\([a-z]+\))? )?(?P<kind>impl|trait|mod)\b(?P<head>[^{]*)\{")
+
+
+class BadEdit(Exception):
+    """An edit that cannot be applied."""
+
+
+@dataclasses.dataclass(frozen=True)
+class Pair:
+    file: pathlib.Path
+    old: str
+    new: str
+
+
+@dataclasses.dataclass
 class Edit:
-    def __init__(self, base, path):
-        self.name, self.pairs, self.functions = path.name, [], set()
-        file = old = None
-        for line in path.read_text(encoding="utf-8").splitlines():
-            if line.startswith("file: "):
-                file = base / line.removeprefix("file: ").strip()
-            elif line.startswith("old: "):
-                old = line.removeprefix("old: ")
-            elif line.startswith("new:"):
-                self.pairs.append((file, old, line.removeprefix("new:").removeprefix(" ")))
-        for file, old, _ in self.pairs:
-            text = file.read_text(encoding="utf-8")
-            begun = [found for found in re.finditer(r"(?m)^\s*(?:pub(?:\([a-z]+\))? )?(?:const )?fn (\w+)", text) if found.start() <= text.find(old)]
-            self.functions.add((file, begun[-1].start(), begun[-1].group(1)) if begun and file.suffix == ".rt" else None)
-
-    def apply(self):
-        """Whether each text stands exactly once; then it is changed."""
-        for file, old, new in self.pairs:
-            text = file.read_text(encoding="utf-8")
-            if text.count(old) != 1:
-                return False
-            file.write_text(text.replace(old, new), encoding="utf-8")
-        return True
+    name: str
+    pairs: list[Pair]
+    # the paths of the functions that it changes; None for what stands in no function
+    functions: set[str | None]
 
 
-def checked(base, edits):
-    """The edits that were refused, of those that are tried together."""
-    saved = {file: file.read_text(encoding="utf-8") for edit in edits for file, _, _ in edit.pairs}
+def read_pairs(crate, path):
+    file = old = None
+    for line in path.read_text(encoding="utf-8").splitlines():
+        if line.startswith("file: "):
+            file = crate / line.removeprefix("file: ").strip()
+        elif line.startswith("old: "):
+            old = line.removeprefix("old: ")
+        elif line.startswith("new:"):
+            yield Pair(file, old, line.removeprefix("new:").removeprefix(" "))
+
+
+def read_edit(crate, path):
+    pairs = list(read_pairs(crate, path))
+    return Edit(f"{path.parent.name}/{path.stem}", pairs, {function_at(crate, pair) for pair in pairs})
+
+
+def edits_of(crate):
+    return [read_edit(crate, path) for folder in ("must-fail", "wrong-bodies") for path in sorted((crate / folder).glob("*.edit"))]
+
+
+def type_word(text):
+    """A type as paths have it: `&[u8]` is `RefSliceU8`, and what it is generic over is left out."""
+    text = re.sub(r"<[^<>]*>", "", re.sub(r"<[^<>]*>", "", text)).replace("&", "Ref ").replace("[", "Slice ")
+    return "".join(word[0].upper() + word[1:] for word in re.findall(r"\w+", text.split("::")[-1]))
+
+
+def module_of(crate, file):
+    parts = file.relative_to(crate / "src").with_suffix("").parts
+    return [] if parts in (("lib",), ("main",)) else [*parts]
+
+
+def module_of_type(crate, word, otherwise):
+    """The module that has a type of this name, in whose path its methods stand."""
+    for file in sorted((crate / "src").rglob("*.rt")):
+        if re.search(rf"(?m)^(?:pub(?:\([a-z]+\))? )?(?:struct|enum) {word}\b", file.read_text(encoding="utf-8")):
+            return module_of(crate, file)
+    return otherwise
+
+
+def block_path(crate, module, kind, head):
+    """The path of a block of functions, as `object_identifier::Oid`, `object_identifier::OidDisplay` or `sign::mode`."""
+    head = head.split(" where ")[0]
+    if kind != "impl":
+        return [*module, re.match(r"\s*(\w+)", head).group(1)]
+    of_trait, is_of_trait, of_type = re.sub(r"^<[^>]*>", "", head).strip().rpartition(" for ")
+    word = type_word(of_type)
+    if not is_of_trait:
+        return [*module_of_type(crate, word, module), word]
+    over = re.search(r"<(.*)>$", of_trait)
+    return [*module, word + type_word(of_trait) + (type_word(over.group(1)) if over else "")]
+
+
+def function_at(crate, pair):
+    """The path of the function in which a text stands, from the crate's name on, or None where it stands in none."""
+    if pair.file.suffix != ".rt":
+        return None
+    text, module = pair.file.read_text(encoding="utf-8"), module_of(crate, pair.file)
+    block, function = module, None
+    for line in [*text[:max(text.find(pair.old), 0)].splitlines(), pair.old]:
+        opened, begun = BLOCK.match(line), FUNCTION.match(line)
+        if line.startswith("}"):
+            block, function = module, None
+        elif opened:
+            block = block_path(crate, module, opened["kind"], opened["head"])
+        elif begun:
+            function = [*(block if begun["indent"] else module), begun["name"]]
+    return "::".join([crate.name, *function]) if function else None
+
+
+def applied(edit, texts):
+    """These texts of files with the edit in place."""
+    texts = dict(texts)
+    for pair in edit.pairs:
+        text = texts.get(pair.file) or pair.file.read_text(encoding="utf-8")
+        if text.count(pair.old) != 1:
+            raise BadEdit(f"`{pair.old}` stands {text.count(pair.old)} times in {pair.file.name}")
+        texts[pair.file] = text.replace(pair.old, pair.new)
+    return texts
+
+
+@dataclasses.dataclass
+class Said:
+    """What a check said: of which functions, which goals of each are open, of which a proof file could not be read, and the line
+    by which a text of the crate could not be."""
+    functions: set[str]
+    goals: dict[str, list[str]]
+    unread: dict[str, str]
+    bad: str | None = None
+
+
+def owner(path):
+    """The function itself, or that in which a closure stands, as `module::fn::Type::function::closure` in `module::Type::function`."""
+    module, is_closure, rest = re.sub(r"\+Fn\w*::\w+$", "", path).partition("::fn::")
+    return f"{module}::{rest.rpartition('::')[0]}" if is_closure else path
+
+
+def heard(crate, lines):
+    said = Said(set(), collections.defaultdict(list), {})
+    for line in lines:
+        of_function = re.match(r"fn (\S+): (.*)", line)
+        of_source = re.match(r"(?:\./)?src/\S+: error\S*: (`[^`]*`: )?(.*)", line)
+        of_proof = re.match(r"(?:\./)?proofs/(\S+)/\w+\.antt:[\d:]+ error: (.*)", line)
+        if of_function:
+            path = of_function.group(1)
+            said.functions.add(path)
+            left = re.search(r"did not prove ([^;]*)", of_function.group(2))
+            said.goals[owner(path)] += re.findall(r"`([^`]+)`", left.group(1)) if left else []
+        elif of_proof:
+            path = "::".join([crate.name, *of_proof.group(1).split("/")])
+            if UNREAD.search(of_proof.group(2)):
+                said.unread[path] = of_proof.group(2)
+            else:
+                said.goals[path].append(of_proof.group(2))
+        elif of_source and (not of_source.group(1) or UNREAD.search(of_source.group(2))):
+            said.bad = said.bad or line
+    return said
+
+
+def checked(crate, edits):
+    """What a check says with these edits in place, each of a text of its own."""
+    texts = {}
+    for edit in edits:
+        texts = applied(edit, texts)
+    saved = {file: file.read_text(encoding="utf-8") for file in texts}
     try:
-        applied = [edit for edit in edits if edit.apply()]
-        ran = subprocess.run(["rt", "check", "--allow-holes"], cwd=base, capture_output=True, text=True, check=False)
+        for file, text in texts.items():
+            file.write_text(text, encoding="utf-8")
+        ran = subprocess.run(["rt", "check", "--allow-holes"], cwd=crate, capture_output=True, text=True, check=False)
     finally:
         for file, text in saved.items():
             file.write_text(text, encoding="utf-8")
-    said = ran.stdout + ran.stderr
-    if len(edits) == 1:
-        return applied if ran.returncode and re.search(r"(?m)^fn \S+: (?:no proof|not proved)", said) else []
-    wrong = {path.split("::")[-1] for path, what in re.findall(r"(?m)^fn (\S+): (.*)$", said)
-             if not what.startswith(("no holes", "proved", "no proof: it calls"))}
-    wrong |= {path.split("/")[-1] for path in re.findall(r"(?m)^\./proofs/(\S+)/Answers\.antt:\S+ error", said)}
-    return [edit for edit in applied if any(function[2] in wrong for function in edit.functions)]
+    return heard(crate, (ran.stdout + ran.stderr).splitlines())
 
 
 def groups(edits):
@@ -72,46 +191,69 @@ def groups(edits):
     return made
 
 
-def edits_of(base):
-    """The edits of a crate."""
-    return [Edit(base, path) for folder in ("must-fail", "wrong-bodies") for path in sorted((base / folder).glob("*.edit"))]
+def goals_of(edit, said):
+    """The open goals of the functions that an edit changes."""
+    return [f"{path.rpartition('::')[2]}: {goal}" for path in sorted(edit.functions) for goal in said.goals.get(path, [])]
 
 
-def applicable(base):
-    """How many edits of a crate can be applied, and how many cannot."""
-    counts = [0, 0]
-    for edit in edits_of(base):
-        saved = {file: file.read_text(encoding="utf-8") for file, _, _ in edit.pairs}
-        texts, stands = dict(saved), bool(edit.pairs)
-        for file, old, new in edit.pairs:
-            stands = stands and texts[file].count(old) == 1
-            texts[file] = texts[file].replace(old, new)
-        if not stands:
-            print(f"{base.name}/{edit.name}: cannot be applied")
-        counts[not stands] += 1
-    return counts
+def tried(crate, edits):
+    """Each edit with the goals that it leaves open, and why there is none."""
+    for group in groups(edits):
+        said = checked(crate, group)
+        for edit in group:
+            goals = goals_of(edit, said) if len(group) > 1 and not said.bad else []
+            yield edit, *((goals, "") if goals else tried_alone(crate, edit))
 
 
-def main(words):
-    crates = [word for word in words if word != "--apply"] or sorted(path.name for path in (TOP / "crates").iterdir() if edits_of(path))
-    if "--apply" in words:
-        counts = [applicable(TOP / "crates" / crate) for crate in crates]
-        print(f"{sum(count[0] for count in counts)} passed, {sum(count[1] for count in counts)} failed")
-        return 1 if any(count[1] for count in counts) else 0
-    passed = failed = 0
-    for crate in crates:
-        base = TOP / "crates" / crate
-        edits = edits_of(base)
-        refused = {edit.name for group in groups(edits) for edit in checked(base, group)}
-        for edit in edits:
-            if edit.name not in refused and not checked(base, [edit]):
-                failed += 1
-                print(f"{crate}/{edit.name}: not refused, or not understood")
-            else:
-                passed += 1
+def tried_alone(crate, edit):
+    said = checked(crate, [edit])
+    goals = [f"{path.rpartition('::')[2]}: {goal}" for path, open_goals in sorted(said.goals.items()) for goal in open_goals]
+    if said.bad:
+        return [], f"cannot be read: {said.bad}"
+    if not goals and said.unread:
+        return [], f"a proof file names what it takes away: {min(said.unread.values())}"
+    return goals, "not refused"
+
+
+def applicable(crate, edits):
+    """How many edits can be applied, and how many cannot."""
+    stands = 0
+    for edit in edits:
+        try:
+            stands += bool(applied(edit, {}))
+        except BadEdit as fault:
+            print(f"{crate.name}/{edit.name}: cannot be applied: {fault}")
+    return stands, len(edits) - stands
+
+
+def refused(crate, edits, says_goals):
+    """How many edits are refused, and how many are not."""
+    passed = 0
+    for edit, goals, why in tried(crate, edits):
+        passed += bool(goals)
+        if not goals:
+            print(f"{crate.name}/{edit.name}: {why}", flush=True)
+        elif says_goals:
+            print(f"{crate.name}/{edit.name}: {'; '.join(dict.fromkeys(goals))}", flush=True)
+    return passed, len(edits) - passed
+
+
+def main():
+    words = argparse.ArgumentParser(description=__doc__, formatter_class=argparse.RawDescriptionHelpFormatter)
+    words.add_argument("crates", nargs="*", metavar="CRATE", help="a crate whose edits are tried")
+    words.add_argument("--only", action="append", metavar="NAME", help="of these names alone")
+    words.add_argument("--apply", action="store_true", help="only look that each can be applied, in a second")
+    words.add_argument("--goals", action="store_true", help="print the goals that each leaves open")
+    asked = words.parse_args()
+    counts = []
+    for name in asked.crates or sorted(path.name for path in (TOP / "crates").iterdir()):
+        crate = TOP / "crates" / name
+        edits = [edit for edit in edits_of(crate) if not asked.only or edit.name.partition("/")[2] in asked.only]
+        counts.append(applicable(crate, edits) if asked.apply else refused(crate, edits, asked.goals))
+    passed, failed = (sum(column) for column in zip(*counts))
     print(f"{passed} passed, {failed} failed")
     return 1 if failed else 0
 
 
 if __name__ == "__main__":
-    sys.exit(main(sys.argv[1:]))
+    sys.exit(main())
