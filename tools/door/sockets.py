@@ -28,9 +28,9 @@ def host_and_port(words: str) -> tuple[str, int]:
 
 
 def resolved(host: str, port: int) -> tuple[int, Address]:
-    """The family and the address of a host's name or address."""
+    """The family and the address of a host's name or address, of IPv4 where a name has both."""
     try:
-        found = socket.getaddrinfo(host, port, type=socket.SOCK_DGRAM)[0]
+        found = min(socket.getaddrinfo(host, port, type=socket.SOCK_DGRAM), key=lambda one: one[0] != socket.AF_INET)
     except (OSError, UnicodeError) as fault:
         raise Refusal(f"{host}: {getattr(fault, 'strerror', None) or 'no such host'}") from fault
     return found[0], found[4]

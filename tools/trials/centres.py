@@ -1,5 +1,7 @@
 """A centre's door, its co-process, or both are killed again and again over one journal, while it publishes to a sign."""
 
+import errno
+import os
 import pathlib
 import select
 import socket
@@ -10,6 +12,7 @@ import time
 from model import text, wire
 
 from .bench import DMS, Door, Trial
+from .faults import built, refusing
 from .follower import lines_of
 from .kills import killed_later
 
@@ -75,26 +78,45 @@ class Centres:
         text = self.trial.chance.choice(["A", "B", "AB", "A[nl]B"])
         return f'publish-text {self.trial.chance.choice(["3 1", "3 2", "4 1"])} "{text}" "me" 0 0 1 65535 255 127.0.0.1'
 
-    def life(self, which: str | None, command: str) -> Door:
-        """A life with a command, which is killed at a random moment, or ends by itself."""
+    def started(self, command: str, environment: dict[str, str] | None = None) -> Door:
+        """A door that is given a command."""
         door = self.trial.door("udp_centre.py", "--to", f"127.0.0.1:{self.relay.port()}", "--journal", str(self.path), "--tick", "0.15", "--wait", "20",
-                               stdin=subprocess.PIPE)
+                               environment=environment, stdin=subprocess.PIPE)
         assert door.process.stdin is not None
         try:
             door.process.stdin.write(command.encode() + b"\n")
             door.process.stdin.close()
         except BrokenPipeError:
             pass
+        return door
+
+    def refused(self, library: pathlib.Path) -> None:
+        """A life with a disk that refuses a call."""
+        call, error = self.trial.chance.choice([("write", errno.ENOSPC), ("write", errno.EIO), ("fdatasync", errno.EIO)])
+        at, short = self.trial.chance.randint(1, 12), self.trial.chance.choice([0, 15])
+        door = self.started(self.command(), refusing(library, self.path, call, at, error, short=short))
+        status = door.ended()
+        told = os.strerror(error).encode() in door.errors
+        self.trial.holds(f"a centre whose {call} {at} is refused says why", not told or status == 1 or call == "write", (status, door.errors.decode()))
+        self.over(door)
+
+    def life(self, which: str | None, command: str) -> Door:
+        """A life with a command, which is killed at a random moment, or ends by itself."""
+        door = self.started(command)
         if which is not None:
             timer = killed_later(door, which, self.trial.chance.uniform(0.05, 1.8))
             door.ended()
             timer.cancel()
             self.killed += 1
+        self.over(door)
+        return door
+
+    def over(self, door: Door) -> None:
+        """What holds of a life that is over."""
         self.trial.holds("a centre's door ends", door.ended() != 999)
         self.trial.holds("a centre's door prints no traceback", b"Traceback" not in door.errors, door.errors.decode())
         self.printed |= {line for line in door.output.decode().splitlines() if line.startswith("ledger ") and line.endswith(" accepted")}
         self.trial.doors.remove(door)
-        return door
 
     def look(self, status: list[str]) -> None:
         """What holds over all lives: the numbers, the ledger, the model that is handed the journal."""
@@ -159,10 +181,14 @@ def run(trial: Trial, count: int) -> None:
     relay = Relay(trial, sign.port)
     relay.start()
     centres = Centres(trial, relay, folder / "centre")
+    library = built(trial)
     for _ in range(count):
         if trial.is_late():
             break
-        centres.life(trial.chance.choice(["door", "co-process", "both"]), centres.command())
+        if library and trial.chance.random() < 0.3:
+            centres.refused(library)
+        else:
+            centres.life(trial.chance.choice(["door", "co-process", "both"]), centres.command())
     door = centres.life(None, "status")
     status = door.output.decode().splitlines()
     centres.look([line.split(",")[0] for line in status[max(at for at, line in enumerate(status) if line in ("idle", "busy")):]])

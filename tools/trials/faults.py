@@ -27,6 +27,12 @@ def built(trial: Trial) -> pathlib.Path | None:
     return made
 
 
+def refusing(library: pathlib.Path, path: pathlib.Path, call: str, at: int, error: int, **more: int) -> dict[str, str]:
+    """The environment in which the disk refuses a call on a file."""
+    words = {"DISK_FILE": str(path), "DISK_CALL": call, "DISK_AT": str(at), "DISK_ERROR": str(error), "LD_PRELOAD": str(library)}
+    return words | {f"DISK_{name.upper()}": str(value) for name, value in more.items()}
+
+
 class Faults:
     """Lives over one journal: each with a fault, and then one without, which has SETs answered after it."""
 
@@ -36,15 +42,10 @@ class Faults:
         self.follower, self.changes = Follower(self.path), Changes(trial.chance)
         self.count = 0
 
-    def environment(self, call: str, at: int, error: int, **more: int) -> dict[str, str]:
-        """What makes the library refuse."""
-        words = {"DISK_FILE": str(self.path), "DISK_CALL": call, "DISK_AT": str(at), "DISK_ERROR": str(error), "LD_PRELOAD": str(self.library)}
-        return words | {f"DISK_{name.upper()}": str(value) for name, value in more.items()}
-
     def life(self, call: str, at: int, error: int, **more: int) -> None:
         """A life with a fault, and one after it."""
         name = f"{call} {at} refused with {errno.errorcode[error]}{''.join(f', {word} {value}' for word, value in more.items())}"
-        door = self.trial.sign("--journal", str(self.path), "--no-ticks", environment=self.environment(call, at, error, **more))
+        door = self.trial.sign("--journal", str(self.path), "--no-ticks", environment=refusing(self.library, self.path, call, at, error, **more))
         answered = self.ask(door) if door.port else []
         told = os.strerror(error).encode() in door.errors
         status = door.process.poll()
