@@ -1,11 +1,10 @@
 #!/usr/bin/env python3
 """Runs README's commands: `tools/readme_commands.py [--program PATH]` prints `N passed, N failed`.
 
-Each block of `sh` that begins with `./signtool` or `cp` is run at a copy of signs/ and the built program, line by line (a
-here-document is one line). The block of the SNMP tools is run whole, without its `apt-get`, where they are installed, and else
-skipped, which is said; with --short it is left out. A block
-without a language right after it is what its last command, or the whole block, prints. The two commands that prove,
-`tools/build.py` and the gate, are left to the gate.
+Each block of `sh` that begins with `./signtool` or `cp` is run at a copy of signs/ and the built program, line by line
+(a here-document is one line). The block of the SNMP tools is run whole, without its `apt-get`, where they are installed,
+and else skipped, which is said; with --short it is left out. A block without a language right after it is what its last
+command, or the whole block, prints. The two commands that prove, `tools/build.py` and the gate, are left to the gate.
 """
 
 import argparse
