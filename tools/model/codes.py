@@ -1,11 +1,13 @@
 """Checksums and codes."""
 
+import functools
 from dataclasses import dataclass, replace
 
 PERMANENT, CHANGEABLE, VOLATILE, CURRENT, BLANK = 2, 3, 4, 5, 7
 NO_END = 65535
 
 
+@functools.lru_cache(maxsize=4096)
 def checksum(text, beacon, pixel):
     """By division of bits, as ISO/IEC 3309 words it."""
     bits = [octet >> place & 1 for octet in (*text, beacon, pixel) for place in range(8)]

@@ -1,5 +1,6 @@
 """The controller of a sign: its table, its objects, its answers, seconds and losses of power."""
 
+import bisect
 import copy
 from dataclasses import dataclass, field, replace
 
@@ -11,6 +12,7 @@ NOT_USED, MODIFYING, VALIDATING, VALID, ERROR = 1, 2, 3, 4, 5
 MODIFY, VALIDATE, NOT_USE = 6, 7, 8
 CENTRAL, POWER_RECOVERY, COMMUNICATIONS_LOSS, POWER_LOSS, END_DURATION = 8, 10, 12, 13, 14
 NONE = 2
+FIXED = ("described", "face", "names")  # what no request changes
 
 
 @dataclass
@@ -103,6 +105,7 @@ class Sign:
         self.last_code = self.refused_code = bytes(12)
         self.power, self.kept = True, None
         self.shown = self.blank_shown(BLANK_1, POWER_RECOVERY)
+        self.names = self.instances()
 
     # --- rows -----------------------------------------------------------------------------------------------------
 
@@ -286,7 +289,8 @@ class Sign:
         return [DMS + (*name, 0) for name in scalars] + [DMS + cell for cell in cells] + [DMS + (*name, 0) for name in after]
 
     def after(self, name):
-        return next((other for other in self.instances() if other > name), None)
+        at = bisect.bisect_right(self.names, name)
+        return self.names[at] if at < len(self.names) else None
 
     def value(self, name):
         """The value of an instance, with its tag; None where there is no such instance."""
@@ -390,7 +394,7 @@ class Sign:
             except Refused as refused:
                 return refused.status, at, None
             changes.append(change)
-        before = copy.deepcopy(self.__dict__)
+        before = copy.deepcopy({name: held for name, held in self.__dict__.items() if name not in FIXED})
         for kind, what, held in changes:
             if kind == "field":
                 setattr(self.row(*held[:2]), what, held[2])
@@ -405,7 +409,7 @@ class Sign:
         at, (_, what, held) = command
         if what == "status":
             if not self.ask(*held):
-                self.__dict__ = before
+                self.__dict__ |= before
                 return wire.GENERAL, at, None
         elif what == "remaining":
             if held:
@@ -416,7 +420,7 @@ class Sign:
             code = Activation.of(held, self.swapped)
             cause, fault = self.cause(code, self.shown)
             if cause is not None:
-                self.__dict__ = before
+                self.__dict__ |= before
                 self.refuse(code, cause, fault)
                 return wire.GENERAL, at, None
             self.shown = self.put_up(code, CENTRAL)

@@ -1,0 +1,35 @@
+"""What is read of the sign under test before anything is sent that changes it: is it the sign that is described?"""
+
+from model import wire
+
+from .context import Context
+from .known import Known
+from .objects import Name, Value, integer, octets, scalar
+
+
+def described(context: Context) -> dict[Name, Value]:
+    """What the description says of the instances that no request changes, and of the defaults that a sign begins with."""
+    held = context.described
+    wanted = {scalar(2, 3): integer(held.face.height), scalar(2, 4): integer(held.face.width), scalar(4, 11): integer(3),
+              scalar(5, 1): integer(len(held.permanent)), scalar(5, 3): integer(held.changeable), scalar(5, 6): integer(held.volatile)}
+    for row, message in zip(context.permanent, held.permanent):
+        wanted |= {row.cell(3): octets(message.text), row.cell(4): octets(message.owner), row.cell(6): integer(message.beacon),
+                   row.cell(7): integer(message.pixel), row.cell(8): integer(message.priority)}
+    return wanted
+
+
+def defaults(context: Context) -> dict[Name, Value]:
+    return {scalar(4, member): integer(value) for member, value in enumerate(context.defaults, 1)}
+
+
+def differing(known: Known, wanted: dict[Name, Value]) -> list[tuple[Name, Value, Value | None]]:
+    """Each object that reads otherwise, with what is described and what is read."""
+    have: dict[Name, Value | None] = {}
+    for name in wanted:
+        have |= known.read([name])
+    return [(name, value, have[name]) for name, value in wanted.items() if have[name] != value]
+
+
+def is_heard(known: Known) -> bool:
+    """Whether anything answers."""
+    return wire.spelled(known.ask_height() or b"") is not None

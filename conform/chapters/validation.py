@@ -1,0 +1,46 @@
+"""Validation: each verdict, and each fault of a text with its place."""
+
+from typing import Iterator
+
+from ..context import Context
+from ..objects import Row, scalar
+from ..steps import Step
+from ..texts import samples
+from .block import Block, Chapter, fill, look, look_at, message, modify, settle
+
+VERDICT = (scalar(5, 9), scalar(6, 18), scalar(6, 19))
+
+
+def judged(row: Row, text: bytes, beacon: int = 0, pixel: int = 0) -> list[Step]:
+    """A row with this text is validated, and the verdict read."""
+    return [modify(row), fill(row, text, b"", beacon, pixel), *settle(row, rule=""), look_at(row.cell(9), *VERDICT)]
+
+
+def verdicts(context: Context, row: Row) -> Iterator[Block]:
+    bad = b"[zz]"
+    for beacon, pixel, text in ((1, 0, b""), (0, 1, b""), (1, 1, b""), (1, 1, bad), (0, 1, bad)):
+        name = f"beacon {beacon}, pixel service {pixel}" + (", a fault" if text else "")
+        yield Block(name, "verdicts", [*judged(row, text, beacon, pixel), *look(row)])
+    yield Block("a fault, then none", "no fault", [*judged(row, bad), *judged(row, context.character(), 0, 0), *look(row)])
+
+
+def rule_of(context: Context, text: bytes, rule: str) -> str:
+    """A text whose fault is another than the one it was made for breaks the general rule."""
+    fault = context.fault(text)
+    codes = {"fonts": (6, 13), "characters": (7,), "room": (5,), "line parts": (11,), "page parts": (11, 5), "pages": (12, 5)}
+    return rule if fault is None or rule not in codes or fault[0] in codes[rule] else "layout"
+
+
+def blocks(context: Context) -> Iterator[Block]:
+    if not context.rows:
+        return
+    row = context.rows[0]
+    yield from verdicts(context, row)
+    for sample in samples(context):
+        rule = rule_of(context, sample.text, sample.rule)
+        yield Block(f"the text {sample.text[:60].decode('latin-1')!r}", rule, judged(row, sample.text))
+    last = context.rows[-1]
+    yield Block("in another row", "verdicts", [*message(last, context.character()), *look(last)])
+
+
+CHAPTER = Chapter("validation", "Validation", blocks)

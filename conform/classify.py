@@ -1,0 +1,154 @@
+"""The rule that a difference breaks, where no chapter says it: of random requests and of the known state."""
+
+from model import wire
+
+from .compare import Kind, Mismatch
+from .objects import Name, Value, column_of, row_of, scalar_of
+from .rules import RULES, Rule
+
+BY_FAULT = {"BadTag": "messages", "BadLength": "refused lengths", "Truncated": "sequences", "LengthPast": "sequences",
+            "BadInteger": "integers", "BadName": "names", "BadVersion": "messages", "TrailingBytes": "sequences", "TooLong": "datagrams"}
+BY_SCALAR = {(5, 2): "counts", (5, 5): "counts", (5, 4): "free memory", (5, 7): "free memory", (5, 9): "verdicts", (6, 3): "accepted",
+             (6, 4): "minutes", (6, 5): "shown", (6, 6): "shown", (6, 7): "shown", (6, 17): "refused", (6, 18): "layout",
+             (6, 19): "layout place", (6, 24): "last refused", (6, 10): "ranges", (6, 13): "ranges"}
+BY_MODE = {8: "shown", 12: "silence", 14: "ends"}
+BY_CAUSE = {2: "accepted", 3: "priority", 8: "fits now"}
+
+
+def rule_of(octets: bytes, ours: bytes | None, theirs: bytes | None, differs: Mismatch) -> Rule:
+    """The rule by what was asked and how the replies differ."""
+    return RULES[key_of(octets, ours, theirs, differs)]
+
+
+CERTAIN = ("counts", "free memory", "row checksum", "checksum", "blank checksum", "priority", "fits now")
+GENERAL = ("ber", "communities", "set", "getnext")  # chapters whose steps touch objects that others are about
+
+
+def better(named: Rule | None, octets: bytes, ours: bytes | None, theirs: bytes | None, differs: Mismatch) -> Rule:
+    """The rule that a chapter names, or another where what differs is surely about that."""
+    found = rule_of(octets, ours, theirs, differs)
+    if named is None:
+        return found
+    if found.key == "too big":
+        return named if named.chapter == "sizes" else found
+    request = wire.spelled(octets)
+    if request is None or ours is None or theirs is None or differs.kind is Kind.SPELLING:
+        return named
+    if request.kind == wire.GET_NEXT and differs.kind is Kind.BINDINGS:
+        return named if named.chapter == "getnext" else found
+    if named.chapter in ("durations", "silence", "defaults") and found.key in ("priority", "fits now"):
+        return named
+    if differs.kind is Kind.VALUE and named.chapter != found.chapter:
+        return found if found.key in CERTAIN or named.chapter in GENERAL else named
+    is_alone = request.kind == wire.SET and len(request.bindings) == 1 and differs.kind is Kind.STATUS
+    return found if is_alone and named.chapter == "set" and found.key != "order of causes" else named
+
+
+def key_of(octets: bytes, ours: bytes | None, theirs: bytes | None, differs: Mismatch) -> str:
+    try:
+        request = wire.read(octets)
+    except wire.Fault as fault:
+        return BY_FAULT[fault.kind]
+    if differs.kind is Kind.SPELLING:
+        return "shortest form"
+    if ours is None:
+        return "responses" if request.kind == wire.RESPONSE else "no community"
+    want, have = wire.spelled(ours), wire.spelled(theirs or b"")
+    assert want is not None
+    if have is None:
+        return spelled_otherwise(octets, request) or by_request(request)
+    if differs.kind is Kind.HEAD:
+        return "same community"
+    if wire.TOO_BIG in (want.status, have.status) and want.status != have.status:
+        return "too big"
+    if differs.kind is Kind.STATUS:
+        return by_request(request) if request.kind != wire.SET else by_refusal(request, want, have)
+    if want.status:
+        return "error reply"
+    if request.kind == wire.GET_NEXT and differs.kind is Kind.BINDINGS:
+        return "getnext"
+    return by_value(want, have, differs.names) if differs.names else by_request(request)
+
+
+def spelled_otherwise(octets: bytes, request: wire.Message) -> str | None:
+    """Forms that have to be accepted, where the request is not in its shortest form."""
+    return "needless octets" if wire.written(request) != octets else None
+
+
+def by_request(request: wire.Message) -> str:
+    return {wire.GET: "get", wire.GET_NEXT: "getnext"}.get(request.kind, "set")
+
+
+def by_refusal(request: wire.Message, want: wire.Message, have: wire.Message) -> str:
+    """A SET that one refuses and the other does not, or each for another cause."""
+    if want.status and have.status:
+        return "order of causes"
+    refused = want if want.status else have
+    if not 1 <= refused.index <= len(request.bindings):
+        return "order of causes"
+    name, value = request.bindings[refused.index - 1]
+    if refused.status == wire.NO_SUCH_NAME:
+        return "not to be written"
+    if refused.status == wire.BAD_VALUE:
+        return "default font" if scalar_of(name) == (4, 5) and in_range(value) else "ranges"
+    return general_error(request, name, refused.index)
+
+
+def in_range(value: Value) -> bool:
+    return isinstance(value[1], int) and 1 <= value[1] <= 255
+
+
+def general_error(request: wire.Message, name: Name, index: int) -> str:
+    if name in [earlier for earlier, _ in request.bindings[:index - 1]]:
+        return "twice"
+    if column_of(name) == 9:
+        return "statuses"
+    if scalar_of(name) == (6, 3):
+        return "deciding"
+    return "fields" if row_of(name) is not None else "twice"
+
+
+def by_value(want: wire.Message, have: wire.Message, names: tuple[Name, ...]) -> str:
+    """A read with other values."""
+    name = names[0]
+    ours, theirs = dict(want.bindings)[name], dict(have.bindings)[name]
+    if ours[0] != theirs[0]:
+        return "values"
+    row = row_of(name)
+    if row is not None:
+        return by_cell(name, row, ours, theirs)
+    place = scalar_of(name)
+    if place == (6, 7) and isinstance(ours[1], int):
+        return BY_MODE.get(ours[1], "shown")
+    if place == (6, 17) and isinstance(ours[1], int) and isinstance(theirs[1], int):
+        return by_causes(ours[1], theirs[1])
+    if place in ((6, 18), (6, 19)) and ours[1] in (0, 2):
+        return "no fault"
+    if place is not None and place[0] == 4 and place[1] <= 9:
+        return "set"
+    if place is not None and place[0] == 6 and place not in BY_SCALAR:
+        return "own codes"
+    return BY_SCALAR.get(place or (0, 0), "configuration")
+
+
+def by_causes(ours: int, theirs: int) -> str:
+    """Where dmsActivateMsgError differs."""
+    for cause in (3, 8):
+        if cause in (ours, theirs):
+            return BY_CAUSE[cause]
+    return BY_CAUSE.get(theirs if ours == 2 else ours, "deciding")
+
+
+def by_cell(name: Name, row: tuple[int, int], ours: Value, theirs: Value) -> str:
+    column = column_of(name)
+    if row[0] == 7:
+        return "blank checksum" if column == 5 else "blank rows"
+    if column == 5:
+        return "row checksum" if 0 in (ours[1], theirs[1]) else "checksum"
+    if column in (1, 2):
+        return "the table's rows"
+    if row[0] == 5:
+        return "shown"
+    if column == 9:
+        return "verdicts" if {ours[1], theirs[1]} == {4, 5} else "settled" if 3 in (ours[1], theirs[1]) else "statuses"
+    return "emptied" if ours[1] in (b"", 0, 1) else "set"

@@ -1,0 +1,88 @@
+"""What the chapters know of the sign: its description, its rows, its texts, and how codes are spelled."""
+
+import functools
+from dataclasses import dataclass
+
+from model import layout
+from model.codes import BLANK, BLANK_1, NO_END, NOBODY, Activation, MessageId, checksum
+from model.sign import Description
+
+from .objects import Binding, Row, octets, scalar
+from .steps import Ask, put
+
+ADDRESS = bytes([192, 0, 2, 1])
+
+
+@dataclass
+class Context:
+    described: Description
+    communities: tuple[bytes, bytes]
+    seed: int = 1
+    requests: int = 2000
+    is_slow: bool = False
+
+    @functools.cached_property
+    def rows(self) -> list[Row]:
+        """The rows that may be written."""
+        changeable = [Row(3, number + 1) for number in range(self.described.changeable)]
+        return changeable + [Row(4, number + 1) for number in range(self.described.volatile)]
+
+    @functools.cached_property
+    def permanent(self) -> list[Row]:
+        return [Row(2, number + 1) for number in range(len(self.described.permanent))]
+
+    @property
+    def defaults(self) -> tuple[int, ...]:
+        return tuple(self.described.face.defaults)
+
+    @functools.cached_property
+    def characters(self) -> list[bytes]:
+        """Texts of one character that fit under the defaults, the narrowest first."""
+        font = self.described.face.font(self.defaults[4])
+        found = sorted((glyph[0], number) for number, glyph in font.glyphs.items() if number < 256 and number not in b"[]")
+        texts = [bytes([number]) for _, number in found]
+        return [text for text in texts if self.fault(text) is None]
+
+    def character(self, at: int = 0) -> bytes:
+        """A character that fits; nothing where the sign has none."""
+        return self.characters[at % len(self.characters)] if self.characters else b""
+
+    def fault(self, text: bytes, defaults: tuple[int, ...] | None = None) -> tuple[int, int] | None:
+        """The fault of a text on this sign, under its defaults or others."""
+        return layout.laid_out(self.described.face, defaults or self.defaults, text)[1]
+
+    def crc(self, text: bytes, beacon: int = 0, pixel: int = 0) -> int:
+        return checksum(text, beacon, pixel)
+
+    def code(self, row: Row, crc: int, priority: int = 255, minutes: int = NO_END, address: bytes = ADDRESS) -> bytes:
+        named = MessageId(row.memory, row.number, crc)
+        return Activation(minutes, priority, named, address).octets(self.described.swapped)
+
+    def blank_code(self, number: int = 1, priority: int = 255, minutes: int = NO_END, address: bytes = ADDRESS) -> bytes:
+        return self.code(Row(BLANK, number), 0, priority, minutes, address)
+
+    def message_code(self, row: Row, crc: int) -> bytes:
+        """The code of five octets."""
+        return MessageId(row.memory, row.number, crc).octets(self.described.swapped)
+
+    @property
+    def known_code(self) -> bytes:
+        """What is activated in the known state: blank message 1."""
+        return Activation(NO_END, 255, BLANK_1, NOBODY).octets(self.described.swapped)
+
+    @property
+    def refused_code(self) -> bytes:
+        """The code that is refused last in the known state: no type of memory."""
+        return bytes(12)
+
+
+def activate(code: bytes, rule: str = "") -> Ask:
+    return put(activation(code), rule=rule)
+
+
+def activation(code: bytes) -> Binding:
+    return scalar(6, 3), octets(code)
+
+
+def remaining(minutes: int) -> Binding:
+    return scalar(6, 4), (2, minutes)

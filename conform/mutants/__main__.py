@@ -1,0 +1,73 @@
+"""Whether the tester finds the wrong signs: python3 -m conform.mutants [--only NAME] [--sign FILE] [--signtool PATH] [--jobs N]
+
+A line for each that is not found as it should be, with --loud for each at all; last `N passed, N failed`.
+"""
+
+import argparse
+import concurrent.futures
+import pathlib
+import sys
+from dataclasses import dataclass
+
+from model import text
+
+from .. import bench
+from ..oracle import made
+from ..rules import RULES
+from .load import Mutant, sign_of, unload
+from .table import MUTANTS
+
+MOST_DATAGRAMS = 10
+# the bench sign with a second font of other spacings, so that averages are to be rounded
+BENCH = text.BENCH.replace(b"font 2 height 5 space 1 line 1", b"font 2 height 5 space 2 line 2")
+
+
+@dataclass
+class Outcome:
+    name: str
+    is_found: bool
+    words: str
+
+
+def tried(mutant: Mutant, description: bytes, program: str, most: int = 1) -> Outcome:
+    """The whole test of a wrong sign, up to its first difference."""
+    description = description.replace(b"\nhas 1 0\n", b"\nhas " + mutant.has + b"\n")
+    oracle = made(program, description)
+    sign = sign_of(mutant, description)
+    try:
+        session = bench.session(description, sign, oracle, requests=400, is_slow=True, most_differences=most)  # type: ignore[arg-type]
+        found = bench.run(session).differences()
+    finally:
+        oracle.end()
+        unload(mutant)
+    wanted = RULES[mutant.rule].chapter
+    if not found:
+        return Outcome(mutant.name, False, f"{wanted}: nothing differs")
+    first = found[0]
+    good = first.rule.chapter == wanted and first.datagrams <= MOST_DATAGRAMS and first.is_repeated
+    said = f"{wanted} ({mutant.rule}): found as {first.rule.chapter} ({first.rule.key}), {first.title}, {first.datagrams} datagrams"
+    return Outcome(mutant.name, good, said)
+
+
+def main() -> int:
+    words = argparse.ArgumentParser(prog="python3 -m conform.mutants", description="whether the tester finds the wrong signs")
+    words.add_argument("--only", action="append", default=[])
+    words.add_argument("--sign", type=pathlib.Path, help="a description; else the bench sign")
+    words.add_argument("--signtool", default="model", help="the program that is the oracle; else the model")
+    words.add_argument("--jobs", type=int, default=1)
+    words.add_argument("--loud", action="store_true")
+    asked = words.parse_args()
+    description = asked.sign.read_bytes() if asked.sign else BENCH
+    chosen = [mutant for mutant in MUTANTS if not asked.only or any(part in mutant.name for part in asked.only)]
+    passed = failed = 0
+    with concurrent.futures.ProcessPoolExecutor(asked.jobs) as pool:
+        for outcome in pool.map(tried, chosen, [description] * len(chosen), [asked.signtool] * len(chosen)):
+            passed, failed = passed + outcome.is_found, failed + (not outcome.is_found)
+            if asked.loud or not outcome.is_found:
+                print(f"{'' if outcome.is_found else 'NOT FOUND '}{outcome.name}: {outcome.words}", flush=True)
+    print(f"{passed} passed, {failed} failed")
+    return 1 if failed else 0
+
+
+if __name__ == "__main__":
+    sys.exit(main())

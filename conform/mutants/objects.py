@@ -1,0 +1,41 @@
+"""Wrong in objects: Get, GetNext and SET."""
+
+from .load import Mutant
+
+FILE = "sign.py"
+OBJECTS = [
+    Mutant("height_and_width_exchanged", "configuration", FILE, "(2, 3): self.face.height, (2, 4): self.face.width", "(2, 3): self.face.width, (2, 4): self.face.height"),
+    Mutant("get_names_the_last_missing", "get", FILE, "status, index = wire.NO_SUCH_NAME, at\n                    break", "status, index = wire.NO_SUCH_NAME, len(message.bindings)\n                    break"),
+    Mutant("a_second_instance_of_objects", "get", FILE, "if len(rest) != 3 or rest[2] != 0:", "if len(rest) != 3 or rest[2] > 1:"),
+    Mutant("blank_messages_end_at_254", "blank rows", FILE, "if memory == BLANK and 1 <= number <= 255:", "if memory == BLANK and 1 <= number <= 254:"),
+    Mutant("the_checksum_is_of_the_text_alone", "checksum", FILE, "return checksum(self.text, self.beacon, self.pixel) if self.status == VALID else 0",
+           "return checksum(self.text, 0, 0) if self.status == VALID else 0"),
+    Mutant("a_checksum_of_rows_that_are_not_valid", "row checksum", FILE, "checksum(self.text, self.beacon, self.pixel) if self.status == VALID else 0",
+           "checksum(self.text, self.beacon, self.pixel) if self.status != NOT_USED else 0"),
+    Mutant("a_blank_message_has_a_checksum", "blank checksum", FILE, "crc = self.shown.crc() if memory == CURRENT else 0", "crc = self.shown.crc() if memory == CURRENT else crc"),
+    Mutant("the_checksums_start_without_ones", "checksum", "codes.py", "bits = [1 - bit for bit in bits[:16]] + bits[16:] + [0] * 16", "bits = bits + [0] * 16"),
+    Mutant("free_memory_counts_what_is_modified", "free memory", FILE, "(5, 4): 512 * count(CHANGEABLE, NOT_USED)", "(5, 4): 512 * (count(CHANGEABLE, NOT_USED) + count(CHANGEABLE, MODIFYING))"),
+    Mutant("numbers_count_what_is_used", "counts", FILE, "(5, 2): count(CHANGEABLE, VALID)", "(5, 2): len(self.rows[CHANGEABLE]) - count(CHANGEABLE, NOT_USED)"),
+    Mutant("addresses_are_octets", "values", FILE, "(wire.ADDRESS if rest[:2] == (6, 6) else wire.OCTETS, held)", "(wire.OCTETS, held)"),
+    Mutant("getnext_skips_blank_messages", "getnext", FILE, "[(BLANK, n) for n in range(1, 256)]", "[(BLANK, n) for n in range(2, 256)]"),
+    Mutant("getnext_gives_the_name_itself", "getnext", FILE, "at = bisect.bisect_right(self.names, name)", "at = bisect.bisect_left(self.names, name)"),
+    Mutant("getnext_begins_anew_at_the_end", "getnext", FILE, "return self.names[at] if at < len(self.names) else None", "return self.names[at % len(self.names)]"),
+    Mutant("getnext_goes_row_by_row", "getnext", FILE, "cells = [(5, 8, 1, column, *row) for column in range(1, 10) for row in rows]",
+           "cells = [(5, 8, 1, column, *row) for column in (1, 2, 3, 4, 5, 6, 8, 9) for row in rows]"),
+    Mutant("colours_up_to_10", "ranges", FILE, "{1: (0, 9), 2: (0, 9),", "{1: (0, 10), 2: (0, 9),"),
+    Mutant("justification_from_1", "ranges", FILE, "6: (2, 4), 7: (2, 4)}", "6: (1, 4), 7: (2, 4)}"),
+    Mutant("any_default_font", "default font", FILE, "if place[1] == 5 and self.face.font(written) is None:", "if place[1] == 5 and written > 255:"),
+    Mutant("owners_of_128_octets", "ranges", FILE, "4: lambda: octets(0, 127)", "4: lambda: octets(0, 128)"),
+    Mutant("texts_end_at_511_octets", "ranges", FILE, "3: lambda: octets(0, 512)", "3: lambda: octets(0, 511)"),
+    Mutant("a_run_time_priority_of_0", "ranges", FILE, "8: lambda: number(1, 255)", "8: lambda: number(0, 255)"),
+    Mutant("own_codes_are_judged_when_written", "own codes", FILE, 'return "own", place[1], octets(5, 5)',
+           'if octets(5, 5)[0] not in (2, 3, 4, 5, 7):\n                raise Refused(wire.BAD_VALUE)\n            return "own", place[1], held'),
+    Mutant("a_wrong_type_is_no_such_name", "bad value", FILE, "if tag != wire.INTEGER or not least <= held <= most:\n                raise Refused(wire.BAD_VALUE)",
+           "if tag != wire.INTEGER:\n                raise Refused(wire.NO_SUCH_NAME)\n            if not least <= held <= most:\n                raise Refused(wire.BAD_VALUE)"),
+    Mutant("a_name_twice_is_taken", "twice", FILE, "if name in (earlier for earlier, _ in message.bindings[:at - 1]):", "if False:"),
+    Mutant("a_name_twice_comes_before_its_value", "twice", FILE, "            try:\n                change = self.change(name, value, message.community == self.writer)",
+           "            try:\n                if name in [earlier for earlier, _ in message.bindings[:at - 1]]:\n                    raise Refused(wire.GENERAL)\n                change = self.change(name, value, message.community == self.writer)"),
+    Mutant("two_commands_are_taken", "twice", FILE, "if command is not None:\n                        raise Refused(wire.GENERAL)", "if False:\n                        raise Refused(wire.GENERAL)"),
+    Mutant("a_failed_command_leaves_the_rest", "failed command", FILE, "if not self.ask(*held):\n                self.__dict__ |= before", "if not self.ask(*held):\n                pass"),
+    Mutant("the_status_of_a_set_names_the_first_binding", "order of causes", FILE, "return refused.status, at, None", "return refused.status, 1, None"),
+]

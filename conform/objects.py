@@ -1,0 +1,118 @@
+"""The objects of a sign by name, and requests about them."""
+
+from dataclasses import dataclass
+
+from model import wire
+from model.sign import DMS
+
+Name = tuple[int, ...]
+Value = tuple[int, int | bytes | Name]
+Binding = tuple[Name, Value]
+
+NULL: Value = (wire.NULL, b"")
+NO_ADDRESS = bytes(4)
+COLUMNS = {1: "dmsMessageMemoryType", 2: "dmsMessageNumber", 3: "dmsMessageMultiString", 4: "dmsMessageOwner", 5: "dmsMessageCRC",
+           6: "dmsMessageBeacon", 7: "dmsMessagePixelService", 8: "dmsMessageRunTimePriority", 9: "dmsMessageStatus"}
+SCALARS = {
+    (2, 3): "vmsSignHeightPixels", (2, 4): "vmsSignWidthPixels",
+    (4, 1): "defaultBackgroundColor", (4, 2): "defaultForegroundColor", (4, 3): "defaultFlashOn", (4, 4): "defaultFlashOff",
+    (4, 5): "defaultFont", (4, 6): "defaultJustificationLine", (4, 7): "defaultJustificationPage", (4, 8): "defaultPageOnTime",
+    (4, 9): "defaultPageOffTime", (4, 11): "dmsColorScheme",
+    (5, 1): "dmsNumPermanentMsg", (5, 2): "dmsNumChangeableMsg", (5, 3): "dmsMaxChangeableMsg", (5, 4): "dmsFreeChangeableMemory",
+    (5, 5): "dmsNumVolatileMsg", (5, 6): "dmsMaxVolatileMsg", (5, 7): "dmsFreeVolatileMemory", (5, 9): "dmsValidateMessageError",
+    (6, 3): "dmsActivateMessage", (6, 4): "dmsMessageTimeRemaining", (6, 5): "dmsMsgTableSource", (6, 6): "dmsMsgRequesterID",
+    (6, 7): "dmsMsgSourceMode", (6, 8): "dmsShortPowerRecoveryMessage", (6, 9): "dmsLongPowerRecoveryMessage",
+    (6, 10): "dmsShortPowerLossTime", (6, 12): "dmsCommunicationsLossMessage", (6, 13): "dmsTimeCommLoss",
+    (6, 14): "dmsPowerLossMessage", (6, 15): "dmsEndDurationMessage", (6, 17): "dmsActivateMsgError", (6, 18): "dmsMultiSyntaxError",
+    (6, 19): "dmsMultiSyntaxErrorPosition", (6, 24): "dmsActivateErrorMsgCode"}
+OWN_CODES = (8, 9, 12, 14, 15)
+KINDS = {wire.GET: "Get", wire.GET_NEXT: "GetNext", wire.RESPONSE: "Response", wire.SET: "Set"}
+STATUSES = {0: "noError", 1: "tooBig", 2: "noSuchName", 3: "badValue", 4: "readOnly", 5: "genErr"}
+TYPES = {wire.INTEGER: "INTEGER", wire.OCTETS: "OCTET STRING", wire.NULL: "NULL", wire.NAME: "OBJECT IDENTIFIER",
+         wire.ADDRESS: "IpAddress", wire.COUNTER: "Counter", wire.GAUGE: "Gauge", wire.TICKS: "TimeTicks", wire.OPAQUE: "Opaque"}
+
+
+def scalar(group: int, member: int) -> Name:
+    return (*DMS, group, member, 0)
+
+
+def cell(column: int, memory: int, number: int) -> Name:
+    return (*DMS, 5, 8, 1, column, memory, number)
+
+
+def after_dms(name: Name) -> Name | None:
+    """What stands after dms, or None where the name does not begin with it."""
+    return name[len(DMS):] if name[:len(DMS)] == DMS else None
+
+
+def column_of(name: Name) -> int | None:
+    """The column of a cell of the message table."""
+    rest = after_dms(name)
+    return rest[3] if rest and len(rest) == 6 and rest[:3] == (5, 8, 1) else None
+
+
+def row_of(name: Name) -> tuple[int, int] | None:
+    """Type of memory and number of a cell of the message table."""
+    rest = after_dms(name)
+    return (rest[4], rest[5]) if rest and len(rest) == 6 and rest[:3] == (5, 8, 1) else None
+
+
+def scalar_of(name: Name) -> tuple[int, int] | None:
+    """Group and member of an instance .0 that is in the table above."""
+    rest = after_dms(name)
+    return rest[:2] if rest and len(rest) == 3 and rest[2] == 0 and rest[:2] in SCALARS else None
+
+
+def spoken(name: Name) -> str:
+    """A name for readers: the object and its instance, or its numbers."""
+    rest = after_dms(name)
+    if rest is None:
+        return ".".join(map(str, name))
+    if rest[:2] in SCALARS:
+        return ".".join([SCALARS[rest[:2]], *map(str, rest[2:])])
+    if rest[:3] == (5, 8, 1) and len(rest) > 3 and rest[3] in COLUMNS:
+        return ".".join([COLUMNS[rest[3]], *map(str, rest[4:])])
+    return ".".join(["dms", *map(str, rest)])
+
+
+def integer(number: int) -> Value:
+    return wire.INTEGER, number
+
+
+def octets(held: bytes) -> Value:
+    return wire.OCTETS, held
+
+
+@dataclass(frozen=True)
+class Row:
+    """A row of the message table by its name."""
+
+    memory: int
+    number: int
+
+    def cell(self, column: int) -> Name:
+        return cell(column, self.memory, self.number)
+
+    def text(self, held: bytes) -> Binding:
+        return self.cell(3), octets(held)
+
+    def owner(self, held: bytes) -> Binding:
+        return self.cell(4), octets(held)
+
+    def beacon(self, held: int) -> Binding:
+        return self.cell(6), integer(held)
+
+    def pixel(self, held: int) -> Binding:
+        return self.cell(7), integer(held)
+
+    def priority(self, held: int) -> Binding:
+        return self.cell(8), integer(held)
+
+    def status(self, asked: int) -> Binding:
+        return self.cell(9), integer(asked)
+
+
+# what a SET may change, and what reports of it: every scalar that is not fixed
+STATE_SCALARS = [scalar(*place) for place in SCALARS if place not in ((2, 3), (2, 4), (4, 11), (5, 1), (5, 3), (5, 6))]
+SHOWN_CELLS = [cell(column, 5, 1) for column in range(1, 10)]
+EXECUTIVE = [scalar(5, 9)] + [scalar(6, member) for member in (3, 4, 5, 6, 7, 17, 18, 19, 24)]

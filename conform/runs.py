@@ -1,0 +1,188 @@
+"""Runs of sequences from the known state, and the shortest that still shows a difference."""
+
+from dataclasses import dataclass, field
+from typing import Sequence
+
+from model import wire
+
+from .compare import Kind
+from .found import Signature, signature
+from .known import Known
+from .objects import row_of
+from .pair import Exchange, Inconclusive, Pair
+from .steps import Ask, Raw, Step, Wait, datagrams
+
+TRIES = 3
+MOST_RUNS = 150
+
+
+@dataclass
+class Run:
+    """What a run showed: the exchange that differs, the steps up to it, and what was sent."""
+
+    exchange: Exchange
+    steps: list[Step]
+    sent: list[bytes | None]
+
+    @property
+    def signature(self) -> Signature:
+        return signature(self.exchange)
+
+
+@dataclass
+class Runner:
+    pair: Pair
+    known: Known
+    most_seconds: float = 40.0  # that a difference is made smaller
+    runs: int = 0
+    answered: set[tuple[object, ...]] = field(default_factory=set)  # what SETs were answered, by their likes
+
+    def steps(self, steps: Sequence[Step]) -> Run | None:
+        """The steps, from the state of now, up to the first difference."""
+        sent: list[bytes | None] = []
+        for at, step in enumerate(steps):
+            exchange = self.pair.do(step)
+            if exchange is None:
+                sent += [None] * step.ticks if isinstance(step, Wait) else []
+                continue
+            sent.append(exchange.octets)
+            if exchange.mismatch is not None and not self.is_lost(exchange):
+                return Run(exchange, list(steps[:at + 1]), sent)
+        return None
+
+    def is_lost(self, exchange: Exchange) -> bool:
+        """Whether a SET without a reply is one of many whose replies came, on a way that loses some."""
+        like = likeness(exchange)
+        if exchange.theirs is not None:
+            self.answered.add(like)
+            return False
+        return exchange.is_lost and self.pair.port.is_lossy() and like in self.answered
+
+    def anew(self, steps: Sequence[Step], after_a_tick: bool = True) -> Run | None:
+        """The steps from the known state; a sequence that cannot be told is begun again.
+
+        Where ticks matter it begins right after one, so that no other comes between its steps.
+        """
+        self.runs += 1
+        for left in range(TRIES, 0, -1):
+            try:
+                self.known.reach_or_end(is_timed(steps))
+                self.pair.begin()
+                if after_a_tick and is_timed(steps):
+                    self.pair.ticks.wait(1)
+                    self.pair.pass_ticks()
+                return self.steps(steps)
+            except Inconclusive:
+                self.pair.is_dirty = True
+                if left == 1:
+                    raise
+        return None
+
+
+def likeness(exchange: Exchange) -> tuple[object, ...]:
+    """What is alike in requests that a sign should answer alike."""
+    message = wire.spelled(exchange.octets)
+    reply = wire.spelled(exchange.ours or b"")
+    if message is None or reply is None:
+        return ()
+    places = tuple(sorted({(name[-3:] if row_of(name) else name) for name, _ in message.bindings}))
+    return message.kind, message.community, places, reply.status
+
+
+def is_timed(steps: Sequence[Step]) -> bool:
+    """Whether a tick between the steps may matter."""
+    return any(isinstance(step, Wait) or isinstance(step, Ask) and step.kind == wire.SET and any(
+        row_of(name) is not None and value == (wire.INTEGER, 7) for name, value in step.bindings) for step in steps)
+
+
+@dataclass
+class Shrinking:
+    """Delta debugging of a sequence, bounded in runs and seconds."""
+
+    runner: Runner
+    wanted: Signature
+    best: Run
+    until: float
+    runs: int = 0
+
+    def is_bounded(self) -> bool:
+        return self.runs >= MOST_RUNS or self.runner.pair.clock.now() >= self.until
+
+    def shows(self, steps: Sequence[Step], of_any_cost: bool = False) -> bool:
+        """Whether the steps show the difference, at less cost; then they are the best so far."""
+        if self.is_bounded() or not steps:
+            return False
+        self.runs += 1
+        try:
+            run = self.runner.anew(steps)
+        except Inconclusive:
+            return False
+        if run is None or not run.signature.is_like(self.wanted) or len(run.steps) < len(steps):
+            return False
+        if not of_any_cost and cost(run.steps) >= cost(self.best.steps):
+            return False
+        self.best = run
+        return True
+
+    def is_seen_again(self, steps: Sequence[Step], times: int) -> bool:
+        """Whether so many runs in a row show the difference at the last of the steps."""
+        return all(self.shows(steps, of_any_cost=True) for _ in range(times))
+
+    def without_steps(self) -> None:
+        size = max(1, (len(self.best.steps) - 1) // 2)
+        while not self.is_bounded():
+            at, is_smaller = 0, False
+            while at < len(self.best.steps) - 1 and not self.is_bounded():
+                before = self.best.steps
+                if self.shows([*before[:at], *before[min(at + size, len(before) - 1):]]):
+                    is_smaller = True
+                else:
+                    at += size
+            if size == 1 and not is_smaller:
+                return
+            size = max(1, size // 2)
+
+    def without_bindings(self) -> None:
+        """Bindings that the difference does not need are left out, of the last request first."""
+        for at in range(len(self.best.steps) - 1, -1, -1):
+            step = self.best.steps[at] if at < len(self.best.steps) else None
+            if not isinstance(step, Ask) or len(step.bindings) < 2:
+                continue
+            if at == len(self.best.steps) - 1 and self.best.exchange.mismatch and self.best.exchange.mismatch.names:
+                names = self.best.exchange.mismatch.names[:1]
+                kept = [bound for bound in step.bindings if bound[0] in names]
+                if kept and self.shows([*self.best.steps[:at], step.with_bindings(kept)]):
+                    continue
+            self.one_by_one(at, step)
+
+    def one_by_one(self, at: int, step: Ask) -> None:
+        place = 0
+        while place < len(step.bindings) and len(step.bindings) > 1 and not self.is_bounded():
+            fewer = step.with_bindings([*step.bindings[:place], *step.bindings[place + 1:]])
+            if self.shows([*self.best.steps[:at], fewer, *self.best.steps[at + 1:]]):
+                step = fewer
+            else:
+                place += 1
+
+
+def cost(steps: Sequence[Step]) -> tuple[int, int, int]:
+    """What is made small: datagrams, then seconds, then bindings."""
+    bindings = sum(len(step.bindings) if isinstance(step, Ask) else 1 for step in steps if isinstance(step, (Ask, Raw)))
+    return datagrams(steps), sum(step.ticks for step in steps if isinstance(step, Wait)), bindings
+
+
+def shrunk(runner: Runner, run: Run, block: Sequence[Step]) -> tuple[Run, bool]:
+    """The smallest run found that shows the same, and whether the difference was seen again at all.
+
+    `block` is what was done last, which often suffices.
+    """
+    shrinking = Shrinking(runner, run.signature, run, runner.pair.clock.now() + runner.most_seconds)
+    times = 3 if run.exchange.mismatch and run.exchange.mismatch.kind is Kind.NO_ANSWER and runner.pair.port.is_lossy() else 1
+    is_seen = len(block) < len(run.steps) and shrinking.is_seen_again(block, times)
+    for _ in range(2):
+        is_seen = is_seen or shrinking.is_seen_again(run.steps, times)
+    if not is_seen:
+        return run, False
+    shrinking.without_steps()
+    shrinking.without_bindings()
+    return shrinking.best, True

@@ -1,0 +1,59 @@
+"""The short form of the tests, for the gate: python3 -m conform.short [--jobs 4]
+
+It needs no pytest and no network but loopback, and leaves no process. The tests of conform/tests and every wrong sign, in
+so many processes at a time. A line for each that fails or is skipped; last `N passed, N failed`, and `, N skipped` where
+there are any.
+"""
+
+import argparse
+import concurrent.futures
+import importlib
+import sys
+import traceback
+
+from .mutants.__main__ import BENCH, tried
+from .mutants.table import MUTANTS
+
+MODULES = ("conform.tests.test_signs", "conform.tests.test_parts")
+
+
+def names() -> list[tuple[str, str]]:
+    """Module and name of each test."""
+    return [(module, name) for module in MODULES for name in vars(importlib.import_module(module)) if name.startswith("test_")]
+
+
+def run(module: str, name: str) -> tuple[str, str, str]:
+    """A test: its name, how it ended, and why."""
+    try:
+        getattr(importlib.import_module(module), name)()
+    except BaseException as fault:  # a skip of pytest is no Exception
+        if type(fault).__name__ == "Skipped":
+            return name, "skipped", str(fault)
+        return name, "failed", traceback.format_exc()
+    return name, "passed", ""
+
+
+def mutant(at: int) -> tuple[str, str, str]:
+    outcome = tried(MUTANTS[at], BENCH, "model")
+    return f"the wrong sign {outcome.name}", "passed" if outcome.is_found else "failed", outcome.words
+
+
+def main() -> int:
+    words = argparse.ArgumentParser(prog="python3 -m conform.short", description="the short form of conform's tests")
+    words.add_argument("--jobs", type=int, default=4)
+    asked = words.parse_args()
+    counts = {"passed": 0, "failed": 0, "skipped": 0}
+    with concurrent.futures.ProcessPoolExecutor(asked.jobs) as pool:
+        waiting = [pool.submit(run, *test) for test in names()] + [pool.submit(mutant, at) for at in range(len(MUTANTS))]
+        for done in concurrent.futures.as_completed(waiting):
+            name, ending, why = done.result()
+            counts[ending] += 1
+            if ending != "passed":
+                print(f"{ending} {name}: {why}", flush=True)
+    skipped = f", {counts['skipped']} skipped" if counts["skipped"] else ""
+    print(f"{counts['passed']} passed, {counts['failed']} failed{skipped}")
+    return 1 if counts["failed"] else 0
+
+
+if __name__ == "__main__":
+    sys.exit(main())

@@ -1,0 +1,129 @@
+"""The parts by themselves: rules, comparison, ticks, steps, reports."""
+
+import json
+import random
+import xml.etree.ElementTree as ET
+
+from model import text, wire
+
+from conform import bench
+from conform.chapters import ALL
+from conform.clock import SimulatedClock
+from conform.compare import Kind, fields, mismatch
+from conform.context import Context
+from conform.mutants.load import edited, sign_of
+from conform.mutants.table import MUTANTS
+from conform.objects import integer, scalar
+from conform.report import files, page, terminal, words
+from conform.repeat import steps_of
+from conform.rules import CHAPTERS, RULES, is_in_profile
+from conform.steps import Wait, get, put
+from conform.ticks import Ticks
+
+HEIGHT = scalar(2, 3)
+
+
+def response(number: int = 7, status: int = 0, index: int = 0, value: int = 14, community: bytes = b"public") -> bytes:
+    return wire.written(wire.Message(wire.RESPONSE, community, number, status, index, [(HEIGHT, integer(value))]))
+
+
+def test_every_rule_stands_in_the_profile() -> None:
+    assert not [rule.key for rule in RULES.values() if not is_in_profile(rule)]
+    assert {rule.chapter for rule in RULES.values()} <= {"before", *CHAPTERS}
+    assert [chapter.name for chapter in ALL] == list(CHAPTERS)
+
+
+def test_replies_differ_by_kind() -> None:
+    same = response()
+    longer = same[:1] + b"\x81" + same[1:]
+    table = [(same, same, None), (same, None, Kind.NO_ANSWER), (None, same, Kind.ANSWER), (same, b"\x30", Kind.UNREADABLE),
+             (same, longer, Kind.SPELLING), (same, response(8), Kind.HEAD), (same, response(community=b"admin"), Kind.HEAD),
+             (same, response(status=2, index=1), Kind.STATUS), (same, response(value=15), Kind.VALUE)]
+    for ours, theirs, kind in table:
+        found = mismatch(ours, theirs)
+        assert (found.kind if found else None) is kind, (ours, theirs)
+    assert mismatch(same, response(value=15), frozenset([HEIGHT])) is None
+
+
+def test_fields_are_words() -> None:
+    assert fields(response(status=2, index=1)) == ["Response of public, request-id 7, noSuchName, index 1", "vmsSignHeightPixels.0 = 14"]
+    assert fields(None) == ["no answer"]
+    assert fields(b"\x30") == ["no message: Truncated at octet 1"]
+
+
+def test_ticks_are_counted_from_what_was_seen() -> None:
+    clock = SimulatedClock()
+    ticks = Ticks(clock)
+    clock.sleep_until(10.3)
+    ticks.learn(10.298, 10.302)
+    assert ticks.take_passed() == 1
+    clock.sleep_until(13.29)
+    ticks.keep_clear()
+    assert clock.now() > 13.3 and ticks.take_passed() == 3
+    ticks.wait(2)
+    assert 15.3 < clock.now() < 15.4 and ticks.take_passed() == 2
+
+
+def test_a_period_is_learnt_no_nearer_than_it_was_seen() -> None:
+    clock = SimulatedClock()
+    ticks = Ticks(clock)
+    ticks.learn(0.0, 0.004)
+    for number in range(1, 101):
+        clock.sleep_until(number * 1.001 + 0.01)
+        ticks.take_passed()
+    ticks.learn(100.1, 100.104)
+    assert abs(ticks.period - 1.001) < 0.0001
+
+
+def test_sequences_are_read_back() -> None:
+    communities = (b"public", b"admin")
+    asks = [get(HEIGHT), put((scalar(4, 8), integer(3)))]
+    spelled = [ask.octets(70000 + at, communities) for at, ask in enumerate(asks)]
+    steps = steps_of(",".join([spelled[0].hex(), "tick", spelled[1].hex(), "3000"]), communities)
+    assert isinstance(steps[1], Wait) and steps[0].octets(70000, communities) == spelled[0]  # type: ignore[union-attr]
+    assert steps[2].octets(70001, communities) == spelled[1] and steps[3].octets(1, communities) == b"\x30\0"  # type: ignore[union-attr]
+
+
+def test_chapters_are_made_for_any_sign() -> None:
+    bare = b"size 1 1\ncommunities a b\nrows 0 0\norder swapped\nhas 0 0\ndefaults 0 0 0 0 9 2 2 0 0\nfirst 1\nfont 9 height 1 space 0 line 0 version 0000\nend\n"
+    described = text.described(bare)
+    context = Context(described, (described.reader, described.writer), requests=100, is_slow=True)
+    for chapter in ALL:
+        for block in chapter.blocks(context):
+            assert all(step.rule == "" or step.rule in RULES for step in block.steps), block.name
+            assert block.rule == "" or block.rule in RULES, block.name
+    assert bench.run(bench.session(bare, requests=100, is_slow=True)).is_clean()
+
+
+def test_each_mutant_is_one_edit_of_a_rule() -> None:
+    assert len(MUTANTS) >= 80 and len({mutant.name for mutant in MUTANTS}) == len(MUTANTS)
+    for mutant in MUTANTS:
+        assert mutant.rule in RULES and edited(mutant)
+
+
+def test_reports_say_the_same() -> None:
+    mutant = next(mutant for mutant in MUTANTS if mutant.name == "minutes_are_rounded_down")
+    session = bench.session(text.BENCH, sign_of(mutant, text.BENCH), requests=0)  # type: ignore[arg-type]
+    results = bench.run(session, ["durations"])
+    about = words.About("127.0.0.1:1", "bench.sign", "tools/model", None, 1, 0, False, "today")
+    left_out = words.not_tested(session.context, results, ALL)
+    held = json.loads(files.as_json(results, about, left_out))
+    suite = ET.fromstring(files.as_junit(results, about))
+    whole = page.as_html(results, about, left_out)
+    shown = "\n".join(terminal.ending(results, about, left_out))
+    first = held["differences"][0]
+    assert first["chapter"] == "durations" and first["rule"]["own"] and first["datagrams"] <= 10 and not held["clean"]
+    assert suite.get("failures") == "1" and first["rule"]["sentence"] in shown and first["command"] in shown
+    assert "dmsMessageTimeRemaining" in whole and words.NOT_SEEN[0] in whole
+
+
+def test_random_requests_are_the_same_for_a_seed() -> None:
+    described = text.bench()
+    context = Context(described, (described.reader, described.writer), seed=5, requests=60)
+    chapter = ALL[-1]
+    for number in (1, 2):
+        octets = [[step.octets(70000, context.communities) for step in block.steps if not isinstance(step, Wait)] for block in chapter.blocks(context)]
+        random.random()
+        if number == 1:
+            first = octets
+    assert octets == first

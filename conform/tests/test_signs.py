@@ -1,0 +1,82 @@
+"""Right signs show nothing; wrong ones are found, over a simulated clock and over UDP."""
+
+import pathlib
+import socket
+import subprocess
+import sys
+import tempfile
+
+from model import text
+
+from conform import SIGNTOOL, TOP, bench
+from conform.mutants.__main__ import BENCH, tried
+from conform.mutants.table import MUTANTS
+from conform.oracle import made
+
+SIGNS = [TOP / "signs/roadside.sign", TOP / "signs/gantry.sign"]
+FEW = ("integers_may_be_padded", "getnext_skips_blank_messages", "two_rows_validate", "a_duration_a_second_short", "silence_counts_dropped_datagrams")
+
+
+def test_the_model_beside_itself_shows_nothing() -> None:
+    for description in (text.BENCH, *[path.read_bytes() for path in SIGNS]):
+        results = bench.run(bench.session(description, requests=200, is_slow=True))
+        assert results.is_clean(), [difference.title for difference in results.differences()]
+
+
+def test_lost_late_and_doubled_replies_show_nothing() -> None:
+    for seed in (1, 2):
+        results = bench.run(bench.session(text.BENCH, seed=seed, faulty=0.05, requests=400))
+        assert results.is_clean(), [difference.title for difference in results.differences()]
+
+
+def test_the_program_beside_the_model_shows_nothing() -> None:
+    if not SIGNTOOL.exists():
+        skip(f"no program at {SIGNTOOL}")
+    for description in (text.BENCH, SIGNS[0].read_bytes()):
+        oracle = made(str(SIGNTOOL), description)
+        try:
+            results = bench.run(bench.session(description, oracle=oracle, requests=400, is_slow=True))
+        finally:
+            oracle.end()
+        assert results.is_clean(), [difference.title for difference in results.differences()]
+
+
+def test_wrong_signs_are_found() -> None:
+    for mutant in MUTANTS:
+        if mutant.name in FEW:
+            outcome = tried(mutant, BENCH, "model")
+            assert outcome.is_found, outcome
+
+
+def test_over_udp() -> None:
+    """The command line, beside the model on a port of its own."""
+    with tempfile.TemporaryDirectory() as folder:
+        described = pathlib.Path(folder) / "bench.sign"
+        described.write_bytes(text.BENCH)
+        with socket.socket(socket.AF_INET, socket.SOCK_DGRAM) as free:
+            free.bind(("127.0.0.1", 0))
+            port = free.getsockname()[1]
+        door = [sys.executable, str(TOP / "tools/udp_sign.py"), "--port", str(port), "--signtool", str(TOP / "tools/coprocess_model.py"),
+                "--sign", str(described)]
+        with subprocess.Popen(door, stdout=subprocess.PIPE) as sign:
+            try:
+                assert sign.stdout is not None and sign.stdout.readline()
+                call = [sys.executable, "-m", "conform", "--to", f"127.0.0.1:{port}", "--sign", str(described), "--signtool", "model",
+                        "--only", "communities", "--only", "priorities", "--json", f"{folder}/report.json"]
+                ended = subprocess.run(call, cwd=TOP, capture_output=True, timeout=120, check=False)
+                assert ended.returncode == 0 and b"nothing differs" in ended.stdout, ended
+            finally:
+                sign.terminate()
+                sign.wait(10)
+
+
+class Skipped(Exception):
+    """A test that cannot run here, where there is no pytest."""
+
+
+def skip(why: str) -> None:
+    try:
+        import pytest
+    except ImportError:
+        raise Skipped(why) from None
+    pytest.skip(why)

@@ -1,0 +1,153 @@
+"""Texts for the chapters: good ones, and one for each fault, made for the faces that a sign has."""
+
+import random
+from dataclasses import dataclass
+
+from .context import Context
+
+MARKUP = [  # each with one fault of the markup, by the rule that it breaks
+    ("markup code", [b"[zz]", b"[", b"]", b"[ nl]", b"[]", b"[nl", b"A]", b"[/f]", b"[/FLx", b"[n]", b"[[]"]),
+    ("markup code", [b"[nl10]", b"[flt1t2]", b"[/fl1]", b"[nl000001]", b"[jl1]", b"[jl5]", b"[jp1]", b"[jp5]", b"[fo0]", b"[fo256]", b"[pb10]", b"[cb10]", b"[cf10]", b"[pt256]",
+                     b"[pto256]", b"[np1]", b"[hc]", b"[hc12345]", b"[hcg]", b"[flt100]", b"[flx]", b"[fo1,123]", b"[fo1,]",
+                     b"[fo,0001]", b"[nl ]", b"[nl-1]", b"[pt1o2o3]", b"[flo1o2]"])]
+FIRST_MARKUP, OTHERS = 4, 2
+GOOD_MARKUP = [b"[NL][nl9][nl00009]", b"[cf][cf9][cb0][pb][pb9]", b"[fl][FLt][flo][flt99o99][flo0t0][/fl][/FL]", b"[pt][pt255o255][pto][pt1o][PTO5]",
+               b"[jl][jl2][JL3][jl4]", b"[jp]", b"[fo]"]
+
+
+@dataclass(frozen=True)
+class Sample:
+    """A text, and the rule that decides on it."""
+
+    text: bytes
+    rule: str
+    is_first: bool = False  # looked at without --slow too
+
+
+def made(rule: str, texts: list[bytes], first: int) -> list[Sample]:
+    """Samples of one rule, so many of them looked at first."""
+    return [Sample(text, rule, at < first) for at, text in enumerate(dict.fromkeys(texts)) if len(text) <= 512]
+
+
+def longest(context: Context, unit: bytes, between: bytes = b"", front: bytes = b"") -> int:
+    """How many of a text, with another between them, fit after this front; 0 where the 512 octets end first."""
+    for count in range(1, 513):
+        text = front + between.join([unit] * count)
+        if len(text) > 512:
+            return 0
+        if context.fault(text) is not None:
+            return count - 1
+    return 0
+
+
+def rooms(context: Context) -> list[Sample]:
+    """Texts at the edge of the matrix, and one past it."""
+    one = context.character()
+    found: list[bytes] = []
+    across, down, empty = longest(context, one), longest(context, one, b"[nl]"), longest(context, one, b"[nl9]")
+    if across:
+        part = max(1, across // 3)
+        found += [one * across, one * (across + 1), b"[jl2]" + one + b"[jl4]" + one * (across - 1), b"[jl2]" + one + b"[jl4]" + one * across]
+    if down:
+        found += [b"[nl]".join([one] * (down + more)) for more in (0, 1)] + [b"[nl]".join([one] * down) + b"[nl]"]
+    if across:
+        found += [b"[jl2]" + one * part + b"[jl3]" + one * (part + more) for more in (0, 1, 2, 3)]
+        found += [b"[jl2]" + one * (across // 2) + b"[jl4]" + one * (across + more - across // 2) for more in (-1, 0, 1)]
+        found += [b"[jl4]" + one * across, b"[jl3]" + one * (across + 1)]
+    if down:
+        found += [b"[nl]" * down, b"[nl]" * (down + 1)]
+    if empty:
+        found += [b"[nl9]".join([one] * (empty + more)) for more in (0, 1)]
+    return made("room", found, 9)
+
+
+def mixed(context: Context) -> list[Sample]:
+    """Characters of two fonts in turn, padded to the edge of the matrix and one character more: spacings are averaged."""
+    face, one = context.described.face, context.character()
+    fonts = [font for font in face.fonts if font.number != context.defaults[4]]
+    found = []
+    for font in fonts:
+        other = next((bytes([number]) for number in font.glyphs if number < 256 and number not in b"[]"), None)
+        if other is None or not one:
+            continue
+        for turns in (2, 1):
+            front = (one + b"[fo%d]" % font.number + other + b"[fo]") * turns
+            count = longest(context, one, front=front)
+            if count:
+                found += [front + one * (count + more) for more in (1, 0)]
+    return made("room", found, 1)
+
+
+def gaps(context: Context) -> list[Sample]:
+    """The greatest gap between two lines, and one more."""
+    one = context.character()
+    for gap in range(10):
+        if context.fault(one + b"[nl%d]" % gap + one) is not None:
+            return made("room", [one + b"[nl%d]" % (gap + more) + one for more in (-1, 0) if gap + more >= 0], 2)
+    return []
+
+
+def fonts(context: Context) -> list[Sample]:
+    """Font tags: each font and its version, one that the sign has not, another version, characters of one font alone."""
+    one, found = context.character(), []
+    numbers = [font.number for font in context.described.face.fonts]
+    missing = next(number for number in range(1, 256) if number not in numbers)
+    for font in reversed(context.described.face.fonts):
+        found += [b"[fo%d,%04x]" % (font.number, font.version) + one + b"[fo]" + one, b"[fo%d,%04x]" % (font.number, font.version ^ 1)]
+    found.insert(2, one + b"[fo%d,0001]" % missing)
+    for font in context.described.face.fonts:
+        found += [b"[fo%d]" % font.number + one, b"[fo%d,%04X]" % (font.number, font.version ^ 0x0100)]
+    return made("fonts", [*found, b"[fo%d]" % missing, b"[fo255]"], 3)
+
+
+def characters(context: Context) -> list[Sample]:
+    """Characters that a font has not, also by their numbers."""
+    one, font = context.character(), context.described.face.font(context.defaults[4])
+    missing = next((number for number in range(1, 256) if number not in font.glyphs and number not in b"[]"), None)
+    found = [one + bytes([missing]) + one] if missing is not None else []
+    found += [b"[hc%X]" % one[0] if one else b"", one + b"[hcffff]", b"[[" + one + b"]]", b"[hcFFFF]", b"[HC%04x]" % one[0] if one else b"", b"[[", b"]]"]
+    if missing is not None:
+        found += [bytes([missing]), one + b"[hc%x]" % missing]
+    for other in context.described.face.fonts:
+        only = next((number for number in other.glyphs if number not in font.glyphs and number < 256 and number not in b"[]"), None)
+        if only is not None:
+            found += [b"[fo%d]" % other.number + bytes([only]), bytes([only])]
+    return made("characters", found, 4)
+
+
+def parts(context: Context) -> list[Sample]:
+    one = context.character()
+    lines = [b"[jl3]%s[jl2]%s", b"[jl4]%s[nl][jl2]%s", b"[jl2]%s[jl2]%s", b"[jl4]%s[jl3]%s", b"[jl4]%s[np][jl2]%s"]
+    pages = [b"[jp3]%s[jp2]%s", b"[jp4]%s[np][jp2]%s", b"[jp2]%s[jp2]%s", b"[jp3]%s[jp4]%s[jp2]", b"[jp2]%s[jp3][jp4]%s", b"[jp4]%s[jp3]%s",
+             b"[jp3][jp2]%s%s", b"[jp2]%s[jp4]%s", b"[jp2]%s[jp3]%s"]
+    found = made("line parts", [*[form % (one, one) for form in lines], b"[jl4]" + one + b"[jl3]"], 2)
+    return found + made("page parts", [form % (one, one) for form in pages], 4)
+
+
+def pages(context: Context) -> list[Sample]:
+    one = context.character()
+    return made("pages", [one + b"[np]" * 5 + one, b"[np]" * 6, b"[np]" * 5, one + b"[np]" * 6 + one, (one + b"[np]") * 7], 2)
+
+
+def both(context: Context) -> list[Sample]:
+    """A fault of the markup before, and after, one of the layout."""
+    one = context.character()
+    many = one * ((longest(context, one) or 500) + 1)
+    found = [b"[fo255][zz]", one + b"[zz]" + many, b"[fl]" * 128, one + b"[np]" + one + b"[nl10]", b"[zz][fo255]", many[:480] + b"[zz]", b"A" * 512]
+    return made("layout", found, 3)
+
+
+def samples(context: Context) -> list[Sample]:
+    """All of them with --slow; else the first of each rule and some others, by the seed."""
+    found = parts(context) + pages(context) + fonts(context) + characters(context) + gaps(context) + rooms(context) + mixed(context) + both(context)
+    found += made("markup", [b"".join(GOOD_MARKUP[:-2]), *GOOD_MARKUP], 1)
+    for rule, texts in MARKUP:
+        found += made(rule, [context.character() + text for text in texts], FIRST_MARKUP)
+    known: dict[bytes, Sample] = {}
+    for sample in found:
+        known.setdefault(sample.text, sample)
+    if context.is_slow:
+        return list(known.values())
+    rest = [sample for sample in known.values() if not sample.is_first]
+    others = random.Random(context.seed).sample(rest, min(OTHERS, len(rest)))
+    return [sample for sample in known.values() if sample.is_first or sample in others]

@@ -1,0 +1,80 @@
+"""The sign's seconds: when they pass, as learnt from validations, and how many have passed."""
+
+import math
+
+from .clock import Clock
+
+LONG_AGO, SOON = 30.0, 0.3
+
+
+class Ticks:
+    """The moments of the sign's ticks. `next` is the next one that ours has not been handed."""
+
+    def __init__(self, clock: Clock, margin: float = 0.03) -> None:
+        self.clock, self.margin = clock, margin
+        self.period = 1.0
+        self.next = math.inf
+        self.first: tuple[float, float] | None = None  # between which moments the first was seen
+        self.seen_at = 0.0
+        self.count = 0  # ticks since the first that was seen, which is number 0
+
+    def is_learnt(self) -> bool:
+        return self.first is not None
+
+    def learn(self, low: float, high: float) -> None:
+        """A tick was seen between two moments. What is known already is kept as far as they allow it."""
+        self.seen_at = high
+        if self.first is None:
+            self.first, self.next = (low, high), (low + high) / 2
+            return
+        ticks_away = round(((low + high) / 2 - self.next) / self.period)
+        number = self.count + ticks_away
+        if number >= 5:
+            least, most = (low - self.first[1]) / number, (high - self.first[0]) / number
+            self.period = min(max(self.period, least), most)
+        expected = self.next + ticks_away * self.period
+        self.next = min(max(expected, low), high) - ticks_away * self.period
+
+    def is_old(self) -> bool:
+        """Whether it is long ago that a tick was seen."""
+        return self.first is not None and self.clock.now() - self.seen_at > LONG_AGO
+
+    def take_passed(self) -> int:
+        """How many ticks have passed since it was last asked."""
+        passed = 0
+        while self.clock.now() >= self.next:
+            self.next += self.period
+            passed += 1
+        self.count += passed
+        return passed
+
+    def upcoming(self) -> float:
+        """The moment of the next tick from now on."""
+        if math.isinf(self.next):
+            return self.next
+        return self.next + max(0, math.ceil((self.clock.now() - self.next) / self.period)) * self.period
+
+    def keep_clear(self) -> None:
+        """Waits where a tick is near, until it is past."""
+        now = self.clock.now()
+        if math.isinf(self.next):
+            return
+        before = self.next - self.period
+        if now < before + self.margin:
+            self.clock.sleep_until(before + self.margin)
+        elif now > self.next - self.margin:
+            self.clock.sleep_until(self.next + self.margin)
+
+    def is_soon(self) -> bool:
+        return not math.isinf(self.next) and self.upcoming() - self.clock.now() < SOON
+
+    def wait(self, ticks: int) -> None:
+        """Until so many more ticks are past."""
+        if ticks and not math.isinf(self.next):
+            self.clock.sleep_until(self.next + (ticks - 1) * self.period + self.margin)
+
+    def is_near(self, begun: float, ended: float) -> bool:
+        """Whether a tick may have come between two moments."""
+        if math.isinf(self.next):
+            return False
+        return ended > self.next - self.margin / 2 and begun < self.next + self.margin / 2
