@@ -132,10 +132,7 @@ def by_value(want: wire.Message, have: wire.Message, names: tuple[Name, ...]) ->
 
 
 def by_causes(ours: int, theirs: int) -> str:
-    """Where dmsActivateMsgError differs."""
-    for cause in (3, 8):
-        if cause in (ours, theirs):
-            return BY_CAUSE[cause]
+    """Where dmsActivateMsgError differs: by the cause that is to be found first."""
     return BY_CAUSE.get(theirs if ours == 2 else ours, "deciding")
 
 

@@ -56,14 +56,13 @@ class Ticks:
 
     def keep_clear(self) -> None:
         """Waits where a tick is near, until it is past."""
-        now = self.clock.now()
         if math.isinf(self.next):
             return
-        before = self.next - self.period
-        if now < before + self.margin:
-            self.clock.sleep_until(before + self.margin)
-        elif now > self.next - self.margin:
-            self.clock.sleep_until(self.next + self.margin)
+        now, upcoming = self.clock.now(), self.upcoming()
+        if upcoming - now < self.margin:
+            self.clock.sleep_until(upcoming + self.margin)
+        elif self.first is not None and now < upcoming - self.period + self.margin:
+            self.clock.sleep_until(upcoming - self.period + self.margin)
 
     def is_soon(self) -> bool:
         return not math.isinf(self.next) and self.upcoming() - self.clock.now() < SOON
@@ -71,7 +70,7 @@ class Ticks:
     def wait(self, ticks: int) -> None:
         """Until so many more ticks are past."""
         if ticks and not math.isinf(self.next):
-            self.clock.sleep_until(self.next + (ticks - 1) * self.period + self.margin)
+            self.clock.sleep_until(self.upcoming() + (ticks - 1) * self.period + self.margin)
 
     def is_near(self, begun: float, ended: float) -> bool:
         """Whether a tick may have come between two moments."""

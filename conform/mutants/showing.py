@@ -15,7 +15,7 @@ SHOWING = [
     Mutant("checksums_in_the_other_order", "codes", "codes.py", 'int.from_bytes(octets[3:5], "little" if swapped else "big")', 'int.from_bytes(octets[3:5], "big" if swapped else "little")'),
     Mutant("a_priority_compared_the_other_way", "priority", FILE, "if code.priority < shown.priority:", "if code.priority > shown.priority:"),
     Mutant("an_equal_priority_is_too_low", "priority", FILE, "if code.priority < shown.priority:", "if code.priority <= shown.priority and code.priority < 255:"),
-    Mutant("the_priority_before_the_checksum", "priority", FILE, "        if named.memory != BLANK:\n            crc = shown.crc()", "        if code.priority < shown.priority:\n            return 3, None\n        if named.memory != BLANK:\n            crc = shown.crc()"),
+    Mutant("the_priority_before_the_checksum", "deciding", FILE, "        if named.memory != BLANK:\n            crc = shown.crc()", "        if code.priority < shown.priority:\n            return 3, None\n        if named.memory != BLANK:\n            crc = shown.crc()"),
     Mutant("texts_are_judged_under_the_faces_defaults", "missing values", FILE, "                    _, fault = layout.laid_out(self.face, self.defaults, row.text)\n                    if row.beacon",
            "                    _, fault = layout.laid_out(self.face, self.face.defaults, row.text)\n                    if row.beacon"),
     Mutant("an_activation_does_not_look_at_the_text", "fits now", FILE, "            _, fault = layout.laid_out(self.face, self.defaults, row.text)\n            if fault:\n                return 8, fault",
