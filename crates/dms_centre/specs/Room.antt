@@ -1,8 +1,9 @@
 -- When the central system takes memory (this profile): for an entry of the ledger, where the ledger has no room for it.
-use Rattle.std.specs.Prelude.{ℕ, Bool, false, ◌&&◌, nat_le}
+use Rattle.std.specs.Prelude.{ℕ, Bool, false, ◌&&◌, nat_le, is_none}
 use Rattle.dms_centre.specs.State.{CentreState, Job, Phase, Idle, Awaits, Due}
 use Rattle.dms_centre.specs.Steps.{is_activating}
 use Rattle.dms_centre.specs.Sending.{last_number}
+use Rattle.dms_centre.specs.Commands.{CommandModel, job_of, refusal_of}
 
 -- spare: how many more entries the ledger takes without memory
 pub record CentreModel : Type 0 where
@@ -21,3 +22,7 @@ enters_due state (Due job) = enters state job
 -- a tick makes an entry of the ledger
 abbrev pub enters_at_tick : CentreState → Bool
 enters_at_tick state = enters_due state state.phase
+
+-- a command makes an entry of the ledger: it is taken, and its job begins with an activation
+abbrev pub enters_by : CentreState → CommandModel → Bool
+enters_by state command = is_none (refusal_of state command) && is_activating (job_of command).step

@@ -8,7 +8,7 @@ ghost use Rattle.dms_centre.specs.Commands.{commanded, job_of, refusal_of};
 ghost use Rattle.dms_centre.specs.History.{AreSettings};
 ghost use Rattle.dms_centre.specs.Inputs.{ticked, restarted};
 ghost use Rattle.dms_centre.specs.Sending.{ends};
-ghost use Rattle.dms_centre.specs.Room.{enters_at_tick};
+ghost use Rattle.dms_centre.specs.Room.{enters_at_tick, enters_by};
 ghost use Rattle.dms_centre.specs.ByPhase.{is_awaiting, sends_job, adds_entry};
 ghost use Rattle.dms_centre.specs.CodeView.{settings_model, command_model, ledger_model, sent_in};
 
@@ -147,7 +147,7 @@ impl Centre {
     }
 
     /// Takes the operator's command, or says the first thing that keeps it. What is sent is in `out`, which is empty where nothing is.
-    /// Memory is taken for an entry of the ledger alone, by a blank message and an activation.
+    /// Memory is taken for an entry of the ledger alone, by a blank message and an activation that are taken.
     #[tactic(auto, unfolding(crate::specs::Commands::commanded, crate::specs::Sending::sends))]
     pub fn command(&mut self, command: Command<'_>, out: &mut Out) -> Result<(), CommandFault>
         ensures state { OnOk result (self.new.state ≡ (commanded self.old.state (command_model command.entry)).state) }
@@ -156,6 +156,7 @@ impl Centre {
         ensures refused { IfErr result (λ fault. (fault ≡ faults.Memory) ⊎ (refusal_of self.old.state (command_model command.entry) ≡ Some fault)) }
         ensures memory { result ≡ Err faults.Memory → (refusal_of self.old.state (command_model command.entry) ≡ None)
             × (is_activating (job_of (command_model command.entry)).step ≡ true) × (self.old.spare ≡ 0) }
+        ensures room { enters_by self.old.state (command_model command.entry) ≡ false → self.new.spare ≡ self.old.spare }
         ensures unchanged { OnErr result (self.new.state ≡ self.old.state) }
         ensures silent { OnErr result (out.new.items ≡ []) }
     {
@@ -180,6 +181,7 @@ impl Centre {
         ensures state { OnOk result (self.new.state ≡ (ticked self.old.state).state) }
         ensures sent { OnOk result (sent_in out.new.items ≡ (ticked self.old.state).sent) }
         ensures memory { OnErr result ((enters_at_tick self.old.state ≡ true) × (self.old.spare ≡ 0)) }
+        ensures room { enters_at_tick self.old.state ≡ false → self.new.spare ≡ self.old.spare }
         ensures unchanged { OnErr result (self.new.state ≡ self.old.state) }
         ensures silent { OnErr result (out.new.items ≡ []) }
     {
@@ -290,6 +292,7 @@ impl Centre {
         requires empty { out.old.items ≡ [] }
         ensures state { self.new.state ≡ (ticked self.old.state).state }
         ensures sent { sent_in out.new.items ≡ (ticked self.old.state).sent }
+        ensures room { self.new.spare ≡ self.old.spare }
     {
         if self.pending.age + 1 < TICKS_TO_WAIT {
             self.pending.age += 1;
