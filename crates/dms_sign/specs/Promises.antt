@@ -1,7 +1,8 @@
 -- What holds of every reply, and of every activation that is accepted (RFC 1157, 4.1, and this profile).
-use Rattle.std.specs.Prelude.{◌≡◌, ℕ, IsTrue, List, length, Some}
+use Rattle.std.specs.Prelude.{◌≡◌, ℕ, Bool, true, false, IsTrue, List, length, Some}
 use Rattle.std.specs.List.{Contains}
-use Rattle.dms_wire.specs.declared.message.Kind.TheVariants.{Response}
+use Rattle.dms_wire.specs.declared.message.Kind.{Kind}
+use Rattle.dms_wire.specs.declared.message.Kind.TheVariants.{Get, GetNext, Response, Set}
 use Rattle.dms_wire.specs.Message.{octet_string, VarBind, SnmpMessage}
 use Rattle.dms_wire.specs.MessageOf.{message_of}
 use Rattle.dms_wire.specs.Canonical.{canonical}
@@ -25,6 +26,13 @@ pub record IsReplyTo (datagram reply : List ℕ) : Type 0 where
   pub spelled : message_of datagram ≡ Some request
   pub asks : IsTrue (is_request request.kind)
   pub responds : IsResponseTo request reply
+
+-- a Get or a GetNext
+abbrev pub is_get : Kind → Bool
+is_get Get = true
+is_get GetNext = true
+is_get Response = false
+is_get Set = false
 
 -- a binding that sets dmsActivateMessage
 abbrev pub activates : List ℕ → VarBind

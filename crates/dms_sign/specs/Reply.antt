@@ -57,6 +57,11 @@ dropped s = record { reply = None; after = s; accepted = None }
 abbrev pub awake : SignState → SignState
 awake s = record s { silent = 0 }
 
+-- What a Get or a GetNext that is answered leaves: the silence is over, and all else is as it was. A sign without power
+-- answers none, and stays as it is.
+abbrev pub after_get : SignState → SignState
+after_get s = if s.powered then awake s else s
+
 abbrev pub heard : SignState → SnmpMessage → Received
 heard s m = record { reply = Some (reply_to m (primary s m)); after = awake (primary s m).after; accepted = (primary s m).accepted }
 

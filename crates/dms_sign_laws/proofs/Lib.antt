@@ -3,6 +3,7 @@ pub mod AcceptedAmong
 pub mod OneValidating
 pub mod InRangeReplies
 pub mod StepEvents
+pub mod Silence
 pub mod BenchSign
 pub mod WorkedAnswers
 pub mod WorkedTable

@@ -1,6 +1,6 @@
 //! Laws on what a sign answers and on its rows, stated as functions with nothing to run.
 
-ghost use Rattle.std.specs.Prelude.{◌≡◌, ◌↔◌, ℕ, List, [], ◌∷◌, length, Some};
+ghost use Rattle.std.specs.Prelude.{◌≡◌, ◌↔◌, ℕ, List, [], ◌∷◌, length, IsTrue, Some, None};
 ghost use Rattle.std.specs.List.{Contains};
 ghost use Rattle.dms_wire.specs.declared.message.Kind.TheVariants.{Set};
 ghost use Rattle.dms_wire.specs.declared.error_status.ErrorStatus.TheVariants.{NoError};
@@ -16,9 +16,9 @@ ghost use Rattle.dms_table.specs.declared.stock.Stock.{Stock};
 ghost use Rattle.dms_table.specs.Stock.{table_of};
 ghost use Rattle.dms_sign.specs.State.{ConfigModel, SignState, start};
 ghost use Rattle.dms_sign.specs.Requests.{primary};
-ghost use Rattle.dms_sign.specs.Reply.{reply_to, received};
+ghost use Rattle.dms_sign.specs.Reply.{reply_to, received, after_get};
 ghost use Rattle.dms_sign.specs.Events.{after_tick, after_power_loss, after_power_return};
-ghost use Rattle.dms_sign.specs.Promises.{IsReplyTo, AsksFor, activates};
+ghost use Rattle.dms_sign.specs.Promises.{IsReplyTo, AsksFor, activates, is_get};
 
 /// What is sent is a Response to a request that came, with its community and its request-id.
 pub fn replies_name_their_request()
@@ -48,6 +48,14 @@ pub fn accepted_where_no_error()
         → (primary s m).status ≡ NoError → (primary s m).accepted ≡ Some (activation_of s.table.order octets) }
     ensures only { (s : SignState) (m : SnmpMessage) (activation : Activation) → (primary s m).accepted ≡ Some activation
         → ((primary s m).status ≡ NoError) × AsksFor s m activation }
+{}
+
+/// A Get or a GetNext that is answered ends the silence, and leaves all else as it is; a datagram that is not answered
+/// changes nothing.
+pub fn gets_end_the_silence_alone()
+    ensures answered { (s : SignState) (m : SnmpMessage) (datagram reply : List ℕ) → message_of datagram ≡ Some m → IsTrue (is_get m.kind)
+        → (received s datagram).reply ≡ Some reply → (received s datagram).after ≡ after_get s }
+    ensures unanswered { (s : SignState) (datagram : List ℕ) → (received s datagram).reply ≡ None → (received s datagram).after ≡ s }
 {}
 
 /// At most one row is being validated: as the sign is made, and after whatever comes.

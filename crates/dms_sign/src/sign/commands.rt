@@ -161,7 +161,6 @@ impl Sign {
         requires limits { AreBindingsInLimits binds.now }
         ensures { self.new ≡ assigned self.old (writes_of self.old binds.now) }
     {
-        let _ = binds;
         self.settings = settings;
     }
 

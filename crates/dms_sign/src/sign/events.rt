@@ -3,6 +3,7 @@
 ghost use Rattle.std.specs.Prelude.{◌≡◌};
 ghost use Rattle.std.specs.Int.Digits.{AllBelowBase};
 ghost use Rattle.dms_sign.specs.Events.{after_duration, after_silence, after_tick, after_power_loss, recovery_code, after_power_return};
+ghost use Rattle.dms_sign.specs.Reply.{after_get};
 
 use crate::sign::Sign;
 
@@ -18,8 +19,7 @@ pub(super) mod mode {
 }
 
 impl Sign {
-    /// A second: the row that is being validated is settled, the duration of what is shown goes on, and then the silence. A sign
-    /// without power does nothing.
+    /// A second: a row is settled, the duration goes on, and then the silence. A sign without power does nothing.
     #[tactic(auto, unfolding(crate::specs::Events::after_tick))]
     pub fn tick(&mut self)
         ensures { self.new ≡ after_tick self.old }
@@ -60,6 +60,15 @@ impl Sign {
                     mode::COMMUNICATIONS_LOSS,
                 );
             }
+        }
+    }
+
+    /// What a Get or a GetNext that is answered leaves: the silence is over. A sign without power answers none.
+    pub fn heard(&mut self)
+        ensures { self.new ≡ after_get self.old }
+    {
+        if self.powered {
+            self.set_silent(0);
         }
     }
 

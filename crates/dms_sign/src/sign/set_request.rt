@@ -8,9 +8,8 @@ ghost use Rattle.dms_instances.specs.Places.{HasCounts};
 ghost use Rattle.dms_sign.specs.State.{SignState};
 ghost use Rattle.dms_access.specs.Access.{is_command};
 ghost use Rattle.dms_access.specs.ChangeView.{write_by, IsChange};
-ghost use Rattle.dms_sign.specs.SetView.{refusal_of, is_field, StaysWithout};
+ghost use Rattle.dms_sign.specs.SetView.{refusal_of, is_field, AreSettings, StaysWithout};
 ghost use Rattle.dms_access.specs.SettingsView.{set_by};
-ghost use Rattle.dms_sign.specs.SetView.{AreSettings};
 ghost use Rattle.dms_access.specs.MetNames.{is_among};
 ghost use Rattle.dms_sign.specs.SetRequest.{settable_instance, write_at, is_command_at, is_refused_field, causes_at, causes, with_writes};
 ghost use Rattle.dms_access.specs.Slots.{AreTaken};
@@ -188,15 +187,11 @@ fn change_of<'a>(counts: &Counts, face: &Face, binding: &Bind<'a>) -> Option<Cha
     ensures { (s : SignState) → HasCounts s.table counts.now → s.config.face ≡ face.now
         → option_map write_by result ≡ write_at s (var_bind binding.now) }
 {
-    match counts.named(&binding.name) {
-        None => None,
-        Some(instance) => {
-            if is_settable(instance) {
-                write_of(face, instance, &binding.value)
-            } else {
-                None
-            }
-        }
+    let instance = counts.named(&binding.name)?;
+    if is_settable(instance) {
+        write_of(face, instance, &binding.value)
+    } else {
+        None
     }
 }
 

@@ -107,10 +107,7 @@ impl Sign {
             Scalar::ActivateMessage => Value::Octets(&reports.accepted_code),
             Scalar::MessageTimeRemaining => number_value(minutes_left(self.shown.remaining)),
             Scalar::MsgTableSource => Value::Octets(&self.source),
-            Scalar::MsgRequesterId => {
-                let address = self.shown.address;
-                Value::Address(address)
-            }
+            Scalar::MsgRequesterId => Value::Address(self.shown.address),
             Scalar::MsgSourceMode => small(self.shown.mode),
             Scalar::ShortPowerRecoveryMessage => Value::Octets(&fallbacks.short_power_recovery),
             Scalar::LongPowerRecoveryMessage => Value::Octets(&fallbacks.long_power_recovery),

@@ -7,17 +7,17 @@ use Rattle.dms_access.specs.ChangeView.{write_by}
 use Rattle.dms_sign.proofs.Assigned.{settable_there, settable_not, settable_none}
 use Rattle.dms_sign.proofs.sign.set_request.change_of.Goals as goal
 
-pub returns-in-None : goal.returns-in-None
-returns-in-None c = λ s has face. settable_none s (var_bind c.args.binding.now) (c.in-None.ensures s.table has)
+pub returns-in_err-instance : goal.returns-in_err-instance
+returns-in_err-instance c = λ s has face. ap (option_map write_by) c.from_residual.ensures ∙ settable_none s (var_bind c.args.binding.now) (c.in_err-instance.ensures s.table has)
 
 pub returns-then-is_settable : goal.returns-then-is_settable
 returns-then-is_settable c = λ s has face.
-    let is : is_settable c.in-Some.instance ≡ true = sym c.is_settable.ensures ∙ c.if-is_settable.true in
-    settable_there s (var_bind c.args.binding.now) c.in-Some.instance (option_map write_by c.write_of.result) (c.in-Some.ensures s.table has) is
+    let is : is_settable c.in_ok-instance.instance ≡ true = sym c.is_settable.ensures ∙ c.if-is_settable.true in
+    settable_there s (var_bind c.args.binding.now) c.in_ok-instance.instance (option_map write_by c.write_of.result) (c.in_ok-instance.ensures s.table has) is
     (c.write_of.ensures.exact
-    ∙ ap (λ (f : FaceModel). write_of f c.in-Some.instance (object_value c.args.binding.now.value)) (sym face))
+    ∙ ap (λ (f : FaceModel). write_of f c.in_ok-instance.instance (object_value c.args.binding.now.value)) (sym face))
 
 pub returns-else-is_settable : goal.returns-else-is_settable
 returns-else-is_settable c = λ s has face.
-    let is : is_settable c.in-Some.instance ≡ false = sym c.is_settable.ensures ∙ c.if-is_settable.false in
-    settable_not s (var_bind c.args.binding.now) c.in-Some.instance (c.in-Some.ensures s.table has) is
+    let is : is_settable c.in_ok-instance.instance ≡ false = sym c.is_settable.ensures ∙ c.if-is_settable.false in
+    settable_not s (var_bind c.args.binding.now) c.in_ok-instance.instance (c.in_ok-instance.ensures s.table has) is
