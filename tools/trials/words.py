@@ -6,7 +6,7 @@ import subprocess
 
 from door.setting import TOP
 
-from .bench import Door, Manager, Trial
+from .bench import PATIENCE, Door, Manager, Trial
 from .requests import Changes
 
 ROADSIDE = str(TOP / "signs/roadside.sign")
@@ -95,6 +95,24 @@ def operated(trial: Trial) -> None:
     trial.holds("no sign there", status == 1 and "last failed at step 7: no reply" in lines, (status, lines))
 
 
+def outsiders(trial: Trial) -> None:
+    """A reply from another address than the sign's answers nothing, though it spells what is waited for."""
+    with socket.socket(socket.AF_INET, socket.SOCK_DGRAM) as sign, socket.socket(socket.AF_INET, socket.SOCK_DGRAM) as other:
+        sign.bind(("127.0.0.1", 0))
+        sign.settimeout(PATIENCE)
+        door = trial.door("udp_centre.py", "--to", f"127.0.0.1:{sign.getsockname()[1]}", "--wait", "30", stdin=subprocess.PIPE)
+        assert door.process.stdin is not None
+        door.process.stdin.write(b"blank 5 65535 255 127.0.0.1\n")
+        door.process.stdin.close()
+        octets, centre = sign.recvfrom(2048)
+        reply = octets.replace(b"\xa3", b"\xa2", 1)
+        other.sendto(reply, centre)
+        sent_again = sign.recvfrom(2048)[0]
+        trial.holds("a reply from elsewhere answers nothing", sent_again == octets and door.process.poll() is None, door.output.decode())
+        sign.sendto(reply, centre)
+        trial.holds("and the sign's does", door.ended() == 0 and b"last accepted" in door.output, door.output.decode())
+
+
 def silent_port() -> int:
     """A port where nobody is."""
     with socket.socket(socket.AF_INET, socket.SOCK_DGRAM) as one:
@@ -150,4 +168,5 @@ def run(trial: Trial) -> None:
     signs(trial)
     centres(trial)
     operated(trial)
+    outsiders(trial)
     logged(trial)

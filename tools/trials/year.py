@@ -41,11 +41,13 @@ def year(now: Moment, minutes: int) -> Iterator[bytes]:
 
 
 def ticks(now: Moment, count: int) -> Iterator[bytes]:
-    """So many records of ten seconds."""
+    """So many records of ten seconds, and the clock each minute."""
     yield now.start()
     yield now.clock()
-    for _ in range(count):
+    for at in range(1, count + 1):
         yield b"ticks 10"
+        if at % 6 == 0:
+            yield now.later(10 * at).clock()
 
 
 def write(path: pathlib.Path, lines: Iterator[bytes]) -> int:
@@ -82,15 +84,16 @@ def start(trial: Trial, name: str, path: pathlib.Path, count: int, counter: int)
 
 
 def run(trial: Trial) -> None:
-    """In the short form a week, and ten megabytes of ticks."""
+    """In the short form a day, and a megabyte of ticks."""
     path = trial.new_folder() / "journal"
-    minutes = 7 * 24 * 60 if trial.is_short else MINUTES
+    minutes = 24 * 60 if trial.is_short else MINUTES
     count = write(path, year(Moment.now(), minutes))
     size = path.stat().st_size
-    seconds = start(trial, "a week" if trial.is_short else "a year", path, count, (minutes - 1) % 65_536)
+    seconds = start(trial, "a day" if trial.is_short else "a year", path, count, (minutes - 1) % 65_536)
     if not trial.is_short:
         trial.holds("a year is under 300 MB, and starts in under 30 s", size < 300e6 and seconds < 30, (size, seconds))
     path.unlink()
-    count = write(path, ticks(Moment.now().later(-10 ** 9), 10 ** 7 // 19 if trial.is_short else 10 ** 9 // 19))
-    start(trial, "ten megabytes of ticks" if trial.is_short else "a gigabyte of ticks", path, count, 0)
+    records_of_ticks = (10 ** 6 if trial.is_short else 10 ** 9) // 23
+    count = write(path, ticks(Moment.now().later(-10 * records_of_ticks), records_of_ticks))
+    start(trial, "a megabyte of ticks" if trial.is_short else "a gigabyte of ticks", path, count, 0)
     path.unlink()
