@@ -7,7 +7,7 @@ use std::alloc::Global;
 use std::array;
 
 /// What the measured central system is made with.
-const SETTINGS: Settings<'static> = Settings {
+pub(crate) const SETTINGS: Settings<'static> = Settings {
     community: b"admin",
     order: Order::High,
 };
@@ -19,7 +19,7 @@ const REQUESTS: usize = 7;
 type Replies = [Out; REQUESTS];
 
 /// The command that publishes the text in changeable row 1.
-fn publication(text: &[u8]) -> Command<'_> {
+pub(crate) fn publication(text: &[u8]) -> Command<'_> {
     Command::Publish {
         memory: memory::CHANGEABLE,
         number: 1,

@@ -134,8 +134,8 @@ const DEFAULTS: Defaults = Defaults {
     off: 0,
 };
 
-/// The face of the largest matrix, with the fonts that these lines spell: each font's header, and after it its characters.
-fn face_of(alloc: Global, fonts: &[u8]) -> Option<Face> {
+/// The fonts that these lines spell: each font's header, and after it its characters.
+fn fonts_of(alloc: Global, fonts: &[u8]) -> Option<Vec<Font>> {
     let mut read: Vec<Font> = Vec::new(alloc);
     let mut lines = Lines::of(fonts);
     while let Some(line) = lines.next_line() {
@@ -144,7 +144,17 @@ fn face_of(alloc: Global, fonts: &[u8]) -> Option<Face> {
             None => read.last_mut()?.add_glyph(alloc, line.octets).ok()?,
         }
     }
-    Face::new(256, 64, read, DEFAULTS).ok()
+    Some(read)
+}
+
+/// The face of the largest matrix with these fonts.
+fn face_with(fonts: Vec<Font>) -> Option<Face> {
+    Face::new(256, 64, fonts, DEFAULTS).ok()
+}
+
+/// The face of the largest matrix, with the fonts that these lines spell.
+fn face_of(alloc: Global, fonts: &[u8]) -> Option<Face> {
+    face_with(fonts_of(alloc, fonts)?)
 }
 
 /// Checks the text, and sums the numbers of its pages.
