@@ -1,9 +1,8 @@
 """What is read of the sign under test before anything is sent that changes it: is it the sign that is described?"""
 
-from model import wire
-
 from .context import Context
 from .known import Known
+from .messages import spelled
 from .objects import Name, Value, integer, octets, scalar
 
 
@@ -32,4 +31,4 @@ def differing(known: Known, wanted: dict[Name, Value]) -> list[tuple[Name, Value
 
 def is_heard(known: Known) -> bool:
     """Whether anything answers."""
-    return wire.spelled(known.ask_height() or b"") is not None
+    return spelled(known.ask_height() or b"") is not None

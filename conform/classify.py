@@ -3,6 +3,7 @@
 from model import wire
 
 from .compare import Kind, Mismatch
+from .messages import spelled
 from .objects import Name, Value, column_of, row_of, scalar_of
 from .rules import RULES, Rule
 
@@ -31,7 +32,7 @@ def better(named: Rule | None, octets: bytes, ours: bytes | None, theirs: bytes 
         return found
     if found.key == "too big":
         return named if named.chapter == "sizes" else found
-    request = wire.spelled(octets)
+    request = spelled(octets)
     if request is None or ours is None or theirs is None or differs.kind is Kind.SPELLING:
         return named
     if request.kind == wire.GET_NEXT and differs.kind is Kind.BINDINGS:
@@ -53,7 +54,7 @@ def key_of(octets: bytes, ours: bytes | None, theirs: bytes | None, differs: Mis
         return "shortest form"
     if ours is None:
         return "responses" if request.kind == wire.RESPONSE else "no community"
-    want, have = wire.spelled(ours), wire.spelled(theirs or b"")
+    want, have = spelled(ours), spelled(theirs or b"")
     assert want is not None
     if have is None:
         return spelled_otherwise(octets, request) or by_request(request)

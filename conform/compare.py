@@ -5,6 +5,7 @@ from enum import Enum
 
 from model import wire
 
+from .messages import spelled
 from .objects import KINDS, STATUSES, TYPES, Name, spoken
 
 
@@ -38,7 +39,7 @@ def mismatch(ours: bytes | None, theirs: bytes | None, masked: frozenset[Name] =
         return Mismatch(Kind.NO_ANSWER)
     if ours is None:
         return Mismatch(Kind.ANSWER)
-    want, have = wire.spelled(ours), wire.spelled(theirs)
+    want, have = spelled(ours), spelled(theirs)
     assert want is not None
     if have is None:
         return Mismatch(Kind.UNREADABLE)

@@ -2,9 +2,8 @@
 
 from dataclasses import dataclass, field
 
-from model import wire
-
 from .compare import Kind, Mismatch, fields
+from .messages import spelled
 from .objects import Name, after_dms, spoken
 from .pair import Exchange
 from .rules import Rule
@@ -28,7 +27,7 @@ class Signature:
 
 
 def status_of(octets: bytes | None) -> int | None:
-    message = wire.spelled(octets) if octets is not None else None
+    message = spelled(octets) if octets is not None else None
     return None if message is None else message.status
 
 
@@ -40,7 +39,7 @@ def object_of(name: Name) -> tuple[int, ...]:
 
 def signature(exchange: Exchange) -> Signature:
     assert exchange.mismatch is not None
-    message = wire.spelled(exchange.octets)
+    message = spelled(exchange.octets)
     names = exchange.mismatch.names
     kind = None if message is None else message.kind
     objects = tuple(sorted({object_of(name) for name in names}))

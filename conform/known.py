@@ -7,12 +7,13 @@ from model.codes import BLANK_1
 from model.sign import CENTRAL
 
 from .context import Context, activate
+from .messages import spelled
 from .objects import NO_ADDRESS, OWN_CODES, Name, Row, Value, integer, octets, scalar
 from .pair import Pair
 from .steps import Ask, Step, Wait, get, looks, put
 
 ROUNDS = 4
-POLL = 0.004
+POLL, SURE = 0.004, 0.04
 LONGEST_SETTLING = 3.5
 VERDICTS = (scalar(5, 9), scalar(6, 18), scalar(6, 19))
 Read = dict[Name, Value | None]
@@ -38,7 +39,7 @@ class Unreached:
 
     def is_refused(self) -> bool:
         """Whether the sign did not take the request that is to bring it there. The one that is to be refused is none."""
-        message = wire.spelled(self.reply or b"")
+        message = spelled(self.reply or b"")
         is_set = self.request.kind == wire.SET and self.name != scalar(6, 24)
         return is_set and (message is None or message.status != wire.NO_ERROR)
 
@@ -112,7 +113,7 @@ class Known:
         """What the sign under test reads; None where a name is none of its instances."""
         found: Read = {}
         for look in looks(names):
-            message = wire.spelled(self.ask(look) or b"")
+            message = spelled(self.ask(look) or b"")
             if message is not None and message.status == wire.NO_ERROR:
                 found |= dict(message.bindings)
             elif len(names) == 1:
@@ -186,7 +187,7 @@ class Known:
             due = min(ticks.upcoming() - ticks.margin, until) if ticks.is_learnt() else begun
             clock.sleep_until(max(begun + POLL, due))
         if before is not None and clock.now() < until:
-            if clock.now() - before < 0.1:
+            if clock.now() - before < SURE:
                 ticks.learn(before, clock.now())
             return True
         return False

@@ -4,6 +4,7 @@ from typing import TYPE_CHECKING
 
 from model import wire
 
+from .messages import spelled
 from .objects import EXECUTIVE, SHOWN_CELLS, Name, Row, Value, row_of, scalar, scalar_of
 from .steps import looks
 
@@ -32,7 +33,7 @@ def ours_reads(pair: "Pair", names: list[Name]) -> State | None:
     found: State = {}
     for look in looks(names, share=20):
         reply = pair.hand(look.octets(pair.port.new_number(), pair.communities))
-        message = wire.spelled(reply) if reply is not None else None
+        message = spelled(reply) if reply is not None else None
         if message is None or message.status:
             return None
         found |= dict(message.bindings)
@@ -48,7 +49,7 @@ def theirs_reads(pair: "Pair", names: list[Name]) -> State | None:
         octets = look.octets(number, pair.communities)
         heard = pair.port.ask(octets, number)
         pair.hand(octets)
-        message = wire.spelled(heard.reply) if heard.reply is not None else None
+        message = spelled(heard.reply) if heard.reply is not None else None
         if message is None or message.status:
             return None
         found |= dict(message.bindings)
@@ -62,7 +63,7 @@ def is_known(pair: "Pair", octets: bytes, message: wire.Message, ours: bytes) ->
     taken = ours_reads(pair, names)
     if read is None or taken is None:
         return False
-    reply = wire.spelled(ours)
+    reply = spelled(ours)
     assert reply is not None
     is_accepted = reply.status == wire.NO_ERROR
     if not is_accepted and not is_command(message):

@@ -7,12 +7,14 @@ from model import wire
 from .clock import Clock
 from .compare import Kind, Mismatch, mismatch
 from .lost import is_known
+from .messages import spelled
 from .objects import Name, Row, row_of, scalar
 from .oracle import Oracle
 from .port import Port
 from .steps import Ask, Raw, Step, Wait, get
 from .ticks import Ticks
 
+MOST_DOUBTS = 2  # sequences in a row that end since a tick may have come late
 SAMPLES = 3  # how often a Get whose answer is in doubt is asked anew
 
 
@@ -46,6 +48,7 @@ class Pair:
     requests: int = 0
     spellings: int = 0  # replies that spelled the same in other octets
     is_spelling_told: bool = False
+    doubts: int = 0
     is_dirty: bool = True  # whether something was sent since the known state that may have changed a sign
 
     # --- ours ---------------------------------------------------------------------------------------------------------
@@ -100,13 +103,16 @@ class Pair:
             return None
         self.requests += 1
         self.note_rows(step)
-        for _ in range(SAMPLES):
+        for samples in range(SAMPLES):
             self.pass_ticks()
             number = self.number_of(step)
             octets = step.octets(number, self.communities)
             exchange, is_sure = self.exchange(step, octets, number)
             if exchange.mismatch is None or is_sure:
                 break
+            self.clock.sleep_until(self.ticks.after_doubt())
+        if samples and exchange.mismatch is None:
+            self.ticks.was_late()
         return self.told(exchange)
 
     def told(self, exchange: Exchange) -> Exchange:
@@ -128,7 +134,7 @@ class Pair:
         self.is_dirty |= ours is None or not is_read(octets)
         if ours is None:
             return self.dropped(step, octets, number), True
-        message = wire.spelled(octets)
+        message = spelled(octets)
         assert message is not None
         if message.kind == wire.SET:
             return self.set(step, octets, message, ours), True
@@ -137,7 +143,7 @@ class Pair:
             self.pass_ticks()
             ours = self.hand(octets)
         differs = mismatch(ours, heard.reply, frozenset(self.masked))
-        is_sure = heard.tries == 1 and not self.ticks.is_near(heard.begun, heard.ended) or step.group is not None
+        is_sure = heard.tries == 1 and not self.ticks.is_in_doubt(heard.begun, heard.ended) or step.group is not None
         return Exchange(step, octets, ours, heard.reply, differs), is_sure
 
     def set(self, step: Ask | Raw, octets: bytes, message: wire.Message, ours: bytes) -> Exchange:
@@ -146,7 +152,9 @@ class Pair:
             self.settle_lost(octets, message, ours)
             return Exchange(step, octets, ours, None, Mismatch(Kind.NO_ANSWER), True)
         differs = mismatch(ours, heard.reply, frozenset(self.masked))
-        if differs is not None and self.ticks.is_near(heard.begun, heard.ended):
+        if differs is not None and self.ticks.is_in_doubt(heard.begun, heard.ended) and self.doubts < MOST_DOUBTS:
+            self.doubts += 1
+            self.ticks.was_late()
             raise Inconclusive("a tick of the sign came while it answered")
         return Exchange(step, octets, ours, heard.reply, differs)
 
@@ -157,7 +165,7 @@ class Pair:
 
     def dropped(self, step: Ask | Raw, octets: bytes, number: int) -> Exchange:
         """Octets that ours does not answer."""
-        message = wire.spelled(octets)
+        message = spelled(octets)
         if message is not None:
             self.port.odd.add(message.number)
             number = message.number
@@ -174,5 +182,5 @@ class Pair:
 
 def is_read(octets: bytes) -> bool:
     """Whether it is a Get or a GetNext."""
-    message = wire.spelled(octets)
+    message = spelled(octets)
     return message is not None and message.kind in (wire.GET, wire.GET_NEXT)

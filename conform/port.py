@@ -2,10 +2,9 @@
 
 from dataclasses import dataclass, field
 
-from model import wire
-
 from .clock import Clock
 from .link import Link
+from .messages import spelled
 from .steps import FIRST_NUMBER, LAST_NUMBER
 
 TRIES = 3
@@ -53,7 +52,7 @@ class Port:
             octets = self.link.receive(until)
             if octets is None:
                 return None
-            message = wire.spelled(octets)
+            message = spelled(octets)
             if message is None or not self.is_earlier(message.number, number):
                 return octets
             self.passed_over += 1
@@ -87,7 +86,7 @@ class Port:
             self.send(sentinel)
             until = self.clock.now() + self.wait
             while (reply := self.link.receive(until)) is not None:
-                message = wire.spelled(reply)
+                message = spelled(reply)
                 if message is not None and message.number == sentinel_number:
                     return answer, True
                 if message is None or not self.is_earlier(message.number, number):

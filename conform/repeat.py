@@ -3,6 +3,7 @@
 from model import wire
 
 from .compare import fields
+from .messages import spelled
 from .pair import Inconclusive
 from .session import Session
 from .steps import Ask, Step, Wait, fixed
@@ -17,7 +18,7 @@ def steps_of(sequence: str, communities: tuple[bytes, bytes]) -> list[Step]:
             steps.append(Wait(1))
             continue
         octets = b"" if word == "-" else bytes.fromhex(word)
-        message = wire.spelled(octets)
+        message = spelled(octets)
         if message is not None and message.kind != wire.RESPONSE and message.community in communities and wire.written(message) == octets:
             group = groups.setdefault(octets, len(groups) - 10 ** 6)
             steps.append(Ask(message.kind, tuple(message.bindings), message.community == communities[1], group=group))

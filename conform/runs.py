@@ -8,6 +8,7 @@ from model import wire
 from .compare import Kind
 from .found import Signature, signature
 from .known import Known
+from .messages import spelled
 from .objects import row_of
 from .pair import Exchange, Inconclusive, Pair
 from .steps import Ask, Raw, Step, Wait, datagrams
@@ -81,8 +82,8 @@ class Runner:
 
 def likeness(exchange: Exchange) -> tuple[object, ...]:
     """What is alike in requests that a sign should answer alike."""
-    message = wire.spelled(exchange.octets)
-    reply = wire.spelled(exchange.ours or b"")
+    message = spelled(exchange.octets)
+    reply = spelled(exchange.ours or b"")
     if message is None or reply is None:
         return ()
     places = tuple(sorted({(name[-3:] if row_of(name) else name) for name, _ in message.bindings}))

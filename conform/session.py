@@ -180,6 +180,7 @@ class Session:
 
     def block(self, result: ChapterResult, block: Block, history: list[Step] | None) -> list[Step] | None:
         """What was done since the known state after this block; None where it is to be reached anew."""
+        self.pair.doubts = 0
         try:
             if history is None or block.is_fresh:
                 run, history = self.runner.anew(block.steps, after_a_tick=False), []

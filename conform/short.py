@@ -14,7 +14,7 @@ import traceback
 from .mutants.__main__ import BENCH, tried
 from .mutants.table import MUTANTS
 
-MODULES = ("conform.tests.test_signs", "conform.tests.test_parts")
+MODULES = ("conform.tests.test_signs", "conform.tests.test_parts", "conform.tests.test_watch")
 
 
 def names() -> list[tuple[str, str]]:

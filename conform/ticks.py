@@ -4,7 +4,7 @@ import math
 
 from .clock import Clock
 
-LONG_AGO, SOON = 30.0, 0.3
+LONG_AGO, SOON, LATE, MOST_MARGIN = 30.0, 0.3, 0.3, 0.12
 
 
 class Ticks:
@@ -72,8 +72,16 @@ class Ticks:
         if ticks and not math.isinf(self.next):
             self.clock.sleep_until(self.upcoming() + (ticks - 1) * self.period + self.margin)
 
-    def is_near(self, begun: float, ended: float) -> bool:
-        """Whether a tick may have come between two moments."""
-        if math.isinf(self.next):
+    def is_in_doubt(self, begun: float, ended: float) -> bool:
+        """Whether a tick may have come between two moments, or may be late at the first of them."""
+        if math.isinf(self.next) or self.first is None:
             return False
-        return ended > self.next - self.margin / 2 and begun < self.next + self.margin / 2
+        return ended > self.next - self.margin / 2 or begun < self.next - self.period + LATE
+
+    def after_doubt(self) -> float:
+        """The moment from which on the last tick is late no more."""
+        return self.next - self.period + LATE
+
+    def was_late(self) -> None:
+        """A tick came later than it was waited for: from now on it is waited for longer."""
+        self.margin = min(1.5 * self.margin, MOST_MARGIN)
