@@ -21,7 +21,7 @@ from door.setting import PROGRAM
 from trials import centres, disks, downs, faults, files, gets, kills, parts, speed, words, year
 from trials.bench import Trial
 
-SHARES = {"kills": 20, "faults": 16, "files": 6, "gets": 8, "centres": 12}  # seconds of the short form, after which each goes on no more
+SHARES = {"kills": 18, "faults": 12, "files": 6, "gets": 8, "centres": 12}  # seconds of the short form, after which each goes on no more
 TRIALS: dict[str, Callable[[Trial], None]] = {
     "parts": parts.run,
     "kills": lambda trial: kills.run(trial, 24 if trial.is_short else 1000),

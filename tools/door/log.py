@@ -22,7 +22,8 @@ def file_of(path: str) -> TextIO:
         return sys.stdout
     try:
         file = os.open(path, os.O_WRONLY | os.O_CREAT | os.O_APPEND | os.O_CLOEXEC, MODE)
-        os.fchmod(file, MODE) if os.path.isfile(path) else None
+        if os.path.isfile(path):
+            os.fchmod(file, MODE)
     except OSError as fault:
         raise Refusal(reason(fault)) from fault
     return open(file, "w", encoding="utf-8", buffering=1)
@@ -33,6 +34,7 @@ class Log:
 
     def __init__(self, path: str, is_json: bool) -> None:
         self.file, self.is_json, self.mib = file_of(path), is_json, Mib.read()
+        self.is_given_up = False
 
     def datagram(self, event: str, peer: Address, octets: bytes) -> None:
         """A datagram that came or went."""
@@ -40,6 +42,8 @@ class Log:
 
     def event(self, event: str, peer: Address | None = None, fields: dict[str, object] | None = None) -> None:
         """An event of any kind. A log that cannot be written is given up, and the door goes on."""
+        if self.is_given_up:
+            return
         time = datetime.datetime.now(datetime.timezone.utc).isoformat(timespec="milliseconds").replace("+00:00", "Z")
         told = {"time": time, "peer": named(peer) if peer else "", "event": event, **(fields or {})}
         try:
@@ -47,7 +51,7 @@ class Log:
             self.file.flush()
         except (OSError, ValueError) as fault:
             say(f"the log is not written: {fault}")
-            self.event = lambda *_: None  # type: ignore[method-assign]
+            self.is_given_up = True
 
 
 def line_of(told: dict[str, object]) -> str:

@@ -1,12 +1,10 @@
-"""What each trial needs: doors that are started and killed, requests, and a count of what held."""
+"""What each trial needs: doors that are started and killed, and a count of what held."""
 
 import os
 import pathlib
 import random
 import re
-import select
 import signal
-import socket
 import subprocess
 import sys
 import tempfile
@@ -16,10 +14,7 @@ from dataclasses import dataclass, field
 from typing import Callable
 
 from door.setting import TOP
-from model import wire
 
-Name = tuple[int, ...]
-DMS: Name = (1, 3, 6, 1, 4, 1, 1206, 4, 2, 3)
 PATIENCE = 20.0  # seconds that a door may take to start or to end
 
 
@@ -51,7 +46,7 @@ class Trial:
     def skip(self, name: str, why: str) -> None:
         """Says what cannot be tried here."""
         self.skipped += 1
-        print(f"skipped: {name}: {why}", flush=True)
+        print(f"skipped {name}: {why}", flush=True)
 
     def new_folder(self) -> pathlib.Path:
         """An empty folder."""
@@ -149,47 +144,6 @@ class Door:
         if self.process.poll() is None:
             self.process.send_signal(signal.SIGTERM)
         return self.ended()
-
-
-class Manager:
-    """One who asks a sign, a request at a time."""
-
-    def __init__(self, port: int, community: bytes = b"admin") -> None:
-        self.socket = socket.socket(socket.AF_INET, socket.SOCK_DGRAM)
-        self.socket.connect(("127.0.0.1", port))
-        self.community, self.number = community, 0
-
-    def close(self) -> None:
-        self.socket.close()
-
-    def exchange(self, octets: bytes, patience: float = 2.0) -> bytes | None:
-        """The reply to a datagram, None where none comes."""
-        try:
-            self.socket.send(octets)
-            if not select.select([self.socket], [], [], patience)[0]:
-                return None
-            return self.socket.recv(65_535)
-        except OSError:
-            return None
-
-    def request(self, kind: int, bindings: list[tuple[Name, tuple[int, object]]]) -> bytes:
-        """A request under a new number."""
-        self.number += 1
-        return wire.written(wire.Message(kind, self.community, self.number, 0, 0, bindings))
-
-    def get(self, names: list[Name], patience: float = 2.0) -> list[tuple[Name, tuple[int, object]]]:
-        """The values of names; none where no reply came."""
-        reply = self.exchange(self.request(wire.GET, [(name, (wire.NULL, b"")) for name in names]), patience)
-        message = None if reply is None else wire.spelled(reply)
-        return [] if message is None or message.status else message.bindings
-
-    def values(self, names: list[Name], at_once: int = 20) -> dict[Name, tuple[int, object]]:
-        """The values of many names."""
-        found: dict[Name, tuple[int, object]] = {}
-        for at in range(0, len(names), at_once):
-            some = self.get(names[at:at + at_once])
-            found |= dict(some or [one for name in names[at:at + at_once] for one in self.get([name])])
-        return found
 
 
 def eventually(holds: Callable[[], bool], seconds: float = 5.0) -> bool:

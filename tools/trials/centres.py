@@ -11,10 +11,11 @@ import time
 
 from model import text, wire
 
-from .bench import DMS, Door, Trial
+from .bench import Door, Trial
 from .faults import built, refusing
 from .follower import lines_of
 from .kills import killed_later
+from .manager import DMS
 
 ACTIVATE = DMS + (6, 3, 0)
 

@@ -6,8 +6,9 @@ import subprocess
 
 from model import wire
 
-from .bench import Door, Manager, Trial
+from .bench import Door, Trial
 from .follower import Follower
+from .manager import Manager
 from .requests import Changes
 
 

@@ -6,8 +6,9 @@ from door.records import Head
 from model import wire
 from model.codes import Activation, MessageId
 
-from .bench import DMS, Manager, Name, Trial
+from .bench import Trial
 from .follower import Follower, lines_of
+from .manager import DMS, Manager, Name
 
 VOLATILE: Name = DMS + (5, 8, 1, 9, 4, 1)
 

@@ -8,8 +8,9 @@ import subprocess
 from door.setting import TOP
 from model import wire
 
-from .bench import Door, Manager, Trial
+from .bench import Door, Trial
 from .follower import Follower
+from .manager import Manager
 from .requests import Changes
 
 SETS = 6  # of a life

@@ -2,7 +2,6 @@
 
 import contextlib
 import io
-import pathlib
 import re
 
 from door import records
@@ -12,8 +11,9 @@ from door.refusal import Refusal
 from door.setting import TOP
 from model import wire
 
-from .bench import Door, Manager, Trial
+from .bench import Door, Trial
 from .follower import Follower, lines_of
+from .manager import Manager
 from .requests import Changes
 
 HEAD = Head("sign", "bench")

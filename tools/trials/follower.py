@@ -6,7 +6,8 @@ import zlib
 from model import text
 from model.sign import Sign
 
-from .bench import Manager, Name, Trial
+from .bench import Trial
+from .manager import Manager, Name
 
 
 def lines_of(octets: bytes) -> list[bytes]:

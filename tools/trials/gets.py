@@ -7,7 +7,8 @@ from door.setting import TOP
 from model import text, wire
 from model.sign import Sign
 
-from .bench import Manager, Trial
+from .bench import Trial
+from .manager import Manager
 
 FORMS = 6  # the short form where it does, and one to four digits; the last mixes them
 

@@ -6,8 +6,9 @@ import time
 
 from model import wire
 
-from .bench import Door, Manager, Trial, eventually, is_gone
+from .bench import Door, Trial, eventually, is_gone
 from .follower import Follower
+from .manager import Manager
 from .requests import Changes
 
 

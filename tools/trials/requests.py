@@ -5,7 +5,8 @@ import random
 from model import wire
 from model.codes import Activation, MessageId, checksum
 
-from .bench import DMS, Manager, Name
+from .manager import DMS, Manager, Name
+
 
 Bindings = list[tuple[Name, tuple[int, object]]]
 ROWS = ((3, 1), (3, 2), (4, 1))

@@ -6,7 +6,8 @@ import time
 
 from model import wire
 
-from .bench import DMS, Trial
+from .bench import Trial
+from .manager import DMS
 
 SECONDS = 3.0
 COUNTER = DMS + (6, 10, 0)

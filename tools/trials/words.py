@@ -6,7 +6,8 @@ import subprocess
 
 from door.setting import TOP
 
-from .bench import PATIENCE, Door, Manager, Trial
+from .bench import PATIENCE, Door, Trial
+from .manager import Manager
 from .requests import Changes
 
 ROADSIDE = str(TOP / "signs/roadside.sign")

@@ -11,7 +11,8 @@ from door.clock import Moment
 from door.records import Head
 from model import wire
 
-from .bench import DMS, Manager, Trial
+from .bench import Trial
+from .manager import DMS, Manager
 
 MINUTES = 365 * 24 * 60
 BATCH = 20_000  # lines that are made at once
