@@ -1,11 +1,11 @@
 #!/usr/bin/env python3
 """Tries a crate's wrong bodies many at a time, in a clone that may be written to. With no crate it tries those of all.
 
-The gate tries one a check. Here a check tries as many as change functions of their own. An edit is refused where a goal stays open
-of the function that it changes, and not only because that function calls another; where it changes a function that no line of the
-check names, a constant or a table, or a text that another edit touches, it has a check of its own, in which any goal counts. A proof
-file that names what the edit took away says nothing of a contract, so such an edit is not refused by it. What was not refused is
-printed, and last `N passed, N failed`.
+The gate tries one a check. Here a check tries as many as change functions of their own, and an edit is refused where a
+goal of the function that it changes stays open. One that leaves none open there, or changes a constant or a table, or
+stands beside one that cannot be read, is tried by itself, and then any goal counts: that of a caller, too. A proof file
+that names what an edit took away says nothing of a contract, nor does a function that the prover does not cover, so an
+edit is not refused by these. What was not refused is printed with the reason, and last `N passed, N failed`.
 """
 
 import argparse
@@ -61,7 +61,8 @@ def read_edit(crate, path):
 
 
 def edits_of(crate):
-    return [read_edit(crate, path) for folder in ("must-fail", "wrong-bodies") for path in sorted((crate / folder).glob("*.edit"))]
+    folders = [crate / "must-fail", crate / "wrong-bodies"]
+    return [read_edit(crate, path) for folder in folders for path in sorted(folder.glob("*.edit"))]
 
 
 def type_word(text):
@@ -84,7 +85,7 @@ def module_of_type(crate, word, otherwise):
 
 
 def block_path(crate, module, kind, head):
-    """The path of a block of functions, as `object_identifier::Oid`, `object_identifier::OidDisplay` or `sign::mode`."""
+    """The path of a block of functions, as `object_identifier::Oid`, `object_identifier::OidDisplay`, `sign::mode`."""
     head = head.split(" where ")[0]
     if kind != "impl":
         return [*module, re.match(r"\s*(\w+)", head).group(1)]
@@ -126,39 +127,34 @@ def applied(edit, texts):
 
 @dataclasses.dataclass
 class Said:
-    """What a check said: of which functions, which goals of each are open, of which a proof file could not be read, and the line
-    by which a text of the crate could not be."""
-    functions: set[str]
+    """What a check said: the open goals of each function, why nothing is known of others, and whether a text is bad."""
     goals: dict[str, list[str]]
-    unread: dict[str, str]
+    unknown: list[str]
     bad: str | None = None
 
 
 def owner(path):
-    """The function itself, or that in which a closure stands, as `module::fn::Type::function::closure` in `module::Type::function`."""
+    """The function, or that of a closure: `module::fn::Type::function::closure` stands in `module::Type::function`."""
     module, is_closure, rest = re.sub(r"\+Fn\w*::\w+$", "", path).partition("::fn::")
     return f"{module}::{rest.rpartition('::')[0]}" if is_closure else path
 
 
 def heard(crate, lines):
-    said = Said(set(), collections.defaultdict(list), {})
+    said = Said(collections.defaultdict(list), [])
     for line in lines:
-        of_function = re.match(r"fn (\S+): (.*)", line)
         of_source = re.match(r"(?:\./)?src/\S+: error\S*: (`[^`]*`: )?(.*)", line)
         of_proof = re.match(r"(?:\./)?proofs/(\S+)/\w+\.antt:[\d:]+ error: (.*)", line)
-        if of_function:
-            path = of_function.group(1)
-            said.functions.add(path)
-            left = re.search(r"did not prove ([^;]*)", of_function.group(2))
-            said.goals[owner(path)] += re.findall(r"`([^`]+)`", left.group(1)) if left else []
-        elif of_proof:
-            path = "::".join([crate.name, *of_proof.group(1).split("/")])
-            if UNREAD.search(of_proof.group(2)):
-                said.unread[path] = of_proof.group(2)
-            else:
-                said.goals[path].append(of_proof.group(2))
-        elif of_source and (not of_source.group(1) or UNREAD.search(of_source.group(2))):
+        of_function = re.match(r"fn (\S+): no proof: expected .*?; (.*)", line)
+        if of_source and (not of_source.group(1) or UNREAD.search(of_source.group(2))):
             said.bad = said.bad or line
+        elif of_proof and UNREAD.search(of_proof.group(2)):
+            said.unknown.append(f"a proof file names what it takes away: {of_proof.group(2)}")
+        elif of_proof:
+            said.goals["::".join([crate.name, *of_proof.group(1).split("/")])].append(of_proof.group(2))
+        elif of_function:
+            left = re.search(r"did not prove ([^;]*)", of_function.group(2))
+            said.goals[owner(of_function.group(1))] += re.findall(r"`([^`]+)`", left.group(1)) if left else []
+            said.unknown += [] if left else [of_function.group(2)]
     return said
 
 
@@ -191,28 +187,26 @@ def groups(edits):
     return made
 
 
-def goals_of(edit, said):
-    """The open goals of the functions that an edit changes."""
-    return [f"{path.rpartition('::')[2]}: {goal}" for path in sorted(edit.functions) for goal in said.goals.get(path, [])]
+def goals_of(said, paths):
+    """The open goals of these functions, each after the function's name."""
+    return [f"{path.rpartition('::')[2]}: {goal}" for path in paths for goal in said.goals.get(path, [])]
 
 
 def tried(crate, edits):
-    """Each edit with the goals that it leaves open, and why there is none."""
+    """Each edit with the goals that it leaves open, or with why there is none."""
     for group in groups(edits):
-        said = checked(crate, group)
+        said = checked(crate, group) if len(group) > 1 else None
         for edit in group:
-            goals = goals_of(edit, said) if len(group) > 1 and not said.bad else []
+            goals = goals_of(said, sorted(edit.functions)) if said and not said.bad else []
             yield edit, *((goals, "") if goals else tried_alone(crate, edit))
 
 
 def tried_alone(crate, edit):
     said = checked(crate, [edit])
-    goals = [f"{path.rpartition('::')[2]}: {goal}" for path, open_goals in sorted(said.goals.items()) for goal in open_goals]
+    goals = goals_of(said, sorted(said.goals))
     if said.bad:
         return [], f"cannot be read: {said.bad}"
-    if not goals and said.unread:
-        return [], f"a proof file names what it takes away: {min(said.unread.values())}"
-    return goals, "not refused"
+    return goals, next(iter(said.unknown), "not refused")
 
 
 def applicable(crate, edits):
