@@ -4,3 +4,5 @@ mod EventsRead
 mod Lent
 mod ScriptRead
 mod ReportLines
+mod ScriptRanges
+mod SpelledOctets

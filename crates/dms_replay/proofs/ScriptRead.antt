@@ -1,5 +1,5 @@
 -- A text spells at most one script, and what is read of it is that script.
-use Rattle.std.proofs.Common.{◌≡◌, ℕ, ◌≤◌, List, [], ◌∷◌, ◌++◌, length, Option, Some, None, Result, Err, sym, ap, subst, ◌∙◌, arith, inl, inr}
+use Rattle.std.proofs.Common.{◌≡◌, ℕ, ◌+◌, ◌≤◌, List, [], ◌∷◌, ◌++◌, length, Option, Some, None, Result, Ok, Err, IsOk, sym, ap, subst, ◌∙◌, arith, inl, inr}
 use Rattle.std.specs.Prelude.{codes, ◌⊎◌, IfSome}
 use Rattle.std.specs.Str.Lines.{lines}
 use Rattle.std.proofs.lemmas.List.{length-map}
@@ -21,13 +21,15 @@ use Rattle.dms_description.specs.declared.setup.Setup.{Setup}
 use Rattle.dms_description.proofs.DescriptionLaws.{one_prefix, one_sign}
 use Rattle.dms_replay.specs.EventLine.{SpellsEvent}
 use Rattle.dms_replay.specs.Faults.{IsLine}
-use Rattle.dms_replay.specs.Script.{NamesSign, the_bench, described, NamesPrefix, SpellsScript}
+use Rattle.dms_replay.specs.Script.{NamesSign, the_bench, described, NamesPrefix, SpellsScript, beginning_of}
 use Rattle.dms_replay.specs.declared.fault.ReplayFault.{ReplayFault}
 use Rattle.dms_replay.specs.declared.script_event.ScriptEvent.{ScriptEvent}
 use Rattle.dms_replay.specs.EventView.{script_event_model, script_events_model}
 use Rattle.dms_replay.specs.declared.fault.ReplayFault.TheVariants.{Memory, Line as LineFault}
 use Rattle.dms_replay.specs.Report.{report_of}
-use Rattle.dms_replay.specs.Replayed.{IsReport, NoScript}
+use Rattle.dms_replay.specs.Replayed.{IsReport, IsLawful, RunsLawfully, HasNoRoom, NoScript}
+use Rattle.dms_streams.specs.Room.{HasRoom, IsWrittenWithinRoom}
+use Rattle.dms_streams.specs.declared.failed.Failed.{Failed}
 use Rattle.dms_replay.proofs.EventLaws.{one_list}
 
 abbrev head_or : List ℕ → List (List ℕ) → List ℕ
@@ -203,3 +205,31 @@ is_report octets setup events slice before now report count found begins lent ru
           ∙ ap (λ (sign : SignState). beginning sign (centre.start (record { community = sign.config.writer; order = sign.table.order }) setup.first)) found.2.sign
           ∙ ap (λ first. beginning (start found.0.config found.0.table) (centre.start (record { community = found.0.config.writer; order = found.0.table.order }) first)) found.2.first);
     }
+
+pub runs_lawfully : (octets : List ℕ) (setup : Setup) (events : List EventModel) → (it : Description) × SpellsScript octets it events × IsMade it setup
+    → ((it : Description) → SpellsScript octets it events → IsLawful it events) → RunsLawfully octets
+runs_lawfully octets setup events found law = record { sign = found.0; events = events; spelled = found.1; lawful = law found.0 found.1 }
+
+-- a text has one report
+one_report : (octets report other : List ℕ) → IsReport octets report → IsReport octets other → report ≡ other
+one_report octets report other is also =
+    let same = one_script octets is.sign also.sign is.events also.events is.spelled also.spelled in
+    is.report_is
+    ∙ ap (λ (sign : Description). report_of (world_after (beginning_of sign) is.events) (length is.events)) same.0
+    ∙ ap (λ events. report_of (world_after (beginning_of also.sign) events) (length events)) same.1
+    ∙ sym also.report_is
+
+failed_is_no_success : (result : Result Unit Failed) (fault : Failed) → result ≡ Err fault → IsOk result → ⊥
+failed_is_no_success (Ok done) fault e ok = cc
+failed_is_no_success (Err other) fault e ok = absurd (cc)
+
+-- where a write failed, there was no room for the report
+pub no_room : (slice octets written report : List ℕ) (all : Option (List ℕ)) (room next : Option ℕ) (result : Result Unit Failed) (fault : Failed)
+    → slice ≡ octets → IfSome all (λ whole. octets ≡ whole) → written ≡ report → IsReport slice report → result ≡ Err fault
+    → IsWrittenWithinRoom room next result written → IfSome all (λ whole. HasNoRoom whole room)
+no_room slice octets written report None room next result fault lent same as_written is failed within = tt
+no_room slice octets written report (Some whole) room next result fault lent same as_written is failed within = λ other is_other has.
+    let other_here : IsReport slice other = subst (λ xs. IsReport xs other) (sym (lent ∙ same)) is_other in
+    let one : other ≡ written = one_report slice other report other_here is ∙ sym as_written in
+    let size : length other ≡ length written + 0 = omega (arith, ap length one) in
+    failed_is_no_success result fault failed (within 0 (subst (HasRoom room) size has)).0

@@ -1,6 +1,7 @@
 //! A script, run to its report.
 
 ghost use Rattle.std.specs.Prelude.{◌≡◌, ◌≢◌, ◌⊎◌, ◌≤◌, ◌<◌, ◌++◌, ◌∷◌, [], List, ℕ, length, Ok, Err, IfOk, IfErr, OnOk, OnErr, IfSome};
+ghost use Rattle.std.specs.Int.Digits.{AllBelowBase};
 ghost use Rattle.std.specs.Io.KnownBytes.{Keeps};
 ghost use Rattle.dms_streams.specs.Calls.{one_more};
 ghost use Rattle.dms_text.specs.Lines.{kept_lines};
@@ -13,11 +14,12 @@ ghost use Rattle.dms_description.specs.Description.{Description, SpellsSign, Spe
 ghost use Rattle.dms_description.specs.Setups.{IsMade};
 ghost use Rattle.dms_replay.specs.EventView.{script_events_model};
 ghost use Rattle.dms_replay.specs.Faults.{IsLine};
-ghost use Rattle.dms_replay.specs.Replayed.{IsReport, Replayed, ReplayedPrefix, NoScript};
+ghost use Rattle.dms_replay.specs.Replayed.{IsReport, Replayed, ReplayedPrefix, RunsLawfully, HasNoRoom, NoScript};
 ghost use Rattle.dms_replay.specs.Script.{SpellsScript};
 ghost use Rattle.dms_replay.specs.declared.fault.ReplayFault.TheVariants as faults;
 
 use crate::fault::ReplayFault;
+use crate::laws::scripts_run_lawfully;
 use crate::report::report;
 use crate::script::{Script, read_script};
 use crate::script_event::ScriptEvent;
@@ -30,7 +32,8 @@ use std::alloc::Global;
 /// The most octets that an input has.
 pub const LONGEST_INPUT: usize = 1_048_576;
 
-/// Reads a script to its end, runs its events, and writes the report. Nothing is written before the whole report is there.
+/// Reads a script to its end, runs its events, and writes the report. Nothing is written before the whole report is there. What holds of
+/// every run of events holds of the script's; and to a writer that has room for the report, no write fails.
 pub fn replay<R: Source, W: Sink>(
     alloc: Global,
     reader: &mut R,
@@ -38,12 +41,15 @@ pub fn replay<R: Source, W: Sink>(
 ) -> Result<(), ReplayFault>
     ensures report { OnOk result (IfSome (R.remaining reader.old) (λ octets. Replayed octets (W.contents writer.old) (W.contents writer.new))) }
     ensures prefix { result ≡ Err faults.Write → IfSome (R.remaining reader.old) (λ octets. ReplayedPrefix octets (W.contents writer.old) (W.contents writer.new)) }
+    ensures lawful { OnOk result (IfSome (R.remaining reader.old) RunsLawfully) }
+    ensures lawful_prefix { result ≡ Err faults.Write → IfSome (R.remaining reader.old) RunsLawfully }
     ensures nothing { OnErr result (result ≢ Err faults.Write → Keeps (W.contents writer.old) (W.contents writer.new)) }
     ensures line { (number : ℕ) → result ≡ Err (faults.Line number) → IfSome (R.remaining reader.old) (λ octets. (length octets ≤ longest_input) × NoScript octets) }
     ensures too_long { result ≡ Err faults.TooLong → IfSome (R.remaining reader.old) (λ octets. longest_input < length octets) }
     ensures read { result ≡ Err faults.Read → R.failed reader.new ≡ one_more (R.failed reader.old) }
     ensures all_read { result ≢ Err faults.Read → R.failed reader.new ≡ R.failed reader.old }
     ensures write { result ≡ Err faults.Write → W.failed writer.new ≡ one_more (W.failed writer.old) }
+    ensures no_room { result ≡ Err faults.Write → IfSome (R.remaining reader.old) (λ octets. HasNoRoom octets (W.room writer.old)) }
     ensures all_written { result ≢ Err faults.Write → W.failed writer.new ≡ W.failed writer.old }
 {
     let octets = input(alloc, reader)?;
@@ -79,9 +85,12 @@ fn input<R: Source>(alloc: Global, reader: &mut R) -> Result<Vec<u8>, ReplayFaul
 fn script_report(alloc: Global, octets: &[u8]) -> Result<Vec<u8>, ReplayFault>
     requires { length octets.now ≤ longest_input }
     ensures report { IfOk result (λ report. IsReport octets.now report.items) }
+    ensures lawful { IfOk result (λ _. RunsLawfully octets.now) }
     ensures line { IfErr result (λ fault. (fault ≡ faults.Memory) ⊎ (IsLine fault × NoScript octets.now)) }
 {
     let Script { setup, events } = read_script(alloc, octets)?;
+    scripts_run_lawfully();
+    are_octets(octets);
     let mut world = fresh_world(alloc, setup)?;
     run_events(alloc, &mut world, events.as_slice())?;
     match report(alloc, &world, events.len()) {
@@ -89,6 +98,11 @@ fn script_report(alloc: Global, octets: &[u8]) -> Result<Vec<u8>, ReplayFault>
         Err(_) => Err(ReplayFault::Memory),
     }
 }
+
+/// What is read is octets.
+fn are_octets(octets: &[u8])
+    ensures { AllBelowBase 256 octets.now }
+{}
 
 /// The world of a sign and of its centre, which has the sign's writing community and its order.
 fn fresh_world(alloc: Global, setup: Setup) -> Result<World, ReplayFault>

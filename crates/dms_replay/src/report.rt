@@ -16,7 +16,6 @@ use dms_table::Shown;
 use dms_world::World;
 use indexmap::IndexMap;
 use std::alloc::{AllocError, Global};
-use std::io;
 use std::io::Write;
 
 /// The report of a world after so many events: what was sent, what is shown, the activations that the sign accepted and the ledger.
@@ -25,13 +24,16 @@ pub fn report(alloc: Global, world: &World, events: usize) -> Result<Vec<u8>, Al
     ensures { IfOk result (λ report. report.items ≡ report_of (seen world.now) events) }
 {
     let mut report = Vec::new(alloc);
-    match put_report(alloc, &mut report, world, events) {
-        Ok(()) => Ok(report),
-        Err(_) => Err(AllocError),
-    }
+    put_report(alloc, &mut report, world, events)?;
+    Ok(report)
 }
 
-fn put_report(alloc: Global, report: &mut Vec<u8>, world: &World, events: usize) -> io::Result<()>
+fn put_report(
+    alloc: Global,
+    report: &mut Vec<u8>,
+    world: &World,
+    events: usize,
+) -> Result<(), AllocError>
     ensures { OnOk result (report.new.items ≡ report.old.items ++ report_of (seen world.now) events) }
 {
     put_events(report, events)?;
@@ -62,19 +64,19 @@ fn minutes_left(remaining: Option<u32>) -> u32
     }
 }
 
-fn put_events(report: &mut Vec<u8>, events: usize) -> io::Result<()>
+fn put_events(report: &mut Vec<u8>, events: usize) -> Result<(), AllocError>
     ensures { OnOk result (report.new.items ≡ report.old.items ++ events_line events) }
 {
-    writeln!(report, "events {events}")
+    writeln!(report, "events {events}").or(Err(AllocError))
 }
 
 /// How many datagrams were sent to the sign, and to the centre.
-fn put_sent(report: &mut Vec<u8>, world: &World) -> io::Result<()>
+fn put_sent(report: &mut Vec<u8>, world: &World) -> Result<(), AllocError>
     ensures { OnOk result (report.new.items ≡ report.old.items ++ sent_line (seen world.now)) }
 {
     let to_sign = world.to_sign.len();
     let to_centre = world.to_centre.len();
-    writeln!(report, "sent {to_sign} {to_centre}")
+    writeln!(report, "sent {to_sign} {to_centre}").or(Err(AllocError))
 }
 
 fn put_accepted(
@@ -83,11 +85,11 @@ fn put_accepted(
     order: Order,
     number: usize,
     code: &Activation,
-) -> io::Result<()>
+) -> Result<(), AllocError>
     ensures { OnOk result (report.new.items ≡ report.old.items ++ accepted_line order (number, code.now)) }
 {
     let code = hex::encode(alloc, code.to_bytes(order).as_slice())?;
-    writeln!(report, "accepted {number} {code}")
+    writeln!(report, "accepted {number} {code}").or(Err(AllocError))
 }
 
 fn put_all_accepted(
@@ -95,7 +97,7 @@ fn put_all_accepted(
     report: &mut Vec<u8>,
     order: Order,
     accepted: &[(usize, Activation)],
-) -> io::Result<()>
+) -> Result<(), AllocError>
     ensures { OnOk result (report.new.items ≡ report.old.items ++ flat_map (accepted_line order) accepted.now) }
 {
     for (number, code) in accepted {
@@ -105,7 +107,7 @@ fn put_all_accepted(
 }
 
 /// The activations that the sign accepted.
-fn put_activations(alloc: Global, report: &mut Vec<u8>, world: &World) -> io::Result<()>
+fn put_activations(alloc: Global, report: &mut Vec<u8>, world: &World) -> Result<(), AllocError>
     ensures { OnOk result (report.new.items ≡ report.old.items
         ++ flat_map (accepted_line (seen world.now).sign.table.order) (seen world.now).accepted) }
 {
@@ -114,7 +116,7 @@ fn put_activations(alloc: Global, report: &mut Vec<u8>, world: &World) -> io::Re
 }
 
 /// What the sign shows.
-fn put_sign(alloc: Global, report: &mut Vec<u8>, sign: &Sign) -> io::Result<()>
+fn put_sign(alloc: Global, report: &mut Vec<u8>, sign: &Sign) -> Result<(), AllocError>
     ensures { OnOk result (report.new.items ≡ report.old.items ++ shown_line sign.now.shown) }
 {
     put_shown(alloc, report, sign.shown())
@@ -126,11 +128,11 @@ fn put_entry(
     order: Order,
     number: u32,
     entry: &Entry,
-) -> io::Result<()>
+) -> Result<(), AllocError>
     ensures { OnOk result (report.new.items ≡ report.old.items ++ ledger_line order (entry_model (number, entry.now))) }
 {
     let code = hex::encode(alloc, entry.code.to_bytes(order).as_slice())?;
-    writeln!(report, "ledger {number} {code} {}", entry.outcome)
+    writeln!(report, "ledger {number} {code} {}", entry.outcome).or(Err(AllocError))
 }
 
 fn put_entries(
@@ -138,7 +140,7 @@ fn put_entries(
     report: &mut Vec<u8>,
     order: Order,
     ledger: &IndexMap<u32, Entry>,
-) -> io::Result<()>
+) -> Result<(), AllocError>
     ensures { OnOk result (report.new.items ≡ report.old.items ++ flat_map (λ (entry : ℕ × Entry). ledger_line order (entry_model entry)) ledger.now.entries) }
 {
     for (number, entry) in ledger.iter() {
@@ -148,14 +150,14 @@ fn put_entries(
 }
 
 /// Appends a line for each activation of the ledger, in the order of their requests.
-pub fn put_ledger(alloc: Global, report: &mut Vec<u8>, centre: &Centre) -> io::Result<()>
+pub fn put_ledger(alloc: Global, report: &mut Vec<u8>, centre: &Centre) -> Result<(), AllocError>
     ensures { OnOk result (report.new.items ≡ report.old.items ++ flat_map (ledger_line centre.now.state.settings.order) centre.now.state.ledger) }
 {
     put_entries(alloc, report, centre.order(), centre.ledger())
 }
 
 /// Appends the line of what is shown: its row with the checksum as a number, how it came up, its priority, the minutes that are left, its text.
-pub fn put_shown(alloc: Global, report: &mut Vec<u8>, shown: &Shown) -> io::Result<()>
+pub fn put_shown(alloc: Global, report: &mut Vec<u8>, shown: &Shown) -> Result<(), AllocError>
     ensures { OnOk result (report.new.items ≡ report.old.items ++ shown_line shown.now) }
 {
     put_source(alloc, report, shown)?;
@@ -164,34 +166,34 @@ pub fn put_shown(alloc: Global, report: &mut Vec<u8>, shown: &Shown) -> io::Resu
     put_text(alloc, report, shown)
 }
 
-fn put_source(alloc: Global, report: &mut Vec<u8>, shown: &Shown) -> io::Result<()>
+fn put_source(alloc: Global, report: &mut Vec<u8>, shown: &Shown) -> Result<(), AllocError>
     ensures { OnOk result (report.new.items ≡ report.old.items ++ (codes "shown " ++ decimal shown.now.source.memory ++ codes " "
         ++ decimal shown.now.source.number ++ codes " " ++ encode_lower (two_octets shown.now.source.crc))) }
 {
     let source = shown.source;
     let crc = checksum_text(alloc, source.crc)?;
-    write!(report, "shown {} {} {crc}", source.memory, source.number)
+    write!(report, "shown {} {} {crc}", source.memory, source.number).or(Err(AllocError))
 }
 
-fn put_manner(report: &mut Vec<u8>, shown: &Shown) -> io::Result<()>
+fn put_manner(report: &mut Vec<u8>, shown: &Shown) -> Result<(), AllocError>
     ensures { OnOk result (report.new.items ≡ report.old.items ++ (codes " mode " ++ decimal shown.now.mode ++ codes " priority "
         ++ decimal shown.now.priority)) }
 {
-    write!(report, " mode {} priority {}", shown.mode, shown.priority)
+    write!(report, " mode {} priority {}", shown.mode, shown.priority).or(Err(AllocError))
 }
 
-fn put_remaining(report: &mut Vec<u8>, shown: &Shown) -> io::Result<()>
+fn put_remaining(report: &mut Vec<u8>, shown: &Shown) -> Result<(), AllocError>
     ensures { OnOk result (report.new.items ≡ report.old.items ++ (codes " remaining " ++ decimal (minutes_left shown.now.remaining))) }
 {
     let minutes = minutes_left(shown.remaining);
-    write!(report, " remaining {minutes}")
+    write!(report, " remaining {minutes}").or(Err(AllocError))
 }
 
-fn put_text(alloc: Global, report: &mut Vec<u8>, shown: &Shown) -> io::Result<()>
+fn put_text(alloc: Global, report: &mut Vec<u8>, shown: &Shown) -> Result<(), AllocError>
     ensures { OnOk result (report.new.items ≡ report.old.items ++ (codes " text " ++ octets_text shown.now.text ++ codes "\n")) }
 {
     let text = octets_text(alloc, shown.text.as_slice())?;
-    writeln!(report, " text {text}")
+    writeln!(report, " text {text}").or(Err(AllocError))
 }
 
 fn checksum_text(alloc: Global, crc: u16) -> Result<String, AllocError>
