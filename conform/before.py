@@ -7,13 +7,24 @@ from .objects import Name, Value, integer, octets, scalar
 
 
 def described(context: Context) -> dict[Name, Value]:
-    """What the description says of the instances that no request changes, and of the defaults that a sign begins with."""
+    """What the description says of the instances that no request changes."""
     held = context.described
-    wanted = {scalar(2, 3): integer(held.face.height), scalar(2, 4): integer(held.face.width), scalar(4, 11): integer(3),
-              scalar(5, 1): integer(len(held.permanent)), scalar(5, 3): integer(held.changeable), scalar(5, 6): integer(held.volatile)}
+    wanted = {
+        scalar(2, 3): integer(held.face.height),
+        scalar(2, 4): integer(held.face.width),
+        scalar(4, 11): integer(3),
+        scalar(5, 1): integer(len(held.permanent)),
+        scalar(5, 3): integer(held.changeable),
+        scalar(5, 6): integer(held.volatile),
+    }
     for row, message in zip(context.permanent, held.permanent):
-        wanted |= {row.cell(3): octets(message.text), row.cell(4): octets(message.owner), row.cell(6): integer(message.beacon),
-                   row.cell(7): integer(message.pixel), row.cell(8): integer(message.priority)}
+        wanted |= {
+            row.cell(3): octets(message.text),
+            row.cell(4): octets(message.owner),
+            row.cell(6): integer(message.beacon),
+            row.cell(7): integer(message.pixel),
+            row.cell(8): integer(message.priority),
+        }
     return wanted
 
 

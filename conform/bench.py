@@ -16,8 +16,17 @@ from .simulated import SimulatedLink, SomeSign
 from .ticks import Ticks
 
 
-def session(description: bytes, sign: SomeSign | None = None, oracle: Oracle | None = None, seed: int = 1, faulty: float = 0.0,
-            requests: int = 400, is_slow: bool = False, most_differences: int | None = None, watcher: Watcher | None = None) -> Session:
+def session(
+    description: bytes,
+    sign: SomeSign | None = None,
+    oracle: Oracle | None = None,
+    seed: int = 1,
+    faulty: float = 0.0,
+    requests: int = 400,
+    is_slow: bool = False,
+    most_differences: int | None = None,
+    watcher: Watcher | None = None,
+) -> Session:
     """A test of a sign, by itself the model's, under a clock that nobody waits for."""
     described = text.described(description)
     clock = SimulatedClock()

@@ -1,9 +1,9 @@
 """A central system under test: python3 -m conform.centre --port P --sign DESCRIPTION
 
-Our sign on a UDP port, which answers and ticks as ever and watches who speaks to it: request numbers used again for other
-requests, an activation before the checksum was read, writes without a request to modify, polling faster than a second,
-refusals that are ignored, and what is sent after a noSuchName. It ends at an interrupt, a SIGTERM or after --seconds, and
-tells what it saw. The exit status is 0 where it saw none of these.
+Our sign on a UDP port, which answers and ticks as ever and watches who speaks to it: request numbers used again for
+other requests, an activation before the checksum was read, writes without a request to modify, polling faster than a
+second, refusals that are ignored, and what is sent after a noSuchName. It ends at an interrupt, a SIGTERM or after
+--seconds, and tells what it saw. The exit status is 0 where it saw none of these.
 """
 
 import argparse
@@ -30,7 +30,7 @@ class Stopped(Exception):
 
 
 def serve(door: socket.socket, sign: Oracle, clock: Clock, watch: Watch, seconds: float | None) -> None:
-    """Answers until it is stopped or so many seconds are over. The sign ticks once a second, also under many datagrams."""
+    """Answers until it is stopped or so many seconds are over; the sign ticks also under many datagrams."""
     begun = clock.now()
     due = begun + 1
     while seconds is None or clock.now() - begun < seconds:
@@ -54,19 +54,32 @@ def stop(_number: int, _frame: FrameType | None) -> None:
 
 
 def as_json(watch: Watch) -> str:
-    seen = [{"habit": held.habit.value, "moment": round(held.moment, 3), "words": held.words, "octets": held.octets.hex()} for held in watch.seen]
+    seen = [
+        {"habit": held.habit.value, "moment": round(held.moment, 3), "words": held.words, "octets": held.octets.hex()}
+        for held in watch.seen
+    ]
     counts = {"requests": watch.requests, "again": watch.again, "dropped": watch.dropped}
     return json.dumps({**counts, "seen": seen}, indent=1) + "\n"
 
 
 def arguments() -> argparse.ArgumentParser:
-    parser = argparse.ArgumentParser(prog="python3 -m conform.centre", description="our sign on a port, which watches the central system that speaks to it")
+    parser = argparse.ArgumentParser(
+        prog="python3 -m conform.centre",
+        description="our sign on a port, which watches the central system that speaks to it",
+    )
     parser.add_argument("--host", default="127.0.0.1")
     parser.add_argument("--port", required=True, type=int)
-    parser.add_argument("--sign", required=True, type=pathlib.Path, metavar="DESCRIPTION", help="its description, as in signs/")
+    parser.add_argument(
+        "--sign", required=True, type=pathlib.Path, metavar="DESCRIPTION", help="its description, as in signs/"
+    )
     parser.add_argument("--seconds", type=float, help="how long; else until it is interrupted")
     parser.add_argument("--json", type=pathlib.Path, metavar="FILE")
-    parser.add_argument("--signtool", default=str(SIGNTOOL), metavar="PATH", help="the program that is the sign; `model` is that of tools/model")
+    parser.add_argument(
+        "--signtool",
+        default=str(SIGNTOOL),
+        metavar="PATH",
+        help="the program that is the sign; `model` is that of tools/model",
+    )
     return parser
 
 

@@ -7,11 +7,35 @@ from .messages import spelled
 from .objects import Name, Value, column_of, row_of, scalar_of
 from .rules import RULES, Rule
 
-BY_FAULT = {"BadTag": "messages", "BadLength": "refused lengths", "Truncated": "sequences", "LengthPast": "sequences",
-            "BadInteger": "integers", "BadName": "names", "BadVersion": "messages", "TrailingBytes": "sequences", "TooLong": "datagrams"}
-BY_SCALAR = {(5, 2): "counts", (5, 5): "counts", (5, 4): "free memory", (5, 7): "free memory", (5, 9): "verdicts", (6, 3): "accepted",
-             (6, 4): "minutes", (6, 5): "shown", (6, 6): "shown", (6, 7): "shown", (6, 17): "refused", (6, 18): "layout",
-             (6, 19): "layout place", (6, 24): "last refused", (6, 10): "ranges", (6, 13): "ranges"}
+BY_FAULT = {
+    "BadTag": "messages",
+    "BadLength": "refused lengths",
+    "Truncated": "sequences",
+    "LengthPast": "sequences",
+    "BadInteger": "integers",
+    "BadName": "names",
+    "BadVersion": "messages",
+    "TrailingBytes": "sequences",
+    "TooLong": "datagrams",
+}
+BY_SCALAR = {
+    (5, 2): "counts",
+    (5, 5): "counts",
+    (5, 4): "free memory",
+    (5, 7): "free memory",
+    (5, 9): "verdicts",
+    (6, 3): "accepted",
+    (6, 4): "minutes",
+    (6, 5): "shown",
+    (6, 6): "shown",
+    (6, 7): "shown",
+    (6, 17): "refused",
+    (6, 18): "layout",
+    (6, 19): "layout place",
+    (6, 24): "last refused",
+    (6, 10): "ranges",
+    (6, 13): "ranges",
+}
 BY_MODE = {8: "shown", 12: "silence", 14: "ends"}
 BY_CAUSE = {2: "accepted", 3: "priority", 8: "fits now"}
 
@@ -100,7 +124,7 @@ def in_range(value: Value) -> bool:
 
 
 def general_error(request: wire.Message, name: Name, index: int) -> str:
-    if name in [earlier for earlier, _ in request.bindings[:index - 1]]:
+    if name in [earlier for earlier, _ in request.bindings[: index - 1]]:
         return "twice"
     if column_of(name) == 9:
         return "statuses"

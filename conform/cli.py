@@ -23,18 +23,38 @@ from .ticks import Ticks
 
 
 def arguments() -> argparse.ArgumentParser:
-    parser = argparse.ArgumentParser(prog="python3 -m conform", description="compares a sign over UDP with the proved one, reply by reply")
+    parser = argparse.ArgumentParser(
+        prog="python3 -m conform", description="compares a sign over UDP with the proved one, reply by reply"
+    )
     parser.add_argument("--to", required=True, metavar="HOST:PORT", help="where the sign under test answers")
-    parser.add_argument("--sign", required=True, type=pathlib.Path, metavar="DESCRIPTION", help="its description, as in signs/")
-    parser.add_argument("--communities", nargs=2, metavar=("READER", "WRITER"), help="others than those of the description")
+    parser.add_argument(
+        "--sign", required=True, type=pathlib.Path, metavar="DESCRIPTION", help="its description, as in signs/"
+    )
+    parser.add_argument(
+        "--communities", nargs=2, metavar=("READER", "WRITER"), help="others than those of the description"
+    )
     parser.add_argument("--seed", type=int, default=1, help="of the random requests")
     parser.add_argument("--requests", type=int, default=500, help="how many random requests")
-    parser.add_argument("--only", action="append", default=[], choices=NAMES, metavar="CHAPTER", help=f"one of {', '.join(NAMES)}; may be given again")
-    parser.add_argument("--slow", action="store_true", help="whole minutes of durations and silence too: half an hour more")
+    parser.add_argument(
+        "--only",
+        action="append",
+        default=[],
+        choices=NAMES,
+        metavar="CHAPTER",
+        help=f"one of {', '.join(NAMES)}; may be given again",
+    )
+    parser.add_argument(
+        "--slow", action="store_true", help="whole minutes of durations and silence too: half an hour more"
+    )
     parser.add_argument("--html", type=pathlib.Path, metavar="FILE", help="the report as a page")
     parser.add_argument("--junit", type=pathlib.Path, metavar="FILE")
     parser.add_argument("--json", type=pathlib.Path, metavar="FILE")
-    parser.add_argument("--signtool", default=str(SIGNTOOL), metavar="PATH", help="the program that is the oracle; `model` is that of tools/model")
+    parser.add_argument(
+        "--signtool",
+        default=str(SIGNTOOL),
+        metavar="PATH",
+        help="the program that is the oracle; `model` is that of tools/model",
+    )
     parser.add_argument("--wait", type=float, default=1.0, metavar="SECONDS", help="how long a reply may take")
     parser.add_argument("--repeat", metavar="SEQUENCE", help="a sequence that a report printed, alone")
     return parser
@@ -45,8 +65,12 @@ def described_with(path: pathlib.Path, communities: list[str] | None) -> bytes:
     octets = path.read_bytes()
     if communities is None:
         return octets
-    lines = [b" ".join([b"communities", *[word.encode() for word in communities]]) if line.startswith(b"communities ") else line
-             for line in octets.split(b"\n")]
+    lines = [
+        b" ".join([b"communities", *[word.encode() for word in communities]])
+        if line.startswith(b"communities ")
+        else line
+        for line in octets.split(b"\n")
+    ]
     return b"\n".join(lines)
 
 
@@ -71,7 +95,9 @@ def about_of(asked: argparse.Namespace) -> words.About:
     program = "" if asked.signtool == str(SIGNTOOL) else asked.signtool
     when = datetime.datetime.now().astimezone().isoformat(" ", "seconds")
     communities = tuple(asked.communities) if asked.communities else None
-    return words.About(asked.to, str(asked.sign), oracle, communities, asked.seed, asked.requests, asked.slow, when, program)
+    return words.About(
+        asked.to, str(asked.sign), oracle, communities, asked.seed, asked.requests, asked.slow, when, program
+    )
 
 
 def test(asked: argparse.Namespace, description: bytes, oracle: Oracle) -> int:

@@ -7,9 +7,11 @@ from typing import Callable, Protocol
 class Clock(Protocol):
     """What conform asks of a clock: the moment, in seconds from any start, and to wait."""
 
-    def now(self) -> float: ...
+    def now(self) -> float:
+        ...
 
-    def sleep_until(self, moment: float) -> None: ...
+    def sleep_until(self, moment: float) -> None:
+        ...
 
 
 class RealClock:

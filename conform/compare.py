@@ -56,12 +56,16 @@ def between(want: wire.Message, have: wire.Message, masked: frozenset[Name]) -> 
         return Mismatch(Kind.STATUS)
     if [name for name, _ in want.bindings] != [name for name, _ in have.bindings]:
         return Mismatch(Kind.BINDINGS, differing_names(want, have))
-    names = tuple(name for (name, value), (_, other) in zip(want.bindings, have.bindings) if value != other and name not in masked)
+    names = tuple(
+        name for (name, value), (_, other) in zip(want.bindings, have.bindings) if value != other and name not in masked
+    )
     return Mismatch(Kind.VALUE, names) if names else None
 
 
 def differing_names(want: wire.Message, have: wire.Message) -> tuple[Name, ...]:
-    return tuple(name for at, (name, _) in enumerate(want.bindings) if at >= len(have.bindings) or have.bindings[at][0] != name)
+    return tuple(
+        name for at, (name, _) in enumerate(want.bindings) if at >= len(have.bindings) or have.bindings[at][0] != name
+    )
 
 
 def value_words(tagged: tuple[int, int | bytes | Name]) -> str:

@@ -39,7 +39,9 @@ class Context:
     def characters(self) -> list[bytes]:
         """Texts of one character that fit under the defaults, the narrowest first."""
         font = self.described.face.font(self.defaults[4])
-        found = sorted((glyph[0], number) for number, glyph in font.glyphs.items() if number < 256 and number not in b"[]")
+        found = sorted(
+            (glyph[0], number) for number, glyph in font.glyphs.items() if number < 256 and number not in b"[]"
+        )
         texts = [bytes([number]) for _, number in found]
         return [text for text in texts if self.fault(text) is None]
 
@@ -58,7 +60,9 @@ class Context:
         named = MessageId(row.memory, row.number, crc)
         return Activation(minutes, priority, named, address).octets(self.described.swapped)
 
-    def blank_code(self, number: int = 1, priority: int = 255, minutes: int = NO_END, address: bytes = ADDRESS) -> bytes:
+    def blank_code(
+        self, number: int = 1, priority: int = 255, minutes: int = NO_END, address: bytes = ADDRESS
+    ) -> bytes:
         return self.code(Row(BLANK, number), 0, priority, minutes, address)
 
     def message_code(self, row: Row, crc: int) -> bytes:

@@ -22,7 +22,12 @@ class Signature:
 
     def is_like(self, other: "Signature") -> bool:
         """Whether both are one difference: the same but for the objects, of which one is in both."""
-        same = (self.kind, self.request, self.ours, self.theirs) == (other.kind, other.request, other.ours, other.theirs)
+        same = (self.kind, self.request, self.ours, self.theirs) == (
+            other.kind,
+            other.request,
+            other.ours,
+            other.theirs,
+        )
         return same and (self.objects == other.objects or bool(set(self.objects) & set(other.objects)))
 
 

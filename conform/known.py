@@ -38,7 +38,7 @@ class Unreached:
     reply: bytes | None
 
     def is_refused(self) -> bool:
-        """Whether the sign did not take the request that is to bring it there. The one that is to be refused is none."""
+        """Whether the sign did not take the request that is to bring it there."""
         message = spelled(self.reply or b"")
         is_set = self.request.kind == wire.SET and self.name != scalar(6, 24)
         return is_set and (message is None or message.status != wire.NO_ERROR)
@@ -57,7 +57,7 @@ class Known:
     last: dict[Name, tuple[Ask, bytes | None]] = field(default_factory=dict)
     is_settling_seen: bool = True
 
-    # --- what is wanted -------------------------------------------------------------------------------------------------
+    # --- what is wanted --------------------------------------------------------------------------------------
 
     def settings(self) -> dict[Name, Value]:
         """What is set directly."""
@@ -74,9 +74,14 @@ class Known:
 
     def shown(self) -> dict[Name, Value]:
         """What the activation of blank message 1 leaves."""
-        return {scalar(6, 3): octets(self.context.known_code), scalar(6, 4): integer(65535),
-                scalar(6, 5): octets(BLANK_1.octets(self.context.described.swapped)), scalar(6, 6): (wire.ADDRESS, NO_ADDRESS),
-                scalar(6, 7): integer(CENTRAL), scalar(6, 17): integer(2)}
+        return {
+            scalar(6, 3): octets(self.context.known_code),
+            scalar(6, 4): integer(65535),
+            scalar(6, 5): octets(BLANK_1.octets(self.context.described.swapped)),
+            scalar(6, 6): (wire.ADDRESS, NO_ADDRESS),
+            scalar(6, 7): integer(CENTRAL),
+            scalar(6, 17): integer(2),
+        }
 
     def refused(self) -> dict[Name, Value]:
         return {scalar(6, 24): octets(self.context.refused_code)}
@@ -93,9 +98,11 @@ class Known:
         return {name: value for name, value in everything.items() if name not in self.pair.masked}
 
     def touched(self) -> list[Row]:
-        return sorted((row for row in self.pair.touched if row in self.context.rows), key=lambda row: (row.memory, row.number))
+        return sorted(
+            (row for row in self.pair.touched if row in self.context.rows), key=lambda row: (row.memory, row.number)
+        )
 
-    # --- the sign under test --------------------------------------------------------------------------------------------
+    # --- the sign under test ---------------------------------------------------------------------------------
 
     def ask(self, request: Ask) -> bytes | None:
         """A request to the sign under test alone. A SET is sent once."""
@@ -124,7 +131,7 @@ class Known:
         return found
 
     def bring(self, observe: bool) -> list[Unreached]:
-        """Brings the sign under test to the known state; with `observe` a validation is watched for the moment of its tick."""
+        """Brings the sign under test to the known state; with `observe` a validation is watched for its tick."""
         is_watched = not observe or not self.context.rows
         for _ in range(ROUNDS):
             wanted = self.wanted()
@@ -135,7 +142,9 @@ class Known:
             self.repair(wrong, observe and not is_watched)
             is_watched |= self.pair.ticks.is_learnt() and not self.pair.ticks.is_old() or not self.is_settling_seen
         have = self.read(list(wanted := self.wanted()))
-        unreached = [self.unreached(name, value, have.get(name)) for name, value in wanted.items() if have.get(name) != value]
+        unreached = [
+            self.unreached(name, value, have.get(name)) for name, value in wanted.items() if have.get(name) != value
+        ]
         return sorted(unreached, key=lambda held: not held.is_refused())
 
     def unreached(self, name: Name, value: Value, read: Value | None) -> Unreached:
@@ -200,7 +209,7 @@ class Known:
         self.put(put(row.status(8)), row.cell(9))
         self.pair.touched.add(row)
 
-    # --- both -----------------------------------------------------------------------------------------------------------
+    # --- both ------------------------------------------------------------------------------------------------
 
     def reach(self, observe: bool = False) -> list[Unreached]:
         """Both signs in the known state; what cannot be brought there is told."""

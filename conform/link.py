@@ -12,12 +12,14 @@ MOST_RECEIVED = 65_535
 class Link(Protocol):
     """What conform asks of a socket."""
 
-    def send(self, octets: bytes) -> None: ...
+    def send(self, octets: bytes) -> None:
+        ...
 
     def receive(self, until: float) -> bytes | None:
         """The next datagram, or None where the clock comes to this moment first."""
 
-    def close(self) -> None: ...
+    def close(self) -> None:
+        ...
 
 
 class UdpLink:

@@ -70,7 +70,7 @@ def is_known(pair: "Pair", octets: bytes, message: wire.Message, ours: bytes) ->
         return read == taken
     with_it = list(pair.log)
     at = len(with_it) - 1 - with_it[::-1].index(octets)
-    pair.become(with_it[:at] + with_it[at + 1:])
+    pair.become(with_it[:at] + with_it[at + 1 :])
     before = ours_reads(pair, names)
     if before == taken:
         # the same to a reader either way: the seconds that are left may hide in the minutes

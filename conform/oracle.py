@@ -12,17 +12,20 @@ from model.sign import Sign
 class Oracle(Protocol):
     """A sign that is asked in octets, and that may be begun anew."""
 
-    def restart(self) -> None: ...
+    def restart(self) -> None:
+        ...
 
     def datagram(self, octets: bytes) -> bytes | None:
         """The reply, or None where nothing is sent."""
 
-    def tick(self) -> None: ...
+    def tick(self) -> None:
+        ...
 
     def pages(self, message: bytes) -> list[str]:
         """The pages of a text on this sign as lines, as `signtool pages` prints them; none where it is refused."""
 
-    def end(self) -> None: ...
+    def end(self) -> None:
+        ...
 
 
 class ModelOracle:

@@ -51,7 +51,7 @@ class Pair:
     doubts: int = 0
     is_dirty: bool = True  # whether something was sent since the known state that may have changed a sign
 
-    # --- ours ---------------------------------------------------------------------------------------------------------
+    # --- ours ------------------------------------------------------------------------------------------------
 
     def restart_ours(self) -> None:
         self.ticks.take_passed()
@@ -84,7 +84,7 @@ class Pair:
             self.oracle.tick()
             self.log.append(None)
 
-    # --- both ---------------------------------------------------------------------------------------------------------
+    # --- both ------------------------------------------------------------------------------------------------
 
     def begin(self) -> None:
         """A sequence begins: groups of equal datagrams get numbers of their own."""

@@ -10,7 +10,10 @@ from .steps import Ask, Step, Wait, fixed
 
 
 def steps_of(sequence: str, communities: tuple[bytes, bytes]) -> list[Step]:
-    """The steps of octets and ticks with commas between them. A request in its shortest form takes a number of its own."""
+    """The steps of octets and ticks with commas between them.
+
+    A request in its shortest form takes a number of its own.
+    """
     steps: list[Step] = []
     groups: dict[bytes, int] = {}
     for word in sequence.split(","):
@@ -19,8 +22,13 @@ def steps_of(sequence: str, communities: tuple[bytes, bytes]) -> list[Step]:
             continue
         octets = b"" if word == "-" else bytes.fromhex(word)
         message = spelled(octets)
-        if message is not None and message.kind != wire.RESPONSE and message.community in communities and wire.written(message) == octets:
-            group = groups.setdefault(octets, len(groups) - 10 ** 6)
+        if (
+            message is not None
+            and message.kind != wire.RESPONSE
+            and message.community in communities
+            and wire.written(message) == octets
+        ):
+            group = groups.setdefault(octets, len(groups) - 10**6)
             steps.append(Ask(message.kind, tuple(message.bindings), message.community == communities[1], group=group))
         else:
             steps.append(fixed(octets))

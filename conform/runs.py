@@ -48,7 +48,7 @@ class Runner:
                 continue
             sent.append(exchange.octets)
             if exchange.mismatch is not None and not self.is_lost(exchange):
-                return Run(exchange, list(steps[:at + 1]), sent)
+                return Run(exchange, list(steps[: at + 1]), sent)
         return None
 
     def is_lost(self, exchange: Exchange) -> bool:
@@ -92,8 +92,13 @@ def likeness(exchange: Exchange) -> tuple[object, ...]:
 
 def is_timed(steps: Sequence[Step]) -> bool:
     """Whether a tick between the steps may matter."""
-    return any(isinstance(step, Wait) or isinstance(step, Ask) and step.kind == wire.SET and any(
-        row_of(name) is not None and value == (wire.INTEGER, 7) for name, value in step.bindings) for step in steps)
+    return any(
+        isinstance(step, Wait)
+        or isinstance(step, Ask)
+        and step.kind == wire.SET
+        and any(row_of(name) is not None and value == (wire.INTEGER, 7) for name, value in step.bindings)
+        for step in steps
+    )
 
 
 @dataclass
@@ -135,7 +140,7 @@ class Shrinking:
             at, is_smaller = 0, False
             while at < len(self.best.steps) - 1 and not self.is_bounded():
                 before = self.best.steps
-                if self.shows([*before[:at], *before[min(at + size, len(before) - 1):]]):
+                if self.shows([*before[:at], *before[min(at + size, len(before) - 1) :]]):
                     is_smaller = True
                 else:
                     at += size
@@ -159,8 +164,8 @@ class Shrinking:
     def one_by_one(self, at: int, step: Ask) -> None:
         place = 0
         while place < len(step.bindings) and len(step.bindings) > 1 and not self.is_bounded():
-            fewer = step.with_bindings([*step.bindings[:place], *step.bindings[place + 1:]])
-            if self.shows([*self.best.steps[:at], fewer, *self.best.steps[at + 1:]]):
+            fewer = step.with_bindings([*step.bindings[:place], *step.bindings[place + 1 :]])
+            if self.shows([*self.best.steps[:at], fewer, *self.best.steps[at + 1 :]]):
                 step = fewer
             else:
                 place += 1
@@ -178,7 +183,11 @@ def shrunk(runner: Runner, run: Run, block: Sequence[Step]) -> tuple[Run, bool]:
     `block` is what was done last, which often suffices.
     """
     shrinking = Shrinking(runner, run.signature, run, runner.pair.clock.now() + runner.most_seconds)
-    times = 3 if run.exchange.mismatch and run.exchange.mismatch.kind is Kind.NO_ANSWER and runner.pair.port.is_lossy() else 1
+    times = (
+        3
+        if run.exchange.mismatch and run.exchange.mismatch.kind is Kind.NO_ANSWER and runner.pair.port.is_lossy()
+        else 1
+    )
     is_seen = len(block) < len(run.steps) and shrinking.is_seen_again(block, times)
     for _ in range(2):
         is_seen = is_seen or shrinking.is_seen_again(run.steps, times)

@@ -33,13 +33,17 @@ class ChapterResult:
 class Watcher(Protocol):
     """Who is told how the test goes on."""
 
-    def begun(self, chapter: Chapter, blocks: int) -> None: ...
+    def begun(self, chapter: Chapter, blocks: int) -> None:
+        ...
 
-    def went_on(self, result: ChapterResult, at: int) -> None: ...
+    def went_on(self, result: ChapterResult, at: int) -> None:
+        ...
 
-    def ended(self, result: ChapterResult) -> None: ...
+    def ended(self, result: ChapterResult) -> None:
+        ...
 
-    def found(self, difference: Difference) -> None: ...
+    def found(self, difference: Difference) -> None:
+        ...
 
 
 @dataclass
@@ -86,7 +90,7 @@ class Session:
                 self.chapter(chapter)
         return self.results
 
-    # --- before -----------------------------------------------------------------------------------------------------------
+    # --- before ----------------------------------------------------------------------------------------------
 
     def configure(self) -> None:
         for name, wanted, have in before.differing(self.known, before.described(self.context)):
@@ -99,14 +103,16 @@ class Session:
         exchange = self.on_both(get(name))
         rule = RULES["permanent rows" if row_of(name) else "configuration"]
         differs = exchange.mismatch or Mismatch(Kind.VALUE, (name,))
-        return Difference(rule, "before", differs, [exchange.step], [exchange.octets], exchange.octets, exchange.ours, exchange.theirs)
+        return Difference(
+            rule, "before", differs, [exchange.step], [exchange.octets], exchange.octets, exchange.ours, exchange.theirs
+        )
 
     def add_before(self, difference: Difference) -> None:
         self.results.before.append(difference)
         self.watcher.found(difference)
 
     def reach_first(self) -> None:
-        """The known state for the first time; objects that cannot be brought there are told, and left out from here on."""
+        """The known state for the first time; what cannot be brought there is told, and left out from here on."""
         self.pair.touched.update(self.context.rows)
         for _ in range(3):
             unreached = self.known.reach(observe=True)
@@ -134,11 +140,25 @@ class Session:
         assert exchange is not None
         others = ", ".join(spoken(held.name) for held in unreached[1:4]) + (" and others" if len(unreached) > 4 else "")
         read = value_words(first.read) if first.read else "nothing"
-        note = f"{spoken(first.name)} cannot be brought to {value_words(first.wanted)}: it reads {read}" + (f"; nor can {others}" if others else "")
+        note = f"{spoken(first.name)} cannot be brought to {value_words(first.wanted)}: it reads {read}" + (
+            f"; nor can {others}" if others else ""
+        )
         differs = exchange.mismatch or Mismatch(Kind.VALUE, (first.name,))
         rule = self.rule_of_unreached(first, exchange, differs)
         self.pair.masked.update(held.name for held in unreached)
-        self.add_before(Difference(rule, "known state", differs, steps[:len(sent)], sent, exchange.octets, exchange.ours, exchange.theirs, note=note))
+        self.add_before(
+            Difference(
+                rule,
+                "known state",
+                differs,
+                steps[: len(sent)],
+                sent,
+                exchange.octets,
+                exchange.ours,
+                exchange.theirs,
+                note=note,
+            )
+        )
 
     def on_both(self, step: Ask) -> Exchange:
         """A request to both; the one under test may be asked again only where it reads."""
@@ -159,7 +179,7 @@ class Session:
                 return RULES[classify.BY_CAUSE.get(cause[1], "deciding")]
         return rule
 
-    # --- chapters ---------------------------------------------------------------------------------------------------------
+    # --- chapters --------------------------------------------------------------------------------------------
 
     def chapter(self, chapter: Chapter) -> None:
         result = ChapterResult(chapter)
@@ -227,7 +247,7 @@ class Session:
         self.pair.is_dirty = True
         rule = self.rule_of(block, run)
         for known in self.results.differences():
-            if known.rule.key == rule.key and known.mismatch.kind is run.exchange.mismatch.kind:  # type: ignore[union-attr]
+            if known.rule.key == rule.key and known.mismatch.kind is run.signature.kind:
                 known.alike += 1
                 return
         is_shrunk = sum(held.is_shrunk for held in result.differences) < MOST_SHRUNK
@@ -242,8 +262,18 @@ class Session:
         assert exchange.mismatch is not None
         if exchange.mismatch.kind is Kind.SPELLING:
             self.pair.is_spelling_told = True
-        found = Difference(rule, result.chapter.name, exchange.mismatch, run.steps, run.sent, exchange.octets, exchange.ours,
-                           exchange.theirs, is_repeated, is_shrunk)
+        found = Difference(
+            rule,
+            result.chapter.name,
+            exchange.mismatch,
+            run.steps,
+            run.sent,
+            exchange.octets,
+            exchange.ours,
+            exchange.theirs,
+            is_repeated,
+            is_shrunk,
+        )
         result.differences.append(found)
         self.watcher.found(found)
 
@@ -254,13 +284,17 @@ CAUSE: Name = (1, 3, 6, 1, 4, 1, 1206, 4, 2, 3, 6, 17, 0)
 class Quiet:
     """A watcher that says nothing."""
 
-    def begun(self, chapter: Chapter, blocks: int) -> None: ...
+    def begun(self, chapter: Chapter, blocks: int) -> None:
+        ...
 
-    def went_on(self, result: ChapterResult, at: int) -> None: ...
+    def went_on(self, result: ChapterResult, at: int) -> None:
+        ...
 
-    def ended(self, result: ChapterResult) -> None: ...
+    def ended(self, result: ChapterResult) -> None:
+        ...
 
-    def found(self, difference: Difference) -> None: ...
+    def found(self, difference: Difference) -> None:
+        ...
 
 
 def chapters_of(names: Sequence[str]) -> list[Chapter]:

@@ -1,8 +1,8 @@
 """The short form of the tests, for the gate: python3 -m conform.short [--jobs 4]
 
-It needs no pytest and no network but loopback, and leaves no process. The tests of conform/tests and every wrong sign, in
-so many processes at a time. A line for each that fails or is skipped; last `N passed, N failed`, and `, N skipped` where
-there are any.
+It needs no pytest and no network but loopback, and leaves no process. The tests of conform/tests and every wrong sign,
+in so many processes at a time. A line for each that fails or is skipped; last `N passed, N failed`, and `, N skipped`
+where there are any.
 """
 
 import argparse
@@ -19,7 +19,12 @@ MODULES = ("conform.tests.test_signs", "conform.tests.test_parts", "conform.test
 
 def names() -> list[tuple[str, str]]:
     """Module and name of each test."""
-    return [(module, name) for module in MODULES for name in vars(importlib.import_module(module)) if name.startswith("test_")]
+    return [
+        (module, name)
+        for module in MODULES
+        for name in vars(importlib.import_module(module))
+        if name.startswith("test_")
+    ]
 
 
 def run(module: str, name: str) -> tuple[str, str, str]:
@@ -44,7 +49,9 @@ def main() -> int:
     asked = words.parse_args()
     counts = {"passed": 0, "failed": 0, "skipped": 0}
     with concurrent.futures.ProcessPoolExecutor(asked.jobs) as pool:
-        waiting = [pool.submit(run, *test) for test in names()] + [pool.submit(mutant, at) for at in range(len(MUTANTS))]
+        waiting = [pool.submit(run, *test) for test in names()] + [
+            pool.submit(mutant, at) for at in range(len(MUTANTS))
+        ]
         for done in concurrent.futures.as_completed(waiting):
             name, ending, why = done.result()
             counts[ending] += 1

@@ -10,9 +10,11 @@ from .clock import SimulatedClock
 class SomeSign(Protocol):
     """A sign as tools/model has it: a reply or None, and a second."""
 
-    def receive(self, datagram: bytes) -> tuple[bytes | None, object]: ...
+    def receive(self, datagram: bytes) -> tuple[bytes | None, object]:
+        ...
 
-    def tick(self) -> None: ...
+    def tick(self) -> None:
+        ...
 
 
 class SimulatedLink:
@@ -21,8 +23,15 @@ class SimulatedLink:
     With `faulty` above 0 that share of the replies is lost, late or doubled, a third of it each.
     """
 
-    def __init__(self, sign: SomeSign, clock: SimulatedClock, chance: random.Random, faulty: float = 0.0,
-                 latency: float = 0.0002, period: float = 1.0) -> None:
+    def __init__(
+        self,
+        sign: SomeSign,
+        clock: SimulatedClock,
+        chance: random.Random,
+        faulty: float = 0.0,
+        latency: float = 0.0002,
+        period: float = 1.0,
+    ) -> None:
         self.sign, self.clock, self.chance, self.faulty, self.latency = sign, clock, chance, faulty, latency
         self.period = period
         self.next_tick = clock.now() + chance.random() * period

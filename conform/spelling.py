@@ -25,7 +25,11 @@ def first_octet(octet: int, more: bytes = b"") -> Form:
 
 def longer(by: int) -> Form:
     """A length that is off by so many, in the shortest form of its own."""
-    return lambda tag, content: bytes([tag]) + wire.element(0, bytes(len(content) + by))[1:-(len(content) + by) or None] + content
+    return (
+        lambda tag, content: bytes([tag])
+        + wire.element(0, bytes(len(content) + by))[1 : -(len(content) + by) or None]
+        + content
+    )
 
 
 def tagged(tag: int) -> Form:
@@ -51,14 +55,23 @@ def twice() -> Form:
     return lambda tag, content: 2 * wire.element(tag, content)
 
 
-def spelled(number: int, community: bytes, changes: Mapping[str, Form], kind: int = wire.GET, name: bytes | None = None,
-            value: bytes = b"", tag: int = wire.NULL) -> bytes:
+def spelled(
+    number: int,
+    community: bytes,
+    changes: Mapping[str, Form],
+    kind: int = wire.GET,
+    name: bytes | None = None,
+    value: bytes = b"",
+    tag: int = wire.NULL,
+) -> bytes:
     """A request of one binding with these changes, by place."""
+
     def element(place: str, own_tag: int, content: bytes) -> bytes:
         return changes.get(place, wire.element)(own_tag, content)
 
     def small(held: int) -> bytes:
         return wire.integer(held)[2:]
+
     content = name if name is not None else wire.name_content(HEIGHT)
     bound = element("binding", wire.SEQUENCE, element("name", wire.NAME, content) + element("value", tag, value))
     numbers = element("number", wire.INTEGER, small(number)) + element("status", wire.INTEGER, b"\0")

@@ -72,7 +72,7 @@ def fixed(octets: bytes, rule: str = "") -> Raw:
 
 def looks(names: Sequence[Name], rule: str = "", share: int = 40) -> list[Ask]:
     """Gets of all these names, so many in a datagram."""
-    return [get(*names[at:at + share], rule=rule) for at in range(0, len(names), share)]
+    return [get(*names[at : at + share], rule=rule) for at in range(0, len(names), share)]
 
 
 def datagrams(steps: Sequence[Step]) -> int:

@@ -7,12 +7,50 @@ from .context import Context
 
 MARKUP = [  # each with one fault of the markup, by the rule that it breaks
     ("markup code", [b"[zz]", b"[", b"]", b"[ nl]", b"[]", b"[nl", b"A]", b"[/f]", b"[/FLx", b"[n]", b"[[]"]),
-    ("markup code", [b"[nl10]", b"[flt1t2]", b"[/fl1]", b"[nl000001]", b"[jl1]", b"[jl5]", b"[jp1]", b"[jp5]", b"[fo0]", b"[fo256]", b"[pb10]", b"[cb10]", b"[cf10]", b"[pt256]",
-                     b"[pto256]", b"[np1]", b"[hc]", b"[hc12345]", b"[hcg]", b"[flt100]", b"[flx]", b"[fo1,123]", b"[fo1,]",
-                     b"[fo,0001]", b"[nl ]", b"[nl-1]", b"[pt1o2o3]", b"[flo1o2]"])]
+    (
+        "markup code",
+        [
+            b"[nl10]",
+            b"[flt1t2]",
+            b"[/fl1]",
+            b"[nl000001]",
+            b"[jl1]",
+            b"[jl5]",
+            b"[jp1]",
+            b"[jp5]",
+            b"[fo0]",
+            b"[fo256]",
+            b"[pb10]",
+            b"[cb10]",
+            b"[cf10]",
+            b"[pt256]",
+            b"[pto256]",
+            b"[np1]",
+            b"[hc]",
+            b"[hc12345]",
+            b"[hcg]",
+            b"[flt100]",
+            b"[flx]",
+            b"[fo1,123]",
+            b"[fo1,]",
+            b"[fo,0001]",
+            b"[nl ]",
+            b"[nl-1]",
+            b"[pt1o2o3]",
+            b"[flo1o2]",
+        ],
+    ),
+]
 FIRST_MARKUP, OTHERS = 4, 2
-GOOD_MARKUP = [b"[NL][nl9][nl00009]", b"[cf][cf9][cb0][pb][pb9]", b"[fl][FLt][flo][flt99o99][flo0t0][/fl][/FL]", b"[pt][pt255o255][pto][pt1o][PTO5]",
-               b"[jl][jl2][JL3][jl4]", b"[jp]", b"[fo]"]
+GOOD_MARKUP = [
+    b"[NL][nl9][nl00009]",
+    b"[cf][cf9][cb0][pb][pb9]",
+    b"[fl][FLt][flo][flt99o99][flo0t0][/fl][/FL]",
+    b"[pt][pt255o255][pto][pt1o][PTO5]",
+    b"[jl][jl2][JL3][jl4]",
+    b"[jp]",
+    b"[fo]",
+]
 
 
 @dataclass(frozen=True)
@@ -47,12 +85,19 @@ def rooms(context: Context) -> list[Sample]:
     across, down, empty = longest(context, one), longest(context, one, b"[nl]"), longest(context, one, b"[nl9]")
     if across:
         part = max(1, across // 3)
-        found += [one * across, one * (across + 1), b"[jl2]" + one + b"[jl4]" + one * (across - 1), b"[jl2]" + one + b"[jl4]" + one * across]
+        found += [
+            one * across,
+            one * (across + 1),
+            b"[jl2]" + one + b"[jl4]" + one * (across - 1),
+            b"[jl2]" + one + b"[jl4]" + one * across,
+        ]
     if down:
         found += [b"[nl]".join([one] * (down + more)) for more in (0, 1)] + [b"[nl]".join([one] * down) + b"[nl]"]
     if across:
         found += [b"[jl2]" + one * part + b"[jl3]" + one * (part + more) for more in (0, 1, 2, 3)]
-        found += [b"[jl2]" + one * (across // 2) + b"[jl4]" + one * (across + more - across // 2) for more in (-1, 0, 1)]
+        found += [
+            b"[jl2]" + one * (across // 2) + b"[jl4]" + one * (across + more - across // 2) for more in (-1, 0, 1)
+        ]
         found += [b"[jl4]" + one * across, b"[jl3]" + one * (across + 1)]
     if down:
         found += [b"[nl]" * down, b"[nl]" * (down + 1)]
@@ -62,7 +107,7 @@ def rooms(context: Context) -> list[Sample]:
 
 
 def mixed(context: Context) -> list[Sample]:
-    """Characters of two fonts in turn, padded to the edge of the matrix and one character more: spacings are averaged."""
+    """Characters of two fonts in turn, up to the edge of the matrix and one more: their spacings are averaged."""
     face, one = context.described.face, context.character()
     fonts = [font for font in face.fonts if font.number != context.defaults[4]]
     found = []
@@ -88,12 +133,15 @@ def gaps(context: Context) -> list[Sample]:
 
 
 def fonts(context: Context) -> list[Sample]:
-    """Font tags: each font and its version, one that the sign has not, another version, characters of one font alone."""
+    """Font tags: each font and its version, one that the sign has not, another version."""
     one, found = context.character(), []
     numbers = [font.number for font in context.described.face.fonts]
     missing = next(number for number in range(1, 256) if number not in numbers)
     for font in reversed(context.described.face.fonts):
-        found += [b"[fo%d,%04x]" % (font.number, font.version) + one + b"[fo]" + one, b"[fo%d,%04x]" % (font.number, font.version ^ 1)]
+        found += [
+            b"[fo%d,%04x]" % (font.number, font.version) + one + b"[fo]" + one,
+            b"[fo%d,%04x]" % (font.number, font.version ^ 1),
+        ]
     found.insert(2, one + b"[fo%d,0001]" % missing)
     for font in context.described.face.fonts:
         found += [b"[fo%d]" % font.number + one, b"[fo%d,%04X]" % (font.number, font.version ^ 0x0100)]
@@ -105,11 +153,22 @@ def characters(context: Context) -> list[Sample]:
     one, font = context.character(), context.described.face.font(context.defaults[4])
     missing = next((number for number in range(1, 256) if number not in font.glyphs and number not in b"[]"), None)
     found = [one + bytes([missing]) + one] if missing is not None else []
-    found += [b"[hc%X]" % one[0] if one else b"", one + b"[hcffff]", b"[[" + one + b"]]", b"[hcFFFF]", b"[HC%04x]" % one[0] if one else b"", b"[[", b"]]"]
+    found += [
+        b"[hc%X]" % one[0] if one else b"",
+        one + b"[hcffff]",
+        b"[[" + one + b"]]",
+        b"[hcFFFF]",
+        b"[HC%04x]" % one[0] if one else b"",
+        b"[[",
+        b"]]",
+    ]
     if missing is not None:
         found += [bytes([missing]), one + b"[hc%x]" % missing]
     for other in context.described.face.fonts:
-        only = next((number for number in other.glyphs if number not in font.glyphs and number < 256 and number not in b"[]"), None)
+        only = next(
+            (number for number in other.glyphs if number not in font.glyphs and number < 256 and number not in b"[]"),
+            None,
+        )
         if only is not None:
             found += [b"[fo%d]" % other.number + bytes([only]), bytes([only])]
     return made("characters", found, 4)
@@ -118,28 +177,56 @@ def characters(context: Context) -> list[Sample]:
 def parts(context: Context) -> list[Sample]:
     one = context.character()
     lines = [b"[jl3]%s[jl2]%s", b"[jl4]%s[nl][jl2]%s", b"[jl2]%s[jl2]%s", b"[jl4]%s[jl3]%s", b"[jl4]%s[np][jl2]%s"]
-    pages = [b"[jp3]%s[jp2]%s", b"[jp4]%s[np][jp2]%s", b"[jp2]%s[jp2]%s", b"[jp3]%s[jp4]%s[jp2]", b"[jp2]%s[jp3][jp4]%s", b"[jp4]%s[jp3]%s",
-             b"[jp3][jp2]%s%s", b"[jp2]%s[jp4]%s", b"[jp2]%s[jp3]%s"]
+    pages = [
+        b"[jp3]%s[jp2]%s",
+        b"[jp4]%s[np][jp2]%s",
+        b"[jp2]%s[jp2]%s",
+        b"[jp3]%s[jp4]%s[jp2]",
+        b"[jp2]%s[jp3][jp4]%s",
+        b"[jp4]%s[jp3]%s",
+        b"[jp3][jp2]%s%s",
+        b"[jp2]%s[jp4]%s",
+        b"[jp2]%s[jp3]%s",
+    ]
     found = made("line parts", [*[form % (one, one) for form in lines], b"[jl4]" + one + b"[jl3]"], 2)
     return found + made("page parts", [form % (one, one) for form in pages], 4)
 
 
 def pages(context: Context) -> list[Sample]:
     one = context.character()
-    return made("pages", [one + b"[np]" * 5 + one, b"[np]" * 6, b"[np]" * 5, one + b"[np]" * 6 + one, (one + b"[np]") * 7], 2)
+    return made(
+        "pages", [one + b"[np]" * 5 + one, b"[np]" * 6, b"[np]" * 5, one + b"[np]" * 6 + one, (one + b"[np]") * 7], 2
+    )
 
 
 def both(context: Context) -> list[Sample]:
     """A fault of the markup before, and after, one of the layout."""
     one = context.character()
     many = one * ((longest(context, one) or 500) + 1)
-    found = [b"[fo255][zz]", one + b"[zz]" + many, b"[fl]" * 128, one + b"[np]" + one + b"[nl10]", b"[zz][fo255]", many[:480] + b"[zz]", b"A" * 512]
+    found = [
+        b"[fo255][zz]",
+        one + b"[zz]" + many,
+        b"[fl]" * 128,
+        one + b"[np]" + one + b"[nl10]",
+        b"[zz][fo255]",
+        many[:480] + b"[zz]",
+        b"A" * 512,
+    ]
     return made("layout", found, 3)
 
 
 def samples(context: Context) -> list[Sample]:
     """All of them with --slow; else the first of each rule and some others, by the seed."""
-    found = parts(context) + pages(context) + fonts(context) + characters(context) + gaps(context) + rooms(context) + mixed(context) + both(context)
+    found = (
+        parts(context)
+        + pages(context)
+        + fonts(context)
+        + characters(context)
+        + gaps(context)
+        + rooms(context)
+        + mixed(context)
+        + both(context)
+    )
     found += made("markup", [b"".join(GOOD_MARKUP[:-2]), *GOOD_MARKUP], 1)
     for rule, texts in MARKUP:
         found += made(rule, [context.character() + text for text in texts], FIRST_MARKUP)

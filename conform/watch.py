@@ -92,7 +92,12 @@ class Watch:
             words = f"after noSuchName of {spoken(self.missing[0])}: " + ("the same again" if same else said(message))
             self.note(Habit.AFTER, moment, octets, words)
         if self.is_refused and ERROR not in [name for name, _ in message.bindings]:
-            self.note(Habit.IGNORED, moment, octets, f"an activation was refused, and dmsActivateMsgError is not read: {said(message)}")
+            self.note(
+                Habit.IGNORED,
+                moment,
+                octets,
+                f"an activation was refused, and dmsActivateMsgError is not read: {said(message)}",
+            )
         self.is_refused = False
 
     def read(self, moment: float, octets: bytes, message: wire.Message, answer: wire.Message) -> None:
@@ -130,7 +135,12 @@ class Watch:
         """A row is asked to modify, to validate or to be not used."""
         known = self.row(row)
         if asked == 7 and known.refused:
-            self.note(Habit.IGNORED, moment, octets, f"{spoken(min(known.refused))} was refused, and the row is validated without it")
+            self.note(
+                Habit.IGNORED,
+                moment,
+                octets,
+                f"{spoken(min(known.refused))} was refused, and the row is validated without it",
+            )
         if is_taken:
             known.is_asked = asked == 6
             known.is_read = False
@@ -145,12 +155,19 @@ class Watch:
             if not known.is_read:
                 self.note(Habit.UNREAD, moment, octets, f"row {row[0]}.{row[1]}")
             if known.refused:
-                self.note(Habit.IGNORED, moment, octets, f"{spoken(min(known.refused))} was refused, and row {row[0]}.{row[1]} is activated")
+                self.note(
+                    Habit.IGNORED,
+                    moment,
+                    octets,
+                    f"{spoken(min(known.refused))} was refused, and row {row[0]}.{row[1]} is activated",
+                )
         self.is_refused = not is_taken
 
     def lines(self) -> list[str]:
         """The report."""
-        found = [f"{self.requests} requests, {self.again} of them sent again, {self.dropped} datagrams that the sign drops"]
+        found = [
+            f"{self.requests} requests, {self.again} of them sent again, {self.dropped} datagrams that the sign drops"
+        ]
         for habit in Habit:
             times = [seen for seen in self.seen if seen.habit is habit]
             found.append(f"{habit.value}: {len(times) or 'never'}")

@@ -8,7 +8,9 @@ from ..steps import Step, get, put
 from .block import Block, Chapter, look, message, modify, reports, unuse
 
 
-def tried(context: Context, row: Row, crc: int, priority: int = 255, minutes: int = 65535, address: bytes = ADDRESS) -> list[Step]:
+def tried(
+    context: Context, row: Row, crc: int, priority: int = 255, minutes: int = 65535, address: bytes = ADDRESS
+) -> list[Step]:
     return [activate(context.code(row, crc, priority, minutes, address)), reports()]
 
 
@@ -16,14 +18,29 @@ def without_rows(context: Context) -> Iterator[Block]:
     for memory in (0, 1, 6, 8, 255):
         yield Block("no type of memory", "deciding", tried(context, Row(memory, 1), 0))
     described = context.described
-    numbers = [(2, 0), (2, len(described.permanent) + 1), (3, 0), (3, described.changeable + 1), (4, 0), (4, described.volatile + 1),
-               (5, 0), (5, 2), (7, 0), (7, 256), (3, 257), (3, 65535), (7, 65535)]
+    numbers = [
+        (2, 0),
+        (2, len(described.permanent) + 1),
+        (3, 0),
+        (3, described.changeable + 1),
+        (4, 0),
+        (4, described.volatile + 1),
+        (5, 0),
+        (5, 2),
+        (7, 0),
+        (7, 256),
+        (3, 257),
+        (3, 65535),
+        (7, 65535),
+    ]
     for row in numbers:
         yield Block("no such row", "deciding", tried(context, Row(*row), 0))
     for number, crc in ((1, 0), (2, 0), (255, 0x1234), (77, 0xFFFF)):
         steps = [activate(context.code(Row(7, number), crc)), *look()]
         yield Block("a blank message", "shown", steps, True)
-    yield Block("an address", "shown", [activate(context.blank_code(3, address=bytes([255, 0, 1, 254]))), *look()], True)
+    yield Block(
+        "an address", "shown", [activate(context.blank_code(3, address=bytes([255, 0, 1, 254]))), *look()], True
+    )
     for crc in (0, 0x0F47, 1):
         yield Block("the current buffer while it is blank", "deciding", [*tried(context, Row(5, 1), crc)], True)
 
@@ -44,7 +61,9 @@ def changeable(context: Context, row: Row) -> Iterator[Block]:
     crc = context.crc(text, beacon, pixel)
     put_up: list[Step] = [*message(row, text, b"owner", beacon, pixel, 3), activate(context.code(row, crc)), *look(row)]
     yield Block("a message of one's own", "shown", put_up, True)
-    yield Block("the current buffer", "current buffer", [*tried(context, Row(5, 1), crc, address=bytes([10, 0, 0, 1])), *look()])
+    yield Block(
+        "the current buffer", "current buffer", [*tried(context, Row(5, 1), crc, address=bytes([10, 0, 0, 1])), *look()]
+    )
     yield Block("the current buffer, another checksum", "deciding", tried(context, Row(5, 1), crc ^ 1))
     yield Block("the current buffer, no second", "deciding", tried(context, Row(5, 2), crc))
     changed: list[Step] = [modify(row), put(row.text(b""), row.owner(b""), row.priority(9)), *look(rule="copied")]
@@ -73,7 +92,14 @@ def order(context: Context) -> Iterator[Block]:
 
 def reported(context: Context) -> Iterator[Block]:
     good, bad = context.blank_code(2), context.code(Row(6, 7), 0x1122, 33, 44)
-    steps: list[Step] = [activate(bad), reports(), activate(good), reports(rule="last refused"), activate(bad), reports(rule="refused")]
+    steps: list[Step] = [
+        activate(bad),
+        reports(),
+        activate(good),
+        reports(rule="last refused"),
+        activate(bad),
+        reports(rule="refused"),
+    ]
     yield Block("what is reported", "refused", steps, True)
     both = put((scalar(4, 8), integer(12)), activation(bad))
     yield Block("a refusal leaves the rest", "refused", [both, *look()], True)

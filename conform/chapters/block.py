@@ -34,9 +34,13 @@ def modify(row: Row) -> Ask:
     return put(row.status(6), rule="statuses")
 
 
-def fill(row: Row, text: bytes, owner: bytes = b"", beacon: int = 0, pixel: int = 0, priority: int = 1, rule: str = "set") -> Ask:
+def fill(
+    row: Row, text: bytes, owner: bytes = b"", beacon: int = 0, pixel: int = 0, priority: int = 1, rule: str = "set"
+) -> Ask:
     """All fields of a row that is modifying."""
-    return put(row.text(text), row.owner(owner), row.beacon(beacon), row.pixel(pixel), row.priority(priority), rule=rule)
+    return put(
+        row.text(text), row.owner(owner), row.beacon(beacon), row.pixel(pixel), row.priority(priority), rule=rule
+    )
 
 
 def validate(row: Row) -> Ask:
@@ -52,7 +56,9 @@ def settle(row: Row, rule: str = "settled") -> list[Step]:
     return [validate(row), Wait(1), get(row.cell(9), rule=rule)]
 
 
-def message(row: Row, text: bytes, owner: bytes = b"", beacon: int = 0, pixel: int = 0, priority: int = 1) -> list[Step]:
+def message(
+    row: Row, text: bytes, owner: bytes = b"", beacon: int = 0, pixel: int = 0, priority: int = 1
+) -> list[Step]:
     """A row with this message, validated."""
     return [modify(row), fill(row, text, owner, beacon, pixel, priority), *settle(row)]
 

@@ -20,17 +20,36 @@ def with_default(context: Context, member: int, value: int) -> tuple[int, ...]:
 def telling(context: Context) -> list[tuple[int, int, bytes]]:
     """Defaults and texts that fit under the sign's own and not under these, or the other way round."""
     one = context.character()
-    texts = [one, b"[fo]" + one, b"[jp3]" + one + b"[jp]" + one, b"[jl3]" + one + b"[jl]" + one, b"[jl]" + one + b"[jl3]" + one,
-             b"[jp]" + one + b"[jp3]" + one, one + b"[jp3]" + one, one + b"[jl3]" + one]
+    texts = [
+        one,
+        b"[fo]" + one,
+        b"[jp3]" + one + b"[jp]" + one,
+        b"[jl3]" + one + b"[jl]" + one,
+        b"[jl]" + one + b"[jl3]" + one,
+        b"[jp]" + one + b"[jp3]" + one,
+        one + b"[jp3]" + one,
+        one + b"[jl3]" + one,
+    ]
     font = next((other for other in context.described.face.fonts if other.number != context.defaults[4]), None)
     if font is not None:
-        texts += [bytes([number]) for number in list(context.described.face.font(context.defaults[4]).glyphs)[:3] if number < 256]
+        texts += [
+            bytes([number])
+            for number in list(context.described.face.font(context.defaults[4]).glyphs)[:3]
+            if number < 256
+        ]
         texts += [b"[nl]".join([one] * count) for count in range(1, 9)] + [one * count for count in (3, 8, 16, 20, 40)]
     found = []
-    for member, values in ((5, [other.number for other in context.described.face.fonts]), (6, [2, 3, 4]), (7, [2, 3, 4])):
+    for member, values in (
+        (5, [other.number for other in context.described.face.fonts]),
+        (6, [2, 3, 4]),
+        (7, [2, 3, 4]),
+    ):
         for value in values:
             changed = with_default(context, member, value)
-            telltale = next((text for text in texts if (context.fault(text) is None) != (context.fault(text, changed) is None)), None)
+            telltale = next(
+                (text for text in texts if (context.fault(text) is None) != (context.fault(text, changed) is None)),
+                None,
+            )
             if telltale is not None and changed != context.defaults:
                 found.append((member, value, telltale))
     return found
@@ -43,16 +62,42 @@ def decide(context: Context, row: Row) -> Iterator[Block]:
         yield Block(f"a text under default {member}", "missing values", [other, *judged(row, text)], True)
         first, then = (own, other) if context.fault(text) is None else (other, own)
         code = activate(context.code(row, context.crc(text)))
-        steps: list[Step] = [first, *judged(row, text), then, *look(row, rule="not followed"), code, *look(row), first, code, *look(row)]
-        steps += [then, *look(rule="copied"), activate(context.code(Row(5, 1), context.crc(text))), *look(rule="current buffer"), code, *look()]
+        steps: list[Step] = [
+            first,
+            *judged(row, text),
+            then,
+            *look(row, rule="not followed"),
+            code,
+            *look(row),
+            first,
+            code,
+            *look(row),
+        ]
+        steps += [
+            then,
+            *look(rule="copied"),
+            activate(context.code(Row(5, 1), context.crc(text))),
+            *look(rule="current buffer"),
+            code,
+            *look(),
+        ]
         yield Block(f"an activation under default {member}", "fits now", steps, True)
 
 
 def copied(context: Context, row: Row) -> Iterator[Block]:
     text = context.character()
-    changes: list[Step] = [put(*[default(member, value) for member, value in ((1, 3), (2, 4), (3, 7), (4, 8), (8, 9), (9, 10))]), *look(row)]
+    changes: list[Step] = [
+        put(*[default(member, value) for member, value in ((1, 3), (2, 4), (3, 7), (4, 8), (8, 9), (9, 10))]),
+        *look(row),
+    ]
     begun: list[Step] = [*message(row, text, b"owner", 0, 0, 9), activate(context.code(row, context.crc(text)))]
-    after: list[Step] = [modify(row), put(row.text(b"other"), row.owner(b"you"), row.beacon(1), row.pixel(1), row.priority(200)), *look(row), unuse(row), *look(row)]
+    after: list[Step] = [
+        modify(row),
+        put(row.text(b"other"), row.owner(b"you"), row.beacon(1), row.pixel(1), row.priority(200)),
+        *look(row),
+        unuse(row),
+        *look(row),
+    ]
     yield Block("what was copied", "copied", [*begun, *changes, *after], True)
 
 
@@ -61,7 +106,12 @@ def kept(context: Context) -> Iterator[Block]:
     for member in range(1, 10):
         value = {5: context.described.face.fonts[-1].number, 6: 4, 7: 2}.get(member, 6)
         yield Block(f"default {member}", "set", [put(default(member, value)), *look()], True)
-    yield Block("after an activation", "copied", [put(default(8, 99)), activate(context.blank_code(1)), reports(), *look()], True)
+    yield Block(
+        "after an activation",
+        "copied",
+        [put(default(8, 99)), activate(context.blank_code(1)), reports(), *look()],
+        True,
+    )
 
 
 def blocks(context: Context) -> Iterator[Block]:

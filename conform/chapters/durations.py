@@ -16,13 +16,20 @@ def end_code(code: bytes) -> Binding:
 
 def at_end(context: Context) -> list[tuple[str, str, bytes]]:
     """End-duration codes, each with its rule."""
-    codes = [("blank message 7", "own activation", context.message_code(Row(7, 7), 0)), ("blank message 1", "remaining", context.message_code(Row(7, 1), 5)),
-             ("the current buffer", "own current", b"\5\0\1\0\0"), ("the current buffer by another number", "own current", b"\5\0\7\x12\x34"),
-             ("no type of memory", "own refused", b"\6\0\1\0\0"), ("no such row", "own refused", b"\7\1\0\0\0")]
+    codes = [
+        ("blank message 7", "own activation", context.message_code(Row(7, 7), 0)),
+        ("blank message 1", "remaining", context.message_code(Row(7, 1), 5)),
+        ("the current buffer", "own current", b"\5\0\1\0\0"),
+        ("the current buffer by another number", "own current", b"\5\0\7\x12\x34"),
+        ("no type of memory", "own refused", b"\6\0\1\0\0"),
+        ("no such row", "own refused", b"\7\1\0\0\0"),
+    ]
     for row, held in zip(context.permanent[:1], context.described.permanent):
         crc = context.crc(held.text, held.beacon, held.pixel)
-        codes += [("a permanent message", "own activation", context.message_code(row, crc)),
-                  ("another checksum", "own refused", context.message_code(row, crc ^ 1))]
+        codes += [
+            ("a permanent message", "own activation", context.message_code(row, crc)),
+            ("another checksum", "own refused", context.message_code(row, crc ^ 1)),
+        ]
     for row in context.rows[:1]:
         codes.append(("a row that is not used", "own refused", context.message_code(row, 0)))
     return codes
@@ -45,7 +52,9 @@ def minutes(context: Context) -> Iterator[Block]:
         steps: list[Step] = [put(remaining(value)), get(REMAINING), Wait(1), get(REMAINING), Wait(1), get(REMAINING)]
         yield Block("minutes after seconds", "minutes", steps, True)
     for value in (1, 255, 65534):
-        yield Block(f"an activation of {value} minutes", "shown", [activate(context.blank_code(4, 255, value)), *look()], True)
+        yield Block(
+            f"an activation of {value} minutes", "shown", [activate(context.blank_code(4, 255, value)), *look()], True
+        )
     longer: list[Step] = [put(remaining(1)), put(remaining(65535)), Wait(1), *look()]
     yield Block("no end after all", "remaining", longer, True)
 
@@ -55,10 +64,16 @@ def nothing_left(context: Context) -> Iterator[Block]:
     ends: list[Step] = [activate(context.blank_code(200, 255, 0, bytes([10, 9, 8, 7]))), *look(), Wait(1), *look()]
     yield Block("0 minutes by an activation", "ends", [put(end_code(context.message_code(Row(7, 7), 0))), *ends], True)
     yield Block("an end that is refused", "own refused", [put(end_code(b"\3\0\0\0\0")), *ends], True)
-    yield Block("an end that keeps what is shown", "own current", [put(end_code(b"\5\0\1\0\0")), *ends, Wait(1), *look()], True)
+    yield Block(
+        "an end that keeps what is shown", "own current", [put(end_code(b"\5\0\1\0\0")), *ends, Wait(1), *look()], True
+    )
     for row in context.rows[:1]:
         text = context.character()
-        begun = [*message(row, text, b"", 0, 0, 255), put(end_code(context.message_code(row, context.crc(text)))), activate(context.blank_code(1, 255, 0))]
+        begun = [
+            *message(row, text, b"", 0, 0, 255),
+            put(end_code(context.message_code(row, context.crc(text)))),
+            activate(context.blank_code(1, 255, 0)),
+        ]
         yield Block("an end that shows a row", "own activation", [*begun, Wait(1), *look(row)], True)
 
 
@@ -68,7 +83,16 @@ def whole(context: Context) -> Iterator[Block]:
     for begin in (activate(context.blank_code(200, 255, 1)), put(remaining(1))):
         late: list[Step] = [code, Wait(1), begin, Wait(59), reports(), Wait(1), reports(), Wait(1), reports()]
         yield Block("a minute", "ends", late, True)
-    steps: list[Step] = [Wait(1), put(remaining(3)), Wait(59), get(REMAINING), Wait(1), get(REMAINING), Wait(1), get(REMAINING)]
+    steps: list[Step] = [
+        Wait(1),
+        put(remaining(3)),
+        Wait(59),
+        get(REMAINING),
+        Wait(1),
+        get(REMAINING),
+        Wait(1),
+        get(REMAINING),
+    ]
     yield Block("three minutes as they pass", "minutes", steps, True)
 
 

@@ -10,18 +10,58 @@ from ..steps import get, looks
 from .block import Block, Chapter, look, message
 
 NO_INSTANCES: list[Name] = [
-    scalar(2, 3)[:-1], scalar(2, 3)[:-1] + (1,), scalar(2, 3) + (0,), scalar(4, 10), scalar(4, 12), scalar(5, 8), scalar(5, 10),
-    scalar(6, 1), scalar(6, 2), scalar(6, 11), scalar(6, 16), scalar(6, 20), scalar(6, 25), scalar(7, 1), scalar(1, 1), DMS,
-    DMS + (5, 8, 1, 3), DMS + (5, 8, 1, 3, 3), DMS + (5, 8, 1, 0, 3, 1), DMS + (5, 8, 1, 10, 3, 1), DMS + (5, 8, 1, 3, 3, 1, 0),
-    DMS + (5, 8, 0, 3, 3, 1), DMS + (5, 8, 2, 3, 3, 1), (1, 3, 6, 1, 2, 1, 1, 1, 0), (0, 0), (2, 999, 3), DMS[:-1] + (4, 2, 3, 0),
-    DMS[:-1] + (2, 2, 3, 0), DMS + (5, 8, 1, 3, 3, 2 ** 32 - 1), DMS + (5, 8, 1, 3, 3, 65537), DMS + (5, 8, 1, 9, 259, 1)]
+    scalar(2, 3)[:-1],
+    scalar(2, 3)[:-1] + (1,),
+    scalar(2, 3) + (0,),
+    scalar(4, 10),
+    scalar(4, 12),
+    scalar(5, 8),
+    scalar(5, 10),
+    scalar(6, 1),
+    scalar(6, 2),
+    scalar(6, 11),
+    scalar(6, 16),
+    scalar(6, 20),
+    scalar(6, 25),
+    scalar(7, 1),
+    scalar(1, 1),
+    DMS,
+    DMS + (5, 8, 1, 3),
+    DMS + (5, 8, 1, 3, 3),
+    DMS + (5, 8, 1, 0, 3, 1),
+    DMS + (5, 8, 1, 10, 3, 1),
+    DMS + (5, 8, 1, 3, 3, 1, 0),
+    DMS + (5, 8, 0, 3, 3, 1),
+    DMS + (5, 8, 2, 3, 3, 1),
+    (1, 3, 6, 1, 2, 1, 1, 1, 0),
+    (0, 0),
+    (2, 999, 3),
+    DMS[:-1] + (4, 2, 3, 0),
+    DMS[:-1] + (2, 2, 3, 0),
+    DMS + (5, 8, 1, 3, 3, 2**32 - 1),
+    DMS + (5, 8, 1, 3, 3, 65537),
+    DMS + (5, 8, 1, 9, 259, 1),
+]
 
 
 def no_rows(context: Context) -> list[Name]:
     """Cells of rows that the sign has not, by one."""
     described = context.described
-    rows = [(1, 1), (2, 0), (2, len(described.permanent) + 1), (3, 0), (3, described.changeable + 1), (4, 0),
-            (4, described.volatile + 1), (5, 0), (5, 2), (6, 1), (7, 0), (7, 256), (8, 1)]
+    rows = [
+        (1, 1),
+        (2, 0),
+        (2, len(described.permanent) + 1),
+        (3, 0),
+        (3, described.changeable + 1),
+        (4, 0),
+        (4, described.volatile + 1),
+        (5, 0),
+        (5, 2),
+        (6, 1),
+        (7, 0),
+        (7, 256),
+        (8, 1),
+    ]
     return [cell(column, *row) for row in rows for column in (3, 9)]
 
 
@@ -32,7 +72,7 @@ def rule_for(name: Name) -> str:
         return "blank checksum" if column_of(name) == 5 else "blank rows"
     if row is not None:
         return "checksum" if column_of(name) == 5 else "the table's rows"
-    place = name[len(DMS):len(DMS) + 2]
+    place = name[len(DMS) : len(DMS) + 2]
     return {(5, 2): "counts", (5, 5): "counts", (5, 4): "free memory", (5, 7): "free memory"}.get(place, "values")
 
 
@@ -51,12 +91,25 @@ def blocks(context: Context) -> Iterator[Block]:
     for name in NO_INSTANCES + no_rows(context):
         yield Block("no instance", "get", [get(name), get(name, is_writer=False)])
     here, none = scalar(2, 3), scalar(2, 5)
-    lists = [[], [here, here], [none, here], [here, none], [here, here, none, none], [none, none], [here] * 20 + [none] + [here] * 20]
+    lists = [
+        [],
+        [here, here],
+        [none, here],
+        [here, none],
+        [here, here, none, none],
+        [none, none],
+        [here] * 20 + [none] + [here] * 20,
+    ]
     for names in lists:
         yield Block("several names", "get", [get(*names)])
     if context.rows:
         row = context.rows[0]
-        yield Block("a row that is valid", "row checksum", [*message(row, context.character(), b"owner", 0, 0, 7), *look(row)], True)
+        yield Block(
+            "a row that is valid",
+            "row checksum",
+            [*message(row, context.character(), b"owner", 0, 0, 7), *look(row)],
+            True,
+        )
         yield Block("a row of a beacon", "checksum", filled(context, row), True)
 
 

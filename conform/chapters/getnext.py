@@ -15,34 +15,70 @@ def gaps(names: list[Name]) -> list[Name]:
     found: list[Name] = []
     for first, second in zip(names, names[1:]):
         if first[:-1] != second[:-1]:
-            found += [first + (0,), first[:-1] + (first[-1] + 1,), first[:-1] + (2 ** 32 - 1,), second[:-1]]
+            found += [first + (0,), first[:-1] + (first[-1] + 1,), first[:-1] + (2**32 - 1,), second[:-1]]
             if second[-1]:
                 found.append(second[:-1] + (second[-1] - 1,))
     return found
 
 
-OUTSIDE: list[Name] = [(0, 0), (0, 39), (1, 0), (1, 3), (1, 3, 6, 1, 2, 1, 1, 1, 0), DMS[:-1], DMS, DMS + (0,), DMS + (2,), DMS + (2, 3),
-                       DMS + (2, 2, 2 ** 32 - 1), DMS + (5,), DMS + (5, 8), DMS + (5, 8, 0, 9), DMS + (5, 8, 1), DMS + (5, 8, 1, 0),
-                       DMS + (5, 8, 1, 1), DMS + (5, 8, 1, 9, 7, 255), DMS + (5, 8, 1, 9, 7, 256), DMS + (5, 8, 1, 10), DMS + (5, 8, 2),
-                       DMS + (6, 24), DMS + (5, 8, 1, 5, 2, 1, 7), DMS + (5, 8, 1, 5, 6, 2 ** 32 - 1)]
-PAST: list[Name] = [DMS + (6, 24, 0), DMS + (6, 24, 0, 0), DMS + (6, 24, 1), DMS + (6, 25), DMS + (7,), DMS[:-1] + (4,), (1, 4), (2, 0),
-                    (2, 999), (2, 2 ** 32 - 81)]
+OUTSIDE: list[Name] = [
+    (0, 0),
+    (0, 39),
+    (1, 0),
+    (1, 3),
+    (1, 3, 6, 1, 2, 1, 1, 1, 0),
+    DMS[:-1],
+    DMS,
+    DMS + (0,),
+    DMS + (2,),
+    DMS + (2, 3),
+    DMS + (2, 2, 2**32 - 1),
+    DMS + (5,),
+    DMS + (5, 8),
+    DMS + (5, 8, 0, 9),
+    DMS + (5, 8, 1),
+    DMS + (5, 8, 1, 0),
+    DMS + (5, 8, 1, 1),
+    DMS + (5, 8, 1, 9, 7, 255),
+    DMS + (5, 8, 1, 9, 7, 256),
+    DMS + (5, 8, 1, 10),
+    DMS + (5, 8, 2),
+    DMS + (6, 24),
+    DMS + (5, 8, 1, 5, 2, 1, 7),
+    DMS + (5, 8, 1, 5, 6, 2**32 - 1),
+]
+PAST: list[Name] = [
+    DMS + (6, 24, 0),
+    DMS + (6, 24, 0, 0),
+    DMS + (6, 24, 1),
+    DMS + (6, 25),
+    DMS + (7,),
+    DMS[:-1] + (4,),
+    (1, 4),
+    (2, 0),
+    (2, 999),
+    (2, 2**32 - 81),
+]
 
 
 def blocks(context: Context) -> Iterator[Block]:
     names = Sign(context.described).instances()
     for at in range(0, len(names) - 1, 30):
-        yield Block("after every instance", "getnext", [get_next(*names[at:min(at + 30, len(names) - 1)])])
+        yield Block("after every instance", "getnext", [get_next(*names[at : min(at + 30, len(names) - 1)])])
     for name in OUTSIDE:
         yield Block("before and between", "getnext", [get_next(name), get_next(name, is_writer=False)])
     around = gaps(names)
     for at in range(0, len(around), 30):
-        yield Block("over every gap", "order", [get_next(*around[at:at + 30])])
+        yield Block("over every gap", "order", [get_next(*around[at : at + 30])])
     here = scalar(2, 3)
     for name in PAST:
-        yield Block("past the last", "getnext", [get_next(name), get_next(here, name), get_next(name, here), get_next(here, name, name)])
+        yield Block(
+            "past the last",
+            "getnext",
+            [get_next(name), get_next(here, name), get_next(name, here), get_next(here, name, name)],
+        )
     yield Block("several names", "getnext", [get_next(), get_next(here, here), get_next(*[here] * 30)])
-    yield Block("the greatest name", "getnext", [get_next((2, 5) + (2 ** 32 - 1,) * 20)])
+    yield Block("the greatest name", "getnext", [get_next((2, 5) + (2**32 - 1,) * 20)])
 
 
 CHAPTER = Chapter("getnext", "GetNext", blocks)

@@ -20,10 +20,22 @@ def against(context: Context, shown: Row, crc: int, priority: int) -> list[Step]
 def blanks(context: Context) -> Iterator[Block]:
     for number in (1, 2, 100, 128, 254, 255):
         yield Block(f"blank message {number} is shown", "priority", against(context, Row(7, number), 0, number), True)
-    low = [activate(context.blank_code(200, 255)), activate(context.blank_code(3, 200)), activate(context.blank_code(2, 2)), reports(),
-           activate(context.blank_code(2, 3)), reports()]
+    low = [
+        activate(context.blank_code(200, 255)),
+        activate(context.blank_code(3, 200)),
+        activate(context.blank_code(2, 2)),
+        reports(),
+        activate(context.blank_code(2, 3)),
+        reports(),
+    ]
     yield Block("the run-time priority counts, not the code's", "priority", low, True)
-    buffer = [activate(context.blank_code(200, 255)), activate(context.code(Row(5, 1), 0, 199)), reports(), activate(context.code(Row(5, 1), 0, 200)), reports()]
+    buffer = [
+        activate(context.blank_code(200, 255)),
+        activate(context.code(Row(5, 1), 0, 199)),
+        reports(),
+        activate(context.code(Row(5, 1), 0, 200)),
+        reports(),
+    ]
     yield Block("a code of the current buffer", "priority", buffer, True)
 
 
@@ -32,7 +44,13 @@ def order(context: Context) -> Iterator[Block]:
     shown = activate(context.blank_code(200, 255))
     for row, held in zip(context.permanent[:1], context.described.permanent):
         crc = context.crc(held.text, held.beacon, held.pixel)
-        tries = [activate(context.code(row, crc ^ 1, 5)), reports(), activate(context.code(row, crc, 5)), reports(), activate(context.code(row, crc, 200))]
+        tries = [
+            activate(context.code(row, crc ^ 1, 5)),
+            reports(),
+            activate(context.code(row, crc, 5)),
+            reports(),
+            activate(context.code(row, crc, 200)),
+        ]
         yield Block("a checksum and a priority", "priority", [shown, *tries, reports()], True)
         yield Block("a permanent message is shown", "priority", against(context, row, crc, held.priority), True)
 
@@ -40,7 +58,11 @@ def order(context: Context) -> Iterator[Block]:
 def rows(context: Context, row: Row) -> Iterator[Block]:
     text = context.character()
     for priority in (1, 120, 255):
-        steps = [*message(row, text, b"", 0, 0, priority), *against(context, row, context.crc(text), priority), *look(row)]
+        steps = [
+            *message(row, text, b"", 0, 0, priority),
+            *against(context, row, context.crc(text), priority),
+            *look(row),
+        ]
         yield Block(f"a row of priority {priority} is shown", "priority", steps, True)
 
 

@@ -7,13 +7,52 @@ from hostile import Maker
 from model import wire
 
 from ..context import ADDRESS, Context
-from ..objects import (NULL, OWN_CODES, SCALARS, SHOWN_CELLS, STATE_SCALARS, Binding, Name, Row, Value, cell, integer, octets,
-                       scalar)
+from ..objects import (
+    NULL,
+    OWN_CODES,
+    SCALARS,
+    SHOWN_CELLS,
+    STATE_SCALARS,
+    Binding,
+    Name,
+    Row,
+    Value,
+    cell,
+    integer,
+    octets,
+    scalar,
+)
 from ..steps import Ask, Raw, Step, Wait
 from .block import Block, Chapter, look
 
 LENGTH = 60  # requests of a sequence
-BOUNDS = [0, 1, 2, 3, 4, 5, 6, 7, 8, 9, 10, 11, 12, 100, 127, 128, 254, 255, 256, 65534, 65535, 65536, -1, 2 ** 31 - 1, 2 ** 32 - 1]
+BOUNDS = [
+    0,
+    1,
+    2,
+    3,
+    4,
+    5,
+    6,
+    7,
+    8,
+    9,
+    10,
+    11,
+    12,
+    100,
+    127,
+    128,
+    254,
+    255,
+    256,
+    65534,
+    65535,
+    65536,
+    -1,
+    2**31 - 1,
+    2**32 - 1,
+]
 TAGS = [wire.INTEGER, wire.OCTETS, wire.NULL, wire.ADDRESS, wire.COUNTER, wire.OPAQUE, wire.NAME]
 
 
@@ -29,13 +68,21 @@ class Requests:
         self.held: dict[Row, tuple[bytes, int, int]] = {}
         one = context.character()
         bad = [b"[zz]", b"[nl10]", one + b"[", b"[fo255]", one * 200, b"[jl4]" + one + b"[jl2]"]
-        good = [b"", one, one * 2, one + b"[nl]" + context.character(1), one + b"[np]" + one, b"[jp2]" + one, b"[fl]" + one]
+        good = [
+            b"",
+            one,
+            one * 2,
+            one + b"[nl]" + context.character(1),
+            one + b"[np]" + one,
+            b"[jp2]" + one,
+            b"[fl]" + one,
+        ]
         self.texts = good + bad
 
     def one_of(self, choices: list) -> object:
         return self.chance.choice(choices)
 
-    # --- names and values -------------------------------------------------------------------------------------------------
+    # --- names and values ------------------------------------------------------------------------------------
 
     def name(self) -> Name:
         draw = self.chance.random()
@@ -47,8 +94,14 @@ class Requests:
             return self.chance.choice(self.rows).cell(self.chance.randint(1, 9))
         if draw < 0.93:
             return scalar(*self.chance.choice(list(SCALARS)))
-        near = self.chance.choice([cell(self.chance.randint(0, 10), self.chance.randint(1, 8), self.chance.choice([0, 1, 2, 255, 256])),
-                                   scalar(self.chance.randint(1, 7), self.chance.randint(0, 25)), scalar(4, 1)[:-1], scalar(6, 3) + (1,)])
+        near = self.chance.choice(
+            [
+                cell(self.chance.randint(0, 10), self.chance.randint(1, 8), self.chance.choice([0, 1, 2, 255, 256])),
+                scalar(self.chance.randint(1, 7), self.chance.randint(0, 25)),
+                scalar(4, 1)[:-1],
+                scalar(6, 3) + (1,),
+            ]
+        )
         return near
 
     def wild(self) -> Value:
@@ -60,11 +113,15 @@ class Requests:
             return tag, self.chance.choice([0, 1, 255])
         if tag == wire.NAME:
             return tag, (1, 3, 6)
-        return tag, b"" if tag == wire.NULL else self.chance.randbytes(4 if tag == wire.ADDRESS else self.chance.choice([0, 1, 5, 12]))
+        return tag, b"" if tag == wire.NULL else self.chance.randbytes(
+            4 if tag == wire.ADDRESS else self.chance.choice([0, 1, 5, 12])
+        )
 
     def setting(self) -> Binding:
         """A scalar that may be written, with a value that may fit."""
-        place = self.chance.choice([*[(4, member) for member in range(1, 10)], *[(6, member) for member in OWN_CODES], (6, 10)])
+        place = self.chance.choice(
+            [*[(4, member) for member in range(1, 10)], *[(6, member) for member in OWN_CODES], (6, 10)]
+        )
         if self.chance.random() < 0.08:
             return scalar(*place), self.wild()
         if place[0] == 6 and place[1] in OWN_CODES:
@@ -123,7 +180,7 @@ class Requests:
         minutes = self.chance.choice([65535] * 4 + [0, 1, 2, 65534])
         return self.context.code(row, crc, priority, minutes, self.chance.choice([ADDRESS, bytes(4)]))
 
-    # --- requests ---------------------------------------------------------------------------------------------------------
+    # --- requests --------------------------------------------------------------------------------------------
 
     def read(self) -> Ask:
         names = [self.name() for _ in range(self.chance.choice([1, 1, 1, 2, 3, 10]))]
@@ -141,7 +198,9 @@ class Requests:
         if draw < 0.35 and self.rows:
             return self.field(self.chance.choice(self.rows))
         if draw < 0.65 and self.rows:
-            return self.chance.choice(self.rows).status(self.chance.choice([6, 6, 6, 7, 7, 8, self.chance.choice([5, 9])]))
+            return self.chance.choice(self.rows).status(
+                self.chance.choice([6, 6, 6, 7, 7, 8, self.chance.choice([5, 9])])
+            )
         if draw < 0.80:
             return scalar(6, 3), octets(self.code())
         if draw < 0.84:
@@ -152,7 +211,7 @@ class Requests:
 
     def hostile(self) -> Raw:
         """Octets of tools/hostile.py, with a request number of this run."""
-        state = self.chance.randrange(2 ** 32)
+        state = self.chance.randrange(2**32)
 
         def make(number: int, _: tuple[bytes, bytes]) -> bytes:
             self.maker.random.seed(state)
@@ -161,6 +220,7 @@ class Requests:
             for _ in range(self.maker.one([0, 0, 1, 1, 2])):
                 made = self.maker.changed(made)
             return made
+
         return Raw(make)
 
     def step(self) -> Step:
@@ -180,9 +240,16 @@ class Requests:
         row, text = self.chance.choice(self.rows), self.chance.choice(self.texts)
         beacon, priority = self.chance.choice([0, 0, 1]), self.chance.choice([1, 100, 255])
         self.held[row] = (text, beacon, 0)
-        code = self.context.code(row, self.context.crc(text, beacon, 0), self.chance.choice([255, 100]), self.chance.choice([65535, 0, 1]))
-        return [Ask(wire.SET, (row.status(6),)), Ask(wire.SET, (row.text(text), row.beacon(beacon), row.priority(priority))),
-                Ask(wire.SET, (row.status(7),)), Wait(1), Ask(wire.SET, ((scalar(6, 3), octets(code)),))]
+        code = self.context.code(
+            row, self.context.crc(text, beacon, 0), self.chance.choice([255, 100]), self.chance.choice([65535, 0, 1])
+        )
+        return [
+            Ask(wire.SET, (row.status(6),)),
+            Ask(wire.SET, (row.text(text), row.beacon(beacon), row.priority(priority))),
+            Ask(wire.SET, (row.status(7),)),
+            Wait(1),
+            Ask(wire.SET, ((scalar(6, 3), octets(code)),)),
+        ]
 
     def sequence(self, length: int) -> list[Step]:
         steps: list[Step] = []

@@ -19,21 +19,56 @@ def again(ask: Ask, times: int = 2) -> list[Step]:
 
 
 def blocks(context: Context) -> Iterator[Block]:
-    for ask in (get(scalar(2, 3)), get_next(scalar(2, 3)), get(scalar(2, 5)), put((scalar(4, 8), integer(9))), put((scalar(4, 8), integer(256)))):
+    for ask in (
+        get(scalar(2, 3)),
+        get_next(scalar(2, 3)),
+        get(scalar(2, 5)),
+        put((scalar(4, 8), integer(9))),
+        put((scalar(4, 8), integer(256))),
+    ):
         yield Block("a request repeated", "repeated", [*again(ask, 3), look_at(scalar(4, 8))])
     first, second = again(put((scalar(4, 8), integer(1))))[0], again(put((scalar(4, 8), integer(2))))[0]
-    yield Block("an earlier request comes late", "repeated", [first, second, look_at(scalar(4, 8)), first, look_at(scalar(4, 8))], True)
+    yield Block(
+        "an earlier request comes late",
+        "repeated",
+        [first, second, look_at(scalar(4, 8)), first, look_at(scalar(4, 8))],
+        True,
+    )
     blank, refused = activate(context.blank_code(5, 255)), activate(context.code(Row(9, 1), 0x77))
     low, high = again(activate(context.blank_code(3, 3)))[0], again(activate(context.blank_code(9, 255)))[0]
-    yield Block("an activation repeated", "repeated", [*again(blank), *look(), *again(refused), *look(), *again(blank), *look()], True)
+    yield Block(
+        "an activation repeated",
+        "repeated",
+        [*again(blank), *look(), *again(refused), *look(), *again(blank), *look()],
+        True,
+    )
     yield Block("an activation that comes late", "repeated", [low, high, low, *look()], True)
-    yield Block("0 minutes repeated", "repeated", [put((scalar(6, 15), octets(b"\7\0\7\0\0"))), *again(put(remaining(0))), *look()], True)
+    yield Block(
+        "0 minutes repeated",
+        "repeated",
+        [put((scalar(6, 15), octets(b"\7\0\7\0\0"))), *again(put(remaining(0))), *look()],
+        True,
+    )
     for row in context.rows[:1]:
         filled = fill(row, context.character())
         validate = again(put(row.status(7)))
-        yield Block("a publication out of order", "repeated", [filled, *again(put(row.status(7))), *again(modify(row)), *look(row)], True)
-        yield Block("commands of a row repeated", "repeated", [*again(modify(row)), *again(filled), Wait(0), *validate, Wait(1), *look(row)], True)
-        yield Block("a validation that comes late", "repeated", [validate[0], look_at(row.cell(9)), *again(unuse(row)), validate[0], *look(row)])
+        yield Block(
+            "a publication out of order",
+            "repeated",
+            [filled, *again(put(row.status(7))), *again(modify(row)), *look(row)],
+            True,
+        )
+        yield Block(
+            "commands of a row repeated",
+            "repeated",
+            [*again(modify(row)), *again(filled), Wait(0), *validate, Wait(1), *look(row)],
+            True,
+        )
+        yield Block(
+            "a validation that comes late",
+            "repeated",
+            [validate[0], look_at(row.cell(9)), *again(unuse(row)), validate[0], *look(row)],
+        )
 
 
 CHAPTER = Chapter("repeated", "Repeated and out of order", blocks)

@@ -32,22 +32,38 @@ def transitions(context: Context, row: Row) -> Iterator[Block]:
     asks = {value: put(row.status(value)) for value in (6, 7, 8)}
     for status in (1, 2):
         for value, ask in asks.items():
-            yield Block(f"status {status} asked {value}", "statuses", [*reaching(context, row, status), ask, *look(row)], True)
-        yield Block(f"status {status}: fields", "fields", [*reaching(context, row, status), *writes(row), *look(row)], True)
+            yield Block(
+                f"status {status} asked {value}", "statuses", [*reaching(context, row, status), ask, *look(row)], True
+            )
+        yield Block(
+            f"status {status}: fields", "fields", [*reaching(context, row, status), *writes(row), *look(row)], True
+        )
     refused = [step for ask in (*asks.values(), *writes(row)) for step in (ask, look_at(row.cell(9)))]
     yield Block("status 3 asked and written", "statuses", [*reaching(context, row, 3), *refused, *look(row)], True)
     for status in (4, 5):
         steps = [*reaching(context, row, status), *writes(row), *look(row), asks[6], *look(row)]
         yield Block(f"status {status}: fields, asked 6", "statuses", steps, True)
         for value in (7, 8):
-            yield Block(f"status {status} asked {value}", "statuses", [*reaching(context, row, status), asks[value], *look(row)], True)
+            yield Block(
+                f"status {status} asked {value}",
+                "statuses",
+                [*reaching(context, row, status), asks[value], *look(row)],
+                True,
+            )
 
 
 def two_rows(context: Context, row: Row, other: Row) -> Iterator[Block]:
     text = context.character()
     begun: list[Step] = [modify(row), fill(row, text), modify(other), fill(other, text), Wait(0), validate(row)]
-    tried = [put(other.status(7)), look_at(row.cell(9), other.cell(9)), put(other.status(6)), put(other.status(8)), look_at(other.cell(9)),
-             Wait(1), *look(row, other)]
+    tried = [
+        put(other.status(7)),
+        look_at(row.cell(9), other.cell(9)),
+        put(other.status(6)),
+        put(other.status(8)),
+        look_at(other.cell(9)),
+        Wait(1),
+        *look(row, other),
+    ]
     yield Block("one row validates", "one validates", [*begun, *tried], True)
     yield Block("one after the other", "one validates", [*begun, Wait(1), *settle(other), *look(row, other)], True)
 
@@ -55,9 +71,18 @@ def two_rows(context: Context, row: Row, other: Row) -> Iterator[Block]:
 def emptied(context: Context, row: Row) -> Iterator[Block]:
     filled = [modify(row), fill(row, b"A" * 20, b"owner", 1, 1, 200)]
     yield Block("a row that is emptied", "emptied", [*filled, unuse(row), *look(row, rule="emptied")], True)
-    yield Block("a row that begins anew", "emptied", [*filled, unuse(row), modify(row), *look(row, rule="emptied")], True)
+    yield Block(
+        "a row that begins anew", "emptied", [*filled, unuse(row), modify(row), *look(row, rule="emptied")], True
+    )
     yield Block("a row that is modified keeps its fields", "statuses", [*filled, modify(row), *look(row)], True)
-    kept = [*message(row, context.character(), b"me", 0, 0, 50), *look(row), modify(row), *look(row), put(row.owner(b"you")), *look(row)]
+    kept = [
+        *message(row, context.character(), b"me", 0, 0, 50),
+        *look(row),
+        modify(row),
+        *look(row),
+        put(row.owner(b"you")),
+        *look(row),
+    ]
     yield Block("a valid row that is modified", "statuses", kept, True)
 
 
@@ -77,7 +102,12 @@ def settling(context: Context, row: Row) -> Iterator[Block]:
     text = context.character()
     at_once: list[Step] = [modify(row), fill(row, text), Wait(0), validate(row), *look(row), Wait(1), *look(row)]
     yield Block("a row settles at a tick", "settled", at_once, True)
-    yield Block("nothing settles twice", "settled", [*message(row, BAD_TEXT), *look(row), Wait(1), *look(row), modify(row), *look(row)], True)
+    yield Block(
+        "nothing settles twice",
+        "settled",
+        [*message(row, BAD_TEXT), *look(row), Wait(1), *look(row), modify(row), *look(row)],
+        True,
+    )
 
 
 def blocks(context: Context) -> Iterator[Block]:

@@ -22,8 +22,10 @@ def begun(context: Context, code: bytes, minutes: int = 1) -> list[Step]:
 
 def dropped(community: bytes) -> Raw:
     """A Get that is not answered, and nothing after it."""
+
     def make(number: int, _: tuple[bytes, bytes]) -> bytes:
         return wire.written(wire.Message(wire.GET, community, number, 0, 0, [(scalar(2, 3), NULL)]))
+
     return Raw(make, is_quiet=True)
 
 
@@ -31,18 +33,42 @@ def blocks(context: Context) -> Iterator[Block]:
     blank = context.message_code(Row(7, 7), 0)
     short: list[Step] = [*begun(context, blank), Wait(59), reports(), Wait(59), reports(), Wait(60), reports(), *look()]
     yield Block("a minute of silence", "silence", short, True)
-    yield Block("a datagram that is dropped is silence", "heard", [*begun(context, blank), Wait(30), dropped(b"nobody"), Wait(30), *look()], True)
+    yield Block(
+        "a datagram that is dropped is silence",
+        "heard",
+        [*begun(context, blank), Wait(30), dropped(b"nobody"), Wait(30), *look()],
+        True,
+    )
     refused = Ask(wire.SET, ((scalar(2, 3), integer(1)),))
-    yield Block("an error is no silence", "heard", [*begun(context, blank), Wait(30), refused, Wait(59), reports(), Wait(60), reports()], True)
+    yield Block(
+        "an error is no silence",
+        "heard",
+        [*begun(context, blank), Wait(30), refused, Wait(59), reports(), Wait(60), reports()],
+        True,
+    )
     reader = get(scalar(2, 3), is_writer=False)
-    yield Block("the reader is no silence", "heard", [*begun(context, blank), Wait(30), reader, Wait(59), reports()], True)
+    yield Block(
+        "the reader is no silence", "heard", [*begun(context, blank), Wait(30), reader, Wait(59), reports()], True
+    )
     yield Block("a code that is refused", "own refused", [*begun(context, b"\6\0\1\0\0"), Wait(60), *look()], True)
-    yield Block("a code of the current buffer", "own current", [*begun(context, b"\5\0\1\0\0"), Wait(60), *look()], True)
-    yield Block("a silence acts once", "silence once", [*begun(context, blank), Wait(60), reports(), Wait(60), reports(), Wait(30), reports()], True)
+    yield Block(
+        "a code of the current buffer", "own current", [*begun(context, b"\5\0\1\0\0"), Wait(60), *look()], True
+    )
+    yield Block(
+        "a silence acts once",
+        "silence once",
+        [*begun(context, blank), Wait(60), reports(), Wait(60), reports(), Wait(30), reports()],
+        True,
+    )
     yield Block("two minutes", "silence", [*begun(context, blank, 2), Wait(119), reports(), Wait(120), reports()], True)
     yield Block("no limit", "silence", [*begun(context, blank, 0), Wait(125), *look()], True)
-    ends: list[Step] = [put((scalar(6, 15), octets(blank)), (scalar(6, 12), octets(b"\5\0\1\0\0"))), Wait(1),
-                        put((scalar(6, 3), octets(context.blank_code(200, 255, 1))), limit(1)), Wait(60), *look()]
+    ends: list[Step] = [
+        put((scalar(6, 15), octets(blank)), (scalar(6, 12), octets(b"\5\0\1\0\0"))),
+        Wait(1),
+        put((scalar(6, 3), octets(context.blank_code(200, 255, 1))), limit(1)),
+        Wait(60),
+        *look(),
+    ]
     yield Block("an end and a silence at one tick", "silence", ends, True)
 
 

@@ -26,7 +26,12 @@ def owner_for(context: Context, row: Row, total: int) -> tuple[list[Name], bytes
     for fillers in range(40):
         for length in range(128):
             owner = b"o" * length
-            held = [(row.cell(3), text), (row.cell(3), text), (row.cell(4), octets(owner)), *[(FILLER, filler)] * fillers]
+            held = [
+                (row.cell(3), text),
+                (row.cell(3), text),
+                (row.cell(4), octets(owner)),
+                *[(FILLER, filler)] * fillers,
+            ]
             reached = size(context, held)
             if reached == total:
                 return [name for name, _ in held], owner
@@ -51,8 +56,17 @@ def reads(context: Context, row: Row) -> Iterator[Block]:
         yield Block(f"a Get of {total} octets", "too big", [*prepared, get(*names)], True)
         yield Block(f"a GetNext of {total} octets", "too big", [*prepared, get_next(*map(before, names))], True)
     full: list[Step] = [modify(row), put(row.text(text))]
-    yield Block("far too big", "too big", [*full, get(*[row.cell(3)] * 3), get(*[row.cell(3)] * 60), get(*[row.cell(3)] * 2)], True)
-    yield Block("an error before it is too big", "error reply", [get(*[row.cell(3)] * 3, scalar(2, 5)), get(scalar(2, 5), *[row.cell(3)] * 3)])
+    yield Block(
+        "far too big",
+        "too big",
+        [*full, get(*[row.cell(3)] * 3), get(*[row.cell(3)] * 60), get(*[row.cell(3)] * 2)],
+        True,
+    )
+    yield Block(
+        "an error before it is too big",
+        "error reply",
+        [get(*[row.cell(3)] * 3, scalar(2, 5)), get(scalar(2, 5), *[row.cell(3)] * 3)],
+    )
 
 
 def filled(kind: int, name: Name, total: int, context: Context) -> Ask:
@@ -65,12 +79,24 @@ def requests(context: Context) -> Iterator[Block]:
     """Requests as long as a datagram may be; the answers repeat them or are too big."""
     nowhere, here = scalar(2, 5), scalar(2, 3)
     for kind in (wire.GET, wire.GET_NEXT, wire.SET):
-        yield Block("an error of the greatest size", "never too big", [filled(kind, nowhere, MOST, context), filled(kind, nowhere, MOST - 1, context)])
-    yield Block("a read that shrinks", "too big", [filled(wire.GET, here, MOST, context), filled(wire.GET_NEXT, here, MOST, context)])
+        yield Block(
+            "an error of the greatest size",
+            "never too big",
+            [filled(kind, nowhere, MOST, context), filled(kind, nowhere, MOST - 1, context)],
+        )
+    yield Block(
+        "a read that shrinks",
+        "too big",
+        [filled(wire.GET, here, MOST, context), filled(wire.GET_NEXT, here, MOST, context)],
+    )
     many: list[Binding] = []
     while size(context, [*many, (here, NULL)]) <= MOST:
         many.append((here, NULL))
-    yield Block("as many names as there is room for", "too big", [Ask(wire.GET, tuple(many)), Ask(wire.GET_NEXT, tuple(many)), Ask(wire.GET, tuple(many[:-8]))])
+    yield Block(
+        "as many names as there is room for",
+        "too big",
+        [Ask(wire.GET, tuple(many)), Ask(wire.GET_NEXT, tuple(many)), Ask(wire.GET, tuple(many[:-8]))],
+    )
 
 
 def writes(context: Context, row: Row) -> Iterator[Block]:
@@ -78,13 +104,20 @@ def writes(context: Context, row: Row) -> Iterator[Block]:
     text = b"A" * 512
     rest = MOST - size(context, [row.text(text), row.owner(b"")])
     owner = row.owner(b"o" * min(127, max(0, rest - 4)))
-    yield Block("a SET of the greatest size", "never too big", [modify(row), put(row.text(text), owner), *look(row)], True)
+    yield Block(
+        "a SET of the greatest size", "never too big", [modify(row), put(row.text(text), owner), *look(row)], True
+    )
     numbers = [(scalar(4, 8), (2, 77)), (scalar(4, 9), (2, 78)), (scalar(6, 10), (2, 79))]
     both = [row.text(text)]
     other = next((more for more in context.rows if more != row), None)
     if other is not None:
         both += [other.text(text)]
-    yield Block("a SET of two texts", "never too big", [modify(row), *([modify(other)] if other else []), put(*both, *numbers), *look(row)], True)
+    yield Block(
+        "a SET of two texts",
+        "never too big",
+        [modify(row), *([modify(other)] if other else []), put(*both, *numbers), *look(row)],
+        True,
+    )
 
 
 def blocks(context: Context) -> Iterator[Block]:

@@ -21,13 +21,22 @@ def verdicts(context: Context, row: Row) -> Iterator[Block]:
     for beacon, pixel, text in ((1, 0, b""), (0, 1, b""), (1, 1, b""), (1, 1, bad), (0, 1, bad)):
         name = f"beacon {beacon}, pixel service {pixel}" + (", a fault" if text else "")
         yield Block(name, "verdicts", [*judged(row, text, beacon, pixel), *look(row)])
-    yield Block("a fault, then none", "no fault", [*judged(row, bad), *judged(row, context.character(), 0, 0), *look(row)])
+    yield Block(
+        "a fault, then none", "no fault", [*judged(row, bad), *judged(row, context.character(), 0, 0), *look(row)]
+    )
 
 
 def rule_of(context: Context, text: bytes, rule: str) -> str:
     """A text whose fault is another than the one it was made for breaks the general rule."""
     fault = context.fault(text)
-    codes = {"fonts": (6, 13), "characters": (7,), "room": (5,), "line parts": (11,), "page parts": (11, 5), "pages": (12, 5)}
+    codes = {
+        "fonts": (6, 13),
+        "characters": (7,),
+        "room": (5,),
+        "line parts": (11,),
+        "page parts": (11, 5),
+        "pages": (12, 5),
+    }
     return rule if fault is None or rule not in codes or fault[0] in codes[rule] else "layout"
 
 

@@ -1,1 +1,1 @@
-"""Signs that are wrong in one rule each, made from tools/model by one edit each, to see whether the tester finds them."""
+"""Signs wrong in one rule each, made from tools/model by one edit each, to see whether the tester finds them."""

@@ -1,4 +1,4 @@
-"""Whether the tester finds the wrong signs: python3 -m conform.mutants [--only NAME] [--sign FILE] [--signtool PATH] [--jobs N]
+"""Whether the tester finds the wrong signs: python3 -m conform.mutants [--only NAME] [--sign FILE] [--jobs N]
 
 A line for each that is not found as it should be, with --loud for each at all; last `N passed, N failed`.
 """
@@ -35,7 +35,7 @@ def tried(mutant: Mutant, description: bytes, program: str, most: int = 1) -> Ou
     oracle = made(program, description)
     sign = sign_of(mutant, description)
     try:
-        session = bench.session(description, sign, oracle, requests=400, is_slow=True, most_differences=most)  # type: ignore[arg-type]
+        session = bench.session(description, sign, oracle, requests=400, is_slow=True, most_differences=most)
         found = bench.run(session).differences()
     finally:
         oracle.end()
@@ -45,12 +45,15 @@ def tried(mutant: Mutant, description: bytes, program: str, most: int = 1) -> Ou
         return Outcome(mutant.name, False, f"{wanted}: nothing differs")
     first = found[0]
     good = first.rule.chapter == wanted and first.datagrams <= MOST_DATAGRAMS and first.is_repeated
-    said = f"{wanted} ({mutant.rule}): found as {first.rule.chapter} ({first.rule.key}), {first.title}, {first.datagrams} datagrams"
+    found_as = f"found as {first.rule.chapter} ({first.rule.key}), {first.title}, {first.datagrams} datagrams"
+    said = f"{wanted} ({mutant.rule}): {found_as}"
     return Outcome(mutant.name, good, said)
 
 
 def main() -> int:
-    words = argparse.ArgumentParser(prog="python3 -m conform.mutants", description="whether the tester finds the wrong signs")
+    words = argparse.ArgumentParser(
+        prog="python3 -m conform.mutants", description="whether the tester finds the wrong signs"
+    )
     words.add_argument("--only", action="append", default=[])
     words.add_argument("--sign", type=pathlib.Path, help="a description; else the bench sign")
     words.add_argument("--signtool", default="model", help="the program that is the oracle; else the model")

@@ -8,13 +8,17 @@ from dataclasses import dataclass
 from model.sign import Description
 
 from .. import TOP
+from ..simulated import SomeSign
 
 FOLDER = TOP / "tools/model"
 
 
 @dataclass(frozen=True)
 class Mutant:
-    """A sign wrong in one rule: in this file the old text, which stands once, is the new one. `rule` is a key of rules.py."""
+    """A sign wrong in one rule: in this file the old lines, which stand once, are the new ones.
+
+    `rule` is a key of rules.py.
+    """
 
     name: str
     rule: str
@@ -27,9 +31,10 @@ class Mutant:
 def edited(mutant: Mutant) -> str:
     """The text of the mutant's file."""
     source = (FOLDER / mutant.file).read_text(encoding="utf-8")
-    if source.count(mutant.old) != 1:
-        raise ValueError(f"{mutant.name}: {mutant.old!r} stands {source.count(mutant.old)} times in {mutant.file}")
-    return source.replace(mutant.old, mutant.new)
+    count = ("\n" + source).count("\n" + mutant.old)
+    if count != 1:
+        raise ValueError(f"{mutant.name}: {mutant.old!r} stands {count} times in {mutant.file}")
+    return ("\n" + source).replace("\n" + mutant.old, "\n" + mutant.new)[1:]
 
 
 def module_of(package: str, stem: str, source: str) -> None:
@@ -41,7 +46,7 @@ def module_of(package: str, stem: str, source: str) -> None:
     setattr(sys.modules[package], stem, module)
 
 
-def sign_of(mutant: Mutant, description: bytes) -> object:
+def sign_of(mutant: Mutant, description: bytes) -> SomeSign:
     """The wrong sign, as it begins."""
     package = f"mutant_{mutant.name}"
     holder = types.ModuleType(package)
@@ -52,9 +57,12 @@ def sign_of(mutant: Mutant, description: bytes) -> object:
         module_of(package, stem, held)
     modules = sys.modules
     described: Description = modules[f"{package}.text"].described(description)
-    return modules[f"{package}.sign"].Sign(described)
+    sign: SomeSign = modules[f"{package}.sign"].Sign(described)
+    return sign
 
 
 def unload(mutant: Mutant) -> None:
-    for name in [name for name in sys.modules if name == f"mutant_{mutant.name}" or name.startswith(f"mutant_{mutant.name}.")]:
+    for name in [
+        name for name in sys.modules if name == f"mutant_{mutant.name}" or name.startswith(f"mutant_{mutant.name}.")
+    ]:
         del sys.modules[name]

@@ -12,23 +12,63 @@ from .words import About, how_sure, origin, sequence, verdict
 
 def as_json(results: Results, about: About, not_tested: list[str]) -> str:
     """The report as one JSON object."""
-    chapters = [{"name": held.chapter.name, "title": held.chapter.title, "cases": held.blocks, "requests": held.requests,
-                 "seconds": round(held.seconds, 3), "not_told": held.untold, "differences": len(held.differences)} for held in results.chapters]
-    whole = {"verdict": verdict(results), "clean": results.is_clean(), "to": about.to, "sign": about.sign, "oracle": about.oracle, "when": about.when,
-             "seed": about.seed, "configuration": [{"object": name, "described": described, "read": read} for name, described, read in results.configuration],
-             "chapters": chapters, "differences": [one(difference, about) for difference in results.differences()], "not_tested": not_tested}
+    chapters = [
+        {
+            "name": held.chapter.name,
+            "title": held.chapter.title,
+            "cases": held.blocks,
+            "requests": held.requests,
+            "seconds": round(held.seconds, 3),
+            "not_told": held.untold,
+            "differences": len(held.differences),
+        }
+        for held in results.chapters
+    ]
+    whole = {
+        "verdict": verdict(results),
+        "clean": results.is_clean(),
+        "to": about.to,
+        "sign": about.sign,
+        "oracle": about.oracle,
+        "when": about.when,
+        "seed": about.seed,
+        "configuration": [
+            {"object": name, "described": described, "read": read} for name, described, read in results.configuration
+        ],
+        "chapters": chapters,
+        "differences": [one(difference, about) for difference in results.differences()],
+        "not_tested": not_tested,
+    }
     return json.dumps(whole, indent=1) + "\n"
 
 
 def one(difference: Difference, about: About) -> dict[str, Any]:
     ours, theirs = difference.sides()
-    rule = {"key": difference.rule.key, "heading": difference.rule.heading, "sentence": difference.rule.sentence, "own": difference.rule.own}
-    return {"chapter": difference.rule.chapter, "found_in": difference.found_in, "class": difference.mismatch.kind.value, "title": difference.title,
-            "rule": rule, "origin": origin(difference), "datagrams": difference.datagrams, "sequence": [
-                {"octets": octets, "fields": lines} if octets else {"wait": lines[0]} for octets, lines in sequence(difference)],
-            "ours": {"octets": difference.ours.hex() if difference.ours else None, "fields": ours},
-            "theirs": {"octets": difference.theirs.hex() if difference.theirs else None, "fields": theirs},
-            "repeated": difference.is_repeated, "note": how_sure(difference), "alike": difference.alike, "command": about.command(difference)}
+    rule = {
+        "key": difference.rule.key,
+        "heading": difference.rule.heading,
+        "sentence": difference.rule.sentence,
+        "own": difference.rule.own,
+    }
+    return {
+        "chapter": difference.rule.chapter,
+        "found_in": difference.found_in,
+        "class": difference.mismatch.kind.value,
+        "title": difference.title,
+        "rule": rule,
+        "origin": origin(difference),
+        "datagrams": difference.datagrams,
+        "sequence": [
+            {"octets": octets, "fields": lines} if octets else {"wait": lines[0]}
+            for octets, lines in sequence(difference)
+        ],
+        "ours": {"octets": difference.ours.hex() if difference.ours else None, "fields": ours},
+        "theirs": {"octets": difference.theirs.hex() if difference.theirs else None, "fields": theirs},
+        "repeated": difference.is_repeated,
+        "note": how_sure(difference),
+        "alike": difference.alike,
+        "command": about.command(difference),
+    }
 
 
 def as_junit(results: Results, about: About) -> str:
@@ -39,7 +79,14 @@ def as_junit(results: Results, about: About) -> str:
     names = list(dict.fromkeys(["before", *[held.chapter.name for held in results.chapters], *by_chapter]))
     seconds = {held.chapter.name: held.seconds for held in results.chapters}
     failures = sum(name in by_chapter for name in names) + results.is_silent
-    suite = ET.Element("testsuite", name="conform", tests=str(len(names)), failures=str(failures), errors="0", time=f"{sum(seconds.values()):.3f}")
+    suite = ET.Element(
+        "testsuite",
+        name="conform",
+        tests=str(len(names)),
+        failures=str(failures),
+        errors="0",
+        time=f"{sum(seconds.values()):.3f}",
+    )
     for name in names:
         case = ET.SubElement(suite, "testcase", classname="conform", name=name, time=f"{seconds.get(name, 0):.3f}")
         for number, difference in enumerate(by_chapter.get(name, []), 1):

@@ -29,8 +29,14 @@ def quoted(text: str) -> str:
 
 
 def chapter_row(result: ChapterResult) -> str:
-    told = f'<span class="verdict bad">{len(result.differences)} differ</span>' if result.differences else "nothing differs"
-    numbers = "".join(f'<td class="number">{value}</td>' for value in (result.blocks, result.requests, f"{result.seconds:.1f} s"))
+    told = (
+        f'<span class="verdict bad">{len(result.differences)} differ</span>'
+        if result.differences
+        else "nothing differs"
+    )
+    numbers = "".join(
+        f'<td class="number">{value}</td>' for value in (result.blocks, result.requests, f"{result.seconds:.1f} s")
+    )
     untold = f" ({result.untold} not told)" if result.untold else ""
     return f"<tr><td>{quoted(result.chapter.title)}</td>{numbers}<td>{told}{untold}</td></tr>"
 
@@ -59,18 +65,23 @@ def article(number: int, difference: Difference, about: About) -> str:
     ours, theirs = difference.sides()
     sure = how_sure(difference)
     note = f'<p class="small">{quoted(sure)}</p>' if sure else ""
-    return (f"<article><h3>{number}. {quoted(difference.title)}</h3>"
-            f'<p class="small">chapter {quoted(difference.rule.chapter)} &middot; rule {quoted(origin(difference))}</p>'
-            f"<p><b>{quoted(difference.rule.heading)}</b></p><blockquote>{quoted(difference.rule.sentence)}</blockquote>{note}"
-            f"<p>From the known state:</p>{steps(difference)}"
-            f'<div class="sides">{reply("Our sign", ours, theirs, difference.ours)}{reply("This sign", theirs, ours, difference.theirs)}</div>'
-            f"{drawn(difference)}<p>Again:</p><pre>{quoted(about.command(difference))}</pre></article>")
+    return (
+        f"<article><h3>{number}. {quoted(difference.title)}</h3>"
+        f'<p class="small">chapter {quoted(difference.rule.chapter)} &middot; rule {quoted(origin(difference))}</p>'
+        f"<p><b>{quoted(difference.rule.heading)}</b></p><blockquote>{quoted(difference.rule.sentence)}</blockquote>{note}"
+        f"<p>From the known state:</p>{steps(difference)}"
+        f'<div class="sides">{reply("Our sign", ours, theirs, difference.ours)}{reply("This sign", theirs, ours, difference.theirs)}</div>'
+        f"{drawn(difference)}<p>Again:</p><pre>{quoted(about.command(difference))}</pre></article>"
+    )
 
 
 def configuration(results: Results) -> str:
     if not results.configuration:
         return ""
-    rows = "".join(f"<tr><td>{quoted(name)}</td><td>{quoted(described)}</td><td>{quoted(read)}</td></tr>" for name, described, read in results.configuration)
+    rows = "".join(
+        f"<tr><td>{quoted(name)}</td><td>{quoted(described)}</td><td>{quoted(read)}</td></tr>"
+        for name, described, read in results.configuration
+    )
     return f"<h2>Described otherwise</h2><table><tr><th>object</th><th>described</th><th>read</th></tr>{rows}</table>"
 
 
@@ -81,7 +92,9 @@ def as_html(results: Results, about: About, not_tested: list[str]) -> str:
     articles = "".join(article(number, difference, about) for number, difference in enumerate(results.differences(), 1))
     left_out = "".join(f"<li>{quoted(line)}</li>" for line in not_tested)
     facts = f"sign at {about.to}, described by {about.sign}; oracle {about.oracle}; seed {about.seed}; {about.when}"
-    return (f'<!doctype html><html lang="en"><meta charset="utf-8"><title>conform: {quoted(about.to)}</title><style>{STYLE}</style><main>'
-            f'<h1>A sign beside the profile</h1><p class="facts">{quoted(facts)}</p><p><span class="verdict {kind}">{quoted(verdict(results))}</span></p>'
-            f"{configuration(results)}<h2>Chapters</h2><table><tr><th>chapter</th><th>cases</th><th>requests</th><th>time</th><th></th></tr>{rows}</table>"
-            f"<h2>Differences</h2>{articles or '<p>None.</p>'}<h2>Not tested</h2><ul>{left_out}</ul></main></html>\n")
+    return (
+        f'<!doctype html><html lang="en"><meta charset="utf-8"><title>conform: {quoted(about.to)}</title><style>{STYLE}</style><main>'
+        f'<h1>A sign beside the profile</h1><p class="facts">{quoted(facts)}</p><p><span class="verdict {kind}">{quoted(verdict(results))}</span></p>'
+        f"{configuration(results)}<h2>Chapters</h2><table><tr><th>chapter</th><th>cases</th><th>requests</th><th>time</th><th></th></tr>{rows}</table>"
+        f"<h2>Differences</h2>{articles or '<p>None.</p>'}<h2>Not tested</h2><ul>{left_out}</ul></main></html>\n"
+    )

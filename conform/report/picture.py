@@ -36,7 +36,7 @@ def pictures(difference: Difference, context: Context, oracle: Oracle) -> list[t
     fault = context.fault(text)
     if fault is None:
         return []
-    front = oracle.pages(text[:fault[1]]) if fault[1] else []
+    front = oracle.pages(text[: fault[1]]) if fault[1] else []
     caption = f"{spelled}: our sign refuses it with code {fault[0]} at octet {fault[1]}"
     return [(caption + (", and draws what stands before" if front else ""), front)]
 
@@ -59,6 +59,12 @@ def svg(rows: list[str]) -> str:
     for y, row in enumerate(rows):
         for x, cell in enumerate(row):
             dots["dark" if cell == "." else cell] += f"M{LAMP * x + 2},{LAMP * y + 2}h0"
-    paths = "".join(f'<path d="{path}" stroke="{"#2a2a2a" if name == "dark" else SHADES[int(name)]}"/>' for name, path in dots.items() if path)
-    return (f'<svg viewBox="0 0 {width} {height}" width="{min(2 * width, 1000)}" xmlns="http://www.w3.org/2000/svg" role="img">'
-            f'<rect width="{width}" height="{height}" fill="#101010"/><g fill="none" stroke-width="3" stroke-linecap="round">{paths}</g></svg>')
+    paths = "".join(
+        f'<path d="{path}" stroke="{"#2a2a2a" if name == "dark" else SHADES[int(name)]}"/>'
+        for name, path in dots.items()
+        if path
+    )
+    return (
+        f'<svg viewBox="0 0 {width} {height}" width="{min(2 * width, 1000)}" xmlns="http://www.w3.org/2000/svg" role="img">'
+        f'<rect width="{width}" height="{height}" fill="#101010"/><g fill="none" stroke-width="3" stroke-linecap="round">{paths}</g></svg>'
+    )

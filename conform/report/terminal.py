@@ -32,8 +32,11 @@ def side(name: str, lines: list[str], other: list[str]) -> list[str]:
 def difference_lines(number: int, difference: Difference, about: About) -> list[str]:
     """All that is said of a difference."""
     ours, theirs = difference.sides()
-    lines = [f"{number}. {difference.rule.chapter}: {difference.title}",
-             f"    rule: {difference.rule.heading} ({origin(difference)})", f'      "{difference.rule.sentence}"']
+    lines = [
+        f"{number}. {difference.rule.chapter}: {difference.title}",
+        f"    rule: {difference.rule.heading} ({origin(difference)})",
+        f'      "{difference.rule.sentence}"',
+    ]
     if sure := how_sure(difference):
         lines.append(f"    note: {sure}")
     lines.append("    from the known state:")
@@ -41,16 +44,19 @@ def difference_lines(number: int, difference: Difference, about: About) -> list[
         lines += [f"      {octets and 'send ' + shortened(octets) or decoded[0]}"]
         lines += [f"        {line}" for line in (decoded[:MOST_LINES] if octets else [])]
     lines += side("our sign", ours, theirs) + side("this sign", theirs, ours)
-    lines += [f"    octets of ours:  {shortened(difference.ours.hex()) if difference.ours else '-'}",
-              f"    octets of this:  {shortened(difference.theirs.hex()) if difference.theirs else '-'}",
-              f"    again: {about.command(difference)}"]
+    lines += [
+        f"    octets of ours:  {shortened(difference.ours.hex()) if difference.ours else '-'}",
+        f"    octets of this:  {shortened(difference.theirs.hex()) if difference.theirs else '-'}",
+        f"    again: {about.command(difference)}",
+    ]
     return lines
 
 
 def chapter_line(result: ChapterResult) -> str:
     told = f"{len(result.differences)} differ" if result.differences else "nothing differs"
     untold = f", {result.untold} not told" if result.untold else ""
-    return f"{result.chapter.title:28} {result.blocks:5} cases {result.requests:7} requests {result.seconds:7.1f} s  {told}{untold}"
+    counts = f"{result.blocks:5} cases {result.requests:7} requests {result.seconds:7.1f} s"
+    return f"{result.chapter.title:28} {counts}  {told}{untold}"
 
 
 class Plain:
@@ -62,9 +68,11 @@ class Plain:
     def say(self, line: str) -> None:
         print(line, file=self.out, flush=True)
 
-    def begun(self, chapter: Chapter, blocks: int) -> None: ...
+    def begun(self, chapter: Chapter, blocks: int) -> None:
+        ...
 
-    def went_on(self, result: ChapterResult, at: int) -> None: ...
+    def went_on(self, result: ChapterResult, at: int) -> None:
+        ...
 
     def ended(self, result: ChapterResult) -> None:
         self.say(chapter_line(result))
@@ -72,7 +80,8 @@ class Plain:
     def found(self, difference: Difference) -> None:
         self.say(f"  {difference.rule.chapter}: {difference.title} ({difference.rule.heading})")
 
-    def close(self) -> None: ...
+    def close(self) -> None:
+        ...
 
 
 class Rich(Plain):
@@ -81,8 +90,14 @@ class Rich(Plain):
     def __init__(self) -> None:
         super().__init__()
         self.console: Any = Console()
-        self.progress: Any = Progress(TextColumn("{task.description:28}"), BarColumn(), TextColumn("{task.completed}/{task.total}"),
-                                      TimeElapsedColumn(), console=self.console, transient=True)
+        self.progress: Any = Progress(
+            TextColumn("{task.description:28}"),
+            BarColumn(),
+            TextColumn("{task.completed}/{task.total}"),
+            TimeElapsedColumn(),
+            console=self.console,
+            transient=True,
+        )
         self.progress.start()
         self.task: Any = None
 

@@ -9,9 +9,11 @@ from ..context import Context
 from ..found import Difference
 from ..session import Results
 
-NOT_SEEN = ["losses and returns of power, and the codes that they activate: no request makes them",
-            "lamps, pages, flashes and all else that is drawn: SNMP does not read it",
-            "the copy of the defaults that a message is drawn with"]
+NOT_SEEN = [
+    "losses and returns of power, and the codes that they activate: no request makes them",
+    "lamps, pages, flashes and all else that is drawn: SNMP does not read it",
+    "the copy of the defaults that a message is drawn with",
+]
 
 
 @dataclass
@@ -47,7 +49,11 @@ def not_tested(context: Context, results: Results, chapters: list[Chapter]) -> l
     found = list(NOT_SEEN)
     if not context.is_slow:
         found.append("whole minutes of durations, and silence: they take minutes and run with --slow")
-    missing = [chapter.title for chapter in chapters if not chapter.is_slow and chapter.name not in {held.chapter.name for held in results.chapters}]
+    missing = [
+        chapter.title
+        for chapter in chapters
+        if not chapter.is_slow and chapter.name not in {held.chapter.name for held in results.chapters}
+    ]
     if missing:
         found.append("not asked for or not come to: " + ", ".join(missing))
     if not context.rows:
@@ -55,7 +61,9 @@ def not_tested(context: Context, results: Results, chapters: list[Chapter]) -> l
     if not context.characters:
         found.append("texts with characters: the default font has none that fits")
     if not results.is_learnt:
-        found.append("seconds: no validation settled while it was watched, so the moment of the sign's ticks is not known")
+        found.append(
+            "seconds: no validation settled while it was watched, so the moment of the sign's ticks is not known"
+        )
     untold = sum(held.untold for held in results.chapters)
     if untold:
         found.append(f"{untold} sequences of which it could not be told what the sign did: replies were lost")

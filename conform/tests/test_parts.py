@@ -36,9 +36,17 @@ def test_every_rule_stands_in_the_profile() -> None:
 def test_replies_differ_by_kind() -> None:
     same = response()
     longer = same[:1] + b"\x81" + same[1:]
-    table = [(same, same, None), (same, None, Kind.NO_ANSWER), (None, same, Kind.ANSWER), (same, b"\x30", Kind.UNREADABLE),
-             (same, longer, Kind.SPELLING), (same, response(8), Kind.HEAD), (same, response(community=b"admin"), Kind.HEAD),
-             (same, response(status=2, index=1), Kind.STATUS), (same, response(value=15), Kind.VALUE)]
+    table = [
+        (same, same, None),
+        (same, None, Kind.NO_ANSWER),
+        (None, same, Kind.ANSWER),
+        (same, b"\x30", Kind.UNREADABLE),
+        (same, longer, Kind.SPELLING),
+        (same, response(8), Kind.HEAD),
+        (same, response(community=b"admin"), Kind.HEAD),
+        (same, response(status=2, index=1), Kind.STATUS),
+        (same, response(value=15), Kind.VALUE),
+    ]
     for ours, theirs, kind in table:
         found = mismatch(ours, theirs)
         assert (found.kind if found else None) is kind, (ours, theirs)
@@ -46,7 +54,10 @@ def test_replies_differ_by_kind() -> None:
 
 
 def test_fields_are_words() -> None:
-    assert fields(response(status=2, index=1)) == ["Response of public, request-id 7, noSuchName, index 1", "vmsSignHeightPixels.0 = 14"]
+    assert fields(response(status=2, index=1)) == [
+        "Response of public, request-id 7, noSuchName, index 1",
+        "vmsSignHeightPixels.0 = 14",
+    ]
     assert fields(None) == ["no answer"]
     assert fields(b"\x30") == ["no message: Truncated at octet 1"]
 
@@ -103,7 +114,7 @@ def test_each_mutant_is_one_edit_of_a_rule() -> None:
 
 def test_reports_say_the_same() -> None:
     mutant = next(mutant for mutant in MUTANTS if mutant.name == "minutes_are_rounded_down")
-    session = bench.session(text.BENCH, sign_of(mutant, text.BENCH), requests=0)  # type: ignore[arg-type]
+    session = bench.session(text.BENCH, sign_of(mutant, text.BENCH), requests=0)
     results = bench.run(session, ["durations"])
     about = words.About("127.0.0.1:1", "bench.sign", "tools/model", None, 1, 0, False, "today")
     left_out = words.not_tested(session.context, results, ALL)
@@ -122,7 +133,10 @@ def test_random_requests_are_the_same_for_a_seed() -> None:
     context = Context(described, (described.reader, described.writer), seed=5, requests=60)
     chapter = ALL[-1]
     for number in (1, 2):
-        octets = [[step.octets(70000, context.communities) for step in block.steps if not isinstance(step, Wait)] for block in chapter.blocks(context)]
+        octets = [
+            [step.octets(70000, context.communities) for step in block.steps if not isinstance(step, Wait)]
+            for block in chapter.blocks(context)
+        ]
         random.random()
         if number == 1:
             first = octets

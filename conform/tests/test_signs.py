@@ -14,7 +14,13 @@ from conform.mutants.table import MUTANTS
 from conform.oracle import made
 
 SIGNS = [TOP / "signs/roadside.sign", TOP / "signs/gantry.sign"]
-FEW = ("integers_may_be_padded", "getnext_skips_blank_messages", "two_rows_validate", "a_duration_a_second_short", "silence_counts_dropped_datagrams")
+FEW = (
+    "integers_may_be_padded",
+    "getnext_skips_blank_messages",
+    "two_rows_validate",
+    "a_duration_a_second_short",
+    "silence_counts_dropped_datagrams",
+)
 
 
 def test_the_model_beside_itself_shows_nothing() -> None:
@@ -56,13 +62,36 @@ def test_over_udp() -> None:
         with socket.socket(socket.AF_INET, socket.SOCK_DGRAM) as free:
             free.bind(("127.0.0.1", 0))
             port = free.getsockname()[1]
-        door = [sys.executable, str(TOP / "tools/udp_sign.py"), "--port", str(port), "--signtool", str(TOP / "tools/coprocess_model.py"),
-                "--sign", str(described)]
+        door = [
+            sys.executable,
+            str(TOP / "tools/udp_sign.py"),
+            "--port",
+            str(port),
+            "--signtool",
+            str(TOP / "tools/coprocess_model.py"),
+            "--sign",
+            str(described),
+        ]
         with subprocess.Popen(door, stdout=subprocess.PIPE) as sign:
             try:
                 assert sign.stdout is not None and sign.stdout.readline()
-                call = [sys.executable, "-m", "conform", "--to", f"127.0.0.1:{port}", "--sign", str(described), "--signtool", "model",
-                        "--only", "communities", "--only", "priorities", "--json", f"{folder}/report.json"]
+                call = [
+                    sys.executable,
+                    "-m",
+                    "conform",
+                    "--to",
+                    f"127.0.0.1:{port}",
+                    "--sign",
+                    str(described),
+                    "--signtool",
+                    "model",
+                    "--only",
+                    "communities",
+                    "--only",
+                    "priorities",
+                    "--json",
+                    f"{folder}/report.json",
+                ]
                 ended = subprocess.run(call, cwd=TOP, capture_output=True, timeout=120, check=False)
                 assert ended.returncode == 0 and b"nothing differs" in ended.stdout, ended
             finally:

@@ -20,7 +20,16 @@ ROW = Row(3, 1)
 CONTEXT = Context(text.bench(), (b"public", b"admin"))
 CODE = CONTEXT.code(ROW, CONTEXT.crc(b"A"), address=ADDRESS)
 WRITE = put(ROW.text(b"A"), ROW.owner(b""), ROW.beacon(0), ROW.pixel(0), ROW.priority(100))
-PUBLICATION: list[Ask | None] = [put(ROW.status(6)), get(ROW.cell(9)), WRITE, put(ROW.status(7)), None, get(ROW.cell(9)), get(ROW.cell(5)), activate(CODE)]
+PUBLICATION: list[Ask | None] = [
+    put(ROW.status(6)),
+    get(ROW.cell(9)),
+    WRITE,
+    put(ROW.status(7)),
+    None,
+    get(ROW.cell(9)),
+    get(ROW.cell(5)),
+    activate(CODE),
+]
 
 
 def watched(steps: list[Ask | None], numbers: list[int] | None = None, apart: float = 1.0) -> Watch:
@@ -53,7 +62,8 @@ def test_each_habit_is_seen() -> None:
         ([none, height], None, Habit.AFTER),
         ([none, none], None, Habit.AFTER),
         ([put(ROW.status(6)), bad, put(ROW.status(7))], None, Habit.IGNORED),
-        ([activate(CONTEXT.blank_code(256)), height], None, Habit.IGNORED)]
+        ([activate(CONTEXT.blank_code(256)), height], None, Habit.IGNORED),
+    ]
     for steps, numbers, habit in table:
         assert habits(watched(steps, numbers)) == [habit], (habit, steps)
     assert habits(watched([height, height], apart=0.5)) == [Habit.FAST]
@@ -67,7 +77,9 @@ def test_it_answers_on_a_port_and_tells_at_its_end() -> None:
         described = pathlib.Path(folder) / "bench.sign"
         described.write_bytes(text.BENCH)
         call = [sys.executable, "-m", "conform.centre", "--port", "0", "--sign", str(described), "--signtool", "model"]
-        with subprocess.Popen(call, cwd=TOP, stdout=subprocess.PIPE) as sign, socket.socket(socket.AF_INET, socket.SOCK_DGRAM) as door:
+        with subprocess.Popen(call, cwd=TOP, stdout=subprocess.PIPE) as sign, socket.socket(
+            socket.AF_INET, socket.SOCK_DGRAM
+        ) as door:
             try:
                 assert sign.stdout is not None
                 port = int(sign.stdout.readline().split(b":")[-1])
