@@ -9,9 +9,9 @@ use Rattle.dms_text.proofs.WordLaws.{begun, goes_on, word_found, word_only, same
 use Rattle.dms_sign.specs.State.{SignState}
 use Rattle.dms_replay.specs.EventReading.{alone}
 use Rattle.dms_replay.proofs.EventLaws.{alone_found, last_number_found, last_number_only, last_octets_found, last_octets_only, made_of}
-use Rattle.dms_sign_lines.specs.SignCall.{SignCall, datagram, tick, power_lost, power_back, show, state}
+use Rattle.dms_sign_lines.specs.SignCall.{SignCall, datagram, tick, ticks, heard, power_lost, power_back, show, state}
 use Rattle.dms_sign_lines.specs.SignLine.{SpellsCallWords, SpellsSignCall, SpellsNoSignCall}
-use Rattle.dms_sign_lines.specs.SignReading.{keyword_of, call_after, call_of}
+use Rattle.dms_sign_lines.specs.SignReading.{asking_keyword, keyword_of, call_after, call_of}
 use Rattle.dms_sign_lines.specs.Answer.{answer_text, after_line, call_text, after_call, text_if, after_if, bad_line}
 use Rattle.dms_sign_lines.specs.declared.keyword.Keyword.{Keyword}
 use Rattle.dms_sign_lines.specs.declared.keyword.Keyword.TheVariants as key
@@ -21,6 +21,8 @@ use Rattle.dms_sign_lines.specs.declared.keyword.Keyword.TheVariants as key
 abbrev keyword_text : Keyword → List ℕ
 keyword_text key.Datagram = codes "datagram"
 keyword_text key.Tick = codes "tick"
+keyword_text key.Ticks = codes "ticks"
+keyword_text key.Heard = codes "heard"
 keyword_text key.PowerLost = codes "power-lost"
 keyword_text key.PowerBack = codes "power-back"
 keyword_text key.Show = codes "show"
@@ -29,6 +31,8 @@ keyword_text key.State = codes "state"
 keyword_some : (keyword : Keyword) → 0 < length (keyword_text keyword)
 keyword_some key.Datagram = omega arith
 keyword_some key.Tick = omega arith
+keyword_some key.Ticks = omega arith
+keyword_some key.Heard = omega arith
 keyword_some key.PowerLost = omega arith
 keyword_some key.PowerBack = omega arith
 keyword_some key.Show = omega arith
@@ -38,6 +42,8 @@ keyword_only : (keyword : Keyword) → keyword_of (keyword_text keyword) ≡ Som
 unfolding keyword_of
 keyword_only key.Datagram = refl
 keyword_only key.Tick = refl
+keyword_only key.Ticks = refl
+keyword_only key.Heard = refl
 keyword_only key.PowerLost = refl
 keyword_only key.PowerBack = refl
 keyword_only key.Show = refl
@@ -54,6 +60,13 @@ hit_or word keyword found others e =
       | inr other ↦ inr (ap (λ b. cond b (Some keyword) others) (sym other) ∙ e)
     ]
 
+asking_found : (word : List ℕ) (keyword : Keyword) → asking_keyword word ≡ Some keyword → word ≡ keyword_text keyword
+asking_found word keyword e =
+    elim (hit_or word key.Show keyword _ e) [
+      | inl hit ↦ hit
+      | inr e ↦ elim (hit_or word key.State keyword _ e) [ inl hit ↦ hit | inr e ↦ absurd (let none : None ≡ Some keyword = e in cc) ]
+    ]
+
 keyword_found : (word : List ℕ) (keyword : Keyword) → keyword_of word ≡ Some keyword → word ≡ keyword_text keyword
 unfolding keyword_of
 keyword_found word keyword e =
@@ -63,16 +76,15 @@ keyword_found word keyword e =
           elim (hit_or word key.Tick keyword _ e) [
             | inl hit ↦ hit
             | inr e ↦
-                elim (hit_or word key.PowerLost keyword _ e) [
+                elim (hit_or word key.Ticks keyword _ e) [
                   | inl hit ↦ hit
                   | inr e ↦
-                      elim (hit_or word key.PowerBack keyword _ e) [
+                      elim (hit_or word key.Heard keyword _ e) [
                         | inl hit ↦ hit
                         | inr e ↦
-                            elim (hit_or word key.Show keyword _ e) [
+                            elim (hit_or word key.PowerLost keyword _ e) [
                               | inl hit ↦ hit
-                              | inr e ↦
-                                  elim (hit_or word key.State keyword _ e) [ inl hit ↦ hit | inr e ↦ absurd (let none : None ≡ Some keyword = e in cc) ]
+                              | inr e ↦ elim (hit_or word key.PowerBack keyword _ e) [ inl hit ↦ hit | inr e ↦ asking_found word keyword e ]
                             ]
                       ]
                 ]
@@ -92,6 +104,9 @@ after_found : (keyword : Keyword) (words : List (List ℕ)) (call : SignCall) �
 after_found key.Datagram words call e =
     let made = made_of _ _ _ e in subst (λ call. SpellsCallWords call (codes "datagram" ∷ words)) made.2 (last_octets_found (codes "datagram") words made.0 made.1)
 after_found key.Tick words call e = bare_found (codes "tick") tick call words e refl
+after_found key.Ticks words call e =
+    let made = made_of _ _ _ e in subst (λ call. SpellsCallWords call (codes "ticks" ∷ words)) made.2 (last_number_found (codes "ticks") words made.0 made.1)
+after_found key.Heard words call e = bare_found (codes "heard") heard call words e refl
 after_found key.PowerLost words call e = bare_found (codes "power-lost") power_lost call words e refl
 after_found key.PowerBack words call e =
     let made = made_of _ _ _ e in subst (λ call. SpellsCallWords call (codes "power-back" ∷ words)) made.2 (last_number_found (codes "power-back") words made.0 made.1)
@@ -119,6 +134,9 @@ pub call_only : (line : List ℕ) (call : SignCall) → SpellsSignCall call line
 call_only line (datagram octets) spelled =
     line_read key.Datagram line _ spelled.words_are ∙ ap (option_map datagram) (last_octets_only octets spelled.word spelled.spelled)
 call_only line tick spelled = line_read key.Tick line [] spelled
+call_only line (ticks seconds) spelled =
+    line_read key.Ticks line _ spelled.words_are ∙ ap (option_map ticks) (last_number_only seconds spelled.word spelled.spelled)
+call_only line heard spelled = line_read key.Heard line [] spelled
 call_only line power_lost spelled = line_read key.PowerLost line [] spelled
 call_only line (power_back seconds) spelled =
     line_read key.PowerBack line _ spelled.words_are ∙ ap (option_map power_back) (last_number_only seconds spelled.word spelled.spelled)

@@ -1,5 +1,5 @@
 -- What a sign shows can be drawn: as it is made, and after every line.
-use Rattle.std.proofs.Common.{◌≡◌, ℕ, ◌&&◌, cond, IsTrue, List, [], ◌⊎◌, inl, inr, Option, Some, None, Ok, sym, ap, subst, ◌∙◌, map}
+use Rattle.std.proofs.Common.{◌≡◌, ℕ, zero, suc, ◌&&◌, Bool, true, false, cond, IsTrue, List, [], ◌⊎◌, inl, inr, Option, Some, None, Ok, sym, ap, subst, ◌∙◌, map}
 use Rattle.std.proofs.lemmas.Bool.{and_parts}
 use Rattle.dms_codes.specs.declared.codes.Activation.{Activation}
 use Rattle.dms_face.specs.declared.defaults.Defaults.{Defaults}
@@ -12,12 +12,14 @@ use Rattle.dms_pages.specs.Drawn.{drawn, drawn_text}
 use Rattle.dms_table.specs.Rows.{TableModel}
 use Rattle.dms_table.specs.Activation.{ShownModel}
 use Rattle.dms_sign.specs.State.{ConfigModel, SignState, start}
+use Rattle.dms_sign.specs.Reply.{awake}
+use Rattle.dms_sign.specs.Events.{after_tick}
 use Rattle.dms_sign.specs.Transitions.{HasFitDefaults, IsSameMessage, IsBlankedUnder, IsRowOf, ShowsNow, stayed, came_back, blanked, activated, fell_back, IsSignStep}
 use Rattle.dms_sign.proofs.StepDefaults.{received_fits, tick_fits, power_loss_fits, power_return_fits}
 use Rattle.dms_sign_laws.proofs.StepEvents.{step_received, step_tick, step_power_loss, step_power_return}
-use Rattle.dms_sign_lines.specs.SignCall.{SignCall, datagram, tick, power_lost, power_back, show, state}
+use Rattle.dms_sign_lines.specs.SignCall.{SignCall, datagram, tick, ticks, heard, power_lost, power_back, show, state}
 use Rattle.dms_sign_lines.specs.SignReading.{call_of}
-use Rattle.dms_sign_lines.specs.Answer.{pages_or_none, shown_pages, after_call, after_if, after_line}
+use Rattle.dms_sign_lines.specs.Answer.{pages_or_none, shown_pages, after_ticks, after_call, after_if, after_line}
 use Rattle.dms_sign_lines.specs.GoodTexts.{CanBeDrawn, ShowsGoodTexts}
 
 -- ---- as a sign is made
@@ -86,9 +88,23 @@ good_next old new accepted step fits was = record {
 
 -- ---- lines
 
+good_tick : (s : SignState) → ShowsGoodTexts s → ShowsGoodTexts (after_tick s)
+good_tick s was = good_next s _ _ (step_tick s) (tick_fits s was.own) was
+
+good_ticks : (seconds : ℕ) (s : SignState) → ShowsGoodTexts s → ShowsGoodTexts (after_ticks seconds s)
+unfolding after_ticks
+good_ticks zero s was = was
+good_ticks (suc seconds) s was = good_tick (after_ticks seconds s) (good_ticks seconds s was)
+
+good_awake : (powered : Bool) (s : SignState) → ShowsGoodTexts s → ShowsGoodTexts (cond powered (awake s) s)
+good_awake true s was = record { own = was.own; shown = was.shown; kept = was.kept }
+good_awake false s was = was
+
 good_call : (s : SignState) (call : SignCall) → ShowsGoodTexts s → ShowsGoodTexts (after_call s call)
 good_call s (datagram octets) was = good_next s _ _ (step_received s octets) (received_fits s octets was.own) was
-good_call s tick was = good_next s _ _ (step_tick s) (tick_fits s was.own) was
+good_call s tick was = good_tick s was
+good_call s (ticks seconds) was = good_ticks seconds s was
+good_call s heard was = good_awake s.powered s was
 good_call s power_lost was = good_next s _ _ (step_power_loss s) (power_loss_fits s was.own) was
 good_call s (power_back seconds) was = good_next s _ _ (step_power_return s seconds) (power_return_fits s seconds was.own) was
 good_call s show was = was

@@ -1,3 +1,5 @@
 pub mod TextRuns
 pub mod GoodTexts
 pub mod CallLaws
+pub mod Seconds
+pub mod Gets

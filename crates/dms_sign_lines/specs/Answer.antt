@@ -1,7 +1,8 @@
 -- What a live sign answers to a line, and what it is afterwards (this profile). Each line of an answer ends in a
 -- newline.
-use Rattle.std.specs.Prelude.{ℕ, if◌then◌else◌, List, [], ◌++◌, codes, Option, Some, None, Result, Ok, Err}
+use Rattle.std.specs.Prelude.{ℕ, zero, suc, ◌+◌, ◌*◌, if◌then◌else◌, List, [], ◌++◌, codes, Option, Some, None, Result, Ok, Err}
 use Rattle.hex.specs.Hex.{encode_lower}
+use Rattle.dms_ber.specs.Limits.{longest_datagram}
 use Rattle.dms_codes.specs.declared.codes.Order.{Order}
 use Rattle.dms_codes.specs.declared.codes.Activation.{Activation}
 use Rattle.dms_face.specs.declared.multi_fault.MultiFault.{MultiFault}
@@ -9,10 +10,10 @@ use Rattle.dms_face.specs.Face.{fit}
 use Rattle.dms_face.specs.Layout.{under}
 use Rattle.dms_pages.specs.Drawn.{DrawnPage, drawn_text}
 use Rattle.dms_sign.specs.State.{SignState}
-use Rattle.dms_sign.specs.Reply.{Received, received}
+use Rattle.dms_sign.specs.Reply.{Received, received, after_get}
 use Rattle.dms_sign.specs.Events.{after_tick, after_power_loss, after_power_return}
 use Rattle.dms_replay.specs.Report.{ended, code_text, shown_line}
-use Rattle.dms_sign_lines.specs.SignCall.{SignCall, datagram, tick, power_lost, power_back, show, state}
+use Rattle.dms_sign_lines.specs.SignCall.{SignCall, datagram, tick, ticks, heard, power_lost, power_back, show, state}
 use Rattle.dms_sign_lines.specs.SignReading.{call_of}
 use Rattle.dms_sign_lines.specs.PageText.{pages_text}
 
@@ -29,6 +30,11 @@ receipt_line order (Some reply) accepted = reply_line order reply accepted
 
 abbrev pub received_line : Order → Received → List ℕ
 received_line order received = receipt_line order received.reply received.accepted
+
+-- the most octets of such a line: `accepted`, the twelve octets of a code and those of a reply in two digits each, two
+-- spaces and a newline
+abbrev pub longest_receipt_line : ℕ
+longest_receipt_line = 8 + 2 * 12 + 2 * longest_datagram + 3
 
 -- ---- what is shown
 
@@ -51,14 +57,23 @@ done = ended (codes "ok")
 abbrev pub call_text : SignState → SignCall → List ℕ
 call_text s (datagram octets) = received_line s.table.order (received s octets)
 call_text s tick = done
+call_text s (ticks seconds) = done
+call_text s heard = done
 call_text s power_lost = done
 call_text s (power_back seconds) = done
 call_text s show = pages_text (shown_pages s) ++ done
 call_text s state = shown_line s.shown ++ done
 
+-- so many seconds, one after another
+unfoldable pub after_ticks : ℕ → SignState → SignState
+after_ticks zero s = s
+after_ticks (suc seconds) s = after_tick (after_ticks seconds s)
+
 abbrev pub after_call : SignState → SignCall → SignState
 after_call s (datagram octets) = (received s octets).after
 after_call s tick = after_tick s
+after_call s (ticks seconds) = after_ticks seconds s
+after_call s heard = after_get s
 after_call s power_lost = after_power_loss s
 after_call s (power_back seconds) = after_power_return s seconds
 after_call s show = s

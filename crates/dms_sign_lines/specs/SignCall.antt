@@ -6,6 +6,10 @@ pub data SignCall : Type 0 where
   datagram : (octets : List ℕ) → SignCall
   -- a second passes
   tick : SignCall
+  -- so many seconds pass
+  ticks : (seconds : ℕ) → SignCall
+  -- what a Get or a GetNext leaves that was answered
+  heard : SignCall
   power_lost : SignCall
   -- the power is back after so many seconds
   power_back : (seconds : ℕ) → SignCall

@@ -4,11 +4,13 @@ use Rattle.dms_text.specs.Words.{words_of}
 use Rattle.dms_text.specs.Octets.{SpellsOctets}
 use Rattle.dms_description.specs.Fields.{SpellsFourOctets}
 use Rattle.dms_replay.specs.EventLine.{SpellsOne}
-use Rattle.dms_sign_lines.specs.SignCall.{SignCall, datagram, tick, power_lost, power_back, show, state}
+use Rattle.dms_sign_lines.specs.SignCall.{SignCall, datagram, tick, ticks, heard, power_lost, power_back, show, state}
 
 abbrev pub SpellsCallWords : SignCall → List (List ℕ) → Type 0
 SpellsCallWords (datagram octets) words = SpellsOne (codes "datagram") (SpellsOctets octets) words
 SpellsCallWords tick words = words ≡ codes "tick" ∷ []
+SpellsCallWords (ticks seconds) words = SpellsOne (codes "ticks") (SpellsFourOctets seconds) words
+SpellsCallWords heard words = words ≡ codes "heard" ∷ []
 SpellsCallWords power_lost words = words ≡ codes "power-lost" ∷ []
 SpellsCallWords (power_back seconds) words = SpellsOne (codes "power-back") (SpellsFourOctets seconds) words
 SpellsCallWords show words = words ≡ codes "show" ∷ []

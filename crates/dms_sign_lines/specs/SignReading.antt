@@ -3,24 +3,33 @@ use Rattle.std.specs.Prelude.{ℕ, if◌then◌else◌, List, codes, Option, Som
 use Rattle.dms_text.specs.Words.{words_of}
 use Rattle.dms_text.specs.Reading.{same_octets, word_at, ◌>>=◌}
 use Rattle.dms_replay.specs.EventReading.{alone, last_number_at, last_octets_at}
-use Rattle.dms_sign_lines.specs.SignCall.{SignCall, datagram, tick, power_lost, power_back, show, state}
+use Rattle.dms_sign_lines.specs.SignCall.{SignCall, datagram, tick, ticks, heard, power_lost, power_back, show, state}
 use Rattle.dms_sign_lines.specs.declared.keyword.Keyword.{Keyword}
 use Rattle.dms_sign_lines.specs.declared.keyword.Keyword.TheVariants as key
+
+-- the words that ask for what is shown
+abbrev pub asking_keyword : List ℕ → Option Keyword
+asking_keyword word =
+    if same_octets word (codes "show") then Some key.Show
+    else if same_octets word (codes "state") then Some key.State
+    else None
 
 unfoldable pub keyword_of : List ℕ → Option Keyword
 keyword_of word =
     if same_octets word (codes "datagram") then Some key.Datagram
     else if same_octets word (codes "tick") then Some key.Tick
+    else if same_octets word (codes "ticks") then Some key.Ticks
+    else if same_octets word (codes "heard") then Some key.Heard
     else if same_octets word (codes "power-lost") then Some key.PowerLost
     else if same_octets word (codes "power-back") then Some key.PowerBack
-    else if same_octets word (codes "show") then Some key.Show
-    else if same_octets word (codes "state") then Some key.State
-    else None
+    else asking_keyword word
 
 -- what stands after a keyword
 abbrev pub call_after : Keyword → List (List ℕ) → Option SignCall
 call_after key.Datagram words = option_map datagram (last_octets_at words)
 call_after key.Tick words = alone tick words
+call_after key.Ticks words = option_map ticks (last_number_at words)
+call_after key.Heard words = alone heard words
 call_after key.PowerLost words = alone power_lost words
 call_after key.PowerBack words = option_map power_back (last_number_at words)
 call_after key.Show words = alone show words

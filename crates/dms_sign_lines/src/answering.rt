@@ -3,13 +3,14 @@
 ghost use Rattle.std.specs.Prelude.{◌≡◌, ◌++◌, ◌+◌, ◌*◌, ◌≤◌, codes, length, vec_len, vec_capacity};
 ghost use Rattle.std.specs.Prelude.{IfOk, OnOk, OnErr};
 ghost use Rattle.hex.specs.Hex.{encode_lower};
+ghost use Rattle.dms_ber.specs.Limits.{longest_datagram};
 ghost use Rattle.dms_sign.specs.Reply.{received};
 ghost use Rattle.dms_sign.specs.ReplyView.{sent, accepted_by};
 ghost use Rattle.dms_replay.specs.Report.{ended, shown_line};
 ghost use Rattle.dms_sign_lines.specs.PageText.{pages_text};
 ghost use Rattle.dms_sign_lines.specs.CallView.{call_model};
-ghost use Rattle.dms_sign_lines.specs.Answer.{answer_text, after_line, call_text, after_call, done};
-ghost use Rattle.dms_sign_lines.specs.Answer.{receipt_line, received_line, shown_pages};
+ghost use Rattle.dms_sign_lines.specs.Answer.{answer_text, after_line, call_text, after_ticks, after_call, done};
+ghost use Rattle.dms_sign_lines.specs.Answer.{receipt_line, received_line, longest_receipt_line, shown_pages};
 
 use crate::page_text::put_pages;
 use crate::sign_call::{SignCall, call};
@@ -32,6 +33,8 @@ const LONGEST_RECEIPT: usize = 8 + 2 * 12 + 2 * MAX_DATAGRAM + 3;
 /// ```text
 /// datagram OCTETS      the sign receives it: `reply OCTETS`, `accepted CODE OCTETS` or `dropped`
 /// tick                 a second passes: `ok`
+/// ticks SECONDS        so many seconds pass, 0 to 4294967295, as by so many lines `tick`: `ok`
+/// heard                what a Get or a GetNext leaves that is answered, the end of the silence: `ok`
 /// power-lost           the power is lost: `ok`
 /// power-back SECONDS   the power is back after so many seconds, 0 to 4294967295: `ok`
 /// show                 the pages of what is shown, and `ok`
@@ -64,6 +67,16 @@ fn carry_out(alloc: Global, sign: &mut Sign, call: &SignCall) -> Result<Vec<u8>,
             sign.tick();
             Ok(done)
         }
+        SignCall::Ticks(seconds) => {
+            let done = text_of(alloc, b"ok\n")?;
+            pass(sign, *seconds);
+            Ok(done)
+        }
+        SignCall::Heard => {
+            let done = text_of(alloc, b"ok\n")?;
+            sign.heard();
+            Ok(done)
+        }
         SignCall::PowerLost => {
             let done = text_of(alloc, b"ok\n")?;
             sign.power_lost();
@@ -88,6 +101,15 @@ fn text_of(alloc: Global, octets: &[u8]) -> Result<Vec<u8>, AllocError>
     Ok(text)
 }
 
+/// So many seconds pass.
+fn pass(sign: &mut Sign, seconds: u32)
+    ensures { sign.new ≡ after_ticks seconds sign.old }
+{
+    for _ in 0..seconds {
+        sign.tick();
+    }
+}
+
 /// The sign receives a datagram. The memory of the longest answer is had before.
 fn receive(alloc: Global, sign: &mut Sign, datagram: &[u8]) -> Result<Vec<u8>, AllocError>
     ensures text { IfOk result (λ text. text.items ≡ received_line sign.old.table.order (received sign.old datagram.now)) }
@@ -104,8 +126,8 @@ fn receive(alloc: Global, sign: &mut Sign, datagram: &[u8]) -> Result<Vec<u8>, A
 
 /// Appends what came of a datagram, for which there is room.
 fn put_receipt(text: &mut Vec<u8>, order: Order, receipt: Receipt, reply: &[u8])
-    requires short { length reply.now ≤ 1472 }
-    requires room { vec_len text.old + 2979 ≤ vec_capacity text.old }
+    requires short { length reply.now ≤ longest_datagram }
+    requires room { vec_len text.old + longest_receipt_line ≤ vec_capacity text.old }
     ensures { text.new.items ≡ text.old.items ++ receipt_line order (sent receipt reply.now) (accepted_by receipt) }
 {
     match receipt {
@@ -116,8 +138,8 @@ fn put_receipt(text: &mut Vec<u8>, order: Order, receipt: Receipt, reply: &[u8])
 }
 
 fn put_reply(text: &mut Vec<u8>, reply: &[u8])
-    requires short { length reply.now ≤ 1472 }
-    requires room { vec_len text.old + 2979 ≤ vec_capacity text.old }
+    requires short { length reply.now ≤ longest_datagram }
+    requires room { vec_len text.old + longest_receipt_line ≤ vec_capacity text.old }
     ensures { text.new.items ≡ text.old.items ++ ended (codes "reply " ++ encode_lower reply.now) }
 {
     put(text, b"reply ");
@@ -127,8 +149,8 @@ fn put_reply(text: &mut Vec<u8>, reply: &[u8])
 
 fn put_accepted(text: &mut Vec<u8>, code: &[u8], reply: &[u8])
     requires code { length code.now ≡ 12 }
-    requires short { length reply.now ≤ 1472 }
-    requires room { vec_len text.old + 2979 ≤ vec_capacity text.old }
+    requires short { length reply.now ≤ longest_datagram }
+    requires room { vec_len text.old + longest_receipt_line ≤ vec_capacity text.old }
     ensures { text.new.items ≡ text.old.items ++ ended (codes "accepted " ++ encode_lower code.now ++ codes " " ++ encode_lower reply.now) }
 {
     put(text, b"accepted ");
@@ -150,7 +172,7 @@ fn put(text: &mut Vec<u8>, octets: &[u8])
 
 /// Appends octets as pairs of lower case hexadecimal digits, for which there is room.
 fn put_digits(text: &mut Vec<u8>, octets: &[u8])
-    requires short { length octets.now ≤ 1472 }
+    requires short { length octets.now ≤ longest_datagram }
     requires room { vec_len text.old + 2 * length octets.now ≤ vec_capacity text.old }
     ensures items { text.new.items ≡ text.old.items ++ encode_lower octets.now }
     ensures len { vec_len text.new ≡ vec_len text.old + 2 * length octets.now }

@@ -8,6 +8,8 @@ ghost use Rattle.dms_text.specs.Reading.{same_octets};
 pub(crate) enum Keyword {
     Datagram,
     Tick,
+    Ticks,
+    Heard,
     PowerLost,
     PowerBack,
     Show,
@@ -16,7 +18,7 @@ pub(crate) enum Keyword {
 
 impl Keyword {
     ghost use Rattle.std.specs.Prelude.{◌≡◌};
-    ghost use Rattle.dms_sign_lines.specs.SignReading.{keyword_of};
+    ghost use Rattle.dms_sign_lines.specs.SignReading.{keyword_of, asking_keyword};
 
     /// The keyword that a word is, if any.
     #[tactic(auto, unfolding(crate::specs::SignReading::keyword_of))]
@@ -27,11 +29,24 @@ impl Keyword {
             Some(Keyword::Datagram)
         } else if is(word, b"tick") {
             Some(Keyword::Tick)
+        } else if is(word, b"ticks") {
+            Some(Keyword::Ticks)
+        } else if is(word, b"heard") {
+            Some(Keyword::Heard)
         } else if is(word, b"power-lost") {
             Some(Keyword::PowerLost)
         } else if is(word, b"power-back") {
             Some(Keyword::PowerBack)
-        } else if is(word, b"show") {
+        } else {
+            Keyword::asking(word)
+        }
+    }
+
+    /// The keyword of a line that asks for what is shown.
+    fn asking(word: &[u8]) -> Option<Keyword>
+        ensures { result ≡ asking_keyword word.now }
+    {
+        if is(word, b"show") {
             Some(Keyword::Show)
         } else if is(word, b"state") {
             Some(Keyword::State)

@@ -1,12 +1,16 @@
 //! Laws on the lines to a live sign, each the contract of a function that does nothing.
 
-ghost use Rattle.std.specs.Prelude.{◌≡◌, ℕ, List, IsTrue, Ok};
+ghost use Rattle.std.specs.Prelude.{◌≡◌, ℕ, List, codes, fold, replicate, IsTrue, Some, None, Ok};
+ghost use Rattle.dms_wire.specs.Message.{SnmpMessage};
+ghost use Rattle.dms_wire.specs.MessageOf.{message_of};
 ghost use Rattle.dms_face.specs.Face.{is_face};
 ghost use Rattle.dms_face.specs.Layout.{under};
 ghost use Rattle.dms_pages.specs.Drawn.{drawn_text};
 ghost use Rattle.dms_table.specs.Rows.{TableModel};
 ghost use Rattle.dms_sign.specs.State.{ConfigModel, SignState, start};
-ghost use Rattle.dms_sign_lines.specs.SignCall.{SignCall};
+ghost use Rattle.dms_sign.specs.Reply.{received};
+ghost use Rattle.dms_sign.specs.Promises.{is_get};
+ghost use Rattle.dms_sign_lines.specs.SignCall.{SignCall, datagram, ticks};
 ghost use Rattle.dms_sign_lines.specs.SignLine.{SpellsSignCall, SpellsNoSignCall};
 ghost use Rattle.dms_sign_lines.specs.Answer.{answer_text, after_line, call_text, after_call, bad_line, shown_pages};
 ghost use Rattle.dms_sign_lines.specs.GoodTexts.{ShowsGoodTexts};
@@ -27,6 +31,21 @@ pub fn answers_are_those_of_calls()
         → after_line s line ≡ after_call s call }
     ensures bad_line { (s : SignState) (line : List ℕ) → SpellsNoSignCall line → answer_text s line ≡ bad_line }
     ensures unchanged { (s : SignState) (line : List ℕ) → SpellsNoSignCall line → after_line s line ≡ s }
+{}
+
+/// `ticks N` leaves what N lines `tick` leave.
+#[tactic(auto, using(crate::proofs::Seconds::ticks_are_ticks))]
+pub fn ticks_are_so_many_lines_tick()
+    ensures { (s : SignState) (seconds : ℕ) (line : List ℕ) → SpellsSignCall (ticks seconds) line
+        → after_line s line ≡ fold after_line s (replicate seconds (codes "tick")) }
+{}
+
+/// A Get or a GetNext that is answered leaves what `heard` leaves; a datagram that is not answered changes nothing.
+pub fn gets_leave_what_heard_leaves()
+    ensures answered { (s : SignState) (m : SnmpMessage) (octets reply line : List ℕ) → message_of octets ≡ Some m → IsTrue (is_get m.kind)
+        → (received s octets).reply ≡ Some reply → SpellsSignCall (datagram octets) line → after_line s line ≡ after_line s (codes "heard") }
+    ensures unanswered { (s : SignState) (octets line : List ℕ) → (received s octets).reply ≡ None → SpellsSignCall (datagram octets) line
+        → after_line s line ≡ s }
 {}
 
 /// What a sign shows can be drawn: as the sign is made, and after every line. Its pages are then those that `show`

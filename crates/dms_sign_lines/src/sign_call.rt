@@ -17,6 +17,10 @@ pub(crate) enum SignCall {
     Datagram(Vec<u8>),
     /// `tick`: a second passes.
     Tick,
+    /// `ticks SECONDS`: so many seconds pass.
+    Ticks(u32),
+    /// `heard`: what a Get or a GetNext leaves that was answered.
+    Heard,
     /// `power-lost`: the power is lost.
     PowerLost,
     /// `power-back SECONDS`: the power is back after so many seconds.
@@ -41,6 +45,8 @@ pub(crate) fn call(alloc: Global, line: &[u8]) -> Result<Option<SignCall>, Alloc
     match keyword {
         Keyword::Datagram => Ok(last_octets(alloc, words)?.map(SignCall::Datagram)),
         Keyword::Tick => Ok(alone(words, SignCall::Tick)),
+        Keyword::Ticks => Ok(last_number(words).map(SignCall::Ticks)),
+        Keyword::Heard => Ok(alone(words, SignCall::Heard)),
         Keyword::PowerLost => Ok(alone(words, SignCall::PowerLost)),
         Keyword::PowerBack => Ok(last_number(words).map(SignCall::PowerBack)),
         Keyword::Show => Ok(alone(words, SignCall::Show)),
