@@ -48,10 +48,10 @@ class Faults:
         name = f"{call} {at} refused with {errno.errorcode[error]}{''.join(f', {word} {value}' for word, value in more.items())}"
         door = self.trial.sign("--journal", str(self.path), "--no-ticks", environment=refusing(self.library, self.path, call, at, error, **more))
         answered = self.ask(door) if door.port else []
+        status = door.ended() if door.process.poll() is not None else None
         told = os.strerror(error).encode() in door.errors
-        status = door.process.poll()
         if status is not None:
-            self.trial.holds(f"{name}: it ends and says why", door.ended() in (1, 2) and told, (status, door.errors.decode()))
+            self.trial.holds(f"{name}: it ends and says why", status in (1, 2) and told, (status, door.errors.decode()))
             self.trial.holds(f"{name}: nothing is answered after it", not any(answered[sum(answered):]), answered)
         elif told:
             self.trial.holds(f"{name}: all others are answered", answered.count(False) <= 1 + more.get("more", 0) and answered[-1], answered)
