@@ -67,6 +67,8 @@ def run(trial: Trial) -> None:
         ("--down process", False, 40, [b"ticks 40"], ["--down", "process"]),
         ("--down power", True, 40, [b"power-lost", b"power-back 40"], ["--down", "power"])]
     for name, is_same_boot, seconds, wanted, words in rows:
+        if trial.is_late():
+            break
         now = Moment.now()
         last = now if is_same_boot else Moment("another", now.wall, 77)
         life(trial, name, last.later(-seconds), wanted, *words)

@@ -80,6 +80,8 @@ def operated(trial: Trial) -> None:
             ('publish-text 3 2 "ABABABABAB" - 0 0 9 65535 255 127.0.0.1', 1, "last failed at step 5: the row has status 5, error"),
             ("blank 5 65535 8 127.0.0.1", 1, "last failed at step 7: the sign refused the activation for cause 3, priority")]
     for line, status, told in rows:
+        if trial.is_late():
+            break
         found = commanded(trial, sign.port, line + "\n")
         trial.holds(f"{line!r}: exit {status}, {told}", found[0] == status and any(told in line for line in found[1] or [""]), found)
     last = [line for line in commanded(trial, sign.port, "blank 5 65535 8 127.0.0.1\n")[1] if line.startswith("ledger")]
