@@ -51,6 +51,8 @@ STEPS = (
     Step("README's commands", "tools/readme_commands.py --program {program}", 120),
     Step("refused memory", "tools/refuse_memory.sh --built --short signtool", 120),
     Step("no memory", "tools/no_memory.sh --built --count 1000", 60, "crates/dms_bench/out/libdms_bench.a"),
+    Step("lasting", "tools/lasting.py --short {program}", 300),
+    Step("conformance", "python3 -m conform.short", 400),
     Step("helps", "tools/helps.sh", 60),
 )
 
