@@ -84,8 +84,9 @@ def operated(trial: Trial) -> None:
             break
         found = commanded(trial, sign.port, line + "\n")
         trial.holds(f"{line!r}: exit {status}, {told}", found[0] == status and any(told in line for line in found[1] or [""]), found)
-    last = [line for line in commanded(trial, sign.port, "blank 5 65535 8 127.0.0.1\n")[1] if line.startswith("ledger")]
-    trial.holds("a ledger's status in words", bool(last) and last[0].endswith(" refused 5, genErr"), last)
+    else:
+        last = [line for line in commanded(trial, sign.port, "blank 5 65535 8 127.0.0.1\n")[1] if line.startswith("ledger")]
+        trial.holds("a ledger's status in words", bool(last) and last[0].endswith(" refused 5, genErr"), last)
     trial.holds("a sign ends at a SIGTERM", sign.stop() == 0, sign.errors.decode())
     with socket.socket(socket.AF_INET, socket.SOCK_DGRAM) as silent:
         silent.bind(("127.0.0.1", 0))
