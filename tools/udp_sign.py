@@ -25,7 +25,7 @@ from door.sockets import Waiting, bound, named
 
 def asked_for() -> argparse.Namespace:
     """The options, as far as they go together."""
-    words = options("a sign on a UDP port")
+    words = options(__doc__)
     words.add_argument("--host", default="127.0.0.1", help="an IPv4 or IPv6 address, or a name")
     words.add_argument("--port", type=int, default=1161)
     words.add_argument("--down", choices=("power", "process"), help="what the time without a process was")

@@ -17,9 +17,9 @@ TOP = pathlib.Path(__file__).resolve().parents[2]
 PROGRAM = str(TOP / "crates/signtool/out/signtool")
 
 
-def options(about: str) -> argparse.ArgumentParser:
+def options(about: str | None) -> argparse.ArgumentParser:
     """The options that both doors have."""
-    words = argparse.ArgumentParser(description=about)
+    words = argparse.ArgumentParser(description=about, formatter_class=argparse.RawDescriptionHelpFormatter)
     words.add_argument("--signtool", default=PROGRAM, metavar="PATH")
     words.add_argument("--sign", metavar="FILE", help="the description of the sign, as in signs/; else the bench sign")
     words.add_argument("--journal", metavar="FILE", help="what is handed over is kept here, over the end of the process")
@@ -35,6 +35,8 @@ def checked(asked: argparse.Namespace) -> None:
         raise Refusal("--fresh is of a --journal FILE")
     if asked.json and not asked.log:
         raise Refusal("--json is of a --log FILE")
+    if asked.log and asked.journal and os.path.realpath(asked.log) == os.path.realpath(asked.journal):
+        raise Refusal(f"{asked.log} cannot be the log and the journal")
 
 
 def log_of(asked: argparse.Namespace) -> Log | None:

@@ -65,6 +65,16 @@ class Faults:
         self.forget(door, stops=True)
         self.after(name)
 
+    def fresh(self, call: str) -> None:
+        """A fresh journal whose old one cannot be put aside: the old one stays, and goes on."""
+        before = self.path.read_bytes()
+        door = self.trial.sign("--journal", str(self.path), "--fresh", environment=refusing(self.library, self.path, call, 1, errno.EIO))
+        is_well = door.ended() == 2 and b"Input/output error" in door.errors and b"Traceback" not in door.errors
+        self.trial.holds(f"--fresh, {call} refused: it ends and says why", is_well, door.errors.decode())
+        self.trial.holds(f"--fresh, {call} refused: the old journal stays", self.path.read_bytes() == before)
+        self.forget(door, stops=False)
+        self.after(f"--fresh, {call} refused")
+
     def ask(self, door: Door) -> list[bool]:
         """Whether each of several SETs was answered."""
         manager = Manager(door.port)
@@ -116,4 +126,6 @@ def run(trial: Trial) -> None:
     faults.life("write", 3, errno.EIO, short=20, cut=1)
     for error in (errno.EACCES, errno.EROFS, errno.ENOSPC):
         faults.life("open", 1, error)
+    for call in ("link", "rename"):
+        faults.fresh(call)
     print(f"faults of the disk: {faults.count}", flush=True)

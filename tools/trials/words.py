@@ -39,6 +39,7 @@ def signs(trial: Trial) -> None:
                 ("a port that is none", ["--port", "70000"], 2, "is no port"), ("no such host", ["--host", "no.such.host.invalid"], 2, "no.such.host.invalid"),
                 ("an address of another machine", ["--host", "192.0.2.1"], 2, "192.0.2.1"),
                 ("--fresh without a journal", ["--fresh"], 2, "--journal"), ("--json without a log", ["--json"], 2, "--log"),
+                ("a log that is the journal", ["--log", str(more), "--journal", str(more)], 2, "cannot be the log and the journal"),
                 ("--down without a journal", ["--down", "power"], 2, "--journal"), ("a log that is a folder", ["--log", str(folder)], 2, "Is a directory"),
                 ("no such program", ["--signtool", str(folder / "none")], 2, "No such file or directory"),
                 ("a program that is none", ["--signtool", str(bad)], 2, "Permission denied"), ("another program", ["--signtool", "/bin/true"], 2, "co-process ended")]

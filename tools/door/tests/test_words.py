@@ -1,10 +1,12 @@
 """Addresses, Gets, readable texts, and the words of causes."""
 
+import hostile
 from door.datagrams import fields_of, is_get
 from door.mib import Mib
 from door.refusal import Refusal
 from door.sockets import host_and_port, named
 from door.texts import ended, published
+from model import wire
 
 ADDRESSES = [("127.0.0.1:1161", ("127.0.0.1", 1161)), ("[::1]:1161", ("::1", 1161)), ("sign.example:65535", ("sign.example", 65535)),
              ("::1:1161", None), ("127.0.0.1", None), ("127.0.0.1:0", None), ("127.0.0.1:65536", None), (":1161", None), ("a:b", None)]
@@ -61,6 +63,16 @@ def test_a_get_is_known_by_its_outer_elements_alone() -> None:
         assert not is_get(octets)
     long = b"\x30\x81\x2f\x02\x01\x00\x04\x81\x06public" + GET[13:]
     assert not is_get(long)
+
+
+def test_what_is_taken_for_a_get_changes_nothing_that_it_spells() -> None:
+    maker, taken = hostile.Maker(1), 0
+    for _ in range(4000):
+        octets = maker.hostile([wire.GET, wire.GET_NEXT, wire.SET, wire.SET, wire.RESPONSE], 7)
+        message = wire.spelled(octets)
+        taken += is_get(octets)
+        assert not is_get(octets) or message is None or message.kind in (wire.GET, wire.GET_NEXT)
+    assert taken > 500
 
 
 def test_a_datagram_in_words() -> None:
