@@ -2,4 +2,5 @@ mod Parts
 mod Taken
 mod LineCuts
 mod Turns
+mod Journals
 mod Descriptions

@@ -77,6 +77,12 @@ breaks limit count (Some octets) None now line before kept = absurd before
 breaks limit count (Some octets) (Some rest) None line before kept = absurd kept
 breaks limit count (Some octets) (Some rest) (Some same) line before kept = (before.0, before.1 ∙ ap (λ l. before.0 ++ l) (sym kept), before.2)
 
+-- where no part is asked for any more, a part of a line is taken
+pub stops : (limit count : ℕ) (first now : Option (List ℕ)) (line : List ℕ) → Continues limit count first line now → Breaks first now
+stops limit count None now line before = tt
+stops limit count (Some octets) None line before = absurd before
+stops limit count (Some octets) (Some rest) line before = (before.0, before.1, before.2)
+
 -- so many parts have as many octets, or more
 pub as_many : (limit count : ℕ) (first now : Option (List ℕ)) (line : List ℕ) → Continues limit count first line now → IfSome first (λ octets. count ≤ length octets)
 as_many limit count None now line before = tt

@@ -1,6 +1,6 @@
 -- An input that is taken line by line (this profile). Its lines are those of std's `lines`: each ends at a newline, the
 -- last perhaps at the end of the input, and one carriage return before a newline is no part of its line.
-use Rattle.std.specs.Prelude.{◌≡◌, ◌≢◌, ℕ, ◌-◌, ◌<◌, ◌≤◌, ◌==◌, if◌then◌else◌, List, [], ◌++◌, All, take, drop, length, slice_index, slice_range, Option, None, Some, ⊤}
+use Rattle.std.specs.Prelude.{◌≡◌, ◌≢◌, ℕ, ◌-◌, ◌<◌, ◌≤◌, ◌==◌, ◌⊎◌, if◌then◌else◌, List, [], ◌∷◌, ◌++◌, All, take, drop, length, slice_index, slice_range, Option, None, Some, ⊤}
 use Rattle.std.specs.Io.KnownBytes.{prepend_known}
 use Rattle.std.specs.Io.BufRead.{take_through, drop_through}
 use Rattle.std.specs.Str.Lines.{strip_carriage_return}
@@ -13,6 +13,10 @@ left remaining input = prepend_known (slice_range input.buffer.items input.start
 -- a line without the newline at its end, and without a carriage return before that
 abbrev pub line_of : List ℕ → List ℕ
 line_of octets = if slice_index octets (length octets - 1) == 10 then strip_carriage_return (take (length octets - 1) octets) else octets
+
+-- octets that are empty or end in a newline
+abbrev pub AreWholeLines : List ℕ → Type 0
+AreWholeLines octets = (octets ≡ []) ⊎ ((before : List ℕ) × (octets ≡ before ++ 10 ∷ []))
 
 -- how much of a line is held: a line of 65,536 octets, with its newline and a carriage return before it, has one octet
 -- less

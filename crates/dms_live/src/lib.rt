@@ -5,6 +5,7 @@ pub mod conversation;
 pub mod describing;
 pub mod fault;
 pub mod input;
+pub mod laws;
 pub mod party;
 pub mod taking;
 

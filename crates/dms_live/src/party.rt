@@ -1,6 +1,6 @@
 //! What answers lines.
 
-ghost use Rattle.std.specs.Prelude.{◌≡◌, ℕ, List, IfOk, OnOk};
+ghost use Rattle.std.specs.Prelude.{◌≡◌, ℕ, List, IfOk, OnOk, OnErr};
 
 use std::alloc::{AllocError, Global};
 
@@ -18,8 +18,10 @@ pub trait Party {
     // What it is after a line.
     ghost after: { State → List ℕ → State };
 
-    /// Its answer to a line, which is given without its newline. `Err` comes only where memory is wanting.
+    /// Its answer to a line, which is given without its newline. `Err` comes only where memory is wanting, and the party
+    /// is then as before.
     fn answer(&mut self, alloc: Global, line: &[u8]) -> Result<Vec<u8>, AllocError>
         ensures reply { IfOk result (λ text. text.items ≡ reply (state self.old) line.now) }
-        ensures after { OnOk result (state self.new ≡ after (state self.old) line.now) };
+        ensures after { OnOk result (state self.new ≡ after (state self.old) line.now) }
+        ensures memory { OnErr result (state self.new ≡ state self.old) };
 }

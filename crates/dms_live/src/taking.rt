@@ -33,9 +33,12 @@ impl<S: Source> Input<S> {
 
     /// Takes the octets up to and with the next newline, or all where there is none, and puts them into `line`, in
     /// place of what it held, but no more than `limit` of them. At the end of the input there are none.
+    ///
+    /// After an error the octets of this line that were taken before it are lost: the next call takes what is left of the
+    /// line as a line. What there was no memory for is left.
     pub fn take_line(&mut self, line: &mut Vec<u8>, limit: usize) -> Result<(), ReadFault>
         ensures line { OnOk result (Takes limit (left S.remaining self.old) line.new.items (left S.remaining self.new)) }
-        ensures part { result ≡ Err faults.Read → Breaks (left S.remaining self.old) (left S.remaining self.new) }
+        ensures part { OnErr result (Breaks (left S.remaining self.old) (left S.remaining self.new)) }
         ensures short { length line.new.items ≤ limit }
         ensures too_long { result ≡ Err faults.TooLong → IfSome (left S.remaining self.old) (λ octets. 2 ^ 64 - 1 ≤ length octets) }
         ensures failed { result ≡ Err faults.Read → S.failed self.new.source ≡ one_more (S.failed self.old.source) }

@@ -1,10 +1,13 @@
 use Rattle.std.proofs.Common.{◌≡◌, ◌≤◌, length, subst, IfSome, arith}
 use Rattle.dms_live.specs.Lines.{left}
-use Rattle.dms_live.proofs.Taken.{breaks, as_many}
+use Rattle.dms_live.proofs.Taken.{breaks, stops, as_many}
 use Rattle.dms_live.proofs.input.Input.take_line.Goals as goal
 
 pub returns-in-Err-clause-part : goal.returns-in-Err-clause-part
-returns-in-Err-clause-part g c = λ _. breaks _ _ _ _ _ _ c.loop.invariant.going c.in-Err.ensures.kept
+returns-in-Err-clause-part g c = breaks _ _ _ _ _ _ c.loop.invariant.going c.in-Err.ensures.kept
+
+pub returns-clause-part : goal.returns-clause-part
+returns-clause-part g c = stops _ _ _ _ _ c.loop.invariant.going
 
 pub returns-clause-too_long : goal.returns-clause-too_long
 returns-clause-too_long g c = λ _.
