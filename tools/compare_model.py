@@ -167,7 +167,9 @@ class Cases:
         words, described = ([], "") if self.random.randrange(2) else (["--sign"], self.sign())
         sign = text.described(described.encode()) if described else text.bench()
         if draw == 1:
-            return ["answer", *words, "--", self.request(Sign(sign)).hex()], described
+            digits = self.request(Sign(sign)).hex()
+            between = self.one([""] * 14 + [" ", ":"])
+            return ["answer", *words, "--", digits[:2] + between + digits[2:]], described
         made = self.text(20).replace(b"\0", b"").decode("latin-1")
         if draw == 2:
             return [self.one(["check", "pages"]), *words, "--", made], described

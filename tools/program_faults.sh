@@ -67,6 +67,9 @@ done
 call answer 3003020100 < /dev/null; ended "answer: octets that spell no message" 1 "dropped"
 call answer "" < /dev/null; ended "answer: no octets" 1 "dropped"
 call answer 3 < /dev/null; ended "answer: half an octet" 2 "not hex"
+call answer "30 00" < /dev/null; ended "answer: a space between octets" 2 "not hex"
+call decode 30:00 < /dev/null; ended "decode: a colon between octets" 2 "not hex"
+call decode --spaced "30: 0a" < /dev/null; ended "decode --spaced: a message that is cut short" 1 "fault truncated at octet 2"
 call code 3 1 A --address 1.2.3 < /dev/null; ended "code: an address of three numbers" 2 "bad address"
 call code 3 1 "$(head -c 513 /dev/zero | tr '\0' A)" < /dev/null; ended "code: a text of 513 octets" 1 "text too long"
 # words that are no text are named on standard error by their number

@@ -24,6 +24,8 @@ pub enum Call<'a> {
     /// The fields of a datagram in hexadecimal digits, or its fault.
     Decode {
         hex: &'a str,
+        /// Whether spaces and colons may stand between octets.
+        spaced: bool,
     },
     /// The items of a text, or its fault.
     Items {

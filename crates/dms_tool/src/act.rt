@@ -54,7 +54,7 @@ pub fn act_saying<R: Read, W: Write, E: Write>(
             Ok(setup) => print_pages(alloc, text, setup.sign.face(), drawing, writer, errors),
             Err(fault) => tell_input_fault(writer, fault),
         },
-        Call::Decode { hex } => decode(alloc, hex, writer),
+        Call::Decode { hex, spaced } => decode(alloc, hex, spaced, writer),
         Call::Items { text } => list_items(text, writer, errors),
         Call::Version => tell(writer, VERSION, 0),
         Call::Code(words) => code(alloc, &words, writer),
@@ -158,7 +158,7 @@ fn answer<R: Read, W: Write, E: Write>(
     writer: &mut W,
     errors: &mut E,
 ) -> u8 {
-    let datagram = match octets(alloc, digits) {
+    let datagram = match hex::decode(alloc, digits.as_bytes()) {
         Ok(datagram) => datagram,
         Err(fault) => return tell_hex_fault(writer, fault),
     };
@@ -272,8 +272,13 @@ fn print_document<W: Write>(document: Result<Vec<u8>, AllocError>, writer: &mut 
 }
 
 /// Prints the fields of a datagram, or its fault.
-fn decode<W: Write>(alloc: Global, digits: &str, writer: &mut W) -> u8 {
-    let datagram = match octets(alloc, digits) {
+fn decode<W: Write>(alloc: Global, digits: &str, spaced: bool, writer: &mut W) -> u8 {
+    let octets = if spaced {
+        spaced_octets(alloc, digits)
+    } else {
+        hex::decode(alloc, digits.as_bytes())
+    };
+    let datagram = match octets {
         Ok(datagram) => datagram,
         Err(fault) => return tell_hex_fault(writer, fault),
     };
@@ -299,8 +304,8 @@ fn list_items<W: Write, E: Write>(text: &str, writer: &mut W, errors: &mut E) ->
     }
 }
 
-/// The octets that pairs of digits are. Between two pairs spaces and colons may stand.
-fn octets(alloc: Global, digits: &str) -> Result<Vec<u8>, FromHexError> {
+/// The octets that pairs of digits are, with spaces and colons between them, before the first and after the last.
+fn spaced_octets(alloc: Global, digits: &str) -> Result<Vec<u8>, FromHexError> {
     let mut pairs = Vec::new(alloc);
     for digit in digits.as_bytes() {
         let is_between = (*digit == b' ' || *digit == b':') && pairs.len() % 2 == 0;

@@ -63,7 +63,8 @@ pub fn asked<S: AsStr>(alloc: Global, words: &[S]) -> Result<Call<'_>, Usage> {
         Some(("code", code)) => code_words(code).map(Call::Code).ok_or(Usage::NoCall),
         Some(("decode", words)) => {
             let hex = words.get_str("HEX").ok_or(Usage::NoCall)?;
-            Ok(Call::Decode { hex })
+            let spaced = words.get_flag("spaced");
+            Ok(Call::Decode { hex, spaced })
         }
         Some(("items", words)) => {
             let text = words.get_str("TEXT").ok_or(Usage::NoCall)?;

@@ -29,7 +29,7 @@ fn answer_command<'a>(alloc: Global) -> Result<Command<'a>, AllocError> {
 /// A datagram, as a word.
 fn datagram<'a>(alloc: Global) -> Arg<'a> {
     Arg::new(alloc, "HEX").required(true).help(
-        "the datagram, in hexadecimal digits; spaces and colons may stand between octets",
+        "the datagram, two hexadecimal digits an octet, with nothing between octets",
     )
 }
 
@@ -65,6 +65,11 @@ fn page<'a>(alloc: Global) -> Arg<'a> {
 fn decode_command<'a>(alloc: Global) -> Result<Command<'a>, AllocError> {
     Command::new(alloc, "decode")
         .about("Prints the fields of a datagram, or its fault")
+        .arg(flag(
+            alloc,
+            "spaced",
+            "spaces and colons may stand between octets, as in Wireshark's copies",
+        ))?
         .arg(datagram(alloc))
 }
 

@@ -9,7 +9,7 @@ use std::io::Read;
 use std::test::Fail;
 
 /// Datagrams, and what `answer` prints for them with which exit status.
-const ANSWERS: [(&str, &str, u8); 16] = [
+const ANSWERS: [(&str, &str, u8); 19] = [
     // a Get of changeable 1 by `public`
     (
         "302e02010004067075626c6963a0210201010201000201003016301406102b0601040189360402030508010903010500",
@@ -88,6 +88,9 @@ const ANSWERS: [(&str, &str, u8); 16] = [
     ("", "dropped\n", 1),
     ("302", "not hex\n", 2),
     ("-", "not hex\n", 2),
+    ("30 00", "not hex\n", 2),
+    ("30:00", "not hex\n", 2),
+    ("3000 ", "not hex\n", 2),
 ];
 
 /// The call that these words are, if they are one.
@@ -343,7 +346,7 @@ const WITH_INPUT: [(&[&str], &str, &str, u8); 18] = [
             "signtool",
             "answer",
             "--sign",
-            "302b02010004067075626c6963a01e020101020100020100301330110 60d2b0601040189360402030202000500",
+            "302b02010004067075626c6963a01e0201010201000201003013301106:0d2b0601040189360402030202000500",
         ],
         SMALL_SIGN,
         "not hex\n",
@@ -614,12 +617,13 @@ const CELLS: Drawing = Drawing {
 };
 
 /// Words, what they print, the status, and what is said on the standard error.
-const READERS: [(&[&str], &str, u8, &str); 14] = [
+const READERS: [(&[&str], &str, u8, &str); 16] = [
     (&["signtool", "--version"], "signtool 1.0.0\n", 0, ""),
     (
         &[
             "signtool",
             "decode",
+            "--spaced",
             "30:2e:02:01:00 04067075626c6963a0210201010201000201003016301406102b0601040189360402030508010903010500",
         ],
         "kind Get\ncommunity 7075626c6963 \"public\"\nrequest-id 1\nerror-status 0\nerror-index 0\nbinding 1.3.6.1.4.1.1206.4.2.3.5.8.1.9.3.1 (dmsMessageStatus.3.1): NULL\n",
@@ -643,7 +647,14 @@ const READERS: [(&[&str], &str, u8, &str); 14] = [
         1,
         "",
     ),
-    (&["signtool", "decode", "3 0"], "not hex\n", 2, ""),
+    (
+        &["signtool", "decode", "--spaced", "3 0"],
+        "not hex\n",
+        2,
+        "",
+    ),
+    (&["signtool", "decode", "30 00"], "not hex\n", 2, ""),
+    (&["signtool", "decode", "30:00"], "not hex\n", 2, ""),
     (&["signtool", "decode", "3"], "not hex\n", 2, ""),
     (
         &[
@@ -681,7 +692,7 @@ const READERS: [(&[&str], &str, u8, &str); 14] = [
         "character not defined at octet 0\n",
     ),
     (
-        &["signtool", "answer", "30 00"],
+        &["signtool", "answer", "3000"],
         "dropped\n",
         1,
         "truncated at octet 2\n",

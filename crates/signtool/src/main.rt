@@ -18,8 +18,8 @@
 //!
 //! # Datagrams
 //!
-//! `answer [--sign] HEX` prints the sign's reply to a datagram. Octets are two hexadecimal digits each, with spaces and colons between
-//! them where that helps. Here a manager asks a sign for dmsMessageStatus.3.1, the status of the first changeable message:
+//! `answer [--sign] HEX` prints the sign's reply to a datagram. Octets are two hexadecimal digits each, with nothing between them.
+//! Here a manager asks a sign for dmsMessageStatus.3.1, the status of the first changeable message:
 //!
 //! ```sh
 //! signtool answer 302e02010004067075626c6963a0210201010201000201003016301406102b0601040189360402030508010903010500
@@ -42,7 +42,8 @@
 //! ```
 //!
 //! Octets that spell no message have their first fault and the offset of the octet at which it is told: `signtool decode 300a` prints
-//! `fault truncated at octet 2`.
+//! `fault truncated at octet 2`. `decode --spaced HEX` takes octets with spaces and colons between them, as Wireshark copies them:
+//! `signtool decode --spaced 30:0a` prints the same.
 //!
 //! # Texts
 //!
