@@ -11,7 +11,8 @@ from .context import Context
 from .oracle import ModelOracle, Oracle
 from .pair import Pair
 from .port import Port
-from .session import Quiet, Results, Session, Watcher, chapters_of
+from .results import Quiet, Results, Watcher
+from .session import Session, chapters_of
 from .simulated import SimulatedLink, SomeSign
 from .ticks import Ticks
 

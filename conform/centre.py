@@ -14,22 +14,33 @@ import signal
 import socket
 import sys
 from types import FrameType
+from typing import Protocol
 
 from model import text
 
 from . import SIGNTOOL
 from .clock import Clock, RealClock
-from .oracle import Oracle, made
+from .oracle import made
 from .watch import Watch
 
 MOST_RECEIVED = 65_535
+
+
+class Answering(Protocol):
+    """A sign that is asked in octets."""
+
+    def datagram(self, octets: bytes) -> bytes | None:
+        ...
+
+    def tick(self) -> None:
+        ...
 
 
 class Stopped(Exception):
     """It is time to tell what was seen."""
 
 
-def serve(door: socket.socket, sign: Oracle, clock: Clock, watch: Watch, seconds: float | None) -> None:
+def serve(door: socket.socket, sign: Answering, clock: Clock, watch: Watch, seconds: float | None) -> None:
     """Answers until it is stopped or so many seconds are over; the sign ticks also under many datagrams."""
     begun = clock.now()
     due = begun + 1

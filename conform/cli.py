@@ -18,7 +18,8 @@ from .port import Port
 from .repeat import repeat
 from .report import files, page, terminal, words
 from .report.picture import pictures
-from .session import Results, Session, chapters_of
+from .results import Results
+from .session import Session, chapters_of
 from .ticks import Ticks
 
 

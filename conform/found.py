@@ -51,6 +51,19 @@ def signature(exchange: Exchange) -> Signature:
     return Signature(exchange.mismatch.kind, kind, status_of(exchange.ours), status_of(exchange.theirs), objects)
 
 
+def subject(exchange: Exchange) -> tuple[tuple[int, ...], ...]:
+    """The objects that a difference is about: of the values that differ, or of the binding that one refused."""
+    assert exchange.mismatch is not None
+    if exchange.mismatch.names:
+        return tuple(sorted({object_of(name) for name in exchange.mismatch.names[:1]}))
+    message = spelled(exchange.octets)
+    replies = [spelled(octets or b"") for octets in (exchange.ours, exchange.theirs)]
+    for reply in replies:
+        if message is not None and reply is not None and 1 <= reply.index <= len(message.bindings):
+            return (object_of(message.bindings[reply.index - 1][0]),)
+    return ()
+
+
 @dataclass
 class Difference:
     """A difference that is told, with the sequence from the known state that shows it."""
@@ -68,6 +81,17 @@ class Difference:
     alike: int = 0
     note: str = ""
     pictures: list[tuple[str, list[str]]] = field(default_factory=list)
+
+    subject: tuple[tuple[int, ...], ...] = ()
+
+    @staticmethod
+    def of(rule: Rule, found_in: str, exchange: Exchange, steps: list[Step], sent: list[bytes | None]) -> "Difference":
+        """The difference that an exchange shows at the end of these steps."""
+        assert exchange.mismatch is not None
+        octets, ours, theirs = exchange.octets, exchange.ours, exchange.theirs
+        made = Difference(rule, found_in, exchange.mismatch, steps, sent, octets, ours, theirs)
+        made.subject = subject(exchange)
+        return made
 
     @property
     def title(self) -> str:

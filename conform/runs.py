@@ -6,7 +6,7 @@ from typing import Sequence
 from model import wire
 
 from .compare import Kind
-from .found import Signature, signature
+from .found import Signature, object_of, signature
 from .known import Known
 from .messages import spelled
 from .objects import row_of
@@ -53,11 +53,11 @@ class Runner:
 
     def is_lost(self, exchange: Exchange) -> bool:
         """Whether a SET without a reply is one of many whose replies came, on a way that loses some."""
-        like = likeness(exchange)
+        likes = likeness(exchange)
         if exchange.theirs is not None:
-            self.answered.add(like)
+            self.answered.update(likes)
             return False
-        return exchange.is_lost and self.pair.port.is_lossy() and like in self.answered
+        return exchange.is_lost and self.pair.port.is_lossy() and likes <= self.answered
 
     def anew(self, steps: Sequence[Step], after_a_tick: bool = True) -> Run | None:
         """The steps from the known state; a sequence that cannot be told is begun again.
@@ -80,14 +80,13 @@ class Runner:
         return None
 
 
-def likeness(exchange: Exchange) -> tuple[object, ...]:
-    """What is alike in requests that a sign should answer alike."""
-    message = spelled(exchange.octets)
-    reply = spelled(exchange.ours or b"")
+def likeness(exchange: Exchange) -> set[tuple[object, ...]]:
+    """What a sign answers alike: for each object that a request names, the request's kind and the reply's status."""
+    message, reply = spelled(exchange.octets), spelled(exchange.ours or b"")
     if message is None or reply is None:
-        return ()
-    places = tuple(sorted({(name[-3:] if row_of(name) else name) for name, _ in message.bindings}))
-    return message.kind, message.community, places, reply.status
+        return set()
+    places = {object_of(name) for name, _ in message.bindings}
+    return {(message.kind, message.community, place, reply.status) for place in places}
 
 
 def is_timed(steps: Sequence[Step]) -> bool:

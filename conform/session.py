@@ -1,64 +1,22 @@
 """A test from its beginning to its report."""
 
 from dataclasses import dataclass, field
-from typing import Protocol, Sequence
+from typing import Sequence
 
-from model import wire
-
-from . import before, classify
+from . import classify
+from .beginning import Beginning
 from .chapters import ALL, Block, Chapter
-from .compare import Kind, Mismatch, mismatch, value_words
+from .compare import Kind
 from .context import Context
-from .found import Difference
-from .known import Known, Unreachable, Unreached
-from .objects import Name, row_of, spoken
-from .pair import Exchange, Inconclusive, Pair
+from .found import Difference, subject
+from .known import Known, Unreachable
+from .pair import Inconclusive, Pair
+from .results import ChapterResult, Results, Watcher
 from .rules import RULES, Rule
 from .runs import Run, Runner, shrunk
-from .steps import Ask, Step, Wait, get
+from .steps import Step
 
-MOST_SHRUNK = 4  # differences of a chapter that are made small
-
-
-@dataclass
-class ChapterResult:
-    chapter: Chapter
-    blocks: int = 0
-    requests: int = 0
-    seconds: float = 0.0
-    differences: list[Difference] = field(default_factory=list)
-    untold: int = 0  # blocks of which it could not be told whether they differ
-
-
-class Watcher(Protocol):
-    """Who is told how the test goes on."""
-
-    def begun(self, chapter: Chapter, blocks: int) -> None:
-        ...
-
-    def went_on(self, result: ChapterResult, at: int) -> None:
-        ...
-
-    def ended(self, result: ChapterResult) -> None:
-        ...
-
-    def found(self, difference: Difference) -> None:
-        ...
-
-
-@dataclass
-class Results:
-    chapters: list[ChapterResult] = field(default_factory=list)
-    before: list[Difference] = field(default_factory=list)
-    configuration: list[tuple[str, str, str]] = field(default_factory=list)  # object, as described, as read
-    is_silent: bool = False
-    is_learnt: bool = True
-
-    def differences(self) -> list[Difference]:
-        return self.before + [difference for result in self.chapters for difference in result.differences]
-
-    def is_clean(self) -> bool:
-        return not self.is_silent and not self.configuration and not self.differences()
+MOST_SHRUNK, MOST_TOLD = 4, 12  # differences of a chapter that are made small, and that are told
 
 
 @dataclass
@@ -73,111 +31,19 @@ class Session:
     def __post_init__(self) -> None:
         self.known = Known(self.pair, self.context)
         self.runner = Runner(self.pair, self.known, self.most_seconds)
+        self.beginning = Beginning(self.pair, self.known, self.context, self.results, self.watcher)
 
     def is_enough(self) -> bool:
         return self.most_differences is not None and len(self.results.differences()) >= self.most_differences
 
     def run(self, chapters: Sequence[Chapter]) -> Results:
-        if not before.is_heard(self.known):
-            self.results.is_silent = True
-            return self.results
-        self.configure()
-        self.reach_first()
-        for chapter in chapters:
+        is_heard = self.beginning.begin()
+        for chapter in chapters if is_heard else []:
             if self.is_enough():
                 break
             if not chapter.is_slow or self.context.is_slow:
                 self.chapter(chapter)
         return self.results
-
-    # --- before ----------------------------------------------------------------------------------------------
-
-    def configure(self) -> None:
-        for name, wanted, have in before.differing(self.known, before.described(self.context)):
-            read = "nothing" if have is None else value_words(have)
-            self.results.configuration.append((spoken(name), value_words(wanted), read))
-            self.add_before(self.configuration_difference(name))
-            self.pair.masked.add(name)
-
-    def configuration_difference(self, name: Name) -> Difference:
-        exchange = self.on_both(get(name))
-        rule = RULES["permanent rows" if row_of(name) else "configuration"]
-        differs = exchange.mismatch or Mismatch(Kind.VALUE, (name,))
-        return Difference(
-            rule, "before", differs, [exchange.step], [exchange.octets], exchange.octets, exchange.ours, exchange.theirs
-        )
-
-    def add_before(self, difference: Difference) -> None:
-        self.results.before.append(difference)
-        self.watcher.found(difference)
-
-    def reach_first(self) -> None:
-        """The known state for the first time; what cannot be brought there is told, and left out from here on."""
-        self.pair.touched.update(self.context.rows)
-        for _ in range(3):
-            unreached = self.known.reach(observe=True)
-            if not unreached:
-                break
-            self.tell_unreached(unreached)
-        self.results.is_learnt = self.pair.ticks.is_learnt()
-
-    def tell_unreached(self, unreached: list[Unreached]) -> None:
-        """The first of the objects is told, with the others by name."""
-        first = unreached[0]
-        row = self.context.rows[0] if self.context.rows else None
-        steps, sent = first.steps(row), []
-        exchange = None
-        for step in steps:
-            if isinstance(step, Wait):
-                sent.append(None)
-                self.pair.ticks.wait(step.ticks)
-                self.pair.pass_ticks()
-                continue
-            exchange = self.on_both(step)
-            sent.append(exchange.octets)
-            if exchange.mismatch is not None:
-                break
-        assert exchange is not None
-        others = ", ".join(spoken(held.name) for held in unreached[1:4]) + (" and others" if len(unreached) > 4 else "")
-        read = value_words(first.read) if first.read else "nothing"
-        note = f"{spoken(first.name)} cannot be brought to {value_words(first.wanted)}: it reads {read}" + (
-            f"; nor can {others}" if others else ""
-        )
-        differs = exchange.mismatch or Mismatch(Kind.VALUE, (first.name,))
-        rule = self.rule_of_unreached(first, exchange, differs)
-        self.pair.masked.update(held.name for held in unreached)
-        self.add_before(
-            Difference(
-                rule,
-                "known state",
-                differs,
-                steps[: len(sent)],
-                sent,
-                exchange.octets,
-                exchange.ours,
-                exchange.theirs,
-                note=note,
-            )
-        )
-
-    def on_both(self, step: Ask) -> Exchange:
-        """A request to both; the one under test may be asked again only where it reads."""
-        number = self.pair.port.new_number()
-        octets = step.octets(number, self.pair.communities)
-        ask = self.pair.port.ask_once if step.kind == wire.SET else self.pair.port.ask
-        theirs = ask(octets, number).reply
-        ours = self.pair.hand(octets)
-        return Exchange(step, octets, ours, theirs, mismatch(ours, theirs))
-
-    def rule_of_unreached(self, held: Unreached, exchange: Exchange, differs: Mismatch) -> Rule:
-        if exchange.ours == exchange.theirs:
-            return RULES["set"]
-        rule = classify.rule_of(exchange.octets, exchange.ours, exchange.theirs, differs)
-        if rule.key == "deciding" and differs.kind is Kind.STATUS:
-            cause = self.known.read([CAUSE])[CAUSE]
-            if cause is not None and isinstance(cause[1], int):
-                return RULES[classify.BY_CAUSE.get(cause[1], "deciding")]
-        return rule
 
     # --- chapters --------------------------------------------------------------------------------------------
 
@@ -208,7 +74,7 @@ class Session:
                 self.pair.begin()
                 run = self.runner.steps(block.steps)
         except Unreachable as fault:
-            self.tell_unreached(fault.unreached)
+            self.beginning.tell_unreached(fault.unreached)
             return self.again(result, block) if not self.is_enough() else None
         except Inconclusive:
             self.pair.is_dirty = True
@@ -239,66 +105,38 @@ class Session:
         try:
             return shrunk(self.runner, run, steps)
         except Unreachable as fault:
-            self.tell_unreached(fault.unreached)
+            self.beginning.tell_unreached(fault.unreached)
             return run, False
+
+    def is_told(self, result: ChapterResult, rule: Rule, run: Run) -> bool:
+        """Whether one like it was told, or enough of the chapter were; it is counted then."""
+        about = subject(run.exchange)
+        for known in self.results.differences():
+            if known.rule.key == rule.key and known.mismatch.kind is run.signature.kind and known.subject == about:
+                known.alike += 1
+                return True
+        if len(result.differences) >= MOST_TOLD:
+            result.differences[-1].alike += 1
+        return len(result.differences) >= MOST_TOLD
 
     def difference(self, result: ChapterResult, block: Block, run: Run, steps: list[Step]) -> None:
         """A difference is made small and told; one like it is counted."""
         self.pair.is_dirty = True
-        rule = self.rule_of(block, run)
-        for known in self.results.differences():
-            if known.rule.key == rule.key and known.mismatch.kind is run.signature.kind:
-                known.alike += 1
-                return
+        if self.is_told(result, self.rule_of(block, run), run):
+            return
         is_shrunk = sum(held.is_shrunk for held in result.differences) < MOST_SHRUNK
         is_repeated = True
         if is_shrunk:
             run, is_repeated = self.made_small(run, steps)
-            rule = self.rule_of(block, run)
-        exchange = run.exchange
-        if not is_repeated and exchange.is_lost:
+        if not is_repeated and run.exchange.is_lost:
             result.untold += 1
             return
-        assert exchange.mismatch is not None
-        if exchange.mismatch.kind is Kind.SPELLING:
-            self.pair.is_spelling_told = True
-        found = Difference(
-            rule,
-            result.chapter.name,
-            exchange.mismatch,
-            run.steps,
-            run.sent,
-            exchange.octets,
-            exchange.ours,
-            exchange.theirs,
-            is_repeated,
-            is_shrunk,
-        )
+        found = Difference.of(self.rule_of(block, run), result.chapter.name, run.exchange, run.steps, run.sent)
+        found.is_repeated, found.is_shrunk = is_repeated, is_shrunk
+        self.pair.is_spelling_told |= found.mismatch.kind is Kind.SPELLING
         result.differences.append(found)
         self.watcher.found(found)
 
 
-CAUSE: Name = (1, 3, 6, 1, 4, 1, 1206, 4, 2, 3, 6, 17, 0)
-
-
-class Quiet:
-    """A watcher that says nothing."""
-
-    def begun(self, chapter: Chapter, blocks: int) -> None:
-        ...
-
-    def went_on(self, result: ChapterResult, at: int) -> None:
-        ...
-
-    def ended(self, result: ChapterResult) -> None:
-        ...
-
-    def found(self, difference: Difference) -> None:
-        ...
-
-
 def chapters_of(names: Sequence[str]) -> list[Chapter]:
     return [chapter for chapter in ALL if not names or chapter.name in names]
-
-
-__all__ = ["Session", "Results", "ChapterResult", "Quiet", "Watcher", "chapters_of"]

@@ -50,7 +50,11 @@ FITTING = {
 
 def raw(rule: str, changes: dict[str, Form], **more: object) -> Raw:
     """A Get with these changes."""
-    return Raw(lambda number, communities: spelled(number, communities[1], changes, **more), rule)  # type: ignore[arg-type]
+
+    def make(number: int, communities: tuple[bytes, bytes]) -> bytes:
+        return spelled(number, communities[1], changes, **more)  # type: ignore[arg-type]
+
+    return Raw(make, rule)
 
 
 def accepted_lengths() -> Iterator[Block]:

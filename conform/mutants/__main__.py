@@ -33,13 +33,13 @@ def tried(mutant: Mutant, description: bytes, program: str, most: int = 1) -> Ou
     """The whole test of a wrong sign, up to its first difference."""
     description = description.replace(b"\nhas 1 0\n", b"\nhas " + mutant.has + b"\n")
     oracle = made(program, description)
-    sign = sign_of(mutant, description)
+    sign = sign_of([mutant], description)
     try:
         session = bench.session(description, sign, oracle, requests=400, is_slow=True, most_differences=most)
         found = bench.run(session).differences()
     finally:
         oracle.end()
-        unload(mutant)
+        unload([mutant])
     wanted = RULES[mutant.rule].chapter
     if not found:
         return Outcome(mutant.name, False, f"{wanted}: nothing differs")

@@ -1,9 +1,9 @@
 """A wrong sign: tools/model with one edit, loaded beside the right one."""
 
-import importlib.util
 import sys
 import types
 from dataclasses import dataclass
+from typing import Sequence
 
 from model.sign import Description
 
@@ -28,9 +28,9 @@ class Mutant:
     has: bytes = b"1 0"  # whether the sign that is tried has beacons and pixel services
 
 
-def edited(mutant: Mutant) -> str:
-    """The text of the mutant's file."""
-    source = (FOLDER / mutant.file).read_text(encoding="utf-8")
+def edited(mutant: Mutant, source: str | None = None) -> str:
+    """The text of the mutant's file, or another text of it, with the edit."""
+    source = (FOLDER / mutant.file).read_text(encoding="utf-8") if source is None else source
     count = ("\n" + source).count("\n" + mutant.old)
     if count != 1:
         raise ValueError(f"{mutant.name}: {mutant.old!r} stands {count} times in {mutant.file}")
@@ -46,23 +46,28 @@ def module_of(package: str, stem: str, source: str) -> None:
     setattr(sys.modules[package], stem, module)
 
 
-def sign_of(mutant: Mutant, description: bytes) -> SomeSign:
-    """The wrong sign, as it begins."""
-    package = f"mutant_{mutant.name}"
+def sign_of(mutants: Sequence[Mutant], description: bytes) -> SomeSign:
+    """The sign with all of these edits, as it begins."""
+    package = package_of(mutants)
     holder = types.ModuleType(package)
     holder.__path__ = []  # a package without files: its modules are put into it
     sys.modules[package] = holder
     for stem in ("wire", "multi", "codes", "layout", "sign", "centre", "text"):
-        held = edited(mutant) if mutant.file == f"{stem}.py" else (FOLDER / f"{stem}.py").read_text(encoding="utf-8")
+        held = (FOLDER / f"{stem}.py").read_text(encoding="utf-8")
+        for mutant in mutants:
+            held = edited(mutant, held) if mutant.file == f"{stem}.py" else held
         module_of(package, stem, held)
-    modules = sys.modules
-    described: Description = modules[f"{package}.text"].described(description)
-    sign: SomeSign = modules[f"{package}.sign"].Sign(described)
+    described: Description = sys.modules[f"{package}.text"].described(description)
+    sign: SomeSign = sys.modules[f"{package}.sign"].Sign(described)
     return sign
 
 
-def unload(mutant: Mutant) -> None:
-    for name in [
-        name for name in sys.modules if name == f"mutant_{mutant.name}" or name.startswith(f"mutant_{mutant.name}.")
-    ]:
+def package_of(mutants: Sequence[Mutant]) -> str:
+    return "_and_".join(["mutant", *[mutant.name for mutant in mutants]])
+
+
+def unload(mutants: Sequence[Mutant]) -> None:
+    """Forgets the modules of a sign."""
+    package = package_of(mutants)
+    for name in [name for name in sys.modules if name == package or name.startswith(package + ".")]:
         del sys.modules[name]

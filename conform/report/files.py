@@ -5,7 +5,7 @@ import xml.etree.ElementTree as ET
 from typing import Any
 
 from ..found import Difference
-from ..session import Results
+from ..results import Results
 from .terminal import difference_lines
 from .words import About, how_sure, origin, sequence, verdict
 

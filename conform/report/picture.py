@@ -64,7 +64,7 @@ def svg(rows: list[str]) -> str:
         for name, path in dots.items()
         if path
     )
-    return (
-        f'<svg viewBox="0 0 {width} {height}" width="{min(2 * width, 1000)}" xmlns="http://www.w3.org/2000/svg" role="img">'
-        f'<rect width="{width}" height="{height}" fill="#101010"/><g fill="none" stroke-width="3" stroke-linecap="round">{paths}</g></svg>'
-    )
+    size = f'viewBox="0 0 {width} {height}" width="{min(2 * width, 1000)}"'
+    plate = f'<rect width="{width}" height="{height}" fill="#101010"/>'
+    lamps = f'<g fill="none" stroke-width="3" stroke-linecap="round">{paths}</g>'
+    return f'<svg {size} xmlns="http://www.w3.org/2000/svg" role="img">{plate}{lamps}</svg>'

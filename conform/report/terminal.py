@@ -5,7 +5,7 @@ from typing import Any, TextIO
 
 from ..chapters import Chapter
 from ..found import Difference
-from ..session import ChapterResult, Results
+from ..results import ChapterResult, Results
 from .words import About, how_sure, origin, sequence, verdict
 
 try:

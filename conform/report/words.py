@@ -7,7 +7,7 @@ from ..chapters import Chapter
 from ..compare import fields
 from ..context import Context
 from ..found import Difference
-from ..session import Results
+from ..results import Results
 
 NOT_SEEN = [
     "losses and returns of power, and the codes that they activate: no request makes them",

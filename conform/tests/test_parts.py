@@ -92,11 +92,15 @@ def test_sequences_are_read_back() -> None:
     spelled = [ask.octets(70000 + at, communities) for at, ask in enumerate(asks)]
     steps = steps_of(",".join([spelled[0].hex(), "tick", spelled[1].hex(), "3000"]), communities)
     assert isinstance(steps[1], Wait) and steps[0].octets(70000, communities) == spelled[0]  # type: ignore[union-attr]
-    assert steps[2].octets(70001, communities) == spelled[1] and steps[3].octets(1, communities) == b"\x30\0"  # type: ignore[union-attr]
+    octets = [step.octets(70001, communities) for step in steps[2:] if not isinstance(step, Wait)]
+    assert octets == [spelled[1], b"\x30\0"]
 
 
 def test_chapters_are_made_for_any_sign() -> None:
-    bare = b"size 1 1\ncommunities a b\nrows 0 0\norder swapped\nhas 0 0\ndefaults 0 0 0 0 9 2 2 0 0\nfirst 1\nfont 9 height 1 space 0 line 0 version 0000\nend\n"
+    bare = (
+        b"size 1 1\ncommunities a b\nrows 0 0\norder swapped\nhas 0 0\ndefaults 0 0 0 0 9 2 2 0 0\nfirst 1\n"
+        b"font 9 height 1 space 0 line 0 version 0000\nend\n"
+    )
     described = text.described(bare)
     context = Context(described, (described.reader, described.writer), requests=100, is_slow=True)
     for chapter in ALL:
@@ -114,7 +118,7 @@ def test_each_mutant_is_one_edit_of_a_rule() -> None:
 
 def test_reports_say_the_same() -> None:
     mutant = next(mutant for mutant in MUTANTS if mutant.name == "minutes_are_rounded_down")
-    session = bench.session(text.BENCH, sign_of(mutant, text.BENCH), requests=0)
+    session = bench.session(text.BENCH, sign_of([mutant], text.BENCH), requests=0)
     results = bench.run(session, ["durations"])
     about = words.About("127.0.0.1:1", "bench.sign", "tools/model", None, 1, 0, False, "today")
     left_out = words.not_tested(session.context, results, ALL)
