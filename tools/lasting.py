@@ -3,9 +3,9 @@
 
     tools/lasting.py [--short] [--seed 1] [--only WORD] [PROGRAM]
 
-The program is signtool, or another that answers the same lines: tools/coprocess_model.py. The short form takes at most two
-minutes. It prints what does not hold, and last `N passed, N failed`, with `, N skipped` where something cannot be tried here.
-It needs no network but loopback, and leaves no process and no file.
+The program is signtool, or another that answers the same lines: tools/coprocess_model.py. The short form takes at most
+two minutes. It prints what does not hold, and last `N passed, N failed`, with `, N skipped` where something cannot be
+tried here. It needs no network but loopback, and leaves no process and no file.
 """
 
 import argparse

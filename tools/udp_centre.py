@@ -4,14 +4,14 @@
     tools/udp_centre.py --to HOST:PORT [--signtool PATH] [--sign FILE] [--journal FILE [--fresh]] [--first N]
         [--log FILE|- [--json]] [--tick SECONDS] [--wait SECONDS]
 
-Its standard input has an operator's commands, a line each as in a script: `publish ..`, `blank ..`, `activate ..`. Each is
-carried out until the centre is idle, and how it ended is printed with the ledger's lines; one that takes longer than --wait is
-given up, and the next one waits for its end. `publish-text 3 1 "LANE CLOSED[nl]1 KM" "me" 0 0 100 65535 255 192.0.2.1` is
-`publish ..` with its text and its owner as they are read, in quotes (\\" and \\\\ are a quote and a backslash; a - without
-quotes is none), each character an octet of ISO 8859-1; `status` prints how things are at any time. With a journal
-(docs/JOURNAL.md) a centre goes on where it was; without one its request numbers begin at the description's, or at --first,
-which has to be above any that was used. The exit status is 0 where every command ended accepted, 1 where one did not, and 2
-where it could not begin.
+Its standard input has an operator's commands, a line each as in a script: `publish ..`, `blank ..`, `activate ..`. Each
+is carried out until the centre is idle, and how it ended is printed with the ledger's lines; one that takes longer than
+--wait is given up, and the next one waits for its end. `publish-text 3 1 "LANE CLOSED[nl]1 KM" "me" 0 0 100 65535 255
+192.0.2.1` is `publish ..` with its text and its owner as they are read, in quotes (\\" and \\\\ are a quote and a
+backslash; a - without quotes is none), each character an octet of ISO 8859-1; `status` prints how things are at any
+time. With a journal (docs/JOURNAL.md) a centre goes on where it was; without one its request numbers begin at the
+description's, or at --first, which has to be above any that was used. The exit status is 0 where every command ended
+accepted, 1 where one did not, and 2 where it could not begin.
 """
 
 import argparse
@@ -37,13 +37,15 @@ def seconds(word: str) -> float:
 def asked_for() -> argparse.Namespace:
     """The options, as far as they go together."""
     words = options(__doc__)
-    words.add_argument("--to", required=True, metavar="HOST:PORT", help="where the sign is; an IPv6 address stands in brackets")
+    words.add_argument(
+        "--to", required=True, metavar="HOST:PORT", help="where the sign is; an IPv6 address stands in brackets"
+    )
     words.add_argument("--first", type=int, metavar="N", help="the number of the first request; else the description's")
     words.add_argument("--tick", type=seconds, default=1.0, metavar="SECONDS", help="from tick to tick")
     words.add_argument("--wait", type=seconds, default=120.0, metavar="SECONDS", help="how long a command may take")
     asked = words.parse_args()
     checked(asked)
-    if asked.first is not None and not 0 <= asked.first < 2 ** 32:
+    if asked.first is not None and not 0 <= asked.first < 2**32:
         raise Refusal(f"--first {asked.first} is no number of a request: 0 to 4294967295")
     return asked
 

@@ -4,10 +4,10 @@
     tools/udp_sign.py [--port 1161] [--host 127.0.0.1] [--signtool PATH] [--sign FILE] [--journal FILE [--fresh]
         [--down power|process]] [--log FILE|- [--json]] [--no-ticks] [--lose N] [--quiet]
 
-Each datagram goes to the sign as a line and its reply back to where it came from; each second is a tick. With a journal the sign
-goes on where it was (docs/JOURNAL.md); what the time without a process was, a loss of power or seconds, is told by the kernel's
-boot id, or by --down. With --lose N every N-th datagram to the sign is lost. What the sign accepts is printed. It ends at an
-interrupt or a SIGTERM.
+Each datagram goes to the sign as a line and its reply back to where it came from; each second is a tick. With a journal
+the sign goes on where it was (docs/JOURNAL.md); what the time without a process was, a loss of power or seconds, is
+told by the kernel's boot id, or by --down. With --lose N every N-th datagram to the sign is lost. What the sign accepts
+is printed. It ends at an interrupt or a SIGTERM.
 """
 
 import argparse

@@ -18,7 +18,9 @@ COMMANDS = ("publish", "blank", "activate")
 class CentreDoor:
     """`tick` is the time from tick to tick, `wait` how long a command may take, in seconds."""
 
-    def __init__(self, centre: CoProcess, door: socket.socket, journal: Journal | None, log: Log | None, tick: float, wait: float) -> None:
+    def __init__(
+        self, centre: CoProcess, door: socket.socket, journal: Journal | None, log: Log | None, tick: float, wait: float
+    ) -> None:
         self.centre, self.door, self.journal, self.log = centre, door, journal, log
         self.every, self.wait, self.mib = tick, wait, Mib.read()
         self.to: Address = door.getpeername()

@@ -6,12 +6,13 @@ from dataclasses import dataclass
 
 BOOT = pathlib.Path("/proc/sys/kernel/random/boot_id")
 MOST_MADE_UP = 86_400  # seconds that are made up by ticks after a process died
-MOST_SECONDS = 2 ** 32 - 1
+MOST_SECONDS = 2**32 - 1
 
 
 @dataclass(frozen=True)
 class Moment:
-    """A boot of the machine by its kernel's id, the wall clock in seconds since 1970, and the seconds since that boot."""
+    """A boot of the machine by its kernel's id, the wall clock in seconds since 1970, and the seconds since that
+    boot."""
 
     boot: str
     wall: int

@@ -10,7 +10,8 @@ MOST_LINE = 65_536
 
 
 def lines(waiting: Waiting) -> Iterator[str | None]:
-    """Each line without spaces around it; None for one that is no UTF-8, or too long. Empty ones and comments are skipped."""
+    """Each line without spaces around it; None for one that is no UTF-8, or too long. Empty ones and comments are
+    skipped."""
     left, has_more = b"", sys.stdin is not None
     file = sys.stdin.fileno() if has_more else -1
     while not waiting.is_stopped and (has_more or left):

@@ -22,10 +22,10 @@ def read(path: str | None) -> bytes | None:
     ended = re.search(rb"^end(\r?\n|\Z)", text, re.MULTILINE)
     if ended is None:
         raise Refusal(f"{path}: line {len(text.splitlines()) + 1}: there is no line `end`")
-    after = [line for line in text[ended.end():].split(b"\n") if line.rstrip(b"\r") and not line.startswith(b"#")]
+    after = [line for line in text[ended.end() :].split(b"\n") if line.rstrip(b"\r") and not line.startswith(b"#")]
     if after:
         raise Refusal(f"{path}: after its line `end` there is more: no description of a sign")
-    return text[:ended.end()].rstrip(b"\r\n") + b"\n"
+    return text[: ended.end()].rstrip(b"\r\n") + b"\n"
 
 
 def digest(text: bytes | None) -> str:

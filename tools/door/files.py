@@ -74,8 +74,8 @@ def aside_of(path: str) -> str:
 
 
 def put_aside(path: str, begin: Callable[[int], None]) -> tuple[int, str]:
-    """A new file, begun, in the place of the one of this name, which is kept under another. At each moment there is a file of
-    this name, so that a centre's numbers are never begun again."""
+    """A new file, begun, in the place of the one of this name, which is kept under another. At each moment there is a
+    file of this name, so that a centre's numbers are never begun again."""
     made, aside = path + ".new", aside_of(path)
     try:
         if os.path.lexists(made):

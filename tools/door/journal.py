@@ -62,7 +62,7 @@ class Journal:
         size = whole(text)
         if not size and self.is_begun(text[:1000].rstrip(b"\0")):
             return False
-        self.compare(text[:text.find(b"\n", 0, size) + 1])
+        self.compare(text[: text.find(b"\n", 0, size) + 1])
         if not is_torn(text, size):
             raise Refusal(f"{self.path}: what stands at octet {size} was not written by a door (--fresh begins anew)")
         kept = self.started(text, size)
@@ -79,11 +79,15 @@ class Journal:
 
     def compare(self, first: bytes) -> None:
         """Refuses a journal of something else, by what differs."""
-        found = Head.of(first[:-SUM - 1])
+        found = Head.of(first[: -SUM - 1])
         if found is None:
             raise Refusal(f"{self.path} is no journal")
         wanted = self.head
-        for name, has, asked in (("form", found.form, wanted.form), ("end", found.end, wanted.end), ("rules", found.rules, wanted.rules)):
+        for name, has, asked in (
+            ("form", found.form, wanted.form),
+            ("end", found.end, wanted.end),
+            ("rules", found.rules, wanted.rules),
+        ):
             if has != asked:
                 raise Refusal(f"{self.path}: its {name} is {has}, and this door's {asked} (--fresh begins anew)")
         if found.digest != wanted.digest:
@@ -96,10 +100,12 @@ class Journal:
         if clock < start:
             return self.started(text, start)
         if start:
-            line = text[start:text.find(b"\n", start)]
+            line = text[start : text.find(b"\n", start)]
             at = text.find(b"\n", clock) + 1
             moment = Moment.of(line, text[clock:at])
-            self.last = moment.later(sum(map(seconds_of, (line for lines in lines_of(text, at, size) for line in lines))))
+            self.last = moment.later(
+                sum(map(seconds_of, (line for lines in lines_of(text, at, size) for line in lines)))
+            )
         return size
 
     def lines(self) -> Iterator[list[bytes]]:
@@ -122,8 +128,8 @@ class Journal:
         self.owed = []
 
     def append(self, lines: list[bytes], synced: bool) -> None:
-        """Writes records. After a write that failed the file is cut back; what is on the disk is not known where that, or
-        the sync, fails."""
+        """Writes records. After a write that failed the file is cut back; what is on the disk is not known where that,
+        or the sync, fails."""
         octets, checksum = records(lines, self.checksum)
         try:
             written = 0
@@ -145,7 +151,11 @@ class Journal:
     def tell(self, refused: str) -> None:
         """Says why the disk refuses, once, and when it takes records again."""
         if refused != self.refused:
-            say(f"{self.path}: {refused}: what is not recorded is not answered" if refused else f"{self.path}: it is written again")
+            say(
+                f"{self.path}: {refused}: what is not recorded is not answered"
+                if refused
+                else f"{self.path}: it is written again"
+            )
         self.refused = refused
 
 

@@ -15,8 +15,8 @@ class Keeper:
         self.is_heard = False
 
     def start(self, now: Moment, overruled: str | None) -> list[bytes]:
-        """Records a start, with what the time without a process was: the lines that are to be handed over. They are written
-        at once, and a start without its clock after it counts for nothing."""
+        """Records a start, with what the time without a process was: the lines that are to be handed over. They are
+        written at once, and a start without its clock after it counts for nothing."""
         lines = [] if self.journal.last is None else down(self.journal.last, now, overruled)
         self.journal.keep([now.start(), *lines, now.clock()])
         return lines

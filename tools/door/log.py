@@ -45,7 +45,7 @@ class Log:
         if self.is_given_up:
             return
         time = datetime.datetime.now(datetime.timezone.utc).isoformat(timespec="milliseconds").replace("+00:00", "Z")
-        told = {"time": time, "peer": named(peer) if peer else "", "event": event, **(fields or {})}
+        told: dict[str, object] = {"time": time, "peer": named(peer) if peer else "", "event": event, **(fields or {})}
         try:
             self.file.write(json.dumps(told) + "\n" if self.is_json else line_of(told) + "\n")
             self.file.flush()

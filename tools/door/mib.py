@@ -15,13 +15,15 @@ class Mib:
     def __init__(self, text: str) -> None:
         self.objects: dict[tuple[int, ...], str] = {}
         self.words: dict[str, dict[int, str]] = {}
-        places = {"enterprises": ENTERPRISES}
+        places: dict[str, tuple[int, ...]] = {"enterprises": ENTERPRISES}
         for name, syntax, above, number in PLACE.findall(text):
             if above in places:
                 places[name] = (*places[above], int(number))
                 self.objects[places[name]] = name
                 found = CHOICES.search(syntax)
-                self.words[name] = {int(value): word for word, value in re.findall(r"(\w+)\((\d+)\)", found[1])} if found else {}
+                self.words[name] = (
+                    {int(value): word for word, value in re.findall(r"(\w+)\((\d+)\)", found[1])} if found else {}
+                )
 
     @staticmethod
     def read() -> "Mib":

@@ -17,7 +17,9 @@ class CoProcess:
     def __init__(self, program: str, words: Sequence[str], description: bytes | None = None) -> None:
         call = [program, *words] + (["--sign"] if description is not None else [])
         try:
-            self.process = subprocess.Popen(call, stdin=subprocess.PIPE, stdout=subprocess.PIPE, bufsize=0, process_group=0)
+            self.process = subprocess.Popen(
+                call, stdin=subprocess.PIPE, stdout=subprocess.PIPE, bufsize=0, process_group=0
+            )
         except OSError as fault:
             raise Refusal(f"{program}: {reason(fault) if fault.filename != program else fault.strerror}") from fault
         assert self.process.stdin is not None and self.process.stdout is not None
@@ -29,7 +31,7 @@ class CoProcess:
         """Hands octets over whole."""
         try:
             while octets:
-                octets = octets[os.write(self.input, octets):]
+                octets = octets[os.write(self.input, octets) :]
         except BrokenPipeError:
             self.died()
 
@@ -107,7 +109,7 @@ class CoProcess:
                 if file == self.output:
                     answered += self.thrown_away()
                 else:
-                    left = left[self.taken(left):]
+                    left = left[self.taken(left) :]
         return answered
 
     def taken(self, octets: memoryview) -> int:

@@ -16,10 +16,17 @@ OWN = (b"journal ", b"start ", b"clock ")  # records of the door's own; all othe
 class Octets(Protocol):
     """What is looked through: octets, or a file mapped into memory."""
 
-    def __len__(self) -> int: ...
-    def __getitem__(self, place: slice, /) -> bytes: ...
-    def find(self, wanted: bytes, start: int = ..., end: int = ..., /) -> int: ...
-    def rfind(self, wanted: bytes, start: int = ..., end: int = ..., /) -> int: ...
+    def __len__(self) -> int:
+        ...
+
+    def __getitem__(self, place: slice, /) -> bytes:
+        ...
+
+    def find(self, wanted: bytes, start: int = ..., end: int = ..., /) -> int:
+        ...
+
+    def rfind(self, wanted: bytes, start: int = ..., end: int = ..., /) -> int:
+        ...
 
 
 def record(line: bytes, before: int) -> tuple[bytes, int]:
@@ -41,7 +48,7 @@ def records(lines: list[bytes], before: int) -> tuple[bytes, int]:
 
 def sum_at(text: Octets, end: int) -> int | None:
     """The sum that is written before `end`; None where no eight small digits and a newline stand there."""
-    tail = text[max(0, end - TAIL):end]
+    tail = text[max(0, end - TAIL) : end]
     digits = tail[:-1]
     if len(tail) != TAIL or tail[-1:] != b"\n" or digits.strip(b"0123456789abcdef"):
         return None
@@ -51,7 +58,7 @@ def sum_at(text: Octets, end: int) -> int | None:
 def checksum_at(text: Octets, end: int) -> int:
     """The CRC-32 of all octets up to the end of a whole record, from what is written there."""
     written = sum_at(text, end)
-    return 0 if written is None else zlib.crc32(text[end - TAIL:end], written)
+    return 0 if written is None else zlib.crc32(text[end - TAIL : end], written)
 
 
 def whole_from(text: Octets, at: int, end: int) -> int:
@@ -59,27 +66,28 @@ def whole_from(text: Octets, at: int, end: int) -> int:
     before = checksum_at(text, at)
     while True:
         after = text.find(b"\n", at, end) + 1
-        if not after or sum_at(text, after) != zlib.crc32(text[at:after - TAIL], before):
+        if not after or sum_at(text, after) != zlib.crc32(text[at : after - TAIL], before):
             return at
         at, before = after, checksum_at(text, after)
 
 
 def whole(text: Octets) -> int:
-    """The length of the whole records at the beginning of a file: by chunks, since a sum is over all that is before it."""
+    """The length of the whole records at the beginning of a file: by chunks, since a sum is over all that is before
+    it."""
     at, before = 0, 0
     while at < len(text):
         end = text.rfind(b"\n", at, at + CHUNK) + 1
         if not end:
             return at
-        if sum_at(text, end) != zlib.crc32(text[at:end - TAIL], before):
+        if sum_at(text, end) != zlib.crc32(text[at : end - TAIL], before):
             return whole_from(text, at, end)
         at, before = end, checksum_at(text, end)
     return at
 
 
 def is_torn(text: Octets, size: int) -> bool:
-    """Whether what follows the whole records is what a kill or a loss of power leaves: at most one line, or octets that never
-    reached the disk. Anything else was written by another hand."""
+    """Whether what follows the whole records is what a kill or a loss of power leaves: at most one line, or octets that
+    never reached the disk. Anything else was written by another hand."""
     return text.find(b"\n", size) in (-1, len(text) - 1) or is_hole(text, text.find(b"\0", size))
 
 
@@ -88,7 +96,7 @@ def is_hole(text: Octets, at: int) -> bool:
     if at == -1:
         return False
     end = at + 1
-    while end % SECTOR and text[end:end + 1] == b"\0":
+    while end % SECTOR and text[end : end + 1] == b"\0":
         end += 1
     return end >= len(text) or end % SECTOR == 0
 
@@ -97,7 +105,7 @@ def lines_of(text: Octets, at: int, size: int) -> Iterator[list[bytes]]:
     """The lines that are handed over, of the whole records from `at` up to `size`, many at a time."""
     while at < size:
         end = text.rfind(b"\n", at, min(at + CHUNK, size)) + 1
-        yield [octets[:-SUM] for octets in text[at:end - 1].split(b"\n") if not octets.startswith(OWN)]
+        yield [octets[:-SUM] for octets in text[at : end - 1].split(b"\n") if not octets.startswith(OWN)]
         at = end
 
 

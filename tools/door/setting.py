@@ -1,4 +1,5 @@
-"""What both doors do on their way: options, a journal of a description, and a co-process that is where the journal left it."""
+"""What both doors do on their way: options, a journal of a description, and a co-process that is where the journal left
+it."""
 
 import argparse
 import dataclasses
@@ -22,7 +23,9 @@ def options(about: str | None) -> argparse.ArgumentParser:
     words = argparse.ArgumentParser(description=about, formatter_class=argparse.RawDescriptionHelpFormatter)
     words.add_argument("--signtool", default=PROGRAM, metavar="PATH")
     words.add_argument("--sign", metavar="FILE", help="the description of the sign, as in signs/; else the bench sign")
-    words.add_argument("--journal", metavar="FILE", help="what is handed over is kept here, over the end of the process")
+    words.add_argument(
+        "--journal", metavar="FILE", help="what is handed over is kept here, over the end of the process"
+    )
     words.add_argument("--fresh", action="store_true", help="puts the journal's file aside and begins anew")
     words.add_argument("--log", metavar="FILE", help="a line an event is written here; - is standard output")
     words.add_argument("--json", action="store_true", help="the log's lines are JSON")
@@ -44,11 +47,15 @@ def log_of(asked: argparse.Namespace) -> Log | None:
 
 
 def number_above(path: str, file: int, end: str) -> int | None:
-    """A number above all that the centre of a journal used: each of its records sent at most one request of a new number."""
+    """A number above all that the centre of a journal used: each of its records sent at most one request of a new
+    number."""
     text = os.pread(file, 1 << 12, 0)
     found = Head.of(text.split(b"\n")[0][:-SUM])
     if found is None and text.strip(b"\0"):
-        raise Refusal(f"{path} is no journal: it is not put aside" + (", and --first says no number above its own" if end == "centre" else ""))
+        raise Refusal(
+            f"{path} is no journal: it is not put aside"
+            + (", and --first says no number above its own" if end == "centre" else "")
+        )
     if found is not None and found.end != end:
         raise Refusal(f"{path} is the journal of a {found.end}: it is not put aside")
     return None if found is None or found.first is None else found.first + count_of_records(file)

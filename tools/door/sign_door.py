@@ -23,8 +23,15 @@ def line_of(octets: bytes) -> bytes:
 class SignDoor:
     """`lose`: every so many datagrams one is lost, 0 for none. Without a keeper nothing is kept."""
 
-    def __init__(self, sign: CoProcess, door: socket.socket, keeper: Keeper | None, log: Log | None, lose: int = 0,
-                 is_quiet: bool = False) -> None:
+    def __init__(
+        self,
+        sign: CoProcess,
+        door: socket.socket,
+        keeper: Keeper | None,
+        log: Log | None,
+        lose: int = 0,
+        is_quiet: bool = False,
+    ) -> None:
         self.sign, self.door, self.keeper, self.log = sign, door, keeper, log
         self.lose, self.is_quiet, self.count = lose, is_quiet, 0
 
@@ -64,7 +71,8 @@ class SignDoor:
         return found
 
     def answer(self, heard: list[Heard]) -> None:
-        """Records what is no Get, hands all over, and sends the replies in order. What the disk refuses is not handed over."""
+        """Records what is no Get, hands all over, and sends the replies in order. What the disk refuses is not handed
+        over."""
         changing = [one for one in heard if not is_get(one[0])] if self.keeper else []
         if self.keeper and changing and not self.keeper.keep([line_of(octets) for octets, _ in changing]):
             heard, changing = self.without(heard, changing), []

@@ -61,7 +61,8 @@ def connected(host: str, port: int) -> socket.socket:
 
 
 def received(door: socket.socket) -> tuple[bytes, Address] | None:
-    """A datagram that waits, with its sender; None where none does. An error that an earlier datagram met is no datagram."""
+    """A datagram that waits, with its sender; None where none does. An error that an earlier datagram met is no
+    datagram."""
     while True:
         try:
             return door.recvfrom(MOST_DATAGRAM + 1, socket.MSG_DONTWAIT)
@@ -72,7 +73,8 @@ def received(door: socket.socket) -> tuple[bytes, Address] | None:
 
 
 class Waiting:
-    """Waits for a file or a socket, and for an interrupt or a SIGTERM, which is seen between two steps and never within one."""
+    """Waits for a file or a socket, and for an interrupt or a SIGTERM, which is seen between two steps and never within
+    one."""
 
     def __init__(self) -> None:
         self.is_stopped = False

@@ -35,8 +35,8 @@ def words_of(line: str) -> list[tuple[str, bool]]:
 
 
 def published(line: str) -> str:
-    """The line `publish ..` of a line `publish-text ..`, which has the text and the owner as they are read; a `-` without
-    quotes is none."""
+    """The line `publish ..` of a line `publish-text ..`, which has the text and the owner as they are read; a `-`
+    without quotes is none."""
     words = words_of(line)[1:]
     if len(words) != len(FIELDS):
         raise Refusal(f"publish-text wants {len(FIELDS)} words, {' '.join(FIELDS)}, and not {len(words)}")
@@ -53,8 +53,15 @@ def ended(mib: Mib, line: str) -> str:
 
     def worded(found: re.Match[str]) -> str:
         number = int(found[2])
-        word = causes.get(number) if found[1] == "cause" else rows.get(number) if found[1] == "has status" else status_word(number)
+        word = (
+            causes.get(number)
+            if found[1] == "cause"
+            else rows.get(number)
+            if found[1] == "has status"
+            else status_word(number)
+        )
         return f"{found[0]}, {word}" if word and word != found[2] else found[0]
+
     if line.startswith("last "):
         return re.sub(r"\b(cause|has status|error-status) ([0-9]+)\b", worded, line)
     return re.sub(r" (refused) ([0-9]+)$", worded, line) if line.startswith("ledger ") else line

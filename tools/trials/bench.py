@@ -15,7 +15,7 @@ from typing import Callable
 
 from door.setting import TOP
 
-PATIENCE = 20.0  # seconds that a door may take to start or to end
+from .manager import PATIENCE
 
 
 @dataclass
@@ -52,7 +52,9 @@ class Trial:
         """An empty folder."""
         return pathlib.Path(tempfile.mkdtemp(dir=self.folder))
 
-    def door(self, tool: str, *words: str, environment: dict[str, str] | None = None, stdin: int | None = subprocess.DEVNULL) -> "Door":
+    def door(
+        self, tool: str, *words: str, environment: dict[str, str] | None = None, stdin: int | None = subprocess.DEVNULL
+    ) -> "Door":
         """A door that is started."""
         door = Door([sys.executable, str(TOP / "tools" / tool), "--signtool", self.program, *words], environment, stdin)
         self.doors.append(door)
@@ -76,8 +78,9 @@ class Door:
     """A door's process, and what it printed."""
 
     def __init__(self, call: list[str], environment: dict[str, str] | None, stdin: int | None) -> None:
-        self.process = subprocess.Popen(call, stdin=stdin, stdout=subprocess.PIPE, stderr=subprocess.PIPE,
-                                        env={**os.environ, **(environment or {})})
+        self.process = subprocess.Popen(
+            call, stdin=stdin, stdout=subprocess.PIPE, stderr=subprocess.PIPE, env={**os.environ, **(environment or {})}
+        )
         self.output, self.errors, self.port = b"", b"", 0
         self.readers = [threading.Thread(target=self.read, args=(name,), daemon=True) for name in ("output", "errors")]
         for reader in self.readers:

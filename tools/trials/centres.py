@@ -1,4 +1,5 @@
-"""A centre's door, its co-process, or both are killed again and again over one journal, while it publishes to a sign."""
+"""A centre's door, its co-process, or both are killed again and again over one journal, while it publishes to a
+sign."""
 
 import errno
 import os
@@ -81,8 +82,19 @@ class Centres:
 
     def started(self, command: str, environment: dict[str, str] | None = None) -> Door:
         """A door that is given a command."""
-        door = self.trial.door("udp_centre.py", "--to", f"127.0.0.1:{self.relay.port()}", "--journal", str(self.path), "--tick", "0.15", "--wait", "20",
-                               environment=environment, stdin=subprocess.PIPE)
+        door = self.trial.door(
+            "udp_centre.py",
+            "--to",
+            f"127.0.0.1:{self.relay.port()}",
+            "--journal",
+            str(self.path),
+            "--tick",
+            "0.15",
+            "--wait",
+            "20",
+            environment=environment,
+            stdin=subprocess.PIPE,
+        )
         assert door.process.stdin is not None
         try:
             door.process.stdin.write(command.encode() + b"\n")
@@ -93,12 +105,18 @@ class Centres:
 
     def refused(self, library: pathlib.Path) -> None:
         """A life with a disk that refuses a call."""
-        call, error = self.trial.chance.choice([("write", errno.ENOSPC), ("write", errno.EIO), ("fdatasync", errno.EIO)])
+        call, error = self.trial.chance.choice(
+            [("write", errno.ENOSPC), ("write", errno.EIO), ("fdatasync", errno.EIO)]
+        )
         at, short = self.trial.chance.randint(1, 12), self.trial.chance.choice([0, 15])
         door = self.started(self.command(), refusing(library, self.path, call, at, error, short=short))
         status = door.ended()
         told = os.strerror(error).encode() in door.errors
-        self.trial.holds(f"a centre whose {call} {at} is refused says why", not told or status == 1 or call == "write", (status, door.errors.decode()))
+        self.trial.holds(
+            f"a centre whose {call} {at} is refused says why",
+            not told or status == 1 or call == "write",
+            (status, door.errors.decode()),
+        )
         self.over(door)
 
     def life(self, which: str | None, command: str) -> Door:
@@ -116,7 +134,11 @@ class Centres:
         """What holds of a life that is over."""
         self.trial.holds("a centre's door ends", door.ended() != 999)
         self.trial.holds("a centre's door prints no traceback", b"Traceback" not in door.errors, door.errors.decode())
-        self.printed |= {line for line in door.output.decode().splitlines() if line.startswith("ledger ") and line.endswith(" accepted")}
+        self.printed |= {
+            line
+            for line in door.output.decode().splitlines()
+            if line.startswith("ledger ") and line.endswith(" accepted")
+        }
         self.trial.doors.remove(door)
 
     def look(self, status: list[str]) -> None:
@@ -133,14 +155,28 @@ class Centres:
             self.trial.holds(f"number {number} has the same octets each time", len(set(datagrams)) == 1, datagrams)
             self.trial.holds(f"number {number} is sent three times at most", len(datagrams) <= 3, len(datagrams))
         ledger = {int(line.split()[1]): line for line in status if line.startswith("ledger ")}
-        by_sign = {message.number for message in map(wire.spelled, list(self.relay.replies)) if message is not None and message.status == 0}
+        by_sign = {
+            message.number
+            for message in map(wire.spelled, list(self.relay.replies))
+            if message is not None and message.status == 0
+        }
         for number, line in ledger.items():
             if line.endswith(" accepted"):
-                self.trial.holds(f"{line}: the sign accepted it", number in by_sign and number in activations, sorted(by_sign))
-        self.trial.holds("each activation that was sent stands in the ledger", activations <= set(ledger), (activations, ledger))
-        self.trial.holds("each acceptance that was told stands in the ledger", self.printed <= set(ledger.values()), (self.printed, ledger))
+                self.trial.holds(
+                    f"{line}: the sign accepted it", number in by_sign and number in activations, sorted(by_sign)
+                )
+        self.trial.holds(
+            "each activation that was sent stands in the ledger", activations <= set(ledger), (activations, ledger)
+        )
+        self.trial.holds(
+            "each acceptance that was told stands in the ledger",
+            self.printed <= set(ledger.values()),
+            (self.printed, ledger),
+        )
         self.trial.holds("no command is activated twice", len(ledger) <= self.commands, (self.commands, ledger))
-        self.trial.holds("the status is the model's, handed the journal", status == self.foretold(), (status, self.foretold()))
+        self.trial.holds(
+            "the status is the model's, handed the journal", status == self.foretold(), (status, self.foretold())
+        )
 
     def foretold(self) -> list[str]:
         """The status that the model has after the journal's lines."""
@@ -161,14 +197,27 @@ def again(trial: Trial, centres: Centres) -> None:
     """A fresh journal of a centre, whose numbers are above all that it used."""
     used = max(message.number for message in map(wire.spelled, list(centres.relay.requests)) if message is not None)
     before = len(centres.relay.requests)
-    door = trial.door("udp_centre.py", "--to", f"127.0.0.1:{centres.relay.port()}", "--journal", str(centres.path), "--fresh", "--tick", "0.15",
-                      stdin=subprocess.PIPE)
+    door = trial.door(
+        "udp_centre.py",
+        "--to",
+        f"127.0.0.1:{centres.relay.port()}",
+        "--journal",
+        str(centres.path),
+        "--fresh",
+        "--tick",
+        "0.15",
+        stdin=subprocess.PIPE,
+    )
     assert door.process.stdin is not None
     door.process.stdin.write(b"blank 3 65535 255 127.0.0.1\n")
     door.process.stdin.close()
     status = door.ended()
     numbers = [message.number for message in map(wire.spelled, centres.relay.requests[before:]) if message is not None]
-    trial.holds("a fresh centre begins above all numbers", bool(numbers) and min(numbers) > used, (used, numbers, status, door.errors.decode()))
+    trial.holds(
+        "a fresh centre begins above all numbers",
+        bool(numbers) and min(numbers) > used,
+        (used, numbers, status, door.errors.decode()),
+    )
     trial.holds("a fresh centre keeps the old journal", len(list(centres.path.parent.glob("centre.2*"))) == 1)
 
 
@@ -192,8 +241,13 @@ def run(trial: Trial, count: int) -> None:
             centres.life(trial.chance.choice(["door", "co-process", "both"]), centres.command())
     door = centres.life(None, "status")
     status = door.output.decode().splitlines()
-    centres.look([line.split(",")[0] for line in status[max(at for at, line in enumerate(status) if line in ("idle", "busy")):]])
+    centres.look(
+        [line.split(",")[0] for line in status[max(at for at, line in enumerate(status) if line in ("idle", "busy")) :]]
+    )
     again(trial, centres)
     relay.end()
     trial.holds("the sign goes on", sign.stop() == 0, sign.errors.decode())
-    print(f"kills of a centre: {centres.killed}, {len(relay.requests)} requests, {time.monotonic() - begun:.0f} s", flush=True)
+    print(
+        f"kills of a centre: {centres.killed}, {len(relay.requests)} requests, {time.monotonic() - begun:.0f} s",
+        flush=True,
+    )

@@ -36,7 +36,10 @@ class Mounted:
 def answered(follower: Follower, door: Door, changes: Changes, count: int) -> list[bool]:
     """Whether each of so many SETs was answered."""
     manager = Manager(door.port)
-    found = [follower.ask(manager, manager.request(wire.SET, changes.counter()), 0.4) is not None for _ in range(count)]
+    found = []
+    for _ in range(count):
+        octets = manager.request(wire.SET, changes.counter())
+        found.append(follower.surely(manager, octets, lambda: door.process.poll() is not None))
     manager.close()
     return found
 
@@ -55,7 +58,9 @@ def full(trial: Trial, mounted: Mounted) -> None:
         except OSError:
             pass
     found = answered(follower, door, changes, 40)
-    trial.holds("on a full disk SETs are lost", not any(found[found.index(False):] if False in found else [True]), found)
+    trial.holds(
+        "on a full disk SETs are lost", not any(found[found.index(False) :] if False in found else [True]), found
+    )
     trial.holds("and the door says why", b"No space left on device" in door.errors, door.errors.decode())
     manager = Manager(door.port)
     trial.holds("and answers Gets", bool(manager.get([Changes.COUNTER])))
@@ -87,7 +92,9 @@ def read_only(trial: Trial, mounted: Mounted) -> None:
     refused(trial, "a folder that can only be read", str(mounted.folder / "other"), b"Read-only file system")
     mounted.remount("rw")
     door = trial.sign("--journal", str(path), "--no-ticks")
-    trial.holds("and it begins where it can be written again", door.port != 0 and door.stop() == 0, door.errors.decode())
+    trial.holds(
+        "and it begins where it can be written again", door.port != 0 and door.stop() == 0, door.errors.decode()
+    )
 
 
 def refused(trial: Trial, name: str, path: str, words: bytes) -> None:

@@ -1,4 +1,5 @@
-"""What the time without a process was: a loss of power by another boot's id, seconds by the same, and what overrules them."""
+"""What the time without a process was: a loss of power by another boot's id, seconds by the same, and what overrules
+them."""
 
 from door import records
 from door.clock import Moment
@@ -15,29 +16,38 @@ VOLATILE: Name = DMS + (5, 8, 1, 9, 4, 1)
 
 def sets(bindings: list[tuple[Name, tuple[int, object]]]) -> bytes:
     """The line of a SET."""
-    return b"datagram " + wire.written(wire.Message(wire.SET, b"admin", 1, 0, 0, bindings)).hex().encode()
+    octets: bytes = wire.written(wire.Message(wire.SET, b"admin", 1, 0, 0, bindings))
+    return b"datagram " + octets.hex().encode()
 
 
 def lines(last: Moment) -> list[bytes]:
-    """A sign with a volatile row, a message of two minutes, and a loss of power of 30 seconds that is short; the last record is
-    five seconds before the moment."""
+    """A sign with a volatile row, a message of two minutes, and a loss of power of 30 seconds that is short; the last
+    record is five seconds before the moment."""
     code = Activation(2, 255, MessageId(7, 9, 0), b"\x7f\0\0\1")
-    made = [sets([(VOLATILE, (wire.INTEGER, 6))]), sets([(DMS + (6, 10, 0), (wire.INTEGER, 30))]),
-            sets([(DMS + (6, 8, 0), (wire.OCTETS, MessageId(7, 8, 0).octets(False)))]),
-            sets([(DMS + (6, 3, 0), (wire.OCTETS, code.octets(False)))])]
+    made = [
+        sets([(VOLATILE, (wire.INTEGER, 6))]),
+        sets([(DMS + (6, 10, 0), (wire.INTEGER, 30))]),
+        sets([(DMS + (6, 8, 0), (wire.OCTETS, MessageId(7, 8, 0).octets(False)))]),
+        sets([(DMS + (6, 3, 0), (wire.OCTETS, code.octets(False)))]),
+    ]
     early = last.later(-5)
     return [Head("sign", "bench").line(), early.start(), early.clock(), *made, b"ticks 5"]
 
 
 def life(trial: Trial, name: str, last: Moment, wanted: list[bytes], *words: str) -> None:
-    """A start over such a journal: the lines that it records, the last number within ten seconds, and the walk after it."""
+    """A start over such a journal: the lines that it records, the last number within ten seconds, and the walk after
+    it."""
     path = trial.new_folder() / "journal"
     path.write_bytes(records.records(lines(last), 0)[0])
     before = len(lines_of(path.read_bytes()))
     door = trial.sign("--journal", str(path), "--no-ticks", *words)
     if trial.holds(f"{name}: a door starts", door.port != 0, door.errors.decode()):
         new = [line for line in lines_of(path.read_bytes())[before:] if not line.startswith(records.OWN)]
-        trial.holds(f"{name}: it records what the time was", len(new) == len(wanted) and all(map(is_near, new, wanted)), (new, wanted))
+        trial.holds(
+            f"{name}: it records what the time was",
+            len(new) == len(wanted) and all(map(is_near, new, wanted)),
+            (new, wanted),
+        )
         follower = Follower(path)
         for line in lines_of(path.read_bytes()):
             follower.take(line)
@@ -63,9 +73,10 @@ def run(trial: Trial) -> None:
         ("the process died for a week", True, 7 * 86_400, [b"ticks 86400"], []),
         ("the power was lost for 10 seconds", False, 10, [b"power-lost", b"power-back 10"], []),
         ("the power was lost for an hour", False, 3600, [b"power-lost", b"power-back 3600"], []),
-        ("the power was lost, and the clock went back", False, -10 ** 6, [b"power-lost", b"power-back 0"], []),
+        ("the power was lost, and the clock went back", False, -(10**6), [b"power-lost", b"power-back 0"], []),
         ("--down process", False, 40, [b"ticks 40"], ["--down", "process"]),
-        ("--down power", True, 40, [b"power-lost", b"power-back 40"], ["--down", "power"])]
+        ("--down power", True, 40, [b"power-lost", b"power-back 40"], ["--down", "power"]),
+    ]
     for name, is_same_boot, seconds, wanted, words in rows:
         if trial.is_late():
             break

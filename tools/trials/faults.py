@@ -1,4 +1,5 @@
-"""A fault of the disk at each write, fdatasync, fsync, ftruncate and open of a sign's journal in turn, by tools/refuse_disk.c."""
+"""A fault of the disk at each write, fdatasync, fsync, ftruncate and open of a sign's journal in turn, by
+tools/refuse_disk.c."""
 
 import errno
 import os
@@ -8,9 +9,9 @@ import subprocess
 from door.setting import TOP
 from model import wire
 
-from .bench import Door, Trial
+from .bench import Door, Trial, eventually
 from .follower import Follower
-from .manager import Manager
+from .manager import PATIENCE, Manager
 from .requests import Changes
 
 SETS = 6  # of a life
@@ -20,8 +21,21 @@ def built(trial: Trial) -> pathlib.Path | None:
     """The library that is loaded before others."""
     made = trial.folder / "refuse_disk.so"
     try:
-        subprocess.run([os.environ.get("CC", "cc"), "-O2", "-Wall", "-shared", "-fPIC", "-o", str(made), str(TOP / "tools/refuse_disk.c"), "-ldl"],
-                       check=True, capture_output=True)
+        subprocess.run(
+            [
+                os.environ.get("CC", "cc"),
+                "-O2",
+                "-Wall",
+                "-shared",
+                "-fPIC",
+                "-o",
+                str(made),
+                str(TOP / "tools/refuse_disk.c"),
+                "-ldl",
+            ],
+            check=True,
+            capture_output=True,
+        )
     except (OSError, subprocess.CalledProcessError) as fault:
         trial.skip("faults of the disk", f"refuse_disk.c is not built: {fault}")
         return None
@@ -30,8 +44,19 @@ def built(trial: Trial) -> pathlib.Path | None:
 
 def refusing(library: pathlib.Path, path: pathlib.Path, call: str, at: int, error: int, **more: int) -> dict[str, str]:
     """The environment in which the disk refuses a call on a file."""
-    words = {"DISK_FILE": str(path), "DISK_CALL": call, "DISK_AT": str(at), "DISK_ERROR": str(error), "LD_PRELOAD": str(library)}
+    words = {
+        "DISK_FILE": str(path),
+        "DISK_CALL": call,
+        "DISK_AT": str(at),
+        "DISK_ERROR": str(error),
+        "LD_PRELOAD": str(library),
+    }
     return words | {f"DISK_{name.upper()}": str(value) for name, value in more.items()}
+
+
+def is_ending(door: Door) -> bool:
+    """Whether a door has ended, or said that it does."""
+    return door.process.poll() is not None or b"is not known" in door.errors
 
 
 class Faults:
@@ -45,20 +70,35 @@ class Faults:
 
     def life(self, call: str, at: int, error: int, **more: int) -> None:
         """A life with a fault, and one after it."""
-        name = f"{call} {at} refused with {errno.errorcode[error]}{''.join(f', {word} {value}' for word, value in more.items())}"
-        door = self.trial.sign("--journal", str(self.path), "--no-ticks", environment=refusing(self.library, self.path, call, at, error, **more))
+        also = "".join(f", {word} {value}" for word, value in more.items())
+        name = f"{call} {at} refused with {errno.errorcode[error]}{also}"
+        door = self.trial.sign(
+            "--journal",
+            str(self.path),
+            "--no-ticks",
+            environment=refusing(self.library, self.path, call, at, error, **more),
+        )
         answered = self.ask(door) if door.port else []
-        status = door.ended() if door.process.poll() is not None else None
+        is_over = is_ending(door) or answered[-1:] == [False] and eventually(lambda: is_ending(door), PATIENCE)
+        status = door.ended() if is_over else None
         told = os.strerror(error).encode() in door.errors
         if status is not None:
             self.trial.holds(f"{name}: it ends and says why", status in (1, 2) and told, (status, door.errors.decode()))
-            self.trial.holds(f"{name}: nothing is answered after it", not any(answered[sum(answered):]), answered)
+            self.trial.holds(f"{name}: nothing is answered after it", not any(answered[sum(answered) :]), answered)
         elif told:
-            self.trial.holds(f"{name}: all others are answered", answered.count(False) <= 1 + more.get("more", 0) and answered[-1], answered)
+            self.trial.holds(
+                f"{name}: all others are answered",
+                answered.count(False) <= 1 + more.get("more", 0) and answered[-1],
+                answered,
+            )
         else:
             self.trial.holds(f"{name}: all are answered", all(answered), answered)
         must_end = call == "fdatasync" or "cut" in more
-        self.trial.holds(f"{name}: it goes on where it can", not told or (status is not None) == must_end or not door.port, (status, door.errors.decode()))
+        self.trial.holds(
+            f"{name}: it goes on where it can",
+            not told or (status is not None) == must_end or not door.port,
+            (status, door.errors.decode()),
+        )
         self.trial.holds(f"{name}: no traceback", b"Traceback" not in door.errors, door.errors.decode())
         if self.trial.chance.random() < 0.5:
             door.kill()
@@ -68,7 +108,9 @@ class Faults:
     def fresh(self, call: str) -> None:
         """A fresh journal whose old one cannot be put aside: the old one stays, and goes on."""
         before = self.path.read_bytes()
-        door = self.trial.sign("--journal", str(self.path), "--fresh", environment=refusing(self.library, self.path, call, 1, errno.EIO))
+        door = self.trial.sign(
+            "--journal", str(self.path), "--fresh", environment=refusing(self.library, self.path, call, 1, errno.EIO)
+        )
         is_well = door.ended() == 2 and b"Input/output error" in door.errors and b"Traceback" not in door.errors
         self.trial.holds(f"--fresh, {call} refused: it ends and says why", is_well, door.errors.decode())
         self.trial.holds(f"--fresh, {call} refused: the old journal stays", self.path.read_bytes() == before)
@@ -81,7 +123,7 @@ class Faults:
         answered = []
         for _ in range(SETS):
             octets = manager.request(wire.SET, self.changes.counter())
-            answered.append(self.follower.ask(manager, octets, 0.4 if door.process.poll() is None else 0.05) is not None)
+            answered.append(self.follower.surely(manager, octets, lambda: is_ending(door)))
         manager.close()
         return answered
 

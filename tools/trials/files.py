@@ -78,25 +78,40 @@ class Files:
             if found != wanted:
                 self.trial.holds(f"the first {size} octets", False, (found, wanted))
         self.trial.holds("each prefix gives its whole records", True)
-        sizes = {*self.ends, *(end - 1 for end in self.ends[1:]), *(self.trial.chance.randrange(len(self.written)) for _ in range(20))}
+        sizes = {
+            *self.ends,
+            *(end - 1 for end in self.ends[1:]),
+            *(self.trial.chance.randrange(len(self.written)) for _ in range(20)),
+        }
         for size in sorted(sizes) if not self.trial.is_short else self.trial.chance.sample(sorted(sizes), 6):
             if self.trial.is_late():
                 break
             self.started(f"the first {size} octets", self.written[:size])
 
     def changed(self) -> None:
-        """Each octet of the last record changed: it is cut away. An octet before it: a refusal that leaves the file as it is."""
+        """Each octet of the last record changed: it is cut away. An octet before it: a refusal that leaves the file as
+        it is."""
         last = self.ends[-2]
         for at in range(last, len(self.written), 7 if self.trial.is_short else 1):
-            octets = self.written[:at] + bytes([self.written[at] ^ self.trial.chance.randint(1, 255)]) + self.written[at + 1:]
+            octets = (
+                self.written[:at]
+                + bytes([self.written[at] ^ self.trial.chance.randint(1, 255)])
+                + self.written[at + 1 :]
+            )
             found = self.opened(octets)
             if found != self.lines(self.written[:last]):
-                self.trial.holds(f"octet {at} changed", b"\n" in octets[last:-1] and isinstance(found, str), (octets[last:], found))
+                self.trial.holds(
+                    f"octet {at} changed", b"\n" in octets[last:-1] and isinstance(found, str), (octets[last:], found)
+                )
         self.trial.holds("each octet of the last record changed", True)
         self.started("a changed last record", self.written[:-3] + b"!" + self.written[-2:])
         for first, second, third in zip(self.ends, self.ends[1:], self.ends[2:]):
-            octets = self.written[:first] + self.written[second:third] + self.written[first:second] + self.written[third:]
-            self.refused(f"records at {first} exchanged", octets, "is no journal" if first == 0 else "was not written by a door")
+            octets = (
+                self.written[:first] + self.written[second:third] + self.written[first:second] + self.written[third:]
+            )
+            self.refused(
+                f"records at {first} exchanged", octets, "is no journal" if first == 0 else "was not written by a door"
+            )
 
     def refused(self, name: str, octets: bytes, words: str) -> None:
         """Octets that are no journal of this sign are refused, and stay."""
@@ -106,19 +121,33 @@ class Files:
 
     def others(self) -> None:
         """Journals of something else, and doors beside one another."""
-        for head, words in ((Head("sign", "bench", rules=2), "its rules is 2"), (Head("sign", "bench", form=2), "its form is 2"),
-                            (Head("centre", "bench", 1), "its end is centre"), (Head("sign", "0" * 64), "another description")):
+        for head, words in (
+            (Head("sign", "bench", rules=2), "its rules is 2"),
+            (Head("sign", "bench", form=2), "its form is 2"),
+            (Head("centre", "bench", 1), "its end is centre"),
+            (Head("sign", "0" * 64), "another description"),
+        ):
             octets, _ = records.records([head.line(), b"ticks 5"], 0)
             self.refused(words, octets, words)
             self.says(words, octets, words)
         self.path.write_bytes(self.written)
-        self.says("another description by --sign", self.written, "another description", "--sign", str(TOP / "signs/roadside.sign"))
+        self.says(
+            "another description by --sign",
+            self.written,
+            "another description",
+            "--sign",
+            str(TOP / "signs/roadside.sign"),
+        )
         self.started("an empty file", b"")
         self.older()
         self.started("an untouched file", self.written)
         door = self.trial.sign("--journal", str(self.path), "--no-ticks")
         second = self.trial.sign("--journal", str(self.path), "--no-ticks")
-        self.trial.holds("a second door ends at once", second.ended() == 2 and b"another door holds this journal" in second.errors, second.errors.decode())
+        self.trial.holds(
+            "a second door ends at once",
+            second.ended() == 2 and b"another door holds this journal" in second.errors,
+            second.errors.decode(),
+        )
         self.trial.holds("and the first goes on", self.answers(door) and door.stop() == 0, door.errors.decode())
 
     def older(self) -> None:
@@ -133,7 +162,11 @@ class Files:
         """A door on these octets ends with status 2 and these words."""
         self.path.write_bytes(octets)
         door = self.trial.sign("--journal", str(self.path), *more)
-        self.trial.holds(f"{name}: the door says so and ends", door.ended() == 2 and words.encode() in door.errors and not door.output, door.errors.decode())
+        self.trial.holds(
+            f"{name}: the door says so and ends",
+            door.ended() == 2 and words.encode() in door.errors and not door.output,
+            door.errors.decode(),
+        )
 
     def answers(self, door: Door) -> bool:
         """Whether a sign answers."""

@@ -2,6 +2,7 @@
 
 import pathlib
 import zlib
+from typing import Callable
 
 from model import text
 from model.sign import Sign
@@ -16,18 +17,19 @@ def lines_of(octets: bytes) -> list[bytes]:
     begin = 0
     sum_so_far = 0
     while (end := octets.find(b"\n", begin)) != -1:
-        summed = octets[begin:end - 8]
+        summed = octets[begin : end - 8]
         sum_so_far = zlib.crc32(summed, sum_so_far)
-        if not summed.endswith(b" #") or octets[end - 8:end] != b"%08x" % sum_so_far:
+        if not summed.endswith(b" #") or octets[end - 8 : end] != b"%08x" % sum_so_far:
             break
         found.append(summed[:-2])
-        sum_so_far = zlib.crc32(octets[end - 8:end + 1], sum_so_far)
+        sum_so_far = zlib.crc32(octets[end - 8 : end + 1], sum_so_far)
         begin = end + 1
     return found
 
 
 class Follower:
-    """The model of a sign that is handed what its journal has, as it grows; and what was asked of the sign meanwhile."""
+    """The model of a sign that is handed what its journal has, as it grows; and what was asked of the sign
+    meanwhile."""
 
     def __init__(self, path: pathlib.Path, description: bytes | None = None) -> None:
         self.path = path
@@ -43,22 +45,32 @@ class Follower:
         self.asked.append((octets, reply is not None))
         return reply
 
+    def surely(self, manager: Manager, octets: bytes, is_over: Callable[[], bool]) -> bool:
+        """Asks a sign that may not answer, and remembers it: whether it did."""
+        is_answered = manager.surely(octets, is_over) is not None
+        self.asked.append((octets, is_answered))
+        return is_answered
+
     def catch_up(self, trial: Trial, name: str) -> None:
-        """The file still begins as it did; what was answered is in it, in its order; nothing is in it that was not asked. The
-        model is handed what is new."""
+        """The file still begins as it did; what was answered is in it, in its order; nothing is in it that was not
+        asked. The model is handed what is new."""
         lines = lines_of(self.path.read_bytes())
-        trial.holds(f"{name}: the journal begins as it did", lines[:len(self.seen)] == self.seen, self.path)
-        new = lines[len(self.seen):]
+        trial.holds(f"{name}: the journal begins as it did", lines[: len(self.seen)] == self.seen, self.path)
+        new = lines[len(self.seen) :]
         self.seen = lines
         wanted = [bytes.fromhex(line[9:].decode()) for line in new if line.startswith(b"datagram ")]
         for octets in wanted:
             while self.at < len(self.asked) and self.asked[self.at][0] != octets:
-                trial.holds(f"{name}: what was answered is in the journal", not self.asked[self.at][1], self.asked[self.at][0].hex())
+                trial.holds(
+                    f"{name}: what was answered is in the journal",
+                    not self.asked[self.at][1],
+                    self.asked[self.at][0].hex(),
+                )
                 self.at += 1
             if not trial.holds(f"{name}: what is in the journal was asked", self.at < len(self.asked), octets.hex()):
                 break
             self.at += 1
-        for octets, is_answered in self.asked[self.at:]:
+        for octets, is_answered in self.asked[self.at :]:
             trial.holds(f"{name}: what was answered is in the journal", not is_answered, octets.hex())
         self.at = len(self.asked)
         for line in new:
@@ -86,5 +98,9 @@ class Follower:
         """The sign has the value that the model has, of each instance."""
         found = manager.values(self.names)
         wanted = {one: self.sign.value(one) for one in self.names}
-        other = [(".".join(map(str, one)), found.get(one), wanted[one]) for one in self.names if found.get(one) != wanted[one]]
+        other = [
+            (".".join(map(str, one)), found.get(one), wanted[one])
+            for one in self.names
+            if found.get(one) != wanted[one]
+        ]
         trial.holds(f"{name}: the whole walk is the model's", not other, other[:5])

@@ -8,7 +8,7 @@ from model import text, wire
 from model.sign import Sign
 
 from .bench import Trial
-from .manager import Manager
+from .manager import PATIENCE, Manager
 
 FORMS = 6  # the short form where it does, and one to four digits; the last mixes them
 
@@ -38,7 +38,11 @@ def respelled(octets: bytes, forms: tuple[int, int, int, int]) -> bytes | None:
         return None
     listed = wire.element(wire.SEQUENCE, b"".join(map(wire.binding, message.bindings)))
     pdu = wire.integer(message.number) + wire.integer(message.status) + wire.integer(message.index) + listed
-    made = (element(wire.INTEGER, b"\0", forms[1]) + element(wire.OCTETS, message.community, forms[2]) + element(message.kind, pdu, forms[3]))
+    made = (
+        element(wire.INTEGER, b"\0", forms[1])
+        + element(wire.OCTETS, message.community, forms[2])
+        + element(message.kind, pdu, forms[3])
+    )
     return element(wire.SEQUENCE, made, forms[0])
 
 
@@ -52,7 +56,8 @@ def forms() -> Iterator[tuple[int, int, int, int]]:
 
 
 def life(trial: Trial, form: tuple[int, int, int, int], some: list[bytes]) -> None:
-    """Requests in a form, a kill, and the walk of what comes back: the model is handed each datagram that was answered."""
+    """Requests in a form, a kill, and the walk of what comes back: the model is handed each datagram that was
+    answered."""
     name = f"{len(some)} requests with lengths {form}"
     path = trial.new_folder() / "journal"
     sign = Sign(text.bench())
@@ -63,7 +68,7 @@ def life(trial: Trial, form: tuple[int, int, int, int], some: list[bytes]) -> No
         if made is None or len(made) > wire.MOST_DATAGRAM:
             continue
         wanted, _ = sign.receive(made)
-        reply = manager.exchange(made, 0.0 if wanted is None else 5.0)
+        reply = manager.exchange(made, 0.0 if wanted is None else PATIENCE)
         if not trial.holds(f"{name}: the reply", reply == wanted, (made.hex(), reply, wanted)):
             break
     manager.close()

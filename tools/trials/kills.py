@@ -64,7 +64,11 @@ class Kills:
         last.get([Changes.COUNTER], 0.2)
         last.close()
         status = door.ended()
-        self.trial.holds(f"{name}: the door ends", status == 1 and b"co-process ended by signal 9" in door.errors, (status, door.errors.decode()))
+        self.trial.holds(
+            f"{name}: the door ends",
+            status == 1 and b"co-process ended by signal 9" in door.errors,
+            (status, door.errors.decode()),
+        )
 
     def ask(self, door: Door, manager: Manager) -> None:
         """SETs and Gets until the kill."""
@@ -95,7 +99,11 @@ class Kills:
         self.follower.catch_up(self.trial, name)
         found = manager.get([Changes.COUNTER])
         value = found[0][1][1] if found else None
-        self.trial.holds(f"{name}: the counter is what was answered last, or what was asked after it", value in (self.counted or [0]), (value, self.counted))
+        self.trial.holds(
+            f"{name}: the counter is what was answered last, or what was asked after it",
+            value in (self.counted or [0]),
+            (value, self.counted),
+        )
         if isinstance(value, int):
             self.counted = [value]
         self.follower.compare(self.trial, name, manager)
@@ -109,5 +117,9 @@ def run(trial: Trial, count: int) -> None:
         if not trial.is_late():
             kills.life(at)
     kills.life(3)
-    print(f"kills of a sign: {kills.killed}, {kills.answered} SETs answered, a journal of {kills.path.stat().st_size} octets, "
-          f"{time.monotonic() - begun:.0f} s", flush=True)
+    print(
+        f"kills of a sign: {kills.killed}, {kills.answered} SETs answered, "
+        f"a journal of {kills.path.stat().st_size} octets, "
+        f"{time.monotonic() - begun:.0f} s",
+        flush=True,
+    )

@@ -2,11 +2,20 @@
 
 import select
 import socket
+import time
+from typing import Callable
 
 from model import wire
 
 Name = tuple[int, ...]
 DMS: Name = (1, 3, 6, 1, 4, 1, 1206, 4, 2, 3)
+PATIENCE = 60.0  # seconds that a reply may take, as a door may to start or to end, on a machine that is busy
+
+
+def number_of(octets: bytes) -> int | None:
+    """The request-id of a message, None of octets that spell none."""
+    message = wire.spelled(octets)
+    return None if message is None else message.number
 
 
 class Manager:
@@ -20,31 +29,50 @@ class Manager:
     def close(self) -> None:
         self.socket.close()
 
-    def exchange(self, octets: bytes, patience: float = 2.0) -> bytes | None:
-        """The reply to a datagram, None where none comes."""
+    def exchange(self, octets: bytes, patience: float = PATIENCE) -> bytes | None:
+        """The reply to a datagram, None where none comes. A late reply to another one is let go."""
+        wanted, ends = number_of(octets), time.monotonic() + patience
         try:
             self.socket.send(octets)
-            if not select.select([self.socket], [], [], patience)[0]:
-                return None
-            return self.socket.recv(65_535)
+            while select.select([self.socket], [], [], max(0.0, ends - time.monotonic()))[0]:
+                reply = self.socket.recv(65_535)
+                if number_of(reply) == wanted:
+                    return reply
         except OSError:
-            return None
+            pass
+        return None
+
+    def surely(self, octets: bytes, is_over: Callable[[], bool]) -> bytes | None:
+        """The reply to a datagram; None where a Get that was sent after it was answered first, or the sign is gone."""
+        wanted, after = number_of(octets), self.request(wire.GET, [])
+        ends = time.monotonic() + PATIENCE
+        try:
+            self.socket.send(octets)
+            self.socket.send(after)
+            while time.monotonic() < ends and not is_over():
+                if select.select([self.socket], [], [], 0.05)[0]:
+                    reply = self.socket.recv(65_535)
+                    if number_of(reply) in (wanted, self.number):
+                        return reply if number_of(reply) == wanted else None
+        except OSError:
+            pass
+        return None
 
     def request(self, kind: int, bindings: list[tuple[Name, tuple[int, object]]]) -> bytes:
         """A request under a new number."""
         self.number += 1
-        return wire.written(wire.Message(kind, self.community, self.number, 0, 0, bindings))
+        return bytes(wire.written(wire.Message(kind, self.community, self.number, 0, 0, bindings)))
 
-    def get(self, names: list[Name], patience: float = 2.0) -> list[tuple[Name, tuple[int, object]]]:
+    def get(self, names: list[Name], patience: float = PATIENCE) -> list[tuple[Name, tuple[int, object]]]:
         """The values of names; none where no reply came."""
         reply = self.exchange(self.request(wire.GET, [(name, (wire.NULL, b"")) for name in names]), patience)
         message = None if reply is None else wire.spelled(reply)
-        return [] if message is None or message.status else message.bindings
+        return [] if message is None or message.status else list(message.bindings)
 
     def values(self, names: list[Name], at_once: int = 20) -> dict[Name, tuple[int, object]]:
         """The values of many names."""
         found: dict[Name, tuple[int, object]] = {}
         for at in range(0, len(names), at_once):
-            some = self.get(names[at:at + at_once])
-            found |= dict(some or [one for name in names[at:at + at_once] for one in self.get([name])])
+            some = self.get(names[at : at + at_once])
+            found |= dict(some or [one for name in names[at : at + at_once] for one in self.get([name])])
         return found

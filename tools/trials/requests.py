@@ -14,8 +14,8 @@ TEXTS = (b"A", b"B", b"AB", b"1", b"A[nl]B", b"")
 
 
 class Changes:
-    """Random SETs in the writer's name, most of which are taken. `counter` is set to a new number by each of its own, so that
-    what was set last can be read back."""
+    """Random SETs in the writer's name, most of which are taken. `counter` is set to a new number by each of its own,
+    so that what was set last can be read back."""
 
     COUNTER: Name = DMS + (6, 10, 0)
 
@@ -24,7 +24,10 @@ class Changes:
 
     def next(self, manager: Manager) -> bytes:
         """A SET of any kind."""
-        return manager.request(wire.SET, self.chance.choice([self.counter, self.number, self.status, self.field, self.activation, self.both])())
+        return manager.request(
+            wire.SET,
+            self.chance.choice([self.counter, self.number, self.status, self.field, self.activation, self.both])(),
+        )
 
     def counter(self) -> Bindings:
         self.count += 1
@@ -42,10 +45,18 @@ class Changes:
 
     def field(self) -> Bindings:
         row = self.chance.choice(ROWS)
-        return [(DMS + (5, 8, 1, 3) + row, (wire.OCTETS, self.chance.choice(TEXTS))), (DMS + (5, 8, 1, 8) + row, (wire.INTEGER, self.chance.randint(1, 9)))]
+        return [
+            (DMS + (5, 8, 1, 3) + row, (wire.OCTETS, self.chance.choice(TEXTS))),
+            (DMS + (5, 8, 1, 8) + row, (wire.INTEGER, self.chance.randint(1, 9))),
+        ]
 
     def activation(self) -> Bindings:
-        named = self.chance.choice([MessageId(7, self.chance.randint(1, 255), 0), MessageId(2, 1, checksum(b"B", 0, 0)),
-                                    *(MessageId(*self.chance.choice(ROWS), checksum(text, 0, 0)) for text in TEXTS)])
+        named = self.chance.choice(
+            [
+                MessageId(7, self.chance.randint(1, 255), 0),
+                MessageId(2, 1, checksum(b"B", 0, 0)),
+                *(MessageId(*self.chance.choice(ROWS), checksum(text, 0, 0)) for text in TEXTS),
+            ]
+        )
         code = Activation(self.chance.choice([1, 5, 65_535]), 255, named, b"\x7f\0\0\1")
         return [(DMS + (6, 3, 0), (wire.OCTETS, code.octets(False)))]

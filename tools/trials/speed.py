@@ -60,5 +60,9 @@ def run(trial: Trial) -> None:
             for in_flight in (1, 16):
                 found = rate(door.port, kind, in_flight, seconds)
                 trial.holds(f"{name}, {in_flight} in flight: answered", found > 1, found)
-                print(f"{'with' if is_kept else 'without'} a journal, {name}, {in_flight} in flight: {found:.0f} a second", flush=True)
+                print(
+                    f"{'with' if is_kept else 'without'} a journal, {name}, {in_flight} in flight: "
+                    f"{found:.0f} a second",
+                    flush=True,
+                )
         trial.holds("a sign ends after many requests", door.stop() == 0, door.errors.decode())

@@ -76,11 +76,16 @@ def start(trial: Trial, name: str, path: pathlib.Path, count: int, counter: int)
     if trial.holds(f"{name}: a door starts", door.port != 0, door.errors.decode()):
         manager = Manager(door.port)
         found = manager.get([DMS + (6, 10, 0)])
-        trial.holds(f"{name}: it is where the journal ends", bool(found) and found[0][1] == (wire.INTEGER, counter), found)
+        trial.holds(
+            f"{name}: it is where the journal ends", bool(found) and found[0][1] == (wire.INTEGER, counter), found
+        )
         manager.close()
     trial.holds(f"{name}: and ends", door.stop() == 0, door.errors.decode())
-    print(f"{name}: {count} lines, {size / 1e6:.1f} MB, a start in {seconds:.1f} s, at most "
-          f"{resource.getrusage(resource.RUSAGE_CHILDREN).ru_maxrss // 1024} MiB", flush=True)
+    print(
+        f"{name}: {count} lines, {size / 1e6:.1f} MB, a start in {seconds:.1f} s, at most "
+        f"{resource.getrusage(resource.RUSAGE_CHILDREN).ru_maxrss // 1024} MiB",
+        flush=True,
+    )
     return seconds
 
 
@@ -94,7 +99,7 @@ def run(trial: Trial) -> None:
     if not trial.is_short:
         trial.holds("a year is under 300 MB, and starts in under 30 s", size < 300e6 and seconds < 30, (size, seconds))
     path.unlink()
-    records_of_ticks = (10 ** 6 if trial.is_short else 10 ** 9) // 23
+    records_of_ticks = (10**6 if trial.is_short else 10**9) // 23
     count = write(path, ticks(Moment.now().later(-10 * records_of_ticks), records_of_ticks))
     start(trial, "a megabyte of ticks" if trial.is_short else "a gigabyte of ticks", path, count, 0)
     path.unlink()

@@ -11,7 +11,12 @@ ROWS = [
     ("the power was lost", Moment("two", 1_000_060, 20), None, [b"power-lost", b"power-back 60"]),
     ("the power was lost, and the clock went back", Moment("two", 10, 20), None, [b"power-lost", b"power-back 0"]),
     ("a restart that was no loss of power", Moment("two", 1_000_060, 20), "process", [b"ticks 60"]),
-    ("a loss of power that the machine outlived", Moment("one", 1_000_007, 507), "power", [b"power-lost", b"power-back 7"]),
+    (
+        "a loss of power that the machine outlived",
+        Moment("one", 1_000_007, 507),
+        "power",
+        [b"power-lost", b"power-back 7"],
+    ),
 ]
 
 

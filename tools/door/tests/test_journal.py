@@ -1,5 +1,6 @@
 """A journal's file: begun, cut, refused, put aside."""
 
+import functools
 import os
 import pathlib
 import tempfile
@@ -52,7 +53,7 @@ def test_each_prefix_gives_the_lines_that_are_whole() -> None:
         for size in range(len(text) + 1):
             pathlib.Path(path).write_bytes(text[:size])
             found = kept(path)
-            assert found == LINES[:len(found)]
+            assert found == LINES[: len(found)]
             assert len(found) == max(0, text[:size].count(b"\n") - 3)
             assert kept(path) == found
 
@@ -63,9 +64,9 @@ def test_a_changed_last_record_is_cut_and_an_earlier_one_refused() -> None:
         text = made(path)
         last = text.rfind(b"\n", 0, -1) + 1
         for at in range(last, len(text)):
-            pathlib.Path(path).write_bytes(text[:at] + bytes([text[at] ^ 1]) + text[at + 1:])
+            pathlib.Path(path).write_bytes(text[:at] + bytes([text[at] ^ 1]) + text[at + 1 :])
             assert kept(path) == LINES[:-1]
-        pathlib.Path(path).write_bytes(text[:last - 3] + b"!" + text[last - 2:])
+        pathlib.Path(path).write_bytes(text[: last - 3] + b"!" + text[last - 2 :])
         assert "was not written by a door" in refused(lambda: kept(path))
         pathlib.Path(path).write_bytes(b"!" + text[1:])
         assert "is no journal" in refused(lambda: kept(path))
@@ -79,16 +80,24 @@ def test_another_file_is_refused_and_left_as_it_is() -> None:
             pathlib.Path(path).write_bytes(text)
             assert "is no journal" in refused(lambda: kept(path))
             assert pathlib.Path(path).read_bytes() == text
-        assert refused(lambda: kept(folder)) and refused(lambda: kept(f"{folder}/none/journal")) and refused(lambda: kept("/dev/null"))
+        assert (
+            refused(lambda: kept(folder))
+            and refused(lambda: kept(f"{folder}/none/journal"))
+            and refused(lambda: kept("/dev/null"))
+        )
 
 
 def test_what_differs_is_named() -> None:
-    rows = [(Head("centre", "bench", 1), "its end is sign"), (Head("sign", "0" * 64), "another description"),
-            (Head("sign", "bench", rules=2), "its rules is 1"), (Head("sign", "bench", form=2), "its form is 1")]
+    rows = [
+        (Head("centre", "bench", 1), "its end is sign"),
+        (Head("sign", "0" * 64), "another description"),
+        (Head("sign", "bench", rules=2), "its rules is 1"),
+        (Head("sign", "bench", form=2), "its form is 1"),
+    ]
     with tempfile.TemporaryDirectory() as folder:
         made(f"{folder}/journal")
         for head, words in rows:
-            assert words in refused(lambda head=head: kept(f"{folder}/journal", head))
+            assert words in refused(functools.partial(kept, f"{folder}/journal", head))
         assert kept(f"{folder}/journal") == LINES
 
 

@@ -7,14 +7,22 @@ from door import records
 from door.records import RULES, Head, is_torn, lines_of, record, whole
 from door.setting import TOP
 
-LINES = [b"journal 1 sign rules 1 description bench", b"start b 10 5", b"clock 10 5", b"ticks 3", b"heard", b"datagram 3000", b"datagram -"]
+LINES = [
+    b"journal 1 sign rules 1 description bench",
+    b"start b 10 5",
+    b"clock 10 5",
+    b"ticks 3",
+    b"heard",
+    b"datagram 3000",
+    b"datagram -",
+]
 TEXT, SUM = records.records(LINES, 0)
 ENDS = [found.end() for found in re.finditer(rb"\n", TEXT)]
 
 
 def test_a_record_has_the_checksum_of_all_octets_before_its_digits() -> None:
     for end in ENDS:
-        assert TEXT[end - 9:end - 1] == b"%08x" % zlib.crc32(TEXT[:end - 9])
+        assert TEXT[end - 9 : end - 1] == b"%08x" % zlib.crc32(TEXT[: end - 9])
     assert SUM == zlib.crc32(TEXT)
     assert record(b"tick", 0)[0] == b"tick #%08x\n" % zlib.crc32(b"tick #")
 
@@ -28,7 +36,7 @@ def test_each_prefix_is_whole_up_to_its_last_record() -> None:
 def test_a_changed_octet_ends_what_is_whole() -> None:
     for at in range(len(TEXT)):
         for change in (1, 0x20, 0x80):
-            text = TEXT[:at] + bytes([TEXT[at] ^ change]) + TEXT[at + 1:]
+            text = TEXT[:at] + bytes([TEXT[at] ^ change]) + TEXT[at + 1 :]
             size = whole(text)
             assert size == max([0, *(end for end in ENDS if end <= at)])
             assert is_torn(text, size) == (b"\n" not in text[size:-1])
@@ -56,7 +64,7 @@ def test_many_chunks_are_whole_and_give_their_lines() -> None:
     assert len(text) > 2 * records.CHUNK and whole(text) == len(text)
     assert [line for some in lines_of(text, 0, len(text)) for line in some] == lines
     at = len(text) - records.CHUNK - 7
-    assert whole(text[:at] + b"x" + text[at + 1:]) == text.rfind(b"\n", 0, at) + 1
+    assert whole(text[:at] + b"x" + text[at + 1 :]) == text.rfind(b"\n", 0, at) + 1
 
 
 def test_records_of_the_door_are_not_handed_over() -> None:
@@ -66,8 +74,13 @@ def test_records_of_the_door_are_not_handed_over() -> None:
 def test_a_head_is_read_as_it_is_written() -> None:
     for head in (Head("sign", "bench"), Head("centre", "0" * 64, 17), Head("sign", "a", None, 2, 3)):
         assert Head.of(head.line()) == head
-    for line in (b"", b"journal", b"journal 1 sign rules x description bench", b"journal 1 sign rules 1 description bench 3 4",
-                 b"journal 1 centre rules 1 description bench first -1"):
+    for line in (
+        b"",
+        b"journal",
+        b"journal 1 sign rules x description bench",
+        b"journal 1 sign rules 1 description bench 3 4",
+        b"journal 1 centre rules 1 description bench first -1",
+    ):
         assert Head.of(line) is None
 
 
