@@ -22,7 +22,7 @@ from trials import centres, disks, downs, faults, files, gets, kills, parts, spe
 from trials.bench import Trial
 
 # Seconds of the short form after which a kind of trial begins no more lives: on a machine that is busy there are fewer.
-SHARES = {"kills": 18, "faults": 12, "files": 8, "gets": 6, "downs": 8, "words": 12, "centres": 12}
+SHARES = {"kills": 14, "faults": 10, "files": 7, "gets": 5, "downs": 6, "words": 8, "centres": 10}
 TRIALS: dict[str, Callable[[Trial], None]] = {
     "parts": parts.run,
     "kills": lambda trial: kills.run(trial, 24 if trial.is_short else 1000),
