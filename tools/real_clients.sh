@@ -35,7 +35,7 @@ door() {
     port=$((port + 1))
     python3 "$top/tools/udp_sign.py" --port $port --signtool "$program" "$@" > "$folder/door.$port" 2>&1 &
     doors+=($!)
-    for _ in $(seq 50); do
+    for _ in $(seq 300); do
         grep -q "a sign at" "$folder/door.$port" && return
         sleep 0.1
     done

@@ -7,6 +7,7 @@ from typing import Iterable, NoReturn, Sequence
 
 from .refusal import Refusal, reason
 
+WAIT = 10  # milliseconds, after which answers are read away though the process takes nothing
 ENDS = (b"ok", b"dropped", b"bad line")
 ENDING_WORDS = (b"reply", b"accepted", b"send", b"refused")
 
@@ -88,28 +89,31 @@ class CoProcess:
     def replay(self, chunks: Iterable[list[bytes]]) -> int:
         """Hands recorded lines over, each of which is answered by one line, and throws the answers away: how many."""
         counted = answered = 0
-        os.set_blocking(self.input, False)
+        self.set_blocking(False)
         for lines in chunks:
             if lines:
                 counted += len(lines)
                 answered += self.push(b"\n".join(lines) + b"\n")
-        os.set_blocking(self.input, True)
+        self.set_blocking(True)
         while answered < counted:
             answered += self.thrown_away()
         return counted
 
+    def set_blocking(self, is_blocking: bool) -> None:
+        """Whether a pipe that is full, or has nothing, is waited for."""
+        os.set_blocking(self.input, is_blocking)
+        os.set_blocking(self.output, is_blocking)
+
     def push(self, octets: bytes) -> int:
-        """Hands octets over while answers are read away, since else both pipes fill: how many answers there were."""
+        """Hands octets over while answers are read away, since else both pipes fill: how many answers there were. It is
+        room for more octets that is waited for, and not each answer."""
         ready = select.poll()
         ready.register(self.input, select.POLLOUT)
-        ready.register(self.output, select.POLLIN)
         left, answered = memoryview(octets), 0
         while left:
-            for file, _ in ready.poll():
-                if file == self.output:
-                    answered += self.thrown_away()
-                else:
-                    left = left[self.taken(left) :]
+            ready.poll(WAIT)
+            left = left[self.taken(left) :]
+            answered += self.thrown_away()
         return answered
 
     def taken(self, octets: memoryview) -> int:
@@ -123,7 +127,10 @@ class CoProcess:
 
     def thrown_away(self) -> int:
         """How many answers were read."""
-        octets = os.read(self.output, 1 << 17)
+        try:
+            octets = os.read(self.output, 1 << 17)
+        except BlockingIOError:
+            return 0
         if not octets:
             self.died()
         return octets.count(b"\n")
