@@ -167,7 +167,11 @@ def run(trial: Trial) -> None:
             faults.life("ftruncate", at, errno.EIO)
     faults.life("write", 3, errno.EIO, short=20, cut=1)
     for error in (errno.EACCES, errno.EROFS, errno.ENOSPC):
+        if trial.is_late():
+            break
         faults.life("open", 1, error)
     for call in ("link", "rename"):
+        if trial.is_late():
+            break
         faults.fresh(call)
     print(f"faults of the disk: {faults.count}", flush=True)
