@@ -43,17 +43,17 @@ class Step:
 
 
 STEPS = (
-    Step("vectors", "tools/check_vectors.py --program {program}", 120),
-    Step("model", "tools/compare_model.py --program {program} --count 300", 120),
-    Step("co-process", "tools/compare_coprocess.py --signtool {program} --count 2000", 60),
-    Step("hostile datagrams", "tools/hostile.py --program {program} --count 5000", 120),
-    Step("faults of the program", "tools/program_faults.sh {program}", 90),
-    Step("README's commands", "tools/readme_commands.py --program {program}", 120),
-    Step("refused memory", "tools/refuse_memory.sh --built --short signtool", 120),
-    Step("no memory", "tools/no_memory.sh --built --count 1000", 60, "crates/dms_bench/out/libdms_bench.a"),
-    Step("lasting", "tools/lasting.py --short {program}", 300),
-    Step("conformance", "python3 -m conform.short", 400),
-    Step("helps", "tools/helps.sh", 60),
+    Step("vectors", "tools/check_vectors.py --program {program}", 240),
+    Step("model", "tools/compare_model.py --program {program} --count 300", 240),
+    Step("co-process", "tools/compare_coprocess.py --signtool {program} --count 2000", 120),
+    Step("hostile datagrams", "tools/hostile.py --program {program} --count 5000", 240),
+    Step("faults of the program", "tools/program_faults.sh {program}", 180),
+    Step("README's commands", "tools/readme_commands.py --program {program}", 240),
+    Step("refused memory", "tools/refuse_memory.sh --built --short signtool", 400),
+    Step("no memory", "tools/no_memory.sh --built --count 1000", 120, "crates/dms_bench/out/libdms_bench.a"),
+    Step("lasting", "tools/lasting.py --short {program}", 400),
+    Step("conformance", "python3 -m conform.short", 500),
+    Step("helps", "tools/helps.sh", 180),
 )
 
 
