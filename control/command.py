@@ -1,0 +1,67 @@
+"""Asks for a command to a sign, and tells how it ended: python3 -m control.command --database FILE SIGN LINE
+
+LINE is a command of a centre as in a script: `publish ..`, `blank ..`, `activate ..`; or `publish-text 3 1 "LANE
+CLOSED[nl]1 KM" "me" 0 0 100 65535 255 192.0.2.1`, with its text and its owner as they are read. SIGN is the name of a
+sign that a worker has entered. A worker carries it out after the sign's earlier ones. The exit status is 0 where it
+ended accepted.
+"""
+
+import argparse
+import getpass
+import sys
+import time
+
+from door.refusal import Refusal, status_of, tell
+from door.texts import published
+
+from . import database
+from .session import is_command
+from .store import Store, whole
+from .worker import seconds
+
+LOOK = 0.1  # seconds from one look for the end to the next
+
+
+def line_of(words: str) -> str:
+    """The centre's line for an operator's."""
+    line = published(words) if words.split(" ")[0] == "publish-text" else words
+    if not is_command(line):
+        raise Refusal("bad line: a command is a line publish-text .., publish .., blank .. or activate ..")
+    return line
+
+
+def row_of(store: Store, name: str) -> int:
+    """The sign's row."""
+    rows = store.run("SELECT id FROM signs WHERE name = ?", name)
+    if not rows:
+        raise Refusal(f"there is no sign {name!r}: a worker enters those of its fleet")
+    return whole(rows[0][0])
+
+
+def waited(store: Store, command: int, wait: float) -> str | None:
+    """How the command ended; None where it did not in time."""
+    ends = time.monotonic() + wait
+    while (how := store.how(command)) is None and time.monotonic() < ends:
+        time.sleep(LOOK)
+    return how
+
+
+def main() -> int:
+    words = argparse.ArgumentParser(prog="python3 -m control.command", description=__doc__,
+                                    formatter_class=argparse.RawDescriptionHelpFormatter)
+    words.add_argument("--database", required=True, metavar="FILE")
+    words.add_argument("--who", default=getpass.getuser(), metavar="NAME", help="who asks; else the user")
+    words.add_argument("--wait", type=seconds, default=120.0, metavar="SECONDS", help="how long its end is waited for")
+    words.add_argument("sign", metavar="SIGN")
+    words.add_argument("line", metavar="LINE")
+    asked = words.parse_args()
+    line = line_of(asked.line)
+    store = Store(database.opened(asked.database))
+    command = store.ask(row_of(store, asked.sign), asked.who, line)
+    how = waited(store, command, asked.wait)
+    tell(how if how is not None else f"command {command} has not ended after {asked.wait:g} seconds; it goes on")
+    return 0 if how == "accepted" else 1
+
+
+if __name__ == "__main__":
+    sys.exit(status_of(main))

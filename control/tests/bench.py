@@ -1,0 +1,64 @@
+"""A sign on loopback, a database, and a worker in the test's own process."""
+
+import contextlib
+import os
+import pathlib
+import time
+from typing import Iterator
+
+from control import SIGNTOOL, TOP, database, fleet
+from control.fleet import Sign
+from control.loopback import Fates, Loopback
+from control.store import Store
+from control.worker import Pace, Worker
+from door.sockets import Waiting
+
+PROGRAM = os.environ.get("SIGNTOOL", str(SIGNTOOL))
+TICK = 0.05
+PACE = Pace(tick=TICK, lease=5.0, look=0.02)
+TEXT = (TOP / "signs/roadside.sign").read_bytes()
+ADDRESS = "192.0.2.1"
+HELLO = f"publish 3 1 {b'HELLO'.hex()} {b'me'.hex()} 0 0 100 65535 255 {ADDRESS}"
+
+
+class Bench:
+    """One sign named `one`."""
+
+    def __init__(self, folder: pathlib.Path, loopback: Loopback) -> None:
+        self.folder, self.loopback = folder, loopback
+        self.live = loopback.signs[0]
+        (folder / "a.sign").write_bytes(TEXT)
+        self.fleet = folder / "fleet.toml"
+        self.fleet.write_text(f'[[sign]]\nname = "one"\naddress = "127.0.0.1:{self.live.port}"\n'
+                              'description = "a.sign"\npoll = 1\n')
+        self.store = Store(database.opened(str(folder / "database")))
+        self.row = next(iter(self.signs(self.store)))
+
+    def signs(self, store: Store) -> dict[int, Sign]:
+        return store.enter(fleet.read(self.fleet))
+
+    def worker(self, pace: Pace = PACE) -> Worker:
+        """A worker with a connection of its own."""
+        store = Store(database.opened(str(self.folder / "database")))
+        return Worker(store, self.signs(store), PROGRAM, pace, Waiting())
+
+    def ask(self, line: str) -> int:
+        return self.store.ask(self.row, "me", line)
+
+    def ended(self, worker: Worker, command: int, wait: float = 60.0) -> str | None:
+        """How the command ended, carried out by the worker."""
+        ends = time.monotonic() + wait
+        while (how := self.store.how(command)) is None and time.monotonic() < ends:
+            worker.round()
+        return how
+
+
+@contextlib.contextmanager
+def bench(folder: pathlib.Path, trouble: float = 0.0, seed: int = 1) -> Iterator[Bench]:
+    """The sign's thread stands as long as the test."""
+    loopback = Loopback(PROGRAM, {"one": TEXT}, Fates(seed, trouble), TICK)
+    loopback.start()
+    try:
+        yield Bench(folder, loopback)
+    finally:
+        loopback.end()

@@ -1,0 +1,36 @@
+"""The Gets of readings, over the vectors, and which octets answer one."""
+
+import json
+
+from control import TOP, readings
+from door.mib import Mib
+from model import wire
+
+CASES = [json.loads(line) for line in (TOP / "vectors/datagrams.jsonl").read_text().splitlines()]
+MESSAGES = [(case["message"], case["canonical"]) for case in CASES if case.get("message")]
+
+
+def test_gets_are_those_of_the_vectors() -> None:
+    counted = 0
+    for message, canonical in MESSAGES:
+        if message["kind"] != "Get" or message["error-status"] or message["error-index"]:
+            continue
+        names = [tuple(map(int, held["name"].split("."))) for held in message["bindings"]]
+        if all(held["type"] == "NULL" for held in message["bindings"]):
+            community = bytes.fromhex(message["community"].replace("-", ""))
+            assert readings.request(community, message["request-id"], names).hex() == canonical
+            counted += 1
+    assert counted > 10
+
+
+def test_a_get_asks_below_zero_and_is_answered_by_its_response_alone() -> None:
+    asked = list(readings.names(Mib.read()).values())
+    octets = readings.request(b"public", -2**31, asked)
+    message = wire.spelled(octets)
+    assert message is not None and message.number == -2**31 and [name for name, _ in message.bindings] == asked
+    message.kind = wire.RESPONSE
+    reply = wire.written(message)
+    assert readings.answer(reply, b"public", -2**31) == message
+    for others in (octets, reply[:-1], b""):
+        assert readings.answer(others, b"public", -2**31) is None
+    assert readings.answer(reply, b"public", 5) is None and readings.answer(reply, b"admin", -2**31) is None

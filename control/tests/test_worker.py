@@ -1,0 +1,182 @@
+"""A worker over a sign on loopback: commands, readings, workers that end at any line, and lines that grew long."""
+
+import json
+import pathlib
+import select
+import time
+
+import pytest
+
+from control import session
+from control.loopback import Fates
+from control.session import Session, is_command
+from control.store import Lost, Store
+from control.tests.bench import ADDRESS, HELLO, PACE, PROGRAM, TEXT, Bench, bench
+from control.worker import Worker
+from door.mib import Mib
+from model import wire
+
+ROWS = [
+    ("a publication", HELLO, "accepted"),
+    ("a blank", f"blank 1 65535 255 {ADDRESS}", "accepted"),
+    ("an activation of a row that there is not", "activate ffffff0300ff0001c0000201",
+     "failed at step 7: the sign refused the activation for cause 6, messageNumber"),
+    ("a value out of its range", f"blank 0 65535 255 {ADDRESS}", "refused a value is out of its range"),
+    ("a command that is none", "blank 1", "bad line"),
+    ("a line that is no command", "restart", "bad line"),
+    ("two lines", f"blank 1 1 1 {ADDRESS}\ntick", "bad line"),
+    ("a text that does not fit", f"publish 3 2 {b'[fo9]A'.hex()} - 0 0 1 1 1 {ADDRESS}",
+     "failed at step 5: the row has status 5, error"),
+]
+
+
+def numbers_of(at: Bench) -> list[int]:
+    """The numbers of the requests that a centre sent to the sign, in their order."""
+    sent = [message for message in map(wire.spelled, at.live.requests) if message is not None]
+    return [message.number for message in sent if message.number >= 0]
+
+
+def test_a_command_is_a_line() -> None:
+    assert is_command(HELLO) and is_command("blank 1") and is_command("activate 00")
+    others = ("", "tick", "restart", "journal 1", "datagram 30", "blank 1\ntick", "blank 1\r", "blank " + "1" * 65_536)
+    assert not any(map(is_command, others))
+
+
+def test_commands_end_in_words(tmp_path: pathlib.Path) -> None:
+    with bench(tmp_path) as at:
+        worker = at.worker()
+        commands = [at.ask(line) for _, line, _ in ROWS]
+        for (name, _, how), command in zip(ROWS, commands):
+            assert at.ended(worker, command) == how, name
+        while worker.sessions:
+            worker.round()
+        assert at.store.run("SELECT holder FROM signs") == [(None,)], "a sign without work is let go"
+        assert [line.split()[3] for line in at.store.ledger(at.row)] == ["accepted", "accepted", "refused"]
+        assert [code for _, code in at.live.accepted] == [line.split()[2] for line in at.store.ledger(at.row)[:2]]
+
+
+def test_a_reading_says_what_is_shown(tmp_path: pathlib.Path) -> None:
+    with bench(tmp_path) as at:
+        worker = at.worker()
+        assert at.ended(worker, at.ask(HELLO)) == "accepted"
+        ends = time.monotonic() + 30
+        found: dict[str, object] = {}
+        while found.get("text") != b"HELLO".hex() and time.monotonic() < ends:
+            worker.round()
+            newest = at.store.readings(at.row)[:1]
+            found = json.loads(newest[0][1]) if newest and newest[0][1] else {}
+        assert found["text"] == b"HELLO".hex() and found["owner"] == b"me".hex() and found["mode"] == 8
+        sent = [message for message in map(wire.spelled, at.live.requests) if message is not None]
+        below = [message for message in sent if message.number < 0]
+        assert below and all(message.kind == wire.GET and message.community == b"public" for message in below)
+
+
+def test_a_sign_that_is_silent(tmp_path: pathlib.Path, monkeypatch: pytest.MonkeyPatch) -> None:
+    monkeypatch.setattr(Fates, "of", lambda *_: [])
+    with bench(tmp_path) as at:
+        worker = at.worker()
+        assert at.ended(worker, at.ask(f"blank 1 65535 255 {ADDRESS}")) == "failed at step 7: no reply"
+        assert at.store.ledger(at.row)[0].endswith(" noreply")
+        assert len(set(filter(lambda octets: wire.spelled(octets).number >= 0, at.live.requests))) == 1
+
+
+def session_of(at: Bench, name: str) -> Session:
+    """A session of a worker with a connection of its own."""
+    worker = at.worker()
+    return Session(worker.store, at.row, worker.signs[at.row], name, PROGRAM, Mib.read())
+
+
+def carried(found: Session, steps: int) -> bool:
+    """Whether a job is still under way after so many lines, ticks and what is heard."""
+    ends = time.monotonic() + 60
+    begun = found.number
+    while found.is_busy and found.number - begun < steps and time.monotonic() < ends:
+        if select.select([found.door], [], [], 3 * PACE.tick)[0]:
+            found.heard()
+        else:
+            found.tick()
+    return found.is_busy
+
+
+def test_workers_that_die_after_some_lines(tmp_path: pathlib.Path) -> None:
+    with bench(tmp_path) as at:
+        command = at.ask(HELLO)
+        found = session_of(at, "worker 0")
+        found.begin()
+        lives = 1
+        while carried(found, 1 if lives % 2 else 6):
+            found.close()
+            found = session_of(at, f"worker {lives}")
+            lives += 1
+        found.close()
+        assert lives > 3 and at.store.how(command) == "accepted"
+        assert len(set(at.live.accepted)) == 1
+        numbers = [row[0] for row in at.store.run("SELECT number FROM lines ORDER BY number")]
+        assert numbers == list(range(1, len(numbers) + 1))
+
+
+def test_a_command_that_was_refused_as_its_worker_died(tmp_path: pathlib.Path) -> None:
+    with bench(tmp_path) as at:
+        commands = [at.ask(f"blank 1 65535 255 {ADDRESS}"), at.ask(f"blank 0 65535 255 {ADDRESS}")]
+        found = session_of(at, "first")
+        found.begin()
+        carried(found, 1000)
+        line = at.store.next(at.row)
+        assert line is not None
+        at.store.insert(at.row, found.number, line.line.encode(), "first", line.id)
+        found.close()
+        session_of(at, "second").close()
+        assert [at.store.how(command) for command in commands] == ["accepted", "refused a value is out of its range"]
+
+
+def test_of_two_that_think_they_drive_a_sign_one_goes_on(tmp_path: pathlib.Path) -> None:
+    with bench(tmp_path) as at:
+        command = at.ask(HELLO)
+        first = session_of(at, "first")
+        first.begin()
+        second = session_of(at, "second")
+        assert first.is_busy and second.is_busy and second.number == first.number
+        second.tick()
+        with pytest.raises(Lost):
+            first.tick()
+        first.close()
+        carried(second, 1000)
+        second.close()
+        assert at.store.how(command) == "accepted" and len(set(at.live.accepted)) == 1
+
+
+def test_a_new_centre_where_lines_grew_long(tmp_path: pathlib.Path, monkeypatch: pytest.MonkeyPatch) -> None:
+    monkeypatch.setattr(session, "MOST_LINES", 3)
+    with bench(tmp_path) as at:
+        worker = at.worker()
+        for _ in range(3):
+            assert at.ended(worker, at.ask(HELLO)) == "accepted"
+        rows = at.store.run("SELECT line FROM lines WHERE line LIKE 'journal %' ORDER BY number")
+        heads = [str(row[0]).split(" ") for row in rows]
+        assert len(heads) == 3
+        numbers = numbers_of(at)
+        assert numbers == sorted(numbers) and len(at.store.ledger(at.row)) == 3
+        assert at.store.lines(at.row)[1][0].decode().split(" ") == heads[-1]
+
+
+def test_another_description_is_another_centre(tmp_path: pathlib.Path) -> None:
+    with bench(tmp_path) as at:
+        command = at.ask(HELLO)
+        found = session_of(at, "first")
+        found.begin()
+        used = max(numbers_of(at), default=1)
+        found.close()
+        (tmp_path / "a.sign").write_bytes(TEXT.replace(b"rows 32 8", b"rows 31 8"))
+        found = session_of(at, "second")
+        assert not found.is_busy and at.store.how(command) == session.CHANGED
+        assert found.head.first is not None and found.head.first > used
+        found.close()
+
+
+def test_what_cannot_be_begun_waits_for_its_lease(tmp_path: pathlib.Path) -> None:
+    with bench(tmp_path) as at:
+        at.ask(HELLO)
+        worker = Worker(Store(at.store.database), at.signs(at.store), "/bin/false", PACE, at.worker().waiting)
+        worker.lease()
+        assert not worker.sessions and at.store.with_work(9) == []
+        assert at.store.run("SELECT holder FROM signs") == [(worker.name,)]
