@@ -213,6 +213,7 @@ class Known:
 
     def reach(self, observe: bool = False) -> list[Unreached]:
         """Both signs in the known state; what cannot be brought there is told."""
+        observe |= not self.pair.ticks.is_learnt() and self.is_settling_seen and bool(self.context.rows)
         if not observe and not self.pair.is_dirty:
             return []
         unreached = self.bring(observe)

@@ -1,9 +1,9 @@
 """Texts for the chapters: good ones, and one for each fault, made for the faces that a sign has."""
 
 import random
-from dataclasses import dataclass
 
 from .context import Context
+from .rooms import Sample, gaps, longest, made, mixed, rooms, touching
 
 MARKUP = [  # each with one fault of the markup, by the rule that it breaks
     ("markup code", [b"[zz]", b"[", b"]", b"[ nl]", b"[]", b"[nl", b"A]", b"[/f]", b"[/FLx", b"[n]", b"[[]"]),
@@ -51,85 +51,6 @@ GOOD_MARKUP = [
     b"[jp]",
     b"[fo]",
 ]
-
-
-@dataclass(frozen=True)
-class Sample:
-    """A text, and the rule that decides on it."""
-
-    text: bytes
-    rule: str
-    is_first: bool = False  # looked at without --slow too
-
-
-def made(rule: str, texts: list[bytes], first: int) -> list[Sample]:
-    """Samples of one rule, so many of them looked at first."""
-    return [Sample(text, rule, at < first) for at, text in enumerate(dict.fromkeys(texts)) if len(text) <= 512]
-
-
-def longest(context: Context, unit: bytes, between: bytes = b"", front: bytes = b"") -> int:
-    """How many of a text, with another between them, fit after this front; 0 where the 512 octets end first."""
-    for count in range(1, 513):
-        text = front + between.join([unit] * count)
-        if len(text) > 512:
-            return 0
-        if context.fault(text) is not None:
-            return count - 1
-    return 0
-
-
-def rooms(context: Context) -> list[Sample]:
-    """Texts at the edge of the matrix, and one past it."""
-    one = context.character()
-    found: list[bytes] = []
-    across, down, empty = longest(context, one), longest(context, one, b"[nl]"), longest(context, one, b"[nl9]")
-    if across:
-        part = max(1, across // 3)
-        found += [
-            one * across,
-            one * (across + 1),
-            b"[jl2]" + one + b"[jl4]" + one * (across - 1),
-            b"[jl2]" + one + b"[jl4]" + one * across,
-        ]
-    if down:
-        found += [b"[nl]".join([one] * (down + more)) for more in (0, 1)] + [b"[nl]".join([one] * down) + b"[nl]"]
-    if across:
-        found += [b"[jl2]" + one * part + b"[jl3]" + one * (part + more) for more in (0, 1, 2, 3)]
-        found += [
-            b"[jl2]" + one * (across // 2) + b"[jl4]" + one * (across + more - across // 2) for more in (-1, 0, 1)
-        ]
-        found += [b"[jl4]" + one * across, b"[jl3]" + one * (across + 1)]
-    if down:
-        found += [b"[nl]" * down, b"[nl]" * (down + 1)]
-    if empty:
-        found += [b"[nl9]".join([one] * (empty + more)) for more in (0, 1)]
-    return made("room", found, 9)
-
-
-def mixed(context: Context) -> list[Sample]:
-    """Characters of two fonts in turn, up to the edge of the matrix and one more: their spacings are averaged."""
-    face, one = context.described.face, context.character()
-    fonts = [font for font in face.fonts if font.number != context.defaults[4]]
-    found = []
-    for font in fonts:
-        other = next((bytes([number]) for number in font.glyphs if number < 256 and number not in b"[]"), None)
-        if other is None or not one:
-            continue
-        for turns in (2, 1):
-            front = (one + b"[fo%d]" % font.number + other + b"[fo]") * turns
-            count = longest(context, one, front=front)
-            if count:
-                found += [front + one * (count + more) for more in (1, 0)]
-    return made("room", found, 1)
-
-
-def gaps(context: Context) -> list[Sample]:
-    """The greatest gap between two lines, and one more."""
-    one = context.character()
-    for gap in range(10):
-        if context.fault(one + b"[nl%d]" % gap + one) is not None:
-            return made("room", [one + b"[nl%d]" % (gap + more) + one for more in (-1, 0) if gap + more >= 0], 2)
-    return []
 
 
 def fonts(context: Context) -> list[Sample]:

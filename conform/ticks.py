@@ -79,8 +79,8 @@ class Ticks:
         return ended > self.next - self.margin / 2 or begun < self.next - self.period + LATE
 
     def after_doubt(self) -> float:
-        """The moment from which on the last tick is late no more."""
-        return self.next - self.period + LATE
+        """The moment from which on the last tick is late no more; now, where none is known."""
+        return self.clock.now() if math.isinf(self.next) else self.next - self.period + LATE
 
     def was_late(self) -> None:
         """A tick came later than it was waited for: from now on it is waited for longer."""
