@@ -146,6 +146,7 @@ def samples(context: Context) -> list[Sample]:
         + gaps(context)
         + rooms(context)
         + mixed(context)
+        + touching(context)
         + both(context)
     )
     found += made("markup", [b"".join(GOOD_MARKUP[:-2]), *GOOD_MARKUP], 1)
