@@ -71,6 +71,12 @@ def clear(room: pathlib.Path) -> None:
     shutil.rmtree(room, ignore_errors=True)
 
 
+def lines_of(plan: Plan) -> str:
+    """The lines of crates.txt that name a crate of the plan: a copy has no others."""
+    lines = (TOP / "crates.txt").read_text(encoding="utf-8").splitlines(keepends=True)
+    return "".join(line for line in lines if line.partition(":")[0].strip().split(" ")[0] in plan.crates)
+
+
 @contextlib.contextmanager
 def lanes(plan: Plan, count: int) -> Iterator[list[pathlib.Path]]:
     """So many copies of the sources. Other runs of `rt` and of this tool wait meanwhile."""
@@ -88,7 +94,7 @@ def lanes(plan: Plan, count: int) -> Iterator[list[pathlib.Path]]:
                     for part in PARTS:
                         if (TOP / "crates" / name / part).is_dir():
                             shutil.copytree(TOP / "crates" / name / part, room / f"{lane}/crates/{name}/{part}")
-                shutil.copy(TOP / "crates.txt", room / f"{lane}/crates.txt")
+                (room / f"{lane}/crates.txt").write_text(lines_of(plan), encoding="utf-8")
             yield [room / str(lane) for lane in range(count)]
         finally:
             clear(room)
