@@ -8,7 +8,8 @@ import sys
 
 TOP = pathlib.Path(__file__).resolve().parent.parent
 PROFILE = TOP / "docs/PROFILE.md"
-SIGNTOOL = TOP / "crates/signtool/out/signtool"
 
 if str(TOP / "tools") not in sys.path:
     sys.path.insert(0, str(TOP / "tools"))
+
+from door.places import SIGNTOOL as SIGNTOOL  # noqa: E402

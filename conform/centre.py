@@ -16,6 +16,7 @@ import sys
 from types import FrameType
 from typing import Protocol
 
+from door.places import called
 from model import text
 
 from . import SIGNTOOL
@@ -75,7 +76,7 @@ def as_json(watch: Watch) -> str:
 
 def arguments() -> argparse.ArgumentParser:
     parser = argparse.ArgumentParser(
-        prog="python3 -m conform.centre",
+        prog=called("conform.centre"),
         description="our sign on a port, which watches the central system that speaks to it",
     )
     parser.add_argument("--host", default="127.0.0.1")

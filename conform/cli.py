@@ -5,6 +5,7 @@ import datetime
 import pathlib
 import sys
 
+from door.places import called
 from model import text
 
 from . import SIGNTOOL
@@ -25,7 +26,7 @@ from .ticks import Ticks
 
 def arguments() -> argparse.ArgumentParser:
     parser = argparse.ArgumentParser(
-        prog="python3 -m conform", description="compares a sign over UDP with the proved one, reply by reply"
+        prog=called("conform"), description="compares a sign over UDP with the proved one, reply by reply"
     )
     parser.add_argument("--to", required=True, metavar="HOST:PORT", help="where the sign under test answers")
     parser.add_argument(

@@ -15,8 +15,8 @@ import re
 import sys
 
 from door import description
+from door.places import TOP
 from door.process import CoProcess
-from door.setting import TOP
 
 WORDS = ["tick", "ticks", "heard", "state", "show", "status", "restart", "datagram", "power-lost", "power-back", "publish", "-", "", "0",
          "4294967295", "4294967296", "zz", "3", "#", "end", "30"]

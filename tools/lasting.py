@@ -17,7 +17,7 @@ import tempfile
 import time
 from typing import Callable
 
-from door.setting import PROGRAM
+from door.places import SIGNTOOL
 from trials import centres, disks, downs, faults, files, gets, kills, parts, speed, words, year
 from trials.bench import Trial
 
@@ -41,7 +41,7 @@ TRIALS: dict[str, Callable[[Trial], None]] = {
 
 def main() -> int:
     options = argparse.ArgumentParser(description="doors that are killed, disks that refuse, journals that are changed")
-    options.add_argument("program", nargs="?", default=PROGRAM)
+    options.add_argument("program", nargs="?", default=str(SIGNTOOL))
     options.add_argument("--short", action="store_true", help="at most two minutes")
     options.add_argument("--seed", type=int, default=1)
     options.add_argument("--only", choices=sorted(TRIALS), help="one kind of trial alone")

@@ -10,6 +10,8 @@ import signal
 import socket
 import sys
 
+from door.places import called
+
 from ..centre import Stopped, serve, stop
 from ..clock import RealClock
 from ..simulated import SomeSign
@@ -32,7 +34,7 @@ class Wrong:
 
 
 def main() -> int:
-    words = argparse.ArgumentParser(prog="python3 -m conform.mutants.door", description="a wrong sign on a UDP port")
+    words = argparse.ArgumentParser(prog=called("conform.mutants.door"), description="a wrong sign on a UDP port")
     words.add_argument("names", nargs="+", metavar="NAME", choices=[mutant.name for mutant in MUTANTS])
     words.add_argument("--port", type=int, default=1161)
     words.add_argument("--sign", required=True, type=pathlib.Path)

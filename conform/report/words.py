@@ -3,6 +3,8 @@
 import shlex
 from dataclasses import dataclass
 
+from door.places import called
+
 from ..chapters import Chapter
 from ..compare import fields
 from ..context import Context
@@ -32,7 +34,7 @@ class About:
 
     def command(self, difference: Difference) -> str:
         """The command line that repeats a difference."""
-        words = ["python3", "-m", "conform", "--to", self.to, "--sign", self.sign]
+        words = [*called("conform").split(), "--to", self.to, "--sign", self.sign]
         if self.communities:
             words += ["--communities", *self.communities]
         if self.program:

@@ -4,24 +4,23 @@ it."""
 import argparse
 import dataclasses
 import os
-import pathlib
 
 from . import description
 from .files import opened
 from .journal import Journal, count_of_records
 from .log import Log
+from .places import SIGNTOOL, in_words_of_command
 from .process import CoProcess
 from .records import SUM, Head
 from .refusal import Refusal, say
 
-TOP = pathlib.Path(__file__).resolve().parents[2]
-PROGRAM = str(TOP / "crates/signtool/out/signtool")
-
 
 def options(about: str | None) -> argparse.ArgumentParser:
     """The options that both doors have."""
-    words = argparse.ArgumentParser(description=about, formatter_class=argparse.RawDescriptionHelpFormatter)
-    words.add_argument("--signtool", default=PROGRAM, metavar="PATH")
+    words = argparse.ArgumentParser(
+        description=in_words_of_command(about), formatter_class=argparse.RawDescriptionHelpFormatter
+    )
+    words.add_argument("--signtool", default=str(SIGNTOOL), metavar="PATH", help="the program that answers lines")
     words.add_argument("--sign", metavar="FILE", help="the description of the sign, as in signs/; else the bench sign")
     words.add_argument(
         "--journal", metavar="FILE", help="what is handed over is kept here, over the end of the process"

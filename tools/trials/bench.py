@@ -13,7 +13,7 @@ import time
 from dataclasses import dataclass, field
 from typing import Callable
 
-from door.setting import TOP
+from door.places import TOP
 
 from .manager import PATIENCE
 

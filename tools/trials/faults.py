@@ -6,7 +6,7 @@ import os
 import pathlib
 import subprocess
 
-from door.setting import TOP
+from door.places import TOP
 from model import wire
 
 from .bench import Door, Trial, eventually

@@ -8,7 +8,7 @@ from door import records
 from door.journal import Journal
 from door.records import Head
 from door.refusal import Refusal
-from door.setting import TOP
+from door.places import TOP
 from model import wire
 
 from .bench import Door, Trial

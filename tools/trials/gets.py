@@ -3,7 +3,7 @@
 import json
 from typing import Iterator
 
-from door.setting import TOP
+from door.places import TOP
 from model import text, wire
 from model.sign import Sign
 

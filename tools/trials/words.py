@@ -4,7 +4,7 @@ import os
 import socket
 import subprocess
 
-from door.setting import TOP
+from door.places import TOP
 
 from .bench import Door, Trial
 from .manager import PATIENCE, Manager

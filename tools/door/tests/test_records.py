@@ -4,8 +4,8 @@ import re
 import zlib
 
 from door import records
+from door.places import TOP
 from door.records import RULES, Head, is_torn, lines_of, record, whole
-from door.setting import TOP
 
 LINES = [
     b"journal 1 sign rules 1 description bench",
