@@ -26,17 +26,17 @@ def test_a_database_is_made_once(tmp_path: pathlib.Path) -> None:
     assert stat.S_IMODE(path.stat().st_mode) == 0o600
     assert made.run("PRAGMA journal_mode") == [("wal",)] and made.run("PRAGMA synchronous") == [(2,)]
     assert database.migrate(made, database.migrations()) == []
-    more = (2, "CREATE TABLE more (a {key});\nINSERT INTO more VALUES (7);\n")
-    assert database.migrate(made, [*database.migrations(), more]) == [2]
+    more = (900, "CREATE TABLE more (a {key});\nINSERT INTO more VALUES (7);\n")
+    assert database.migrate(made, [*database.migrations(), more]) == [900]
     assert made.run("SELECT a FROM more") == [(7,)]
-    with pytest.raises(Refusal, match="newer program: it has migration 2"):
+    with pytest.raises(Refusal, match="newer program: it has migration 900"):
         database.opened(str(path))
 
 
 def test_a_migration_that_fails_leaves_nothing(tmp_path: pathlib.Path) -> None:
     made = database.opened(str(tmp_path / "database"))
     with pytest.raises(Failed):
-        more = (2, "CREATE TABLE more (a {key});\nINSERT INTO none VALUES (7);\n")
+        more = (900, "CREATE TABLE more (a {key});\nINSERT INTO none VALUES (7);\n")
         database.migrate(made, [*database.migrations(), more])
     assert made.run("SELECT number FROM migrations") == [(1,)]
     with pytest.raises(Failed):
