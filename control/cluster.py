@@ -49,7 +49,8 @@ class Cluster:
         self.user = self.other_user()
         if self.user is not None:
             os.chown(folder, self.user.pw_uid, self.user.pw_gid)
-        self.call("initdb", "-D", str(self.data), "-A", "trust", "-U", "control", "-E", "UTF8", "--locale=C", "--no-sync")
+        self.call("initdb", "-D", str(self.data), "-A", "trust", "-U", "control", "-E", "UTF8", "--locale=C",
+                  "--no-sync")
 
     @staticmethod
     def other_user() -> pwd.struct_passwd | None:

@@ -1,4 +1,4 @@
-"""Asks for a command to a sign, and tells how it ended: python3 -m control.command --database FILE SIGN LINE
+"""Asks for a command to a sign, and tells how it ended: python3 -m control.command --database WHERE SIGN LINE
 
 LINE is a command of a centre as in a script: `publish ..`, `blank ..`, `activate ..`; or `publish-text 3 1 "LANE
 CLOSED[nl]1 KM" "me" 0 0 100 65535 255 192.0.2.1`, with its text and its owner as they are read. SIGN is the name of a
@@ -14,7 +14,7 @@ import time
 from door.refusal import Refusal, status_of, tell
 from door.texts import published
 
-from . import database
+from . import database, start
 from .session import is_command
 from .store import Store, whole
 from .worker import seconds
@@ -49,12 +49,14 @@ def waited(store: Store, command: int, wait: float) -> str | None:
 def main() -> int:
     words = argparse.ArgumentParser(prog="python3 -m control.command", description=__doc__,
                                     formatter_class=argparse.RawDescriptionHelpFormatter)
-    words.add_argument("--database", required=True, metavar="FILE")
+    words.add_argument("--database", required=True, metavar="WHERE", help=database.WHERE)
     words.add_argument("--who", default=getpass.getuser(), metavar="NAME", help="who asks; else the user")
     words.add_argument("--wait", type=seconds, default=120.0, metavar="SECONDS", help="how long its end is waited for")
     words.add_argument("sign", metavar="SIGN")
     words.add_argument("line", metavar="LINE")
     asked = words.parse_args()
+    if database.is_url(asked.database):
+        start.needed("control.command", "psycopg")
     line = line_of(asked.line)
     store = Store(database.opened(asked.database))
     command = store.ask(row_of(store, asked.sign), asked.who, line)

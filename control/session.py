@@ -1,8 +1,8 @@
 """A sign that is driven: a centre's co-process where the sign's lines left it, a socket, and the next line's number."""
 
-import contextlib
 import dataclasses
 import socket
+import time
 
 from door import description
 from door.centre_door import COMMANDS
@@ -15,15 +15,23 @@ from door.sockets import connected, received
 from door.texts import ended
 
 from .fleet import Sign
-from .store import Command, Lost, Store
+from .steps import Steps
+from .store import Command, Line, News, Store
 
 MOST_LINES = 1000  # of a centre; one that is idle after more gives way to a new one
+MOST_LATE = 1000  # datagrams that came while no job was under way and are let go at once
+PACE = 0.01  # seconds from one line of a sign to the next at least: control/backup.py counts on it
 CHANGED = "failed: the sign's description changed while it was under way"
+RESTORED = "unknown: the database was restored from a copy while it was under way"
+
+
+class Lost(Exception):
+    """The line's number is taken: another worker drives this sign."""
 
 
 def is_command(line: str) -> bool:
     """Whether it is one line, and begins as a command of a centre does; the centre judges the rest."""
-    return line.split(" ")[0] in COMMANDS and len(line.encode()) <= MOST_LINE and "\n" not in line and "\r" not in line
+    return line.split(" ")[0] in COMMANDS and len(line.encode()) <= MOST_LINE and not set(line) & {"\n", "\r", "\0"}
 
 
 def above(head: Head, count: int) -> int:
@@ -33,13 +41,17 @@ def above(head: Head, count: int) -> int:
 
 
 class Session:
-    """From a lease on until there is nothing to do. Whatever is handed over was inserted under its number before."""
+    """From a lease on until there is nothing to do. A line is offered, inserted under its number by whoever has the
+    session, handed over, and answered: control/carry.py has the order."""
 
     def __init__(self, store: Store, row: int, sign: Sign, worker: str, program: str, mib: Mib) -> None:
         self.store, self.row, self.sign, self.worker, self.program, self.mib = store, row, sign, worker, program, mib
         self.command: Command | None = None
         self.is_busy = False
-        self.ledger: list[str] = []
+        self.ledger: set[str] = set()
+        self.out: bytes | None = None
+        self.steps = Steps(mib)
+        self.ready_at = time.monotonic() + PACE
         self.head, begun_at, lines = self.centre()
         self.number, self.count = begun_at + 1 + len(lines), len(lines)
         self.process = self.started()
@@ -54,27 +66,25 @@ class Session:
 
     def centre(self) -> tuple[Head, int, list[bytes]]:
         """Which centre goes on, the number of the line that says so, and the lines that it was handed. The first one
-        begins with the fleet's number; another description, or other rules, are another centre's."""
-        first, lines = self.store.lines(self.row)
-        head = Head("centre", self.sign.digest, self.sign.first)
+        begins with the fleet's number; another description, other rules, or a database that was restored from a copy
+        want another centre, above all numbers of the one before."""
+        first, least, lines = self.store.lines(self.row)
+        head = Head("centre", self.sign.digest, max(self.sign.first, least))
         if not lines:
-            self.store.insert(self.row, first, head.line(), self.worker, is_first=True)
-            return head, first, []
+            return self.begun_anew(head, first, "")
         found = Head.of(lines[0])
         if found is None or found.first is None:
             raise Refusal(f"{self.sign.name}: line {first} is no beginning of a centre")
-        if dataclasses.replace(head, first=found.first) == found:
+        if dataclasses.replace(head, first=found.first) == found and found.first >= least:
             return found, first, lines[1:]
-        return self.replaced(found, first + len(lines), len(lines))
+        number = max(above(found, len(lines) - 1), self.sign.first, least)
+        why = RESTORED if found.first < least else CHANGED
+        return self.begun_anew(dataclasses.replace(head, first=number), first + len(lines), why)
 
-    def replaced(self, found: Head, number: int, count: int) -> tuple[Head, int, list[bytes]]:
-        """A centre of another description, above all numbers of the one before; what was under way is over."""
-        head = Head("centre", self.sign.digest, max(above(found, count), self.sign.first))
-        self.store.insert(self.row, number, head.line(), self.worker, is_first=True)
-        begun = self.store.begun(self.row)
-        if begun is not None:
-            self.store.end(begun[0].id, CHANGED)
-        self.store.forget(self.row)
+    def begun_anew(self, head: Head, number: int, why: str) -> tuple[Head, int, list[bytes]]:
+        """A centre without lines; what was under way with one before it is over."""
+        if not self.store.replace(Line(self.row, number, head.line(), is_first=True), self.worker, why):
+            raise Lost
         return head, number, []
 
     def started(self) -> CoProcess:
@@ -91,50 +101,93 @@ class Session:
     def go_on(self, lines: list[bytes]) -> None:
         """Where the lines left it. Nothing of it goes out; the last answer tells whether a command was refused."""
         begun = self.store.begun(self.row)
+        if begun is not None and begun[1] >= self.number:
+            raise Lost  # it was begun after the lines were read
         self.command = begun[0] if begun else None
         self.process.replay([lines[:-1]])
-        answer = self.process.hand(lines[-1:])[0] if lines else b""
         is_of_command = begun is not None and begun[1] == self.number - 1
-        self.look(answer.decode("latin-1") if is_of_command else "")
-
-    def anew(self) -> None:
-        """A new centre, above all numbers, where the lines of the idle one grew long."""
-        head = dataclasses.replace(self.head, first=above(self.head, self.count))
-        self.store.insert(self.row, self.number, head.line(), self.worker, is_first=True)
-        self.process.end()
-        self.head, self.number, self.count, self.ledger = head, self.number + 1, 0, []
-        self.process = self.started()
+        self.process.write(b"".join(line + b"\n" for line in (*lines[-1:], b"status")))
+        answer = self.process.lines(1)[0] if lines else b""
+        news = self.look(answer.decode("latin-1") if is_of_command else "")
+        if news.is_some:
+            self.store.keep([news])
 
     # ---- lines
 
-    def hand(self, line: bytes, command: Command | None = None) -> None:
-        """Inserts a line, hands it over, notes what the ledger says, and sends what goes out."""
-        self.store.insert(self.row, self.number, line, self.worker, command.id if command else None)
-        self.number, self.count = self.number + 1, self.count + 1
-        self.command = command or self.command
-        answer = self.process.hand([line])[0]
-        self.look(answer.decode("latin-1"))
-        if answer.startswith(b"send "):
-            self.send(bytes.fromhex(answer[5:].decode()))
+    def offer(self, is_due: bool) -> Line | None:
+        """The line that is next: a tick that is due, a datagram that waits, or the next command where no job is under
+        way; None where there is none."""
+        if not self.is_busy:
+            return self.beginning()
+        if is_due:
+            return Line(self.row, self.number, b"tick")
+        heard = received(self.door)
+        return None if heard is None else Line(self.row, self.number, b"datagram " + (heard[0].hex().encode() or b"-"))
 
-    def look(self, answer: str) -> None:
-        """Notes what is new in the ledger, and how a command ended."""
-        is_busy, last, *ledger = (line.decode("latin-1") for line in self.process.ask(b"status")[:-1])
+    def beginning(self) -> Line | None:
+        """The next command, or before it a new centre, above all numbers, where the lines of this one grew long."""
+        while (command := self.store.next(self.row)) is not None:
+            if is_command(command.line):
+                break
+            self.store.end(command.id, "bad line")
+        if command is None:
+            return None
+        if self.count >= MOST_LINES:
+            head = dataclasses.replace(self.head, first=above(self.head, self.count))
+            return Line(self.row, self.number, head.line(), is_first=True)
+        for _ in range(MOST_LATE):  # what comes while no job is under way answers nothing
+            if received(self.door) is None:
+                break
+        self.command = command
+        return Line(self.row, self.number, command.line.encode(), command.id)
+
+    def hand(self, line: Line) -> None:
+        """Hands over a line that is in the database under its number."""
+        self.ready_at = time.monotonic() + PACE
+        self.number, self.count = line.number + 1, self.count + 1
+        if line.command is not None:
+            self.steps = Steps(self.mib)
+        if line.is_first:
+            head = Head.of(line.text)
+            assert head is not None
+            self.process.end()
+            self.head, self.count, self.ledger = head, 0, set()
+            self.process = self.started()
+            self.process.write(b"status\n")
+        else:
+            self.process.write(line.text + b"\nstatus\n")
+
+    def answered(self, line: Line) -> News:
+        """What came of the line."""
+        answer = b"" if line.is_first else self.process.lines(1)[0]
+        self.out = bytes.fromhex(answer[5:].decode()) if answer.startswith(b"send ") else None
+        self.steps.see(self.out)
+        return self.look(answer.decode("latin-1"))
+
+    def look(self, answer: str) -> News:
+        """What is new in the ledger, and how a command ended: from the answer to a `status` that was handed over."""
+        is_busy, last, *ledger = [line.decode("latin-1") for line in self.process.until(b"ok")]
         self.is_busy = is_busy == "busy"
-        new = [line for line in ledger if line not in self.ledger]
-        if new:
-            self.store.note(self.row, new)
-            self.ledger = ledger
+        news = News(self.row, [line for line in ledger if line not in self.ledger])
+        self.ledger = set(ledger)
         if self.command is not None and not self.is_busy:
             is_refused = answer.split(" ")[0] in ("refused", "bad")
-            self.store.end(self.command.id, answer if is_refused else ended(self.mib, last).removeprefix("last "))
+            news.command = self.command.id
+            news.how = answer if is_refused else ended(self.mib, last).removeprefix("last ")
             self.command = None
+        return news
 
-    def send(self, octets: bytes) -> None:
-        """A datagram to the sign; the fault of an earlier one is no fault of this one."""
-        for _ in range(2):
+    def step(self) -> tuple[int, int] | None:
+        """The step that the command has come to, and the command, where it is another than before."""
+        step = self.steps.taken()
+        return None if step is None or self.command is None else (step, self.command.id)
+
+    def send(self) -> None:
+        """What goes out for the last line, to the sign; the fault of an earlier datagram is no fault of this one."""
+        octets, self.out = self.out, None
+        for _ in range(2 if octets is not None else 0):
             try:
-                self.door.send(octets)
+                self.door.send(octets or b"")
                 break
             except ConnectionError:
                 continue
@@ -142,43 +195,9 @@ class Session:
                 say(f"{self.sign.name}: a request is lost: {reason(fault)}")
                 break
 
-    # ---- what happens
-
-    def begin(self) -> bool:
-        """Hands over the next command; False where there is none."""
-        command = self.store.next(self.row)
-        if command is None:
-            return False
-        if not is_command(command.line):
-            self.store.end(command.id, "bad line")
-            return True
-        if self.count >= MOST_LINES:
-            self.anew()
-        while received(self.door) is not None:  # what comes while no job is under way answers nothing
-            pass
-        self.hand(command.line.encode(), command)
-        return True
-
-    def tick(self) -> None:
-        """A tick of the centre's clock."""
-        if self.is_busy:
-            self.hand(b"tick")
-
-    def heard(self) -> None:
-        """Hands over what waits, as long as a job is under way."""
-        while self.is_busy and (heard := received(self.door)) is not None:
-            self.hand(b"datagram " + (heard[0].hex().encode() or b"-"))
-
     def close(self) -> None:
         """Ends the co-process. The lines stay."""
         self.process.end()
         door: socket.socket | None = getattr(self, "door", None)
         if door is not None:
             door.close()
-
-
-def opened(store: Store, row: int, sign: Sign, worker: str, program: str, mib: Mib) -> Session | None:
-    """The sign's session, or None where another worker drives it already."""
-    with contextlib.suppress(Lost):
-        return Session(store, row, sign, worker, program, mib)
-    return None

@@ -1,180 +1,156 @@
-"""What the control room keeps: signs with their leases, the lines of each sign, commands, ledger and readings."""
+"""What the control room keeps: signs with their leases, and the lines of each sign, with what comes of them."""
 
-from dataclasses import dataclass
+from dataclasses import dataclass, field
+from typing import Sequence
 
-from .database import Database, Taken, Value
+from .command_store import Command, CommandStore, texts
+from .database import Taken, Value
 from .fleet import Sign
+from .reading_store import CLOCK, places, whole
 
-CLOCK = "{clock}"
-LEAST_NUMBER = -2**31  # of a request
-
-
-class Lost(Exception):
-    """The line's number is taken: another worker drives this sign."""
+__all__ = ["Command", "Line", "News", "Store", "texts", "whole"]
 
 
 @dataclass(frozen=True)
-class Command:
-    """What an operator asked for, as a line of a centre."""
+class Line:
+    """A line of a sign under its number; `command` is the one that begins with it, `is_first` says that a centre
+    does."""
 
-    id: int
-    line: str
-
-
-def whole(value: Value) -> int:
-    """A number that is never missing."""
-    assert isinstance(value, (int, float))
-    return int(value)
+    sign: int
+    number: int
+    text: bytes
+    command: int | None = None
+    is_first: bool = False
 
 
-def texts(rows: list[tuple[Value, ...]]) -> list[str]:
-    """The first column, of texts."""
-    return [str(row[0]) for row in rows]
+@dataclass
+class News:
+    """What came of a line: the ledger's lines that are new, and how the sign's command ended, in words."""
+
+    sign: int
+    ledger: list[str] = field(default_factory=list)
+    command: int | None = None
+    how: str | None = None
+
+    @property
+    def is_some(self) -> bool:
+        return bool(self.ledger) or self.how is not None
 
 
-class Store:
+class Store(CommandStore):
     """The tables in words. A worker is told by its name."""
-
-    def __init__(self, database: Database) -> None:
-        self.database = database
-        self.run = database.run
 
     # ---- signs and their leases
 
     def enter(self, signs: list[Sign]) -> dict[int, Sign]:
         """The fleet as rows: each sign by the number of its row."""
-        with self.database.transaction():
-            for sign in signs:
-                address = f"{sign.host}:{sign.port}"
-                self.run("INSERT INTO signs (name, place, address, poll) VALUES (?, ?, ?, ?)"
-                         " ON CONFLICT (name) DO UPDATE"
-                         " SET place = excluded.place, address = excluded.address, poll = excluded.poll",
-                         sign.name, sign.place, address, sign.poll)
-            return {whole(self.run("SELECT id FROM signs WHERE name = ?", sign.name)[0][0]): sign for sign in signs}
+        with self.database.transaction(is_alone=True):
+            return {whole(self.run("INSERT INTO signs (name, place, address, poll) VALUES (?, ?, ?, ?)"
+                                   " ON CONFLICT (name) DO UPDATE"
+                                   " SET place = excluded.place, address = excluded.address, poll = excluded.poll"
+                                   " RETURNING id", sign.name, sign.place, f"{sign.host}:{sign.port}",
+                                   sign.poll)[0][0]): sign for sign in signs}
 
-    def with_work(self, most: int) -> list[int]:
-        """Signs that have a command which has not ended, and that nobody drives."""
-        rows = self.run(f"SELECT DISTINCT commands.sign FROM commands JOIN signs ON signs.id = commands.sign"
+    def with_work(self) -> list[int]:
+        """Signs that have a command which has not ended, and that nobody drives: the longest waiting first."""
+        rows = self.run(f"SELECT commands.sign FROM commands JOIN signs ON signs.id = commands.sign"
                         f" WHERE commands.how IS NULL AND (signs.holder IS NULL OR signs.until < {CLOCK})"
-                        " LIMIT ?", most)
+                        " GROUP BY commands.sign ORDER BY min(commands.id)")
         return [whole(row[0]) for row in rows]
 
-    def lease(self, sign: int, worker: str, seconds: float) -> bool:
-        """Whether the worker drives the sign for so many seconds from now on."""
-        return bool(self.run(f"UPDATE signs SET holder = ?, until = {CLOCK} + ?"
-                             f" WHERE id = ? AND (holder IS NULL OR until < {CLOCK}) RETURNING id",
-                             worker, seconds, sign))
-
-    def renew(self, signs: list[int], worker: str, seconds: float) -> set[int]:
-        """Which of these signs the worker still drives: for so many seconds from now on."""
-        places = ", ".join("?" * len(signs))
-        rows = self.run(f"UPDATE signs SET until = {CLOCK} + ? WHERE holder = ? AND until >= {CLOCK}"
-                        f" AND id IN ({places}) RETURNING id", seconds, worker, *signs)
+    def lease(self, signs: Sequence[int], worker: str, seconds: float) -> set[int]:
+        """Which of these signs the worker drives for so many seconds from now on."""
+        if not signs:
+            return set()
+        rows = self.run(f"WITH free AS MATERIALIZED (SELECT id FROM signs WHERE id IN ({places(signs)})"
+                        f" AND (holder IS NULL OR until < {CLOCK}) {{skip}})"
+                        f" UPDATE signs SET holder = ?, until = {CLOCK} + ? WHERE id IN (SELECT id FROM free)"
+                        " RETURNING id", *signs, worker, seconds)
         return {whole(row[0]) for row in rows}
 
-    def release(self, sign: int, worker: str) -> None:
-        """Lets a sign go, if the worker has it."""
-        self.run("UPDATE signs SET holder = NULL WHERE id = ? AND holder = ?", sign, worker)
+    def renew(self, signs: Sequence[int], worker: str, seconds: float) -> set[int]:
+        """Which of these signs the worker still drives: for so many seconds from now on."""
+        if not signs:
+            return set()
+        rows = self.run(f"UPDATE signs SET until = {CLOCK} + ? WHERE holder = ? AND until >= {CLOCK}"
+                        f" AND id IN ({places(signs)}) RETURNING id", seconds, worker, *signs)
+        return {whole(row[0]) for row in rows}
+
+    def release(self, signs: Sequence[int], worker: str) -> None:
+        """Lets those of the signs go that the worker has."""
+        if signs:
+            self.run(f"UPDATE signs SET holder = NULL WHERE holder = ? AND id IN ({places(signs)})", worker, *signs)
 
     # ---- lines
 
-    def lines(self, sign: int) -> tuple[int, list[bytes]]:
-        """The lines of the sign's last centre, first the one that says which centre it is; and that one's number."""
+    def lines(self, sign: int) -> tuple[int, int, list[bytes]]:
+        """The lines of the sign's last centre, first the one that says which centre it is; that one's number; and the
+        least number that a centre of this sign may begin with."""
         rows = self.run("SELECT number, line FROM lines WHERE sign = ? AND number >="
                         " (SELECT centre FROM signs WHERE id = ?) ORDER BY number", sign, sign)
-        return (whole(rows[0][0]) if rows else 1), [str(row[1]).encode() for row in rows]
+        least = whole(self.run("SELECT least FROM signs WHERE id = ?", sign)[0][0])
+        return (whole(rows[0][0]) if rows else 1), least, [str(row[1]).encode() for row in rows]
 
-    def insert(self, sign: int, number: int, line: bytes, worker: str, command: int | None = None,
-               is_first: bool = False) -> None:
-        """A line under its number, and with it the beginning of a command or of a centre; raises Lost where the number
-        is taken."""
+    def insert(self, lines: Sequence[Line], worker: str, steps: Sequence[tuple[int, int]] = ()) -> set[int]:
+        """Lines of several signs, and with each the beginning of its command or of a centre: the signs of those that
+        are in the database. One whose number is taken is another worker's. Steps of commands go with them."""
+        try:
+            self.put(lines, worker, steps)
+            return {line.sign for line in lines}
+        except Taken:
+            if len(lines) == 1:
+                return set()
+            return set().union(*(self.insert([line], worker) for line in lines))
+
+    def put(self, lines: Sequence[Line], worker: str, steps: Sequence[tuple[int, int]] = ()) -> None:
+        """All of them or none; raises Taken where a number is there, or where a command no longer waits."""
+        lines = sorted(lines, key=lambda line: line.sign)
+        begun: list[tuple[Value, ...]] = [(line.number, line.command) for line in lines if line.command is not None]
+        run_all = self.database.run_all
+        with self.database.transaction():
+            run_all("UPDATE commands SET step = ? WHERE id = ? AND how IS NULL", list(steps))
+            changed = run_all("UPDATE commands SET number = ? WHERE id = ? AND number IS NULL AND how IS NULL", begun)
+            if changed != len(begun):
+                raise Taken("a command waits no longer")
+            run_all(f"INSERT INTO lines (sign, number, line, worker, at) VALUES (?, ?, ?, ?, {CLOCK})",
+                    [(line.sign, line.number, line.text.decode(), worker) for line in lines])
+            run_all("UPDATE signs SET centre = ? WHERE id = ?",
+                    [(line.number, line.sign) for line in lines if line.is_first])
+
+    def replace(self, line: Line, worker: str, how: str) -> bool:
+        """A centre begins in the place of one that is no more: what was under way with that one is over, so, and what
+        waited in its ledger is unknown. False where the line's number is taken."""
         try:
             with self.database.transaction():
                 self.run(f"INSERT INTO lines (sign, number, line, worker, at) VALUES (?, ?, ?, ?, {CLOCK})",
-                         sign, number, line.decode(), worker)
-                if command is not None:
-                    self.run("UPDATE commands SET number = ? WHERE id = ?", number, command)
-                if is_first:
-                    self.run("UPDATE signs SET centre = ? WHERE id = ?", number, sign)
-        except Taken as fault:
-            raise Lost(f"line {number} is another worker's") from fault
+                         line.sign, line.number, line.text.decode(), worker)
+                self.run("UPDATE signs SET centre = ? WHERE id = ?", line.number, line.sign)
+                self.run(f"UPDATE commands SET how = ?, ended = {CLOCK}"
+                         " WHERE sign = ? AND number IS NOT NULL AND how IS NULL", how, line.sign)
+                self.run(f"UPDATE ledger SET outcome = 'unknown', at = {CLOCK}"
+                         " WHERE sign = ? AND outcome = 'waiting'", line.sign)
+            return True
+        except Taken:
+            return False
 
-    # ---- commands
-
-    def ask(self, sign: int, who: str, line: str) -> int:
-        """A command that waits for its turn: its number."""
+    def keep(self, news: Sequence[News]) -> None:
+        """What came of lines, in one transaction: before anything of it goes out. A sign whose command ended is read
+        soon."""
+        ended = [one for one in news if one.how is not None]
         with self.database.transaction():
-            rows = self.run(f"INSERT INTO commands (sign, who, at, line) VALUES (?, ?, {CLOCK}, ?) RETURNING id",
-                            sign, who, line)
-            name = texts(self.run("SELECT name FROM signs WHERE id = ?", sign))[0]
-            self.run(f"INSERT INTO audit (at, who, what) VALUES ({CLOCK}, ?, ?)", who, f"{name}: {line}")
-            return whole(rows[0][0])
+            for one in news:
+                self.database.run_all(
+                    f"INSERT INTO ledger (sign, number, code, outcome, at) VALUES (?, ?, ?, ?, {CLOCK})"
+                    " ON CONFLICT (sign, number) DO UPDATE SET outcome = excluded.outcome, at = excluded.at"
+                    " WHERE ledger.outcome = 'waiting' AND excluded.outcome <> 'waiting'",
+                    [(one.sign, *entry(line)) for line in one.ledger])
+            self.database.run_all(f"UPDATE commands SET how = ?, ended = {CLOCK} WHERE id = ? AND how IS NULL",
+                                  [(one.how, one.command) for one in ended])
+            self.database.run_all("UPDATE signs SET polled = 0, wanted = 1 WHERE id = ?",
+                                  [(one.sign,) for one in ended])
 
-    def begun(self, sign: int) -> tuple[Command, int] | None:
-        """The command that is under way, and the number of its line."""
-        rows = self.run("SELECT id, line, number FROM commands"
-                        " WHERE sign = ? AND number IS NOT NULL AND how IS NULL", sign)
-        return (Command(whole(rows[0][0]), str(rows[0][1])), whole(rows[0][2])) if rows else None
 
-    def next(self, sign: int) -> Command | None:
-        """The command whose turn it is."""
-        rows = self.run("SELECT id, line FROM commands WHERE sign = ? AND number IS NULL AND how IS NULL"
-                        " ORDER BY id LIMIT 1", sign)
-        return Command(whole(rows[0][0]), str(rows[0][1])) if rows else None
-
-    def end(self, command: int, how: str) -> None:
-        """How a command ended, in words; the first word on it stands."""
-        self.run(f"UPDATE commands SET how = ?, ended = {CLOCK} WHERE id = ? AND how IS NULL", how, command)
-
-    def how(self, command: int) -> str | None:
-        """How a command ended; None where it has not."""
-        held = self.run("SELECT how FROM commands WHERE id = ?", command)[0][0]
-        return None if held is None else str(held)
-
-    # ---- ledger
-
-    def note(self, sign: int, lines: list[str]) -> None:
-        """The ledger's lines of a status, as rows."""
-        with self.database.transaction():
-            for line in lines:
-                _, number, code, outcome = line.split(" ", 3)
-                self.run(f"INSERT INTO ledger (sign, number, code, outcome, at) VALUES (?, ?, ?, ?, {CLOCK})"
-                         " ON CONFLICT (sign, number) DO UPDATE SET outcome = excluded.outcome, at = excluded.at"
-                         " WHERE ledger.outcome IN ('waiting', excluded.outcome)", sign, int(number), code, outcome)
-
-    def ledger(self, sign: int) -> list[str]:
-        """The rows, as lines of a status."""
-        rows = self.run("SELECT number, code, outcome FROM ledger WHERE sign = ? ORDER BY number", sign)
-        return [f"ledger {number} {code} {outcome}" for number, code, outcome in rows]
-
-    def forget(self, sign: int) -> None:
-        """What waited with a centre that is no more is unknown."""
-        self.run(f"UPDATE ledger SET outcome = 'unknown', at = {CLOCK} WHERE sign = ? AND outcome = 'waiting'", sign)
-
-    # ---- readings
-
-    def due(self, most: int) -> list[tuple[int, int]]:
-        """Signs whose next reading is due, each with a request's number below all that its readings had."""
-        rows = self.run(f"UPDATE signs SET polled = {CLOCK}, reading_number = reading_number - 1 WHERE id IN"
-                        f" (SELECT id FROM signs WHERE polled + poll <= {CLOCK} AND reading_number > ? LIMIT ?)"
-                        " RETURNING id, reading_number", LEAST_NUMBER, most)
-        return [(whole(row[0]), whole(row[1])) for row in rows]
-
-    def read(self, sign: int, number: int, minutes: int | None, shown: str | None, fault: str | None) -> None:
-        """What a sign said under this number, or why it said nothing: a row where it differs from the one before."""
-        with self.database.transaction():
-            last = self.run("SELECT number, shown, fault FROM readings WHERE sign = ? ORDER BY number LIMIT 1", sign)
-            if last and whole(last[0][0]) < number:
-                return
-            if last and last[0][1:] == (shown, fault):
-                self.run(f"UPDATE readings SET heard = {CLOCK}, minutes = ? WHERE sign = ? AND number = ?",
-                         minutes, sign, last[0][0])
-            else:
-                self.run(f"INSERT INTO readings (sign, number, at, heard, minutes, shown, fault)"
-                         f" VALUES (?, ?, {CLOCK}, {CLOCK}, ?, ?, ?)", sign, number, minutes, shown, fault)
-
-    def readings(self, sign: int) -> list[tuple[int | None, str | None, str | None]]:
-        """The minutes that are left, what was shown, and why nothing was said: the newest first."""
-        rows = self.run("SELECT minutes, shown, fault FROM readings WHERE sign = ? ORDER BY number", sign)
-        return [(None if minutes is None else whole(minutes), None if shown is None else str(shown),
-                 None if fault is None else str(fault)) for minutes, shown, fault in rows]
+def entry(line: str) -> tuple[int, str, str]:
+    """The number, code and outcome of a ledger's line."""
+    _, number, code, outcome = line.split(" ", 3)
+    return int(number), code, outcome

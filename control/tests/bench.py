@@ -7,10 +7,13 @@ import time
 from typing import Iterator
 
 from control import SIGNTOOL, TOP, database, fleet
+from control.carry import carry
 from control.fleet import Sign
 from control.loopback import Fates, Loopback
-from control.store import Store
+from control.session import Lost, Session
+from control.store import Line, Store
 from control.worker import Pace, Worker
+from door.mib import Mib
 from door.sockets import Waiting
 
 PROGRAM = os.environ.get("SIGNTOOL", str(SIGNTOOL))
@@ -24,23 +27,28 @@ HELLO = f"publish 3 1 {b'HELLO'.hex()} {b'me'.hex()} 0 0 100 65535 255 {ADDRESS}
 class Bench:
     """One sign named `one`."""
 
-    def __init__(self, folder: pathlib.Path, loopback: Loopback) -> None:
-        self.folder, self.loopback = folder, loopback
+    def __init__(self, folder: pathlib.Path, where: str, loopback: Loopback) -> None:
+        self.folder, self.where, self.loopback = folder, where, loopback
         self.live = loopback.signs[0]
         (folder / "a.sign").write_bytes(TEXT)
         self.fleet = folder / "fleet.toml"
         self.fleet.write_text(f'[[sign]]\nname = "one"\naddress = "127.0.0.1:{self.live.port}"\n'
                               'description = "a.sign"\npoll = 1\n')
-        self.store = Store(database.opened(str(folder / "database")))
+        self.store = Store(database.opened(where))
         self.row = next(iter(self.signs(self.store)))
 
     def signs(self, store: Store) -> dict[int, Sign]:
         return store.enter(fleet.read(self.fleet))
 
-    def worker(self, pace: Pace = PACE) -> Worker:
+    def worker(self, pace: Pace = PACE, program: str = PROGRAM) -> Worker:
         """A worker with a connection of its own."""
-        store = Store(database.opened(str(self.folder / "database")))
-        return Worker(store, self.signs(store), PROGRAM, pace, Waiting())
+        store = Store(database.opened(self.where))
+        return Worker(store, self.signs(store), program, pace, Waiting())
+
+    def session(self, name: str) -> Session:
+        """A session of a worker with a connection of its own."""
+        store = Store(database.opened(self.where))
+        return Session(store, self.row, self.signs(store)[self.row], name, PROGRAM, Mib.read())
 
     def ask(self, line: str) -> int:
         return self.store.ask(self.row, "me", line)
@@ -49,16 +57,26 @@ class Bench:
         """How the command ended, carried out by the worker."""
         ends = time.monotonic() + wait
         while (how := self.store.how(command)) is None and time.monotonic() < ends:
-            worker.round()
+            worker.guarded_round()
         return how
 
 
+def carried(session: Session, line: Line | None) -> None:
+    """One line of one sign; raises Lost where its number is taken."""
+
+    def drop(_: Session, fault: Exception | None) -> None:
+        raise fault or Lost
+
+    if line is not None:
+        carry(session.store, session.worker, [(session, line)], drop)
+
+
 @contextlib.contextmanager
-def bench(folder: pathlib.Path, trouble: float = 0.0, seed: int = 1) -> Iterator[Bench]:
+def bench(folder: pathlib.Path, where: str, trouble: float = 0.0, seed: int = 1) -> Iterator[Bench]:
     """The sign's thread stands as long as the test."""
     loopback = Loopback(PROGRAM, {"one": TEXT}, Fates(seed, trouble), TICK)
     loopback.start()
     try:
-        yield Bench(folder, loopback)
+        yield Bench(folder, where, loopback)
     finally:
         loopback.end()

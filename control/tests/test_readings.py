@@ -2,7 +2,7 @@
 
 import json
 
-from control import TOP, readings
+from control import TOP, gets, readings
 from door.mib import Mib
 from model import wire
 
@@ -18,19 +18,19 @@ def test_gets_are_those_of_the_vectors() -> None:
         names = [tuple(map(int, held["name"].split("."))) for held in message["bindings"]]
         if all(held["type"] == "NULL" for held in message["bindings"]):
             community = bytes.fromhex(message["community"].replace("-", ""))
-            assert readings.request(community, message["request-id"], names).hex() == canonical
+            assert gets.request(community, message["request-id"], names).hex() == canonical
             counted += 1
     assert counted > 10
 
 
 def test_a_get_asks_below_zero_and_is_answered_by_its_response_alone() -> None:
     asked = list(readings.names(Mib.read()).values())
-    octets = readings.request(b"public", -2**31, asked)
+    octets = gets.request(b"public", -2**31, asked)
     message = wire.spelled(octets)
     assert message is not None and message.number == -2**31 and [name for name, _ in message.bindings] == asked
     message.kind = wire.RESPONSE
     reply = wire.written(message)
-    assert readings.answer(reply, b"public", -2**31) == message
+    assert gets.answer(reply, b"public", -2**31) == message
     for others in (octets, reply[:-1], b""):
-        assert readings.answer(others, b"public", -2**31) is None
-    assert readings.answer(reply, b"public", 5) is None and readings.answer(reply, b"admin", -2**31) is None
+        assert gets.answer(others, b"public", -2**31) is None
+    assert gets.answer(reply, b"public", 5) is None and gets.answer(reply, b"admin", -2**31) is None

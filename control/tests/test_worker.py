@@ -9,11 +9,8 @@ import pytest
 
 from control import session
 from control.loopback import Fates
-from control.session import Session, is_command
-from control.store import Lost, Store
-from control.tests.bench import ADDRESS, HELLO, PACE, PROGRAM, TEXT, Bench, bench
-from control.worker import Worker
-from door.mib import Mib
+from control.session import Lost, Session, is_command
+from control.tests.bench import ADDRESS, HELLO, PACE, TEXT, Bench, bench, carried
 from model import wire
 
 ROWS = [
@@ -42,8 +39,8 @@ def test_a_command_is_a_line() -> None:
     assert not any(map(is_command, others))
 
 
-def test_commands_end_in_words(tmp_path: pathlib.Path) -> None:
-    with bench(tmp_path) as at:
+def test_commands_end_in_words(tmp_path: pathlib.Path, where: str) -> None:
+    with bench(tmp_path, where) as at:
         worker = at.worker()
         commands = [at.ask(line) for _, line, _ in ROWS]
         for (name, _, how), command in zip(ROWS, commands):
@@ -55,8 +52,8 @@ def test_commands_end_in_words(tmp_path: pathlib.Path) -> None:
         assert [code for _, code in at.live.accepted] == [line.split()[2] for line in at.store.ledger(at.row)[:2]]
 
 
-def test_a_reading_says_what_is_shown(tmp_path: pathlib.Path) -> None:
-    with bench(tmp_path) as at:
+def test_a_reading_says_what_is_shown(tmp_path: pathlib.Path, where: str) -> None:
+    with bench(tmp_path, where) as at:
         worker = at.worker()
         assert at.ended(worker, at.ask(HELLO)) == "accepted"
         ends = time.monotonic() + 30
@@ -71,42 +68,39 @@ def test_a_reading_says_what_is_shown(tmp_path: pathlib.Path) -> None:
         assert below and all(message.kind == wire.GET and message.community == b"public" for message in below)
 
 
-def test_a_sign_that_is_silent(tmp_path: pathlib.Path, monkeypatch: pytest.MonkeyPatch) -> None:
+def test_a_sign_that_is_silent(tmp_path: pathlib.Path, where: str, monkeypatch: pytest.MonkeyPatch) -> None:
     monkeypatch.setattr(Fates, "of", lambda *_: [])
-    with bench(tmp_path) as at:
+    with bench(tmp_path, where) as at:
         worker = at.worker()
         assert at.ended(worker, at.ask(f"blank 1 65535 255 {ADDRESS}")) == "failed at step 7: no reply"
         assert at.store.ledger(at.row)[0].endswith(" noreply")
         assert len(set(filter(lambda octets: wire.spelled(octets).number >= 0, at.live.requests))) == 1
 
 
-def session_of(at: Bench, name: str) -> Session:
-    """A session of a worker with a connection of its own."""
-    worker = at.worker()
-    return Session(worker.store, at.row, worker.signs[at.row], name, PROGRAM, Mib.read())
-
-
-def carried(found: Session, steps: int) -> bool:
+def carried_on(found: Session, steps: int) -> bool:
     """Whether a job is still under way after so many lines, ticks and what is heard."""
     ends = time.monotonic() + 60
     begun = found.number
     while found.is_busy and found.number - begun < steps and time.monotonic() < ends:
-        if select.select([found.door], [], [], 3 * PACE.tick)[0]:
-            found.heard()
-        else:
-            found.tick()
+        is_heard = bool(select.select([found.door], [], [], 3 * PACE.tick)[0])
+        carried(found, found.offer(not is_heard))
     return found.is_busy
 
 
-def test_workers_that_die_after_some_lines(tmp_path: pathlib.Path) -> None:
-    with bench(tmp_path) as at:
+def begin(found: Session) -> None:
+    """The next command."""
+    carried(found, found.offer(False))
+
+
+def test_workers_that_die_after_some_lines(tmp_path: pathlib.Path, where: str) -> None:
+    with bench(tmp_path, where) as at:
         command = at.ask(HELLO)
-        found = session_of(at, "worker 0")
-        found.begin()
+        found = at.session("worker 0")
+        begin(found)
         lives = 1
-        while carried(found, 1 if lives % 2 else 6):
+        while carried_on(found, 1 if lives % 2 else 6):
             found.close()
-            found = session_of(at, f"worker {lives}")
+            found = at.session(f"worker {lives}")
             lives += 1
         found.close()
         assert lives > 3 and at.store.how(command) == "accepted"
@@ -115,39 +109,38 @@ def test_workers_that_die_after_some_lines(tmp_path: pathlib.Path) -> None:
         assert numbers == list(range(1, len(numbers) + 1))
 
 
-def test_a_command_that_was_refused_as_its_worker_died(tmp_path: pathlib.Path) -> None:
-    with bench(tmp_path) as at:
+def test_a_command_that_was_refused_as_its_worker_died(tmp_path: pathlib.Path, where: str) -> None:
+    with bench(tmp_path, where) as at:
         commands = [at.ask(f"blank 1 65535 255 {ADDRESS}"), at.ask(f"blank 0 65535 255 {ADDRESS}")]
-        found = session_of(at, "first")
-        found.begin()
-        carried(found, 1000)
-        line = at.store.next(at.row)
-        assert line is not None
-        at.store.insert(at.row, found.number, line.line.encode(), "first", line.id)
+        found = at.session("first")
+        begin(found)
+        carried_on(found, 1000)
+        line = found.offer(False)
+        assert line is not None and at.store.insert([line], "first") == {at.row}
         found.close()
-        session_of(at, "second").close()
+        at.session("second").close()
         assert [at.store.how(command) for command in commands] == ["accepted", "refused a value is out of its range"]
 
 
-def test_of_two_that_think_they_drive_a_sign_one_goes_on(tmp_path: pathlib.Path) -> None:
-    with bench(tmp_path) as at:
+def test_of_two_that_think_they_drive_a_sign_one_goes_on(tmp_path: pathlib.Path, where: str) -> None:
+    with bench(tmp_path, where) as at:
         command = at.ask(HELLO)
-        first = session_of(at, "first")
-        first.begin()
-        second = session_of(at, "second")
+        first = at.session("first")
+        begin(first)
+        second = at.session("second")
         assert first.is_busy and second.is_busy and second.number == first.number
-        second.tick()
+        carried(second, second.offer(True))
         with pytest.raises(Lost):
-            first.tick()
+            carried(first, first.offer(True))
         first.close()
-        carried(second, 1000)
+        carried_on(second, 1000)
         second.close()
         assert at.store.how(command) == "accepted" and len(set(at.live.accepted)) == 1
 
 
-def test_a_new_centre_where_lines_grew_long(tmp_path: pathlib.Path, monkeypatch: pytest.MonkeyPatch) -> None:
+def test_a_new_centre_where_lines_grew_long(tmp_path: pathlib.Path, where: str, monkeypatch: pytest.MonkeyPatch) -> None:
     monkeypatch.setattr(session, "MOST_LINES", 3)
-    with bench(tmp_path) as at:
+    with bench(tmp_path, where) as at:
         worker = at.worker()
         for _ in range(3):
             assert at.ended(worker, at.ask(HELLO)) == "accepted"
@@ -156,27 +149,27 @@ def test_a_new_centre_where_lines_grew_long(tmp_path: pathlib.Path, monkeypatch:
         assert len(heads) == 3
         numbers = numbers_of(at)
         assert numbers == sorted(numbers) and len(at.store.ledger(at.row)) == 3
-        assert at.store.lines(at.row)[1][0].decode().split(" ") == heads[-1]
+        assert at.store.lines(at.row)[2][0].decode().split(" ") == heads[-1]
 
 
-def test_another_description_is_another_centre(tmp_path: pathlib.Path) -> None:
-    with bench(tmp_path) as at:
+def test_another_description_is_another_centre(tmp_path: pathlib.Path, where: str) -> None:
+    with bench(tmp_path, where) as at:
         command = at.ask(HELLO)
-        found = session_of(at, "first")
-        found.begin()
+        found = at.session("first")
+        begin(found)
         used = max(numbers_of(at), default=1)
         found.close()
         (tmp_path / "a.sign").write_bytes(TEXT.replace(b"rows 32 8", b"rows 31 8"))
-        found = session_of(at, "second")
+        found = at.session("second")
         assert not found.is_busy and at.store.how(command) == session.CHANGED
         assert found.head.first is not None and found.head.first > used
         found.close()
 
 
-def test_what_cannot_be_begun_waits_for_its_lease(tmp_path: pathlib.Path) -> None:
-    with bench(tmp_path) as at:
+def test_what_cannot_be_begun_waits_for_its_lease(tmp_path: pathlib.Path, where: str) -> None:
+    with bench(tmp_path, where) as at:
         at.ask(HELLO)
-        worker = Worker(Store(at.store.database), at.signs(at.store), "/bin/false", PACE, at.worker().waiting)
+        worker = at.worker(program="/bin/false")
         worker.lease()
-        assert not worker.sessions and at.store.with_work(9) == []
+        assert not worker.sessions and at.store.with_work() == []
         assert at.store.run("SELECT holder FROM signs") == [(worker.name,)]

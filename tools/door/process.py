@@ -56,6 +56,16 @@ class CoProcess:
         *lines, self.left = self.left.split(b"\n", count) if have >= count else [self.left]
         return lines
 
+    def until(self, last: bytes) -> list[bytes]:
+        """The next lines that it answers, at least one, without the one after them that is `last`."""
+        while (end := self.left.find(b"\n" + last + b"\n")) < 0:
+            more = os.read(self.output, 1 << 17)
+            if not more:
+                self.died()
+            self.left += more
+        lines, self.left = self.left[:end].split(b"\n"), self.left[end + len(last) + 2 :]
+        return lines
+
     def hand(self, lines: list[bytes]) -> list[bytes]:
         """The answers to lines that are each answered by one line; they are handed over at once."""
         self.write(b"\n".join(lines) + b"\n")

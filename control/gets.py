@@ -1,0 +1,114 @@
+"""Gets with the reading community, from sockets of their own, with request numbers below 0."""
+
+import socket
+import time
+from typing import Callable
+
+from door.datagrams import status_word
+from door.refusal import Refusal, reason
+from door.sockets import connected, received
+from model import wire
+
+from .fleet import Sign
+
+SENDS, PATIENCE = 3, 1.0  # how often a Get goes out, and the seconds from one time to the next
+Name = tuple[int, ...]
+Values = list[int | str]  # an integer, or octets as digits, for each name that was asked for
+
+
+def request(community: bytes, number: int, asked: list[Name]) -> bytes:
+    """The octets of a Get."""
+    bindings = [(name, (wire.NULL, b"")) for name in asked]
+    octets: bytes = wire.written(wire.Message(wire.GET, community, number, 0, 0, bindings))
+    return octets
+
+
+def answer(octets: bytes, community: bytes, number: int) -> wire.Message | None:
+    """The Response to a Get; None where the octets are none."""
+    message: wire.Message | None = wire.spelled(octets)
+    if message is None or message.kind != wire.RESPONSE or message.community != community or message.number != number:
+        return None
+    return message
+
+
+def worded(value: tuple[int, object]) -> int | str:
+    """An integer, or octets as digits."""
+    held = value[1]
+    return held if isinstance(held, int) else bytes(held).hex() if isinstance(held, bytes) else str(held)
+
+
+class Get:
+    """A Get that waits for its Response; `end` takes the values, or why there are none."""
+
+    def __init__(self, sign: Sign, number: int, asked: list[Name], end: Callable[[Values | str], None]) -> None:
+        self.sign, self.number, self.asked, self.end = sign, number, asked, end
+        self.octets = request(sign.reader, number, asked)
+        self.door: socket.socket = connected(sign.host, sign.port)
+        self.sends, self.due = 0, 0.0
+
+    def send(self, now: float) -> None:
+        """The same octets each time; one that is lost is sent again later."""
+        self.sends, self.due = self.sends + 1, now + PATIENCE
+        try:
+            self.door.send(self.octets)
+        except OSError:
+            pass
+
+    def heard(self) -> Values | str | None:
+        """What the Response says, where one waits."""
+        while (heard := received(self.door)) is not None:
+            message = answer(heard[0], self.sign.reader, self.number)
+            if message is None:
+                continue
+            if message.status:
+                return f"error-status {message.status}, {status_word(message.status)}"
+            if [name for name, _ in message.bindings] != self.asked:
+                return "the reply does not answer what was asked"
+            return [worded(value) for _, value in message.bindings]
+        return None
+
+
+class Gets:
+    """All Gets that wait, by their sockets' files."""
+
+    def __init__(self) -> None:
+        self.waiting: dict[int, Get] = {}
+
+    def begin(self, sign: Sign, number: int, asked: list[Name], end: Callable[[Values | str], None]) -> None:
+        """Sends a Get; one that cannot be sent ends at once."""
+        try:
+            get = Get(sign, number, asked, end)
+        except (Refusal, OSError) as fault:
+            end(reason(fault) if isinstance(fault, OSError) else str(fault))
+            return
+        get.send(time.monotonic())
+        self.waiting[get.door.fileno()] = get
+
+    def heard(self, file: int) -> None:
+        """Takes the Response, where what waits is one."""
+        said = self.waiting[file].heard()
+        if said is not None:
+            self.end(file, said)
+
+    def again(self) -> None:
+        """Sends again what had no reply in time, or gives it up."""
+        now = time.monotonic()
+        for file, get in list(self.waiting.items()):
+            if get.due > now:
+                continue
+            if get.sends < SENDS:
+                get.send(now)
+            else:
+                self.end(file, "no reply")
+
+    def end(self, file: int, said: Values | str) -> None:
+        """Lets a Get go, and tells what came of it."""
+        get = self.waiting.pop(file)
+        get.door.close()
+        get.end(said)
+
+    def close(self) -> None:
+        """Lets all go."""
+        for get in self.waiting.values():
+            get.door.close()
+        self.waiting.clear()
