@@ -1,4 +1,4 @@
-"""Databases for tests: a file of SQLite, and a server of PostgreSQL that the tests start; skipped where there is none."""
+"""Databases for tests: a file of SQLite, and a server of PostgreSQL that the tests start; skipped where none is."""
 
 import importlib.util
 import pathlib

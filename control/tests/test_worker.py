@@ -138,7 +138,8 @@ def test_of_two_that_think_they_drive_a_sign_one_goes_on(tmp_path: pathlib.Path,
         assert at.store.how(command) == "accepted" and len(set(at.live.accepted)) == 1
 
 
-def test_a_new_centre_where_lines_grew_long(tmp_path: pathlib.Path, where: str, monkeypatch: pytest.MonkeyPatch) -> None:
+def test_a_new_centre_where_lines_grew_long(tmp_path: pathlib.Path, where: str,
+                                            monkeypatch: pytest.MonkeyPatch) -> None:
     monkeypatch.setattr(session, "MOST_LINES", 3)
     with bench(tmp_path, where) as at:
         worker = at.worker()
