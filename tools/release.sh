@@ -1,0 +1,152 @@
+#!/usr/bin/env bash
+# Makes a release, a tar and a Debian package of the last commit: `tools/release.sh [FOLDER]` prints their names.
+#
+#     tools/release.sh [--program PATH] [--debian-version VERSION] [FOLDER]
+#
+# They stand in FOLDER, out/ where none is given. PATH is the built program, crates/signtool/out/signtool where it is not
+# given; it has to say the version of tools/version.py. Everything else is taken from the last commit, whose time is the
+# time of every file, so the same commit and program make the same octets. The library for C goes in where it is built.
+set -eu
+case " $* " in *" --help "*) sed -n '2,/^[^#]/s/^# \{0,1\}//p' "$0"; exit ;; esac
+top=$(cd "$(dirname "$0")/.." && pwd)
+cd "$top"
+program=crates/signtool/out/signtool
+debian=
+while [ $# -gt 1 ] && [ "${1#--}" != "$1" ]; do
+    case $1 in
+        --program) program=$2 ;;
+        --debian-version) debian=$2 ;;
+        *) echo "no option $1: tools/release.sh --help" >&2; exit 2 ;;
+    esac
+    shift 2
+done
+folder=${1:-out}
+[ -x "$program" ] || { echo "no program at $program: tools/build.py builds it" >&2; exit 2; }
+
+umask 022
+export LC_ALL=C
+SOURCE_DATE_EPOCH=${SOURCE_DATE_EPOCH:-$(git log -1 --format=%ct)}
+export SOURCE_DATE_EPOCH
+room=$(mktemp -d)
+trap 'rm -rf "$room"' EXIT
+mkdir -p "$folder" "$room/source"
+folder=$(cd "$folder" && pwd)
+git archive HEAD | tar -x -C "$room/source"
+source=$room/source
+version=$("$source/tools/version.py")
+said=$("$program" --version)
+[ "$said" = "signtool $version" ] || { echo "$program is $said, and not $version" >&2; exit 1; }
+debian=${debian:-$version-1}
+architecture=$(dpkg --print-architecture)
+date=$(date -u -d "@$SOURCE_DATE_EPOCH" +%F)
+
+# filled FILE: the template with its fields
+filled() {
+    sed -e "s/@VERSION@/$version/g" -e "s/@DATE@/$date/g" -e "s/@DEBIAN_VERSION@/$debian/g" \
+        -e "s/@ARCHITECTURE@/$architecture/g" -e "s/@SIZE@/${size:-}/g" -e "s/@LIBC@/${libc:-}/g" \
+        -e "s/@RECOMMENDS@/${recommends:-}/g" "$1"
+}
+
+# command NAME WORDS: a command in $usr/bin that runs WORDS in Python, after the release's own folders
+command_of() {
+    cat > "$usr/bin/$1" <<END
+#!$python
+"""The command $1; its manual page says what it does."""
+import pathlib
+import sys
+
+HOME = pathlib.Path(__file__).resolve().parents[1] / "share/wisangub"
+sys.path[:1] = [str(HOME), str(HOME / "tools")]
+$2
+END
+    chmod 755 "$usr/bin/$1"
+}
+
+# tree: the release under $usr, for the interpreter $python
+tree() {
+    local share=$usr/share/wisangub page section
+    mkdir -p "$usr/bin" "$share/tools" "$share/docs" "$usr/share/doc/wisangub" "$usr/share/man/man1" "$usr/share/man/man7"
+    install -m 755 "$program" "$usr/bin/wisangub-signtool"
+    cp -R "$source"/conform "$source"/control "$source"/mibs "$source"/signs "$source"/vectors "$share/"
+    cp -R "$source"/tools/door "$source"/tools/model "$source"/tools/udp_sign.py "$source"/tools/udp_centre.py \
+        "$source"/tools/ask_vectors.py "$share/tools/"
+    cp "$source/tools/release/run.py" "$share/tools/run.py"
+    cp -R "$source"/docs/{PROFILE,COVERAGE,JOURNAL,CONFORMANCE,CONTROL}.md "$source"/docs/pictures "$share/docs/"
+    rm -rf "$share"/conform/tests "$share"/control/tests "$share"/tools/door/tests
+    find "$share" -name '*.py' -exec sed -i '1{/^#!/d}' {} + -exec chmod 644 {} +
+    command_of wisangub-sign 'import runpy; runpy.run_module("udp_sign", run_name="__main__")'
+    command_of wisangub-centre 'import runpy; runpy.run_module("udp_centre", run_name="__main__")'
+    command_of wisangub-conform 'from run import run; run("conform")'
+    command_of wisangub-control 'from run import run; run("control")'
+    for page in "$source"/tools/release/man/*.[17]; do
+        section=${page##*.}
+        filled "$page" | gzip -9n > "$usr/share/man/man$section/${page##*/}.gz"
+    done
+    gzip -9nc "$source/CHANGELOG.md" > "$usr/share/doc/wisangub/changelog.gz"
+    cp "$source/NOTICE" "$usr/share/doc/wisangub/"
+    completions
+    library
+}
+
+# completions: those of bash, from the commands' --help
+completions() {
+    local to=$usr/share/bash-completion/completions made=$source/tools/release/completions.py
+    "$made" "$to" wisangub-signtool "$usr/bin/wisangub-signtool"
+    PYTHONDONTWRITEBYTECODE=1 "$made" "$to" wisangub-sign "$usr/bin/wisangub-sign"
+    PYTHONDONTWRITEBYTECODE=1 "$made" "$to" wisangub-centre "$usr/bin/wisangub-centre"
+    PYTHONDONTWRITEBYTECODE=1 "$made" "$to" wisangub-conform "$usr/bin/wisangub-conform" centre mutants.door
+    PYTHONDONTWRITEBYTECODE=1 "$made" "$to" wisangub-control "$usr/bin/wisangub-control" \
+        $(sed -n 's/^\.Cm \([a-z]*\)$/\1/p' "$source/tools/release/man/wisangub-control.1" | sort -u)
+}
+
+# library: the library for C and its header, where they are there
+library() {
+    local built header
+    built=$(find crates/*/out -maxdepth 1 -name 'libwisangub.a' 2> /dev/null | head -n 1)
+    header=$(find "$source" -path '*/include/wisangub.h' | head -n 1)
+    if [ -n "$built" ] && [ -n "$header" ]; then
+        install -D -m 644 "$built" "$usr/lib/libwisangub.a"
+        install -D -m 644 "$header" "$usr/include/wisangub.h"
+    fi
+}
+
+# recommended: what the Python of the release can use, by what it imports
+recommended() {
+    local pair
+    printf snmp
+    for pair in rich:python3-rich aiohttp:python3-aiohttp jinja2:python3-jinja2 psycopg:python3-psycopg; do
+        grep -rqE "^ *(from|import) ${pair%%:*}\b" "$usr/share/wisangub" && printf ', %s' "${pair#*:}"
+    done
+}
+
+# the tar
+name=wisangub-$version
+usr=$room/$name
+python="/usr/bin/env python3"
+tree
+cp "$source/LICENSE" "$source/NOTICE" "$source/CHANGELOG.md" "$usr/"
+find "$room/$name" -exec touch -hd "@$SOURCE_DATE_EPOCH" {} +
+tar -C "$room" --sort=name --owner=0 --group=0 --numeric-owner -c "$name" | gzip -9n > "$folder/$name-$architecture.tar.gz"
+
+# the Debian package
+package=$room/package
+usr=$package/usr
+python=/usr/bin/python3
+tree
+filled "$source/tools/release/debian/copyright" > "$usr/share/doc/wisangub/copyright"
+{
+    printf 'wisangub (%s) unstable; urgency=medium\n\n  * See changelog.gz.\n\n' "$debian"
+    printf ' -- the authors of Wisangub <>  %s\n' "$(date -u -R -d "@$SOURCE_DATE_EPOCH")"
+} | gzip -9n > "$usr/share/doc/wisangub/changelog.Debian.gz"
+mkdir "$package/DEBIAN"
+install -m 755 "$source"/tools/release/debian/{postinst,prerm} "$package/DEBIAN/"
+size=$(du -k -s --apparent-size "$usr" | cut -f1)
+libc="libc6 (>= $(objdump -T "$program" | grep -o 'GLIBC_[0-9.]*' | sort -Vu | tail -n 1 | cut -d_ -f2))"
+recommends=$(recommended)
+filled "$source/tools/release/debian/control" > "$package/DEBIAN/control"
+(cd "$package" && find usr -type f -print0 | sort -z | xargs -0 md5sum) > "$package/DEBIAN/md5sums"
+find "$package" -exec touch -hd "@$SOURCE_DATE_EPOCH" {} +
+dpkg-deb --root-owner-group -Zxz --build "$package" "$folder/wisangub_${debian}_$architecture.deb" > /dev/null
+
+echo "$folder/$name-$architecture.tar.gz"
+echo "$folder/wisangub_${debian}_$architecture.deb"
