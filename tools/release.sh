@@ -47,7 +47,7 @@ filled() {
         -e "s/@RECOMMENDS@/${recommends:-}/g" "$1"
 }
 
-# command NAME WORDS: a command in $usr/bin that runs WORDS in Python, after the release's own folders
+# command_of NAME WORDS: a command in $usr/bin that runs WORDS in Python, with the release's own folders in its path
 command_of() {
     cat > "$usr/bin/$1" <<END
 #!$python
@@ -115,7 +115,7 @@ recommended() {
     local pair
     printf snmp
     for pair in rich:python3-rich aiohttp:python3-aiohttp jinja2:python3-jinja2 psycopg:python3-psycopg; do
-        grep -rqE "^ *(from|import) ${pair%%:*}\b" "$usr/share/wisangub" && printf ', %s' "${pair#*:}"
+        if grep -rqE "^ *(from|import) ${pair%%:*}\b" "$usr/share/wisangub"; then printf ', %s' "${pair#*:}"; fi
     done
 }
 
