@@ -72,10 +72,10 @@ tree() {
         "$source"/tools/ask_vectors.py "$share/tools/"
     cp "$source/tools/release/run.py" "$share/tools/run.py"
     cp -R "$source"/docs/{PROFILE,COVERAGE,JOURNAL,CONFORMANCE,CONTROL}.md "$source"/docs/pictures "$share/docs/"
-    rm -rf "$share"/conform/tests "$share"/control/tests "$share"/tools/door/tests
+    rm -rf "$share"/conform/tests "$share"/conform/short.py "$share"/control/tests "$share"/tools/door/tests
     find "$share" -name '*.py' -exec sed -i '1{/^#!/d}' {} + -exec chmod 644 {} +
-    command_of wisangub-sign 'import runpy; runpy.run_module("udp_sign", run_name="__main__")'
-    command_of wisangub-centre 'import runpy; runpy.run_module("udp_centre", run_name="__main__")'
+    command_of wisangub-sign 'from runpy import run_module; run_module("udp_sign", run_name="__main__")'
+    command_of wisangub-centre 'from runpy import run_module; run_module("udp_centre", run_name="__main__")'
     command_of wisangub-conform 'from run import run; run("conform")'
     command_of wisangub-control 'from run import run; run("control")'
     for page in "$source"/tools/release/man/*.[17]; do
@@ -84,18 +84,21 @@ tree() {
     done
     gzip -9nc "$source/CHANGELOG.md" > "$usr/share/doc/wisangub/changelog.gz"
     cp "$source/NOTICE" "$usr/share/doc/wisangub/"
-    completions
+    [ -d "$room/completions" ] || completions "$room/completions"
+    mkdir -p "$usr/share/bash-completion"
+    cp -R "$room/completions" "$usr/share/bash-completion/"
     library
 }
 
-# completions: those of bash, from the commands' --help
+# completions FOLDER: those of bash, from the commands' --help
 completions() {
-    local to=$usr/share/bash-completion/completions made=$source/tools/release/completions.py
-    "$made" "$to" wisangub-signtool "$usr/bin/wisangub-signtool"
-    PYTHONDONTWRITEBYTECODE=1 "$made" "$to" wisangub-sign "$usr/bin/wisangub-sign"
-    PYTHONDONTWRITEBYTECODE=1 "$made" "$to" wisangub-centre "$usr/bin/wisangub-centre"
-    PYTHONDONTWRITEBYTECODE=1 "$made" "$to" wisangub-conform "$usr/bin/wisangub-conform" centre mutants.door
-    PYTHONDONTWRITEBYTECODE=1 "$made" "$to" wisangub-control "$usr/bin/wisangub-control" \
+    local made=$source/tools/release/completions.py
+    export PYTHONDONTWRITEBYTECODE=1
+    "$made" "$1" wisangub-signtool "$usr/bin/wisangub-signtool"
+    "$made" "$1" wisangub-sign "$usr/bin/wisangub-sign"
+    "$made" "$1" wisangub-centre "$usr/bin/wisangub-centre"
+    "$made" "$1" wisangub-conform "$usr/bin/wisangub-conform" centre mutants.door
+    "$made" "$1" wisangub-control "$usr/bin/wisangub-control" \
         $(sed -n 's/^\.Cm \([a-z]*\)$/\1/p' "$source/tools/release/man/wisangub-control.1" | sort -u)
 }
 
@@ -133,7 +136,8 @@ package=$room/package
 usr=$package/usr
 python=/usr/bin/python3
 tree
-filled "$source/tools/release/debian/copyright" > "$usr/share/doc/wisangub/copyright"
+cp "$source/tools/release/debian/copyright" "$usr/share/doc/wisangub/"
+install -D -m 644 "$source/tools/release/debian/overrides" "$usr/share/lintian/overrides/wisangub"
 {
     printf 'wisangub (%s) unstable; urgency=medium\n\n  * See changelog.gz.\n\n' "$debian"
     printf ' -- the authors of Wisangub <>  %s\n' "$(date -u -R -d "@$SOURCE_DATE_EPOCH")"
