@@ -33,6 +33,8 @@ is() {
 
 inside() { chroot "$root" "$@"; }
 as_user() { chroot --userspec=65534:65534 "$root" /usr/bin/env -C /var/lib/signs "$@"; }
+# A process that is started has the number of what it becomes, so that its end is the command's.
+begin() { exec chroot --userspec=65534:65534 "$root" /usr/bin/env -C /var/lib/signs "$@"; }
 same() { [ "$1" = "$2" ] || { echo "'$1', wanted '$2'"; return 1; }; }
 
 # began FILE: the port that a sign printed there
@@ -47,7 +49,7 @@ began() {
 # sign JOURNAL: a roadside sign on a port of its own, $port, until it is ended by `ended`
 sign() {
     : > "$room/said"
-    as_user wisangub-sign --port 0 --sign /usr/share/wisangub/signs/roadside.sign "$@" > "$room/said" 2> "$room/error" &
+    begin wisangub-sign --port 0 --sign /usr/share/wisangub/signs/roadside.sign "$@" > "$room/said" 2> "$room/error" &
     pid=$!
     started+=("$pid")
     port=$(began "$room/said")
@@ -55,7 +57,8 @@ sign() {
 }
 ended() { kill "$pid"; wait "$pid"; }
 
-get() { inside snmpget -v1 -c public -M +/usr/share/wisangub/mibs -m DMS-PROFILE-MIB -Oqv "127.0.0.1:$port" "$1" 2>&1; }
+manager() { local name=$1; shift; inside env SNMP_PERSISTENT_DIR=/var/lib/signs "$name" -v1 -c public "$@"; }
+get() { manager snmpget -M +/usr/share/wisangub/mibs -m DMS-PROFILE-MIB -Oqv "127.0.0.1:$port" "$1" 2> /dev/null; }
 publish() {
     echo "publish-text 3 1 \"$1\" \"me\" 0 0 100 65535 255 127.0.0.1" | as_user timeout 60 wisangub-centre \
         --to "127.0.0.1:$port" --sign /usr/share/wisangub/signs/roadside.sign --journal centre.journal
@@ -75,7 +78,7 @@ if [ ! -x "$base/usr/bin/snmpget" ]; then
         || { tail -n 3 "$room/log"; exit 1; }
 fi
 cp -a "$base" "$root"
-cp "$room"/*/*.deb "$root/"
+cp "$room"/first/*.deb "$room"/older/*.deb "$root/"
 mkdir "$root/var/lib/signs"
 chown 65534:65534 "$root/var/lib/signs"
 files > "$room/before"
@@ -89,7 +92,7 @@ is "completions" inside bash -c 'for f in /usr/share/bash-completion/completions
 is "a picture" inside sh -c 'wisangub-signtool pages --svg FOG --sign < /usr/share/wisangub/signs/roadside.sign'
 sign --journal sign.journal
 is "a Get" same "$(get vmsSignWidthPixels.0)" 96
-walked=$(inside snmpwalk -v1 -c public -On "127.0.0.1:$port" 1.3.6.1.4.1.1206.4.2.3 2>&1 | grep -c '^\.1\.3\.6\.1\.4\.1\.1206\.4\.2\.3\.')
+walked=$(manager snmpwalk -On "127.0.0.1:$port" 1.3.6.1.4.1.1206.4.2.3 2> /dev/null | grep -c '^\.1\.3\.6\.1\.4\.1\.1206\.4\.2\.3\.')
 is "a walk of $walked instances" test "$walked" -gt 2300
 is "a publication" publish "LANE CLOSED"
 is "what is shown" same "$(get dmsMessageMultiString.5.1)" '"LANE CLOSED"'
@@ -112,7 +115,7 @@ is "the tester" as_user timeout 120 wisangub-conform --to "127.0.0.1:$port" \
     --sign /usr/share/wisangub/signs/roadside.sign --only get --only communities --html report.html
 printf '[[sign]]\nname = "one"\naddress = "127.0.0.1:%s"\ndescription = "%s"\nfirst = 1000000\n' "$port" \
     /usr/share/wisangub/signs/roadside.sign > "$root/var/lib/signs/fleet.toml"
-as_user wisangub-control worker --fleet fleet.toml --database room.sqlite > "$room/worker" 2>&1 &
+begin wisangub-control worker --fleet fleet.toml --database room.sqlite > "$room/worker" 2>&1 &
 worker=$!
 started+=("$worker")
 for _ in $(seq 50); do [ -s "$root/var/lib/signs/room.sqlite" ] && break; sleep 0.2; done
