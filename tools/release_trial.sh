@@ -61,7 +61,8 @@ manager() { local name=$1; shift; inside env SNMP_PERSISTENT_DIR=/var/lib/signs 
 get() { manager snmpget -M +/usr/share/wisangub/mibs -m DMS-PROFILE-MIB -Oqv "127.0.0.1:$port" "$1" 2> /dev/null; }
 publish() {
     echo "publish-text 3 1 \"$1\" \"me\" 0 0 100 65535 255 127.0.0.1" | as_user timeout 60 wisangub-centre \
-        --to "127.0.0.1:$port" --sign /usr/share/wisangub/signs/roadside.sign --journal centre.journal
+        --to "127.0.0.1:$port" --sign /usr/share/wisangub/signs/roadside.sign --journal centre.journal |
+        tee -a "$room/published" | grep -q '^last accepted$'
 }
 files() { (cd "$root" && find . -xdev \( -path ./proc -o -path ./var/lib/dpkg -o -path ./var/log \) -prune -o -print | sort); }
 
@@ -106,7 +107,10 @@ sign --journal sign.journal
 is "the sign goes on" same "$(get dmsMessageMultiString.5.1)" '"LANE CLOSED"'
 is "the central system goes on" publish "ROAD WORK"
 is "what is shown then" same "$(get dmsMessageMultiString.5.1)" '"ROAD WORK"'
-is "its ledger" grep -q 'accepted' <<< "$(publish "FOG")"
+is "a third publication" publish "FOG"
+numbers=$(sed -n 's/^ledger \([0-9]*\) .* accepted$/\1/p' "$room/published")
+is "the ledger has three activations" same "$(wc -l <<< "$numbers")" 3
+is "their numbers rise" same "$(sort -nu <<< "$numbers")" "$numbers"
 ended
 
 # --- the tester and the control room -------------------------------------------------------------------------------------

@@ -1,0 +1,69 @@
+"""Each option that a command's help names stands in its manual page, and no other option does."""
+
+import pathlib
+import re
+import subprocess
+import sys
+
+import pytest
+
+TOP = pathlib.Path(__file__).resolve().parents[3]
+MAN = TOP / "tools/release/man"
+PROGRAM = TOP / "crates/signtool/out/signtool"
+PYTHON = [sys.executable]
+COMMANDS = {
+    "wisangub-sign": [[*PYTHON, "tools/udp_sign.py"]],
+    "wisangub-centre": [[*PYTHON, "tools/udp_centre.py"]],
+    "wisangub-conform": [[*PYTHON, "-m", "conform"]],
+}
+PARTS = ["answer", "check", "pages", "code", "decode", "items", "replay", "sign", "centre"]
+
+
+def options(text: str) -> set[str]:
+    """The long options of a help, but for the help itself."""
+    return set(re.findall(r"(?<![\w-])--([a-z][a-z-]*)", text)) - {"help"}
+
+
+def said(words: list[str]) -> str:
+    """What a command says for --help, on either output."""
+    ended = subprocess.run([*words, "--help"], cwd=TOP, capture_output=True, text=True, timeout=60, check=False)
+    return ended.stdout + ended.stderr
+
+
+def in_manual(name: str) -> set[str]:
+    """The long options of a manual page."""
+    text = (MAN / f"{name}.1").read_text(encoding="utf-8")
+    return set(re.findall(r"Fl -([a-z][a-z-]*)", text)) - {"help", "version"}
+
+
+@pytest.mark.parametrize("name", COMMANDS)
+def test_options(name: str) -> None:
+    wanted = set().union(*(options(said(words)) for words in COMMANDS[name]))
+    more = {"port", "seconds"} if name == "wisangub-conform" else set()  # those of its parts
+    assert wanted == in_manual(name) - more
+
+
+@pytest.mark.skipif(not PROGRAM.exists(), reason="the program is not built")
+def test_options_of_the_program() -> None:
+    wanted = set().union(*(options(said([str(PROGRAM), part])) for part in PARTS))
+    assert wanted == in_manual("wisangub-signtool")
+
+
+@pytest.mark.skipif(not PROGRAM.exists(), reason="the program is not built")
+def test_subcommands_of_the_program() -> None:
+    listed = re.findall(r"(?m)^ {2}([a-z]+) ", said([str(PROGRAM)]))
+    assert sorted(set(listed) - {"help"}) == sorted(PARTS)
+
+
+def test_control_names_its_commands() -> None:
+    text = (MAN / "wisangub-control.1").read_text(encoding="utf-8")
+    for part in ("worker", "command"):
+        assert options(said([*PYTHON, "-m", f"control.{part}"])) >= {"database"}
+        assert f".Cm {part}" in text
+
+
+def test_each_manual_page_has_a_name_and_fields() -> None:
+    for page in MAN.iterdir():
+        text = page.read_text(encoding="utf-8")
+        assert text.startswith(".Dd @DATE@\n") and '.Os "Wisangub @VERSION@"' in text, page.name
+        assert ".Sh NAME\n" in text and ".Sh SEE ALSO\n" in text, page.name

@@ -1,0 +1,31 @@
+"""The version is said in one place, and the changes name it."""
+
+import pathlib
+import re
+import sys
+
+import pytest
+
+TOP = pathlib.Path(__file__).resolve().parents[3]
+sys.path.insert(0, str(TOP / "tools"))
+
+from version import version  # noqa: E402
+
+LINE = 'const VERSION: &str = "signtool 2.0.1";\n'
+
+
+def test_the_newest_changes_are_of_this_version() -> None:
+    text = (TOP / "CHANGELOG.md").read_text(encoding="utf-8")
+    assert re.findall(r"(?m)^## (\S+)", text)[0] == version()
+
+
+def test_one_place(tmp_path: pathlib.Path) -> None:
+    folder = tmp_path / "crates/one/src"
+    folder.mkdir(parents=True)
+    with pytest.raises(ValueError, match="0 places"):
+        version(tmp_path)
+    (folder / "act.rt").write_text(f"// the name\n{LINE}", encoding="utf-8")
+    assert version(tmp_path) == "2.0.1"
+    (folder / "other.rt").write_text(LINE, encoding="utf-8")
+    with pytest.raises(ValueError, match="2 places"):
+        version(tmp_path)
