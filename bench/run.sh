@@ -1,6 +1,7 @@
 #!/usr/bin/env bash
 # Builds the measures and prints their times, in nanoseconds a call: `bench/run.sh [DATAGRAM.hex ..]`.
 set -eu
+case " $* " in *" --help "*) sed -n '2,/^[^#]/s/^# \{0,1\}//p' "$0"; exit ;; esac
 bench=$(cd "$(dirname "$0")" && pwd)
 crate=$bench/../crates/dms_bench
 build=$crate/out

@@ -1,0 +1,47 @@
+#!/usr/bin/env python3
+"""Looks whether the repository keeps its own bars: `tools/house.py --check` prints `N passed, N failed`.
+
+    tools/house.py [--check | --all] [--top FOLDER] [BAR ..]
+
+A bar is a name of BARS in tools/upkeep/bars.py, such as "links"; without names all are looked at. What is below a bar is
+told with its file and line. With --all what is left for later is told too, and fails.
+"""
+
+import argparse
+import pathlib
+import sys
+
+from upkeep.bars import BARS, NOT_YET
+from upkeep.tree import Tree
+
+TOP = pathlib.Path(__file__).resolve().parent.parent
+
+
+def main() -> int:
+    end = "Not looked at yet:\n" + "\n".join(f"  {bar}" for bar in NOT_YET)
+    words = argparse.ArgumentParser(
+        description=__doc__, epilog=end, formatter_class=argparse.RawDescriptionHelpFormatter
+    )
+    which = words.add_mutually_exclusive_group()
+    which.add_argument("--check", action="store_true", help="what has to hold now; so without an option too")
+    which.add_argument("--all", action="store_true", help="what is left for later too")
+    words.add_argument("--top", type=pathlib.Path, default=TOP, metavar="FOLDER", help="another repository")
+    words.add_argument("bars", nargs="*", metavar="BAR", help=f"one of: {', '.join(bar.name for bar in BARS)}")
+    asked = words.parse_args()
+    unknown = set(asked.bars) - {bar.name for bar in BARS}
+    if unknown:
+        words.error(f"no bar {', '.join(sorted(unknown))}")
+    tree = Tree(asked.top)
+    failed = 0
+    bars = [bar for bar in BARS if not asked.bars or bar.name in asked.bars]
+    for bar in bars:
+        found = bar.findings(tree, asked.all)
+        failed += bool(found)
+        for line in found:
+            print(f"{bar.name}: {line}")
+    print(f"{len(bars) - failed} passed, {failed} failed")
+    return 1 if failed else 0
+
+
+if __name__ == "__main__":
+    sys.exit(main())

@@ -1,0 +1,45 @@
+"""The bars by their names, and what does not hold yet."""
+
+from collections.abc import Callable
+from dataclasses import dataclass
+
+from . import crates, documents, tools, words
+from .tree import Tree
+
+
+@dataclass(frozen=True)
+class Bar:
+    """What is looked at; findings that begin with one of `later` are told with --all alone, until they are mended."""
+
+    name: str
+    look: Callable[[Tree], list[str]]
+    later: tuple[str, ...] = ()
+
+    def findings(self, tree: Tree, is_all: bool = False) -> list[str]:
+        """What is below the bar, now or with what is left for later."""
+        found = self.look(tree)
+        return found if is_all else [line for line in found if not line.startswith(self.later or ("\0",))]
+
+
+BARS = (
+    Bar("lines of pages", documents.wide_lines, ("docs/MAP.md", "docs/PROVED.md", "docs/ARCHITECTURE.md")),
+    Bar("rows of tables", documents.wide_rows, ("docs/MAP.md", "docs/PROVED.md")),
+    Bar("links", documents.links),
+    Bar("crates are named", crates.named, ("docs/ARCHITECTURE.md", "docs/PROVED.md")),
+    Bar("the list of tools", tools.in_list),
+    Bar("tools can be called", tools.executable),
+    Bar("tools have a help", tools.has_help),
+    Bar("nothing is put off", words.put_off),
+    Bar("nothing is named that is gone", words.gone),
+)
+
+# Bars that nothing looks at yet: those that wait for the crates to be put together anew.
+NOT_YET = (
+    "one order of headings in crates.txt, ARCHITECTURE, MAP and PROVED",
+    "no crate under ten functions without a reason in DECISIONS",
+    "120 columns in code, definitions and clauses",
+    "an example on each first page of a crate that is no test",
+    "no public function that nothing uses, names or documents",
+    "a line to a live sign crosses at most seven crates before Sign::receive",
+    "no measure of the sign takes more instructions than before",
+)

@@ -1,0 +1,51 @@
+"""Bars of the tools: each is in the one list, can be called, and says what it is."""
+
+import re
+
+from .tree import Tree
+
+LIST = "CONTRIBUTING.md"
+FOLDERS = ("tools/", "bench/", "measures/")
+MAIN = 'if __name__ == "__main__":'
+
+
+def scripts(tree: Tree) -> list[str]:
+    """The files of these folders themselves that begin with `#!`."""
+    return [
+        name
+        for name in tree.names
+        if name.startswith(FOLDERS) and name.count("/") == 1 and tree.text(name).startswith("#!")
+    ]
+
+
+def modules(tree: Tree) -> list[str]:
+    """The modules of Python that have a command line and are no scripts."""
+    return [
+        name
+        for name in tree.names
+        if name.endswith(".py") and MAIN in tree.text(name) and not tree.text(name).startswith("#!")
+    ]
+
+
+def in_list(tree: Tree) -> list[str]:
+    """Tools that CONTRIBUTING does not name."""
+    return [
+        f"{LIST}: {name} is not in the list of tools"
+        for name in scripts(tree)
+        if not re.search(rf"(?<![\w/]){re.escape(name)}\b", tree.text(LIST))
+    ]
+
+
+def has_help(tree: Tree) -> list[str]:
+    """Tools that do not read --help: tools/helps.sh looks at what they do then."""
+    return [
+        f"{name}: --help is not read"
+        for name in [*scripts(tree), *modules(tree)]
+        if not re.search(r"ArgumentParser\(|--help|from \.cli import main|import main\b", tree.text(name))
+        and "options(__doc__)" not in tree.text(name)
+    ]
+
+
+def executable(tree: Tree) -> list[str]:
+    """Scripts that cannot be called."""
+    return [f"{name}: not executable" for name in scripts(tree) if not (tree.top / name).stat().st_mode & 0o100]
