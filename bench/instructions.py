@@ -5,10 +5,10 @@ It wants `crates/dms_bench/out/measure`, which bench/run.sh builds, and valgrind
 difference is divided by the calls. The counts are the same whatever else the machine does.
 """
 
+import argparse
 import pathlib
 import re
 import subprocess
-import sys
 
 MEASURE = pathlib.Path(__file__).resolve().parent.parent / "crates/dms_bench/out/measure"
 CALLS = 400
@@ -27,7 +27,8 @@ def a_call(name, side):
 
 
 def main(names):
-    names = names or subprocess.run([MEASURE, "--sign", "", "", "0"], capture_output=True, text=True, check=True).stdout.splitlines()
+    every = [MEASURE, "--sign", "", "", "0"]
+    names = names or subprocess.run(every, capture_output=True, text=True, check=True).stdout.splitlines()
     print(f"{'measure of the sign, 1, 2 and 1 rows':<36} {'proved':>10} {'by hand':>10} {'ratio':>6}")
     for name in names:
         proved, by_hand = a_call(name, "proved"), a_call(name, "by-hand")
@@ -35,4 +36,6 @@ def main(names):
 
 
 if __name__ == "__main__":
-    main(sys.argv[1:])
+    words = argparse.ArgumentParser(description=__doc__, formatter_class=argparse.RawDescriptionHelpFormatter)
+    words.add_argument("names", nargs="*", metavar="MEASURE", help="these measures alone")
+    main(words.parse_args().names)

@@ -3,9 +3,9 @@
 
     tools/ask_vectors.py [--to 127.0.0.1:1161] [--wait 0.5]
 
-The sign has to be the bench sign of docs/PROFILE.md as it starts. Requests that change a sign are left out, so that each
-finds it as it was. A request that is to be dropped is one that nothing answers for so many seconds. After three requests
-one after the other that should have had a reply and had none it stops, with exit status 2: nothing answers there.
+The sign has to be the bench sign of docs/PROFILE.md as it starts. Requests that change a sign are left out, so that
+each finds it as it was. A request that is to be dropped is one that nothing answers for so many seconds. After three
+requests one after the other that should have had a reply and had none it stops, with exit status 2: nothing answers.
 """
 
 import argparse

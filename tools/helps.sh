@@ -1,8 +1,9 @@
 #!/usr/bin/env bash
 # Asks each tool for its help: `tools/helps.sh [TOOL..]` prints `N passed, N failed`.
 #
-# Every file of tools/ that begins with `#!` has to be executable, and no other; `--help` has to print and to end with
-# 0, without input, without errors and without a change to the repository.
+# Every file of tools/ and of the measures that begins with `#!` has to be executable, and no other; `--help` has to
+# print and to end with 0, without input, without errors and without a change to the repository. So for each module of
+# conform/ and control/ that has a command line; one whose packages are not installed here is skipped, which is said.
 set -u
 case " $* " in *" --help "*) sed -n '2,/^[^#]/s/^# \{0,1\}//p' "$0"; exit ;; esac
 cd "$(dirname "$0")/.." || exit 2
@@ -21,23 +22,41 @@ is() {
     if [ -z "$2" ]; then passed=$((passed + 1)); else failed=$((failed + 1)); echo "$1: $2"; fi
 }
 
-[ $# != 0 ] || set -- tools/*.py tools/*.sh
+# the modules that have a command line, by their names
+modules() {
+    grep -rl --include='*.py' 'if __name__ == "__main__":' conform control | grep -v /tests/ |
+        sed -e 's#/__main__\.py$##' -e 's#\.py$##' -e 's#/#.#g' | sort
+}
+
+# asks COMMAND..: its help in $folder/out and $folder/err, its status, and what it changed
+asks() {
+    standing > "$folder/before"
+    timeout 20 "$@" --help < /dev/null > "$folder/out" 2> "$folder/err"
+    status=$?
+    standing > "$folder/after"
+    [ "$status" = 0 ] || fault="--help ends with $status"
+    [ -s "$folder/out" ] || fault="--help prints nothing"
+    [ ! -s "$folder/err" ] || fault="--help says '$(head -c 200 "$folder/err")' on standard error"
+    changed=$(diff "$folder/before" "$folder/after" | sed -n 2p)
+    [ -z "$changed" ] || fault="--help changes $changed"
+}
+
+shopt -s nullglob
+[ $# != 0 ] || set -- tools/*.py tools/*.sh bench/*.py bench/*.sh measures/*.py measures/*.sh $(modules)
 for tool in "$@"; do
     fault=
-    if [ "$(head -c 2 "$tool")" != '#!' ]; then
+    if [ ! -f "$tool" ]; then
+        asks python3 -m "$tool"
+        if grep -qE "(No module named '|python3-)(aiohttp|jinja2|psycopg|rich)" "$folder/err"; then
+            echo "skipped $tool: $(tail -n 1 "$folder/err" | head -c 200)"
+            continue
+        fi
+    elif [ "$(head -c 2 "$tool")" != '#!' ]; then
         [ ! -x "$tool" ] || fault="executable, and its first line names no program"
     elif [ ! -x "$tool" ]; then
         fault="not executable"
     else
-        standing > "$folder/before"
-        timeout 20 "$tool" --help < /dev/null > "$folder/out" 2> "$folder/err"
-        status=$?
-        standing > "$folder/after"
-        [ "$status" = 0 ] || fault="--help ends with $status"
-        [ -s "$folder/out" ] || fault="--help prints nothing"
-        [ ! -s "$folder/err" ] || fault="--help says '$(head -c 200 "$folder/err")' on standard error"
-        changed=$(diff "$folder/before" "$folder/after" | sed -n 2p)
-        [ -z "$changed" ] || fault="--help changes $changed"
+        asks "$tool"
     fi
     is "$tool" "$fault"
 done

@@ -3,8 +3,8 @@
 
     tools/house.py [--check | --all] [--top FOLDER] [BAR ..]
 
-A bar is a name of BARS in tools/upkeep/bars.py, such as "links"; without names all are looked at. What is below a bar is
-told with its file and line. With --all what is left for later is told too, and fails.
+A bar is a name of BARS in tools/upkeep/bars.py, such as "links"; without names all are looked at. What is below a bar
+is told with its file and line. With --all what is left for later is told too, and fails.
 """
 
 import argparse

@@ -3,9 +3,10 @@
 #
 #     tools/release.sh [--program PATH] [--debian-version VERSION] [FOLDER]
 #
-# They stand in FOLDER, out/ where none is given. PATH is the built program, crates/signtool/out/signtool where it is not
-# given; it has to say the version of tools/version.py. Everything else is taken from the last commit, whose time is the
-# time of every file, so the same commit and program make the same octets. The library for C goes in where it is built.
+# They stand in FOLDER, out/ where none is given. PATH is the built program, crates/signtool/out/signtool where it is
+# not given; it has to say the version of tools/version.py. Everything else is taken from the last commit, whose time is
+# the time of every file, so the same commit and program make the same octets. The library for C goes in where it is
+# built.
 set -eu
 case " $* " in *" --help "*) sed -n '2,/^[^#]/s/^# \{0,1\}//p' "$0"; exit ;; esac
 top=$(cd "$(dirname "$0")/.." && pwd)
@@ -65,7 +66,7 @@ END
 # tree: the release under $usr, for the interpreter $python
 tree() {
     local share=$usr/share/wisangub page section
-    mkdir -p "$usr/bin" "$share/tools" "$share/docs" "$usr/share/doc/wisangub" "$usr/share/man/man1" "$usr/share/man/man7"
+    mkdir -p "$usr/bin" "$share/tools" "$share/docs" "$usr"/share/{doc/wisangub,man/man1,man/man7}
     install -m 755 "$program" "$usr/bin/wisangub-signtool"
     cp -R "$source"/conform "$source"/control "$source"/mibs "$source"/signs "$source"/vectors "$share/"
     cp -R "$source"/tools/door "$source"/tools/model "$source"/tools/udp_sign.py "$source"/tools/udp_centre.py \
@@ -129,7 +130,8 @@ python="/usr/bin/env python3"
 tree
 cp "$source/LICENSE" "$source/NOTICE" "$source/CHANGELOG.md" "$usr/"
 find "$room/$name" -exec touch -hd "@$SOURCE_DATE_EPOCH" {} +
-tar -C "$room" --sort=name --owner=0 --group=0 --numeric-owner -c "$name" | gzip -9n > "$folder/$name-$architecture.tar.gz"
+tar -C "$room" --sort=name --owner=0 --group=0 --numeric-owner -c "$name" |
+    gzip -9n > "$folder/$name-$architecture.tar.gz"
 
 # the Debian package
 package=$room/package

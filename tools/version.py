@@ -16,7 +16,8 @@ LINE = re.compile(r'^\s*(?:pub(?:\(crate\))? )?const VERSION: &str = "signtool (
 
 def versions(top: pathlib.Path) -> list[str]:
     """What the crates say, each in its own place."""
-    return [found for path in sorted(top.glob("crates/**/src/**/*.rt")) for found in LINE.findall(path.read_text("utf-8"))]
+    texts = (path.read_text("utf-8") for path in sorted(top.glob("crates/**/src/**/*.rt")))
+    return [found for text in texts for found in LINE.findall(text)]
 
 
 def version(top: pathlib.Path = TOP) -> str:

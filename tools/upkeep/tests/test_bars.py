@@ -1,0 +1,88 @@
+"""Each bar on a small tree: what it finds, and what it lets be."""
+
+import pathlib
+import re
+
+import pytest
+
+from upkeep import crates, documents, tools, words
+from upkeep.bars import BARS, Bar
+from upkeep.tree import Tree
+
+
+@pytest.fixture
+def made(tmp_path: pathlib.Path):
+    """A tree of these files."""
+
+    def tree(**texts: str) -> Tree:
+        for name, text in texts.items():
+            path = tmp_path / re.sub(r"_(md|py|txt)$", r".\1", name.replace("__", "/"))
+            path.parent.mkdir(parents=True, exist_ok=True)
+            path.write_text(text, encoding="utf-8")
+        return Tree(tmp_path)
+
+    return tree
+
+
+def test_widths(made) -> None:
+    wide = "a " * 61
+    tree = made(README_md=f"{wide}\n```\n{wide}\n```\n", other_md=f"```\n{wide}\n```\n{'b' * 130}\n{'c ' * 60}\n")
+    assert documents.wide_lines(tree) == [f"README.md:{line}: 122 columns, 120 at most" for line in (1, 3)]
+
+
+def test_rows(made) -> None:
+    tree = made(page_md=f"| {'a' * 194} |\n| {'a' * 197} |\n```\n| {'a' * 300} |\n```\n")
+    assert documents.wide_rows(tree) == ["page.md:2: a row of 201 columns, 200 at most"]
+    assert documents.wide_lines(tree) == []
+
+
+def test_links(made) -> None:
+    tree = made(docs__one_md="# First part, `x`\n[a](two.md) [b](three.md) [c](#first-part-x) [d](#second) <x>\n",
+                docs__two_md="[e](one.md#first-part-x) [f](one.md#no) ![g](picture.png) [h](https://nobody)\n")
+    assert documents.links(tree) == [
+        "docs/one.md:2: no three.md",
+        "docs/one.md:2: no heading #second in one.md",
+        "docs/two.md:1: no heading #no in one.md",
+        "docs/two.md:1: no picture.png",
+    ]
+
+
+def test_crates(made) -> None:
+    pages = {"docs__ARCHITECTURE_md": "one two", "docs__MAP_md": "two", "docs__PROVED_md": "one_more two"}
+    tree = made(crates_txt="# a comment\none: two\ntwo staticlib:\n", **pages)
+    assert crates.names(tree) == ["one", "two"]
+    assert crates.named(tree) == ["docs/MAP.md: one is not named", "docs/PROVED.md: one is not named"]
+
+
+def test_tools(made, tmp_path: pathlib.Path) -> None:
+    script = "#!/usr/bin/env python3\n"
+    texts = {"tools__first_py": f"{script}argparse.ArgumentParser()\n", "tools__second_py": script}
+    tree = made(**texts, tools__part_py="x = 1\n", tools__folder__third_py=script,
+                CONTRIBUTING_md="`tools/first.py` and other_tools/second.py")
+    (tmp_path / "tools/first.py").chmod(0o755)
+    assert tools.scripts(tree) == ["tools/first.py", "tools/second.py"]
+    assert tools.in_list(tree) == ["CONTRIBUTING.md: tools/second.py is not in the list of tools"]
+    assert tools.has_help(tree) == ["tools/second.py: --help is not read"]
+    assert tools.executable(tree) == ["tools/second.py: not executable"]
+
+
+def test_words(made) -> None:
+    later = "TO" "DO"
+    tree = made(tools__a_py=f"# {later}: more\n# {later}S is another word\n",
+                page_md="`tools/a.py`, tools/b.py, `crates/x/out/y`, tools/*.sh, a/tools/c.py, docs/NNN.md, tools/.\n")
+    assert words.put_off(tree) == [f"tools/a.py:1: {later}"]
+    assert words.gone(tree) == ["page.md:1: there is no tools/b.py"]
+
+
+def test_what_is_left_for_later(made) -> None:
+    bar = Bar("two", lambda tree: ["docs/MAP.md: one", "README.md: two"], ("docs/MAP.md",))
+    assert bar.findings(made()) == ["README.md: two"]
+    assert bar.findings(made(), is_all=True) == ["docs/MAP.md: one", "README.md: two"]
+
+
+def test_nothing_that_holds_is_left_for_later() -> None:
+    tree = Tree(pathlib.Path(__file__).resolve().parents[3])
+    for bar in BARS:
+        found = bar.look(tree)
+        for page in bar.later:
+            assert any(line.startswith(page) for line in found), f"{bar.name}: {page} holds, and can be looked at"
