@@ -10,3 +10,4 @@ pub mod FirstLines
 pub mod DescriptionLaws
 pub mod SetupLaws
 pub mod BenchRead
+mod LastFont

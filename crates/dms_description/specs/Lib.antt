@@ -4,6 +4,8 @@ pub mod Description
 pub mod BenchSign
 pub mod Setups
 pub mod FaultTexts
+pub mod Forms
+pub mod Causes
 -- reading from the beginning, which only proofs go through: `read_is_spelled` and `spelled_is_read` in proofs/ join it to the above
 pub mod DescriptionReading
 pub mod Views

@@ -15,17 +15,22 @@
 #![tactic(auto)]
 
 pub mod bench_sign;
+mod body_word;
 pub mod fault;
 mod fonts;
+mod forms;
 mod head;
 pub mod laws;
 mod making;
 pub mod reader;
+pub mod reasons;
 mod rows;
 pub mod setup;
+mod sign_reasons;
 mod upcoming;
 
 pub use bench_sign::{BENCH, bench};
 pub use fault::DescriptionFault;
 pub use reader::{description, sign_of_lines};
+pub use reasons::{first_cause, why};
 pub use setup::Setup;

@@ -4,6 +4,7 @@ use Rattle.hex.specs.Hex.{decode_of}
 use Rattle.hex.specs.declared.error.FromHexError.{FromHexError}
 use Rattle.dms_text.specs.Words.{parts_of}
 use Rattle.dms_text.specs.Reading.{same_octets, number_of, version_of, octets_of, word_at, decimal_at, is_end, ◌>>=◌}
+use Rattle.dms_forms.specs.Vocabulary.{keyword_text}
 use Rattle.dms_forms.specs.declared.wanted.Wanted.{Wanted}
 use Rattle.dms_forms.specs.declared.wanted.Wanted.TheVariants as wanted
 use Rattle.dms_forms.specs.declared.fault.WordFault.{WordFault}
@@ -46,8 +47,8 @@ abbrev pub is_code : List ℕ → Bool
 is_code word = is_twelve (decode_of word)
 
 abbrev pub is_wanted : Wanted → List ℕ → Bool
-is_wanted (wanted.Keyword keyword) word = same_octets word keyword.now
-is_wanted (wanted.Either one other) word = same_octets word one.now || same_octets word other.now
+is_wanted (wanted.Keyword keyword) word = same_octets word (keyword_text keyword)
+is_wanted (wanted.Either one other) word = same_octets word (keyword_text one) || same_octets word (keyword_text other)
 is_wanted (wanted.Name name) word = true
 is_wanted (wanted.Number low high) word = is_number 5 low high word
 is_wanted wanted.FourOctets word = is_number 10 0 4294967295 word

@@ -1,5 +1,6 @@
 -- How it is said what a word is to be, and what is wrong with it (this profile).
 use Rattle.std.specs.Prelude.{ℕ, List, ◌++◌, codes, decimal}
+use Rattle.dms_forms.specs.Vocabulary.{keyword_text, name_text}
 use Rattle.dms_forms.specs.declared.wanted.Wanted.{Wanted}
 use Rattle.dms_forms.specs.declared.wanted.Wanted.TheVariants as wanted
 use Rattle.dms_forms.specs.declared.fault.WordFault.{WordFault}
@@ -7,12 +8,12 @@ use Rattle.dms_forms.specs.declared.fault.WordFaultKind.{WordFaultKind}
 use Rattle.dms_forms.specs.declared.fault.WordFaultKind.TheVariants as kinds
 
 abbrev pub wanted_text : Wanted → List ℕ
-wanted_text (wanted.Keyword word) = codes "the word " ++ word.now
-wanted_text (wanted.Either one other) = one.now ++ (codes " or " ++ other.now)
-wanted_text (wanted.Name name) = name.now
+wanted_text (wanted.Keyword word) = codes "the word " ++ keyword_text word
+wanted_text (wanted.Either one other) = keyword_text one ++ (codes " or " ++ keyword_text other)
+wanted_text (wanted.Name name) = name_text name
 wanted_text (wanted.Number low high) = codes "a number from " ++ (decimal low ++ (codes " to " ++ decimal high))
 wanted_text wanted.FourOctets = codes "a number from 0 to 4294967295"
-wanted_text (wanted.Octets name) = name.now ++ codes " in hexadecimal"
+wanted_text (wanted.Octets name) = name_text name ++ codes " in hexadecimal"
 wanted_text wanted.Version = codes "four hexadecimal digits"
 wanted_text wanted.Address = codes "an address, as 192.0.2.1,"
 wanted_text wanted.Code = codes "a code of 24 hexadecimal digits"

@@ -76,8 +76,10 @@ fn is_wanted(alloc: Global, wanted: Wanted, word: &[u8]) -> Result<bool, AllocEr
     ensures { IfOk result (λ found. found ≡ is_wanted wanted word.now) }
 {
     match wanted {
-        Wanted::Keyword(keyword) => Ok(are_same(word, keyword.as_bytes())),
-        Wanted::Either(one, other) => Ok(are_same(word, one.as_bytes()) || are_same(word, other.as_bytes())),
+        Wanted::Keyword(keyword) => Ok(are_same(word, keyword.text().as_bytes())),
+        Wanted::Either(one, other) => Ok(
+            are_same(word, one.text().as_bytes()) || are_same(word, other.text().as_bytes()),
+        ),
         Wanted::Name(_) => Ok(true),
         Wanted::Number(low, high) => Ok(is_number(word, 5, u64::from(low), u64::from(high))),
         Wanted::FourOctets => Ok(is_number(word, 10, 0, 4_294_967_295)),

@@ -1,7 +1,7 @@
 //! Forms of lines: what each word of a line is to be, and the first word that is not.
 //!
 //! ```
-//! let form = [Wanted::Keyword("size"), Wanted::Number(0, 65535), Wanted::Number(0, 65535)];
+//! let form = [Wanted::Keyword(Keyword::Size), Wanted::Number(0, 65535), Wanted::Number(0, 65535)];
 //! let found = word_fault(rt.alloc(), &form, b"size 96 high")?.ok_or("no fault")?;
 //! assert_eq!(rt; found, WordFault { place: 3, kind: WordFaultKind::Not(Wanted::Number(0, 65535)) });
 //! ```
@@ -9,8 +9,10 @@
 
 pub mod fault;
 pub mod form;
+pub mod vocabulary;
 pub mod wanted;
 
 pub use fault::{WordFault, WordFaultKind};
 pub use form::word_fault;
+pub use vocabulary::{Keyword, Name};
 pub use wanted::Wanted;

@@ -8,3 +8,4 @@ pub mod Replayed
 pub mod EventReading
 pub mod EventView
 pub mod Faults
+pub mod Reasons

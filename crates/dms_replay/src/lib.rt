@@ -7,6 +7,7 @@ pub mod fault;
 pub mod fields;
 pub mod keyword;
 pub mod laws;
+pub mod reasons;
 pub mod replaying;
 pub mod report;
 mod script;
@@ -14,4 +15,5 @@ pub mod script_event;
 
 pub use fault::ReplayFault;
 pub use fields::address;
+pub use reasons::why;
 pub use replaying::{LONGEST_INPUT, bench, described, replay};

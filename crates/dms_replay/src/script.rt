@@ -46,7 +46,7 @@ pub(crate) fn read_script(alloc: Global, octets: &[u8]) -> Result<Script, Replay
 
 /// The sign that the first lines name, and the lines after these.
 #[tactic(auto, using(crate::proofs::ScriptRead::bench_is_named, crate::proofs::ScriptRead::sign_is_named, crate::proofs::ScriptRead::none_is_named))]
-fn named_sign(alloc: Global, octets: &[u8]) -> Result<(Setup, Lines<'_>), ReplayFault>
+pub(crate) fn named_sign(alloc: Global, octets: &[u8]) -> Result<(Setup, Lines<'_>), ReplayFault>
     ensures read { IfOk result (λ x. (it : Description) × NamesPrefix (kept_lines octets.now) (octets_left x.1) it × IsMade it x.0) }
     ensures line { IfErr result (λ fault. (fault ≡ faults.Memory)
         ⊎ (IsLine fault × ((it : Description) (rest : List (List ℕ)) → NamesPrefix (kept_lines octets.now) rest it → ⊥))) }

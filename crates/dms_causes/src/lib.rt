@@ -1,0 +1,12 @@
+//! Why a line of a description is refused, in words: a word of it, what it stands behind, or the sign that it ends.
+#![tactic(auto)]
+
+pub mod cause;
+pub mod row_causes;
+pub mod sign_causes;
+pub mod whole;
+
+pub use cause::Cause;
+pub use row_causes::{RowCause, row_cause};
+pub use sign_causes::SignCause;
+pub use whole::{communities_cause, counts_cause, face_cause, rows_cause};

@@ -1,0 +1,187 @@
+//! Why a script is refused: the cause that its line is at fault.
+
+ghost use Rattle.std.specs.Prelude.{◌≡◌, ◌≤◌, IfOk, IfSome, length, option_map};
+ghost use Rattle.dms_text.specs.Lines.{lines_left};
+ghost use Rattle.dms_description.specs.Description.{longest_input};
+ghost use Rattle.dms_replay.specs.Replayed.{NoScript};
+ghost use Rattle.dms_replay.specs.Reasons.{event_form, event_cause, line_numbered, line_found, event_cause_at, IsCauseOf};
+
+use crate::fault::ReplayFault;
+use crate::keyword::Keyword;
+use crate::script::{named_sign, read_script};
+use dms_causes::Cause;
+use dms_description::first_cause;
+use dms_forms::{Name, Wanted, WordFault, word_fault};
+use dms_text::{Lines, Words};
+use std::alloc::{AllocError, Global};
+use std::fmt;
+
+/// Why the line of an event is refused.
+#[derive(Clone, Copy, Debug, PartialEq, Eq)]
+pub enum EventCause {
+    /// It begins with no word of an event.
+    Keyword,
+    /// A word of it is not what is wanted there.
+    Word(WordFault),
+}
+
+/// Why a line of a script is refused.
+#[derive(Clone, Copy, Debug, PartialEq, Eq)]
+pub enum ScriptCause {
+    /// It is a line of the sign's description.
+    Sign(Cause),
+    /// It is no event.
+    Event(EventCause),
+}
+
+impl fmt::Display for EventCause {
+    ghost use Rattle.std.specs.Prelude.{Some};
+    ghost use Rattle.dms_replay.specs.Reasons.{event_cause_text};
+
+    ghost output = { λ cause. Some (event_cause_text cause) };
+
+    fn fmt<W: fmt::Write>(&self, f: &mut fmt::Formatter<W>) -> fmt::Result {
+        match self {
+            EventCause::Keyword => f.write_str("no event begins with this word"),
+            EventCause::Word(fault) => write!(f, "{fault}"),
+        }
+    }
+}
+
+impl fmt::Display for ScriptCause {
+    ghost use Rattle.std.specs.Prelude.{Some};
+    ghost use Rattle.dms_replay.specs.Reasons.{script_cause_text};
+
+    ghost output = { λ cause. Some (script_cause_text cause) };
+
+    fn fmt<W: fmt::Write>(&self, f: &mut fmt::Formatter<W>) -> fmt::Result {
+        match self {
+            ScriptCause::Sign(cause) => write!(f, "{cause}"),
+            ScriptCause::Event(cause) => write!(f, "{cause}"),
+        }
+    }
+}
+
+/// Why the line of this number is the one for which the script is refused. None is said of any other line, and none where the text
+/// spells a script.
+pub fn why(alloc: Global, octets: &[u8], number: usize) -> Result<Option<ScriptCause>, AllocError>
+    requires { length octets.now ≤ longest_input }
+    ensures cause { IfOk result (λ found. IfSome found (IsCauseOf octets.now number)) }
+    ensures refused { IfOk result (λ found. IfSome found (λ cause. NoScript octets.now)) }
+{
+    match read_script(alloc, octets) {
+        Err(ReplayFault::Line(line)) if line == number => cause_at(alloc, octets, number),
+        Err(ReplayFault::Memory) => Err(AllocError),
+        _ => Ok(None),
+    }
+}
+
+/// The cause of a line of a script that is refused for it.
+fn cause_at(alloc: Global, octets: &[u8], number: usize) -> Result<Option<ScriptCause>, AllocError>
+    ensures { IfOk result (λ found. IfSome found (IsCauseOf octets.now number)) }
+{
+    match named_sign(alloc, octets) {
+        Ok(_) => match event_cause_at(alloc, octets, number)? {
+            Some(cause) => Ok(Some(ScriptCause::Event(cause))),
+            None => Ok(None),
+        },
+        Err(ReplayFault::Memory) => Err(AllocError),
+        Err(_) => match first_cause(alloc, octets)? {
+            Some(cause) => Ok(Some(ScriptCause::Sign(cause))),
+            None => Ok(None),
+        },
+    }
+}
+
+/// Why the line of this number is no event.
+fn event_cause_at(
+    alloc: Global,
+    octets: &[u8],
+    number: usize,
+) -> Result<Option<EventCause>, AllocError>
+    ensures { IfOk result (λ found. found ≡ event_cause_at octets.now number) }
+{
+    match line_numbered(Lines::of(octets), number) {
+        Some(line) => event_cause(alloc, line),
+        None => Ok(None),
+    }
+}
+
+/// The line of this number.
+fn line_numbered(lines: Lines<'_>, number: usize) -> Option<&[u8]>
+    ensures { option_map line_found result ≡ line_numbered number (lines_left lines.entry) }
+{
+    let mut lines = lines;
+    let line = lines.next_line()?;
+    if line.number == number {
+        Some(line.octets)
+    } else {
+        line_numbered(lines, number)
+    }
+}
+
+/// Why a line is no event.
+fn event_cause(alloc: Global, line: &[u8]) -> Result<Option<EventCause>, AllocError>
+    ensures { IfOk result (λ found. found ≡ event_cause line.now) }
+{
+    let Some((word, _)) = Words::of(line).next_word() else {
+        return Ok(Some(EventCause::Keyword));
+    };
+    match Keyword::of(word) {
+        Some(keyword) => Ok(word_fault(alloc, event_form(keyword), line)?.map(EventCause::Word)),
+        None => Ok(Some(EventCause::Keyword)),
+    }
+}
+
+/// What the words of an event's line are to be.
+fn event_form(keyword: Keyword) -> &'static [Wanted]
+    ensures { result.now ≡ event_form keyword }
+{
+    match keyword {
+        Keyword::Publish => &[
+            Wanted::Keyword(dms_forms::Keyword::Publish),
+            Wanted::Number(0, 255),
+            Wanted::Number(0, 65535),
+            Wanted::Octets(Name::Text),
+            Wanted::Octets(Name::Owner),
+            Wanted::Number(0, 255),
+            Wanted::Number(0, 255),
+            Wanted::Number(0, 255),
+            Wanted::Number(0, 65535),
+            Wanted::Number(0, 255),
+            Wanted::Address,
+        ],
+        Keyword::Blank => &[
+            Wanted::Keyword(dms_forms::Keyword::Blank),
+            Wanted::Number(0, 65535),
+            Wanted::Number(0, 65535),
+            Wanted::Number(0, 255),
+            Wanted::Address,
+        ],
+        Keyword::Activate => &[Wanted::Keyword(dms_forms::Keyword::Activate), Wanted::Code],
+        Keyword::SignTick => &[Wanted::Keyword(dms_forms::Keyword::SignTick)],
+        Keyword::CentreTick => &[Wanted::Keyword(dms_forms::Keyword::CentreTick)],
+        Keyword::ToSign => &[
+            Wanted::Keyword(dms_forms::Keyword::ToSign),
+            Wanted::FourOctets,
+        ],
+        Keyword::ToCentre => &[
+            Wanted::Keyword(dms_forms::Keyword::ToCentre),
+            Wanted::FourOctets,
+        ],
+        Keyword::PowerLost => &[Wanted::Keyword(dms_forms::Keyword::PowerLost)],
+        Keyword::PowerBack => &[
+            Wanted::Keyword(dms_forms::Keyword::PowerBack),
+            Wanted::FourOctets,
+        ],
+        Keyword::CentreRestart => &[Wanted::Keyword(dms_forms::Keyword::CentreRestart)],
+        Keyword::ForgeSign => &[
+            Wanted::Keyword(dms_forms::Keyword::ForgeSign),
+            Wanted::Octets(Name::Datagram),
+        ],
+        Keyword::ForgeCentre => &[
+            Wanted::Keyword(dms_forms::Keyword::ForgeCentre),
+            Wanted::Octets(Name::Datagram),
+        ],
+    }
+}
