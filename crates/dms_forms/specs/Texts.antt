@@ -14,7 +14,7 @@ wanted_text (wanted.Name name) = name_text name
 wanted_text (wanted.Number low high) = codes "a number from " ++ (decimal low ++ (codes " to " ++ decimal high))
 wanted_text wanted.FourOctets = codes "a number from 0 to 4294967295"
 wanted_text (wanted.Octets name) = name_text name ++ codes " in hexadecimal"
-wanted_text wanted.Version = codes "four hexadecimal digits"
+wanted_text wanted.Version = codes "a version of four hexadecimal digits"
 wanted_text wanted.Address = codes "an address, as 192.0.2.1,"
 wanted_text wanted.Code = codes "a code of 24 hexadecimal digits"
 

@@ -40,7 +40,7 @@ impl fmt::Display for Wanted {
             Wanted::Number(low, high) => write!(f, "a number from {low} to {high}"),
             Wanted::FourOctets => f.write_str("a number from 0 to 4294967295"),
             Wanted::Octets(name) => write!(f, "{} in hexadecimal", name.text()),
-            Wanted::Version => f.write_str("four hexadecimal digits"),
+            Wanted::Version => f.write_str("a version of four hexadecimal digits"),
             Wanted::Address => f.write_str("an address, as 192.0.2.1,"),
             Wanted::Code => f.write_str("a code of 24 hexadecimal digits"),
         }
