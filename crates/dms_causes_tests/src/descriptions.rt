@@ -99,8 +99,8 @@ fn said(alloc: Global, text: &str) -> Result<(String, bool), Fail> {
     let Err(DescriptionFault::Line(number)) = description(alloc, octets) else {
         return Ok((String::new(alloc), why(alloc, octets, 1)?.is_none()));
     };
-    let beside = why(alloc, octets, number - 1)?.is_none()
-        && why(alloc, octets, number + 1)?.is_none();
+    let beside = why(alloc, octets, number.saturating_sub(1))?.is_none()
+        && why(alloc, octets, number.saturating_add(1))?.is_none();
     match why(alloc, octets, number)? {
         Some(cause) => Ok((format!(in alloc; "{number}: {cause}")?, beside)),
         None => Ok((String::new(alloc), beside)),

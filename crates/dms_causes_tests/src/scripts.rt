@@ -32,7 +32,7 @@ fn said(alloc: Global, text: &str) -> Result<String, Fail> {
     else {
         return Ok(String::new(alloc));
     };
-    if octets.len() > 1_048_576 || why(alloc, octets, number + 1)?.is_some() {
+    if octets.len() > 1_048_576 || why(alloc, octets, number.saturating_add(1))?.is_some() {
         return Ok(String::new(alloc));
     }
     match why(alloc, octets, number)? {
