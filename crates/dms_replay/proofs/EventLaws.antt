@@ -1,5 +1,5 @@
 -- The event of a line is the one that the line spells.
-use Rattle.std.proofs.Common.{◌≡◌, ℕ, ◌<◌, cond, List, [], ◌∷◌, ◌++◌, length, Option, Some, None, option_map, Result, Ok, Err, refl, sym, ap, subst, ◌∙◌, arith, rules, inl, inr}
+use Rattle.std.proofs.Common.{◌≡◌, ℕ, ◌<◌, ◌≤◌, true, false, cond, List, [], ◌∷◌, ◌++◌, length, Option, Some, None, option_map, Result, Ok, Err, refl, sym, ap, subst, ◌∙◌, arith, rules, inl, inr}
 use Rattle.std.specs.Prelude.{codes, IfOk, IfSome, IfNone, ◌+◌, ◌*◌, ◌/◌, ◌%◌, ◌⊎◌, All, suc, slice_index}
 use Rattle.std.proofs.lemmas.Slice.Eq.{text_from_reads}
 use Rattle.std.proofs.lemmas.List.Elements.{All-nil, All-cons}

@@ -1,6 +1,6 @@
 -- A script's commands are in the ranges of their types, and the world that it begins with is fresh.
-use Rattle.std.proofs.Common.{◌≡◌, ℕ, zero, suc, ◌<◌, ◌≤◌, ◌^◌, List, [], ◌∷◌, ◌++◌, length, Some, slice_get, refl, subst, arith}
-use Rattle.std.specs.List.{AllByRecursion}
+use Rattle.std.proofs.Common.{◌≡◌, ℕ, zero, suc, ◌<◌, ◌≤◌, ◌^◌, true, List, [], ◌∷◌, ◌++◌, length, Some, slice_get, refl, sym, ap, ◌∙◌, subst, arith}
+use Rattle.std.specs.List.{All, AllByRecursion}
 use Rattle.std.specs.Int.Digits.{AllBelowBase}
 use Rattle.std.proofs.lemmas.Bool.{and_parts, leb-true}
 use Rattle.std.proofs.lemmas.Option.{none-some, same_Some}
@@ -11,20 +11,23 @@ use Rattle.dms_face.specs.declared.defaults.Defaults.{Defaults}
 use Rattle.dms_access.specs.Ranges.{AreDefaultsInRange}
 use Rattle.dms_table.specs.Rows.{RowModel}
 use Rattle.dms_codes.specs.declared.codes.Order.{Order}
+use Rattle.dms_sign.specs.Communities.{has_community_size}
 use Rattle.dms_sign.specs.InRange.{IsMadeOfOctets}
 use Rattle.dms_centre.specs.Commands.{CommandModel, Publish, Blank, Activate, IsAddress, IsPublication, IsCommand, OfPublish, OfBlank, OfActivate}
 use Rattle.dms_centre.specs.State.{PublicationModel}
+use Rattle.dms_centre.specs.History.{AreSettings}
 use Rattle.dms_world.specs.Event.{EventModel, command, sign_tick, centre_tick, to_sign, to_centre, power_lost, power_back, centre_restart, forge_sign, forge_centre}
 use Rattle.dms_world.specs.World.{IsFresh}
+use Rattle.dms_world.specs.Backed.{Has}
 use Rattle.dms_world.specs.Headline.{IsEvent, AreEvents}
 use Rattle.dms_description.specs.BenchSign.{bench_text}
-use Rattle.dms_description.specs.Description.{Description, SpellsSign, SpellsPermanentLine, numbers_of}
-use Rattle.dms_description.specs.Fields.{SpellsEach, SpellsOctet}
+use Rattle.dms_description.specs.Description.{Description, SpellsSign, SpellsPermanent, SpellsPermanentLine, numbers_of}
+use Rattle.dms_description.specs.Fields.{SpellsEach, SpellsOctet, SpellsTwoOctets}
 use Rattle.dms_description.proofs.BenchValue.{bench_sign}
 use Rattle.dms_description.proofs.BenchText.{spells_the_bench_sign}
 use Rattle.dms_description.proofs.DescriptionLaws.{one_sign}
 use Rattle.dms_replay.specs.EventFields.{SpellsAddress, SpellsAddressPart}
-use Rattle.dms_replay.specs.EventLine.{SpellsPublication, SpellsCommand, SpellsEvent, SpellsEventWords}
+use Rattle.dms_replay.specs.EventLine.{SpellsPublication, SpellsBlank, SpellsCommand, SpellsEvent, SpellsEventWords}
 use Rattle.dms_replay.specs.Script.{NamesSign, the_bench, described, SpellsScript, beginning_of}
 use Rattle.dms_replay.proofs.BenchFresh.{bench_is_fresh}
 use Rattle.dms_replay.proofs.SpelledOctets.{lines_are_octets, words_are_octets, spelled_octets}

@@ -1,4 +1,4 @@
-use Rattle.std.proofs.Common.{map, ap, sym, ◌∙◌}
+use Rattle.std.proofs.Common.{map, ap, ◌∙◌}
 use Rattle.dms_table.specs.Stock.{permanent_row}
 use Rattle.dms_description.specs.Description.{Description}
 use Rattle.dms_description.specs.DescriptionReading.{described}
