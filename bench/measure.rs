@@ -1,5 +1,10 @@
-//! Prints how long the calls of the proved libraries take, beside those of `peer`, in nanoseconds a call: the best of several
-//! runs. Each argument is a file with a datagram in hexadecimal.
+//! Measures of the proved libraries beside the same by hand, in one program.
+//!
+//!     measure [TOPIC ..]                      the times of all measures, or of those of these topics
+//!     measure --list [TOPIC ..]               their topics and names
+//!     measure --count TOPIC NAME SIDE TIMES   does a measure so many times, `proved` or `by-hand`, for who counts instructions
+//!
+//! Each line has the topic, the name, the nanoseconds of a proved call and of one by hand, with tabs between them.
 
 mod measure_replay;
 mod measure_sign;
@@ -11,39 +16,78 @@ mod peer_text;
 
 use peer_text::Face;
 use std::hint::black_box;
+use std::rc::Rc;
 use std::time::Instant;
-use std::{env, fs, process};
+use std::{env, process};
 
-/// Runs of a measure, of which the best counts: many short ones, since other programs disturb some of them.
-const RUNS: usize = 400;
+/// Passes of a measure, of which the best counts. Those of the two sides take turns.
+const PASSES: usize = 40;
 
-/// Runs of a measure of a text.
-const TEXT_RUNS: usize = 40;
+/// The most calls whose sums are compared before the passes: the sign's measures sum up another octet of the reply in each.
+const COMPARED: u32 = 1_472;
 
-/// How long a run takes, in nanoseconds.
-const RUN_NANOSECONDS: f64 = 1e6;
+/// How long a pass takes at least, in nanoseconds.
+const PASS_NANOSECONDS: f64 = 2e6;
+
+/// Does one thing so many times, and sums what came out.
+pub type Call = Box<dyn Fn(u32) -> u64>;
+
+/// A proved call beside the same by hand.
+pub struct Measure {
+    pub topic: &'static str,
+    pub name: String,
+    pub proved: Call,
+    pub by_hand: Call,
+}
+
+impl Measure {
+    pub fn new(topic: &'static str, name: String, proved: impl Fn(u32) -> u64 + 'static, by_hand: impl Fn(u32) -> u64 + 'static) -> Measure {
+        Measure { topic, name, proved: Box::new(proved), by_hand: Box::new(by_hand) }
+    }
+
+    /// The nanoseconds of a proved call and of one by hand, without what is done once a pass.
+    fn best(&self) -> [f64; 2] {
+        let calls = [&self.proved, &self.by_hand];
+        let once = |call: &Call| {
+            let least = |times| (0..5).map(|_| pass(call, times)).fold(f64::INFINITY, f64::min);
+            ((least(20) - least(0)) / 20.0).max(2.0)
+        };
+        let times = calls.map(|call| (PASS_NANOSECONDS / once(call)).ceil() as u32);
+        let rounds = times[0].clamp(3, COMPARED);
+        assert_eq!((self.proved)(rounds), (self.by_hand)(rounds), "{}: {}", self.topic, self.name);
+        let mut best = [[f64::INFINITY; 2]; 2];
+        for _ in 0..PASSES {
+            for side in 0..2 {
+                best[side][0] = best[side][0].min(pass(calls[side], 0));
+                best[side][1] = best[side][1].min(pass(calls[side], times[side]));
+            }
+        }
+        [0, 1].map(|side| (best[side][1] - best[side][0]) / f64::from(times[side]))
+    }
+}
+
+/// The nanoseconds of so many calls, and of what is done once before them.
+fn pass(call: &Call, times: u32) -> f64 {
+    let start = Instant::now();
+    black_box(call(times));
+    start.elapsed().as_nanos() as f64
+}
 
 /// Does one thing `times` times over a datagram, and sums what came out.
-type Exported = unsafe extern "C" fn(datagram: *const u8, size: usize, times: u32) -> u64;
-type Plain = fn(datagram: &[u8], times: u32) -> u64;
+pub type Exported = unsafe extern "C" fn(datagram: *const u8, size: usize, times: u32) -> u64;
+pub type Plain = fn(datagram: &[u8], times: u32) -> u64;
+
+/// A measure over octets.
+pub fn over_octets(topic: &'static str, name: String, octets: Vec<u8>, exported: Exported, plain: Plain) -> Measure {
+    let octets: Rc<[u8]> = octets.into();
+    let same = octets.clone();
+    // The exports take a slice as its pointer and its length.
+    let proved = move |times| unsafe { exported(octets.as_ptr(), octets.len(), times) };
+    Measure::new(topic, name, proved, move |times| plain(&same, times))
+}
 
 /// Does one thing `times` times over a text, on the largest matrix with these fonts, and sums what came out.
 type ExportedOfText = unsafe extern "C" fn(fonts: *const u8, fonts_size: usize, text: *const u8, size: usize, times: u32) -> u64;
-
-/// The exports of the proved libraries, and beside each the same of `peer`.
-const MEASURES: [(&str, Exported, Plain); 3] = [
-    ("read", dms_bench_read, peer::read_times),
-    ("read and walk", dms_bench_walk, peer::walk_times),
-    ("write", dms_bench_write, peer::write_times),
-];
-
-/// The exports of the central system that take a text, and beside each the same of `peer_centre`.
-const CENTRE: [(&str, Exported, Plain); 4] = [
-    ("publication", dms_bench_centre_publication, peer_centre::publication_times),
-    ("command", dms_bench_centre_command, peer_centre::command_times),
-    ("command, 2 ticks", dms_bench_centre_ticks, peer_centre::ticks_times),
-    ("command, resend", dms_bench_centre_resend, peer_centre::resend_times),
-];
 
 #[link(name = "crc", kind = "static")]
 unsafe extern "C" {
@@ -66,42 +110,13 @@ unsafe extern "C" {
     fn dms_bench_write(datagram: *const u8, size: usize, times: u32) -> u64;
 }
 
-/// The nanoseconds of `times` calls.
-fn run(call: &dyn Fn(u32) -> u64, times: u32) -> f64 {
-    let start = Instant::now();
-    black_box(call(times));
-    start.elapsed().as_nanos() as f64
-}
+/// A Get of one binding, and a GetNext of 205, in hexadecimal.
+const GET: &str = include_str!("datagrams/get.hex");
+const FULL: &str = include_str!("datagrams/full.hex");
 
-/// The best time of each call, in nanoseconds, over runs that take turns.
-fn best<const N: usize>(calls: [&dyn Fn(u32) -> u64; N]) -> [f64; N] {
-    let times = calls.map(|call| (RUN_NANOSECONDS / (run(call, 100) / 100.0)).max(1.0) as u32);
-    let mut best = [f64::INFINITY; N];
-    for _ in 0..RUNS {
-        for at in 0..N {
-            best[at] = best[at].min(run(calls[at], times[at]) / f64::from(times[at]));
-        }
-    }
-    best
-}
-
-fn datagram_of(file: &str) -> Option<Vec<u8>> {
-    let text = fs::read_to_string(file).ok()?;
-    let digits = text.trim();
-    (0..digits.len()).step_by(2).map(|at| u8::from_str_radix(digits.get(at..at + 2)?, 16).ok()).collect()
-}
-
-/// The checksum of texts of several sizes, beside the bit-by-bit form in C.
-fn checksums() {
-    println!("{:<16} {:<24} {:>10} {:>12}", "measure", "text", "proved, ns", "by bits, ns");
-    for size in [64, 128, 256, 512] {
-        let text: Vec<u8> = (0..size).map(|at| (at * 7 + 13) as u8).collect();
-        let proved = |times| unsafe { dms_bench_crc(text.as_ptr(), text.len(), times) };
-        let by_bits = |times| unsafe { bit_by_bit_crc(text.as_ptr(), text.len(), times) };
-        assert_eq!(proved(3), by_bits(3), "checksum of {size} octets");
-        let [proved, by_bits] = best([&proved, &by_bits]);
-        println!("{:<16} {:<24} {proved:>10.1} {by_bits:>12.1}", "checksum", format!("{size} octets"));
-    }
+fn octets_of(digits: &str) -> Vec<u8> {
+    let digits = digits.trim();
+    (0..digits.len()).step_by(2).filter_map(|at| u8::from_str_radix(&digits[at..at + 2], 16).ok()).collect()
 }
 
 /// Four fonts, each with the characters 32 to 126, wide as its number says: a font's header, then a line for each character.
@@ -141,24 +156,6 @@ fn items_of(text: &str) -> usize {
     text.split('[').map(|part| part.split(']').last().map_or(0, str::len)).sum::<usize>() + text.matches('[').count()
 }
 
-/// The best time of a proved call over a text and of the same by hand, in nanoseconds, without what is done once. The runs take turns.
-fn best_over_text(measure: ExportedOfText, by_hand: fn(&Face, &[u8], u32) -> u64, face: &Face, fonts: &str, text: &[u8]) -> [f64; 2] {
-    let proved = |times| unsafe { measure(fonts.as_ptr(), fonts.len(), text.as_ptr(), text.len(), times) };
-    let by_hand = |times| by_hand(face, text, times);
-    assert_eq!(proved(3), by_hand(3), "{}", String::from_utf8_lossy(text));
-    let calls: [&dyn Fn(u32) -> u64; 2] = [&proved, &by_hand];
-    let once = |call: &dyn Fn(u32) -> u64| ((run(call, 200) - run(call, 0)) / 200.0).max(20.0);
-    let times = calls.map(|call| (RUN_NANOSECONDS / once(call)).max(5.0) as u32);
-    let mut best = [[f64::INFINITY; 2]; 2];
-    for _ in 0..TEXT_RUNS {
-        for at in 0..2 {
-            best[at][0] = best[at][0].min(run(calls[at], 0));
-            best[at][1] = best[at][1].min(run(calls[at], times[at]));
-        }
-    }
-    [0, 1].map(|at| (best[at][1] - best[at][0]) / f64::from(times[at]))
-}
-
 /// Four fonts whose text is made by this; a text, and a name for it.
 struct Case {
     name: String,
@@ -190,29 +187,6 @@ fn cases() -> Vec<Case> {
     cases
 }
 
-/// Each text is checked, and its pages made; then every cell of these pages is looked up. Beside each time stands that by hand, and their ratio.
-fn texts() {
-    println!("{:<8} {:<28} {:>11} {:>11} {:>6}", "measure", "text", "proved, ns", "by hand, ns", "ratio");
-    let measures: [(&str, ExportedOfText, fn(&Face, &[u8], u32) -> u64); 3] = [
-        ("check", dms_bench_check, peer_text::check_times),
-        ("pages", dms_bench_pages, peer_text::pages_times),
-        ("cells", dms_bench_cells, peer_text::cells_times),
-    ];
-    for (measure, exported, by_hand) in measures {
-        for case in cases() {
-            let Some(face) = Face::largest(&case.fonts) else {
-                eprintln!("no fonts");
-                process::exit(1);
-            };
-            if measure != "check" && peer_text::check(&face, &case.text).is_err() {
-                continue;
-            }
-            let [proved, plain] = best_over_text(exported, by_hand, &face, &case.fonts, &case.text);
-            println!("{measure:<8} {:<28} {proved:>11.0} {plain:>11.0} {:>6.2}", case.name, proved / plain);
-        }
-    }
-}
-
 /// A good reply to the first request of a publication, with this community and this tag of its value.
 fn first_reply(community: &[u8; 5], tag: u8) -> Vec<u8> {
     let pdu = b"\xa2\x22\x02\x01\x01\x02\x01\x00\x02\x01\x00\x30\x17\x30\x15";
@@ -222,67 +196,112 @@ fn first_reply(community: &[u8; 5], tag: u8) -> Vec<u8> {
 
 /// Datagrams that do not answer the request that waits, each with a name for it.
 fn foreign() -> [(&'static str, Vec<u8>); 4] {
-    let digits = include_str!("datagrams/full.hex").trim();
-    let full = (0..digits.len()).step_by(2).filter_map(|at| u8::from_str_radix(&digits[at..at + 2], 16).ok());
     [
         ("other community, 48 octets", first_reply(b"other", 2)),
         ("bad last tag, 48 octets", first_reply(b"admin", 3)),
         ("garbage, 48 octets", vec![255; 48]),
-        ("205 bindings, 1472 octets", full.collect()),
+        ("205 bindings, 1472 octets", octets_of(FULL)),
     ]
 }
 
-/// A call of the central system over octets, beside the same by hand.
-fn centre_call(measure: &str, name: &str, octets: &[u8], exported: Exported, plain: Plain) {
-    let proved = |times| unsafe { exported(octets.as_ptr(), octets.len(), times) };
-    let by_hand = |times| plain(octets, times);
-    assert_eq!(proved(3), by_hand(3), "{measure} of {name}");
-    let [proved, by_hand] = best([&proved, &by_hand]);
-    println!("{measure:<16} {name:<28} {proved:>10.1} {by_hand:>11.1} {:>6.2}", proved / by_hand);
+/// Datagrams are read, read and walked, and written.
+fn datagrams() -> Vec<Measure> {
+    let calls: [(&str, Exported, Plain); 3] = [
+        ("read", dms_bench_read, peer::read_times),
+        ("read and walk", dms_bench_walk, peer::walk_times),
+        ("write", dms_bench_write, peer::write_times),
+    ];
+    let all = [("a Get of one binding, 48 octets", GET), ("a GetNext of 205 bindings, 1,472 octets", FULL)];
+    let measures = all.iter().flat_map(|(of, digits)| {
+        calls.map(|(call, exported, plain)| over_octets("datagrams", format!("{call}, {of}"), octets_of(digits), exported, plain))
+    });
+    measures.collect()
+}
+
+/// The checksum of texts of several sizes, beside the bit-by-bit form in C.
+fn checksums() -> Vec<Measure> {
+    let by_bits = |text: &[u8], times| unsafe { bit_by_bit_crc(text.as_ptr(), text.len(), times) };
+    let sizes = [64, 128, 256, 512];
+    let measures = sizes.map(|size| {
+        let text = (0..size).map(|at| (at * 7 + 13) as u8).collect();
+        over_octets("checksum, beside bit by bit in C", format!("{size} octets"), text, dms_bench_crc, by_bits)
+    });
+    measures.into()
+}
+
+/// Each text is checked, and its pages made; then every cell of these pages is looked up.
+fn texts() -> Vec<Measure> {
+    let calls: [(&'static str, ExportedOfText, fn(&Face, &[u8], u32) -> u64); 3] = [
+        ("check", dms_bench_check, peer_text::check_times),
+        ("pages", dms_bench_pages, peer_text::pages_times),
+        ("cells of these pages", dms_bench_cells, peer_text::cells_times),
+    ];
+    let mut measures = Vec::new();
+    for (topic, exported, by_hand) in calls {
+        for Case { name, fonts, text } in cases() {
+            let face = Face::largest(&fonts).expect("fonts");
+            if topic != "check" && peer_text::check(&face, &text).is_err() {
+                continue;
+            }
+            let same = text.clone();
+            let proved = move |times| unsafe { exported(fonts.as_ptr(), fonts.len(), text.as_ptr(), text.len(), times) };
+            measures.push(Measure::new(topic, name, proved, move |times| by_hand(&face, &same, times)));
+        }
+    }
+    measures
 }
 
 /// The central system: publications, commands with and without ticks, and datagrams that do not answer what waits.
-fn centre() {
-    println!("{:<16} {:<28} {:>10} {:>11} {:>6}", "measure", "text or datagram", "proved, ns", "by hand, ns", "ratio");
-    for (measure, exported, plain) in CENTRE {
-        for pieces in [0, 1, 2, 4, 8] {
-            let text = text_of(pieces);
-            centre_call(measure, &format!("{} octets", text.len()), text.as_bytes(), exported, plain);
-        }
+fn centre() -> Vec<Measure> {
+    let calls: [(&str, Exported, Plain); 4] = [
+        ("a publication", dms_bench_centre_publication, peer_centre::publication_times),
+        ("a command and a restart", dms_bench_centre_command, peer_centre::command_times),
+        ("the same with 2 ticks", dms_bench_centre_ticks, peer_centre::ticks_times),
+        ("the same with a third, which sends again", dms_bench_centre_resend, peer_centre::resend_times),
+    ];
+    let of = |call: &str, pieces| format!("{call}, {} octets", text_of(pieces).len());
+    let mut measures = Vec::new();
+    for (call, exported, plain) in calls {
+        measures.extend([0, 1, 2, 4, 8].map(|pieces| over_octets("centre", of(call, pieces), text_of(pieces).into_bytes(), exported, plain)));
     }
-    for (name, datagram) in foreign() {
-        centre_call("foreign", name, &datagram, dms_bench_centre_foreign, peer_centre::foreign_times);
-    }
+    let foreign = foreign().map(|(name, octets)| {
+        over_octets("centre", format!("no answer: {name}"), octets, dms_bench_centre_foreign, peer_centre::foreign_times)
+    });
+    measures.extend(foreign);
+    measures
+}
+
+fn measures() -> Vec<Measure> {
+    let text = text_of(8).into_bytes();
+    let texts_of_sign = [1, 2, 4, 8].map(|pieces| text_of(pieces).into_bytes());
+    let signs = [measure_sign::signs(&fonts(), &text), measure_sign::growth(&fonts(), &texts_of_sign)];
+    let ends = [centre(), measure_replay::scripts(&fonts())];
+    [datagrams(), checksums(), texts()].into_iter().chain(signs).chain(ends).flatten().collect()
 }
 
 fn main() {
-    let words: Vec<String> = env::args().collect();
-    if let [_, call, name, side, times] = words.as_slice()
-        && call == "--sign"
-    {
-        let times = times.parse().expect("a number");
-        return measure_sign::counted(&fonts(), text_of(8).as_bytes(), name, side == "by-hand", times);
-    }
-    measure_replay::scripts(&fonts());
-    measure_sign::signs(&fonts(), text_of(8).as_bytes());
-    measure_sign::growth(&fonts(), &[1, 2, 4, 8].map(|pieces| text_of(pieces).into_bytes()));
-    texts();
-    checksums();
-    centre();
-    println!("{:<16} {:<24} {:>10} {:>12}", "measure", "datagram", "proved, ns", "by hand, ns");
-    for file in env::args().skip(1) {
-        let Some(datagram) = datagram_of(&file) else {
-            eprintln!("{file}: no datagram in hexadecimal");
-            process::exit(1);
-        };
-        let name = file.rsplit('/').next().unwrap_or(&file).trim_end_matches(".hex");
-        for (measure, exported, plain) in MEASURES {
-            // The exports take a slice as its pointer and its length.
-            let proved = |times| unsafe { exported(datagram.as_ptr(), datagram.len(), times) };
-            let by_hand = |times| plain(&datagram, times);
-            assert_eq!(proved(3), by_hand(3), "{measure} of {file}");
-            let [proved, by_hand] = best([&proved, &by_hand]);
-            println!("{measure:<16} {name:<24} {proved:>10.1} {by_hand:>12.1}");
+    let words: Vec<String> = env::args().skip(1).collect();
+    let words: Vec<&str> = words.iter().map(String::as_str).collect();
+    let of_topics = |topics: &[&str]| {
+        let is_asked = |measure: &Measure| topics.is_empty() || topics.contains(&measure.topic);
+        measures().into_iter().filter(is_asked).collect::<Vec<_>>()
+    };
+    match words.as_slice() {
+        ["--count", topic, name, side, times] => {
+            let times = times.parse().expect("a number");
+            let Some(measure) = measures().into_iter().find(|measure| measure.topic == *topic && measure.name == *name) else {
+                eprintln!("no such measure: --list names them");
+                process::exit(2);
+            };
+            let call = if *side == "by-hand" { measure.by_hand } else { measure.proved };
+            println!("{}", call(times));
+        }
+        ["--list", topics @ ..] => of_topics(topics).iter().for_each(|measure| println!("{}\t{}", measure.topic, measure.name)),
+        topics => {
+            for measure in of_topics(topics) {
+                let [proved, by_hand] = measure.best();
+                println!("{}\t{}\t{proved:.1}\t{by_hand:.1}", measure.topic, measure.name);
+            }
         }
     }
 }

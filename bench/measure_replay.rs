@@ -3,10 +3,7 @@
 use std::fmt::Write;
 
 use crate::peer_sign::crc;
-use crate::{Exported, Plain, peer_replay, run};
-
-/// Runs of a measure, of which the best counts.
-const RUNS: usize = 25;
+use crate::{Exported, Measure, Plain, over_octets, peer_replay};
 
 /// How many events a script has.
 const EVENTS: [usize; 4] = [2_500, 5_000, 10_000, 20_000];
@@ -23,11 +20,10 @@ unsafe extern "C" {
     fn dms_bench_script_replay(script: *const u8, size: usize, times: u32) -> u64;
 }
 
-/// Each measure, and how often it is done in a run: the report often, since each of its runs reads and runs the script once.
-const MEASURES: [(&str, Exported, Plain, u32); 3] = [
-    ("reading", dms_bench_script_read, peer_replay::read_times, 8),
-    ("the report", dms_bench_script_report, peer_replay::report_times, 200),
-    ("the whole replay", dms_bench_script_replay, peer_replay::replay_times, 4),
+const MEASURES: [(&str, Exported, Plain); 3] = [
+    ("reading", dms_bench_script_read, peer_replay::read_times),
+    ("the report", dms_bench_script_report, peer_replay::report_times),
+    ("the whole replay", dms_bench_script_replay, peer_replay::replay_times),
 ];
 
 fn hexadecimal(octets: &[u8]) -> String {
@@ -63,25 +59,13 @@ pub fn script_of(fonts: &str, events: usize) -> String {
     script
 }
 
-/// Prints the times of scripts of each length.
-pub fn scripts(fonts: &str) {
-    println!("{:<18} {:>7} {:>12} {:>12} {:>6}", "measure of scripts", "events", "proved, us", "by hand, us", "ratio");
-    for events in EVENTS {
-        let script = script_of(fonts, events);
-        for (measure, exported, plain, times) in MEASURES {
-            let proved = |times| unsafe { exported(script.as_ptr(), script.len(), times) };
-            let by_hand = |times| plain(script.as_bytes(), times);
-            assert!(by_hand(1) != 0 && proved(2) == by_hand(2), "{measure} of {events} events");
-            let calls: [&dyn Fn(u32) -> u64; 2] = [&proved, &by_hand];
-            let mut best = [[f64::INFINITY; 2]; 2];
-            for _ in 0..RUNS {
-                for at in 0..2 {
-                    best[at][0] = best[at][0].min(run(calls[at], 0));
-                    best[at][1] = best[at][1].min(run(calls[at], times));
-                }
-            }
-            let [proved, by_hand] = best.map(|[none, some]| (some - none) / 1_000.0 / f64::from(times));
-            println!("{measure:<18} {events:>7} {proved:>12.1} {by_hand:>12.1} {:>6.2}", proved / by_hand);
-        }
-    }
+/// Scripts of each length.
+pub fn scripts(fonts: &str) -> Vec<Measure> {
+    let measures = EVENTS.iter().flat_map(|events| {
+        let script = script_of(fonts, *events);
+        MEASURES.map(|(call, exported, plain)| {
+            over_octets("scripts", format!("{call}, {events} events"), script.clone().into_bytes(), exported, plain)
+        })
+    });
+    measures.collect()
 }

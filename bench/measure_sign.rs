@@ -1,15 +1,9 @@
 //! Measures of the sign, beside the same of `peer_sign`: scripts of datagrams and seconds, on a sign with few rows and on one with the most.
 
-use crate::peer::{Bind, Kind, MAX_DATAGRAM, MessageParts, Oid, Out, Value, read, write};
+use crate::peer::{Bind, Kind, MessageParts, Oid, Out, Value, read, write};
 use crate::peer_sign::{Sign, crc, sign_times};
 use crate::peer_text::Face;
-use crate::run;
-
-/// Runs of a measure, of which the best counts.
-const RUNS: usize = 400;
-
-/// How long a run takes, in nanoseconds: short, since other programs disturb long ones.
-const RUN_NANOSECONDS: f64 = 2e5;
+use std::rc::Rc;
 
 /// The text of each permanent row.
 const PERMANENT_TEXT: &[u8] = b"ROAD CLOSED";
@@ -198,49 +192,19 @@ fn sign_of(fonts: &str, (permanent, changeable, volatile): (usize, usize, usize)
     Sign::new(face, PERMANENT_TEXT, permanent, changeable, volatile)
 }
 
-/// The best times of the proved sign and of that by hand, in nanoseconds, without what is done once. The runs take turns.
-fn best(measure: &Measure, fonts: &str, rows: (usize, usize, usize)) -> [f64; 2] {
+/// The measure of a script on a sign with so many rows, the proved one and that by hand.
+fn compared(topic: &'static str, measure: Measure, fonts: &str, rows: (usize, usize, usize)) -> crate::Measure {
     assert_eq!(measure.last_status(&mut sign_of(fonts, rows)), measure.status, "{} with {rows:?}", measure.name);
-    let (before, script) = (script_of(&measure.before), script_of(&measure.script));
-    let changeable = rows.1 as u32;
-    let proved = |times| unsafe {
+    let scripts: Rc<[Vec<u8>; 2]> = Rc::new([script_of(&measure.before), script_of(&measure.script)]);
+    let (same, fonts): (_, Rc<str>) = (scripts.clone(), fonts.into());
+    let text = fonts.clone();
+    let proved = move |times| unsafe {
+        let [before, script] = &*scripts;
         let (before, before_size, script, script_size) = (before.as_ptr(), before.len(), script.as_ptr(), script.len());
-        dms_bench_sign(fonts.as_ptr(), fonts.len(), before, before_size, script, script_size, changeable, times)
+        dms_bench_sign(text.as_ptr(), text.len(), before, before_size, script, script_size, rows.1 as u32, times)
     };
-    let by_hand = |times| sign_times(sign_of(fonts, rows), &before, &script, times);
-    let times = if measure.script.len() > 10 { 3 } else { MAX_DATAGRAM as u32 };
-    assert_eq!(proved(times), by_hand(times), "{} with {rows:?}", measure.name);
-    let calls: [&dyn Fn(u32) -> u64; 2] = [&proved, &by_hand];
-    let least = |call: &dyn Fn(u32) -> u64, times| (0..9).map(|_| run(call, times)).fold(f64::INFINITY, f64::min);
-    let once = |call| ((least(call, 50) - least(call, 0)) / 50.0).max(5.0);
-    let times = calls.map(|call| (RUN_NANOSECONDS / once(call)).max(1.0) as u32);
-    let mut best = [[f64::INFINITY; 2]; 2];
-    for _ in 0..RUNS {
-        for at in 0..2 {
-            best[at][0] = best[at][0].min(run(calls[at], 0));
-            best[at][1] = best[at][1].min(run(calls[at], times[at]));
-        }
-    }
-    [0, 1].map(|at| (best[at][1] - best[at][0]) / f64::from(times[at]))
-}
-
-/// Hands a measure's script to the proved sign, or to that by hand, so many times: who counts instructions takes those of no times from
-/// those of some. The names of all measures are printed where none has this name.
-pub fn counted(fonts: &str, text: &[u8], name: &str, by_hand: bool, times: u32) {
-    let rows = ROWS[0];
-    let measures = measures(text, false, &mut sign_of(fonts, rows));
-    let Some(measure) = measures.iter().find(|measure| measure.name == name) else {
-        measures.iter().for_each(|measure| println!("{}", measure.name));
-        return;
-    };
-    let (before, script) = (script_of(&measure.before), script_of(&measure.script));
-    let sum = if by_hand {
-        sign_times(sign_of(fonts, rows), &before, &script, times)
-    } else {
-        let (before, before_size, script, script_size) = (before.as_ptr(), before.len(), script.as_ptr(), script.len());
-        unsafe { dms_bench_sign(fonts.as_ptr(), fonts.len(), before, before_size, script, script_size, rows.1 as u32, times) }
-    };
-    println!("{sum}");
+    let by_hand = move |times| sign_times(sign_of(&fonts, rows), &same[0], &same[1], times);
+    crate::Measure::new(topic, measure.name, proved, by_hand)
 }
 
 /// What is measured at four sizes: of texts, of requests, and of the numbers of rows.
@@ -269,23 +233,17 @@ fn grown(texts: &[Vec<u8>; 4]) -> Vec<Measure> {
     measures
 }
 
-/// Prints how the times of the bench sign grow.
-pub fn growth(fonts: &str, texts: &[Vec<u8>; 4]) {
-    println!("{:<32} {:<10} {:>11} {:>11} {:>6}", "growth of the sign", "rows", "proved, ns", "by hand, ns", "ratio");
-    for measure in grown(texts) {
-        let [proved, by_hand] = best(&measure, fonts, ROWS[0]);
-        println!("{:<32} {:<10} {proved:>11.1} {by_hand:>11.1} {:>6.2}", measure.name, "1/2/1", proved / by_hand);
-    }
+/// How the times of the bench sign grow.
+pub fn growth(fonts: &str, texts: &[Vec<u8>; 4]) -> Vec<crate::Measure> {
+    grown(texts).into_iter().map(|measure| compared("growth of the sign with 1, 2 and 1 rows", measure, fonts, ROWS[0])).collect()
 }
 
-/// Prints the times of the sign with few rows and with the most.
-pub fn signs(fonts: &str, text: &[u8]) {
-    println!("{:<32} {:<10} {:>11} {:>11} {:>6}", "measure of the sign", "rows", "proved, ns", "by hand, ns", "ratio");
-    for rows in ROWS {
-        let name = format!("{}/{}/{}", rows.0, rows.1, rows.2);
-        for measure in measures(text, rows == ROWS[1], &mut sign_of(fonts, rows)) {
-            let [proved, by_hand] = best(&measure, fonts, rows);
-            println!("{:<32} {name:<10} {proved:>11.1} {by_hand:>11.1} {:>6.2}", measure.name, proved / by_hand);
-        }
+/// The sign with few rows and with the most.
+pub fn signs(fonts: &str, text: &[u8]) -> Vec<crate::Measure> {
+    let mut all = Vec::new();
+    for (topic, rows) in ["sign with 1, 2 and 1 rows", "sign with 16, 64 and 16 rows"].into_iter().zip(ROWS) {
+        let measures = measures(text, rows == ROWS[1], &mut sign_of(fonts, rows));
+        all.extend(measures.into_iter().map(|measure| compared(topic, measure, fonts, rows)));
     }
+    all
 }

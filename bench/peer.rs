@@ -6,7 +6,7 @@
 pub use measures::{read_times, walk_times, write_times};
 pub use message::{Bind, Binds, Kind, MAX_DATAGRAM, Message, MessageParts, Oid, Value};
 pub use reading::read;
-pub use writing::{Out, size_of_element, size_of_members, size_of_number, write};
+pub use writing::{Out, size_of_element, size_of_members, size_of_number, size_of_value, write};
 
 mod message {
     pub const MAX_DATAGRAM: usize = 1472;
@@ -89,74 +89,80 @@ mod message {
 mod reading {
     use super::message::*;
 
-    /// The octets of an element that are left, and where they begin in the datagram.
+    /// The octets of an element that are left, and where they end in the datagram.
     #[derive(Clone, Copy)]
     struct Cursor<'a> {
         octets: &'a [u8],
-        place: usize,
+        end: usize,
     }
 
+    #[cold]
     fn fault<T>(kind: FaultKind, place: usize) -> Result<T, Fault> {
         Err(Fault { kind, place })
     }
 
     impl<'a> Cursor<'a> {
-        fn end(&self) -> usize {
-            self.place + self.octets.len()
+        /// Where what is left begins in the datagram.
+        #[inline]
+        fn place(&self) -> usize {
+            self.end - self.octets.len()
         }
 
         #[inline]
         fn octet(&mut self) -> Result<u8, Fault> {
             let [first, rest @ ..] = self.octets else {
-                return fault(FaultKind::Truncated, self.place);
+                return fault(FaultKind::Truncated, self.end);
             };
             self.octets = rest;
-            self.place += 1;
             Ok(*first)
         }
 
         #[inline]
         fn tag(&mut self, wanted: u8) -> Result<(), Fault> {
-            let place = self.place;
-            if self.octet()? != wanted {
-                return fault(FaultKind::BadTag, place);
+            match self.octets {
+                [first, rest @ ..] if *first == wanted => {
+                    self.octets = rest;
+                    Ok(())
+                }
+                [] => fault(FaultKind::Truncated, self.end),
+                _ => fault(FaultKind::BadTag, self.place()),
             }
-            Ok(())
         }
 
         #[inline]
         fn length(&mut self) -> Result<usize, Fault> {
-            let place = self.place;
-            let first = self.octet()?;
-            if first < 128 {
-                return Ok(first as usize);
+            match self.octets {
+                [first @ ..128, rest @ ..] => {
+                    self.octets = rest;
+                    Ok(usize::from(*first))
+                }
+                _ => self.long_length(),
             }
+        }
+
+        fn long_length(&mut self) -> Result<usize, Fault> {
+            let place = self.place();
+            let first = self.octet()?;
             if first == 128 || first > 132 {
                 return fault(FaultKind::BadLength, place);
             }
-            let count = (first - 128) as usize;
-            if self.octets.len() < count {
-                return fault(FaultKind::Truncated, self.end());
-            }
-            let (digits, rest) = self.octets.split_at(count);
+            let Some((digits, rest)) = self.octets.split_at_checked(usize::from(first - 128)) else {
+                return fault(FaultKind::Truncated, self.end);
+            };
             self.octets = rest;
-            self.place += count;
-            Ok(digits.iter().fold(0, |number, digit| number << 8 | *digit as usize))
+            Ok(digits.iter().fold(0, |number, digit| number << 8 | usize::from(*digit)))
         }
 
         #[inline]
         fn content(&mut self, past: FaultKind) -> Result<Cursor<'a>, Fault> {
-            let before = self.place;
+            let before = self.place();
             let count = self.length()?;
-            if self.octets.len() < count {
-                let place = if past == FaultKind::Truncated { self.end() } else { before };
-                return fault(past, place);
-            }
-            let (octets, rest) = self.octets.split_at(count);
-            let content = Cursor { octets, place: self.place };
+            let place = self.place();
+            let Some((octets, rest)) = self.octets.split_at_checked(count) else {
+                return fault(past, if past == FaultKind::Truncated { self.end } else { before });
+            };
             self.octets = rest;
-            self.place += count;
-            Ok(content)
+            Ok(Cursor { octets, end: place + count })
         }
 
         #[inline]
@@ -167,12 +173,16 @@ mod reading {
 
         #[inline]
         fn integer(&mut self) -> Result<i64, Fault> {
+            if let [2, 1, number, rest @ ..] = self.octets {
+                self.octets = rest;
+                return Ok(i64::from(*number as i8));
+            }
             integer_of(self.element(2)?)
         }
 
         #[inline]
         fn ended(&self) -> Result<(), Fault> {
-            if self.octets.is_empty() { Ok(()) } else { fault(FaultKind::TrailingBytes, self.place) }
+            if self.octets.is_empty() { Ok(()) } else { fault(FaultKind::TrailingBytes, self.place()) }
         }
     }
 
@@ -186,12 +196,12 @@ mod reading {
             _ => true,
         };
         if !shortest || octets.len() > 5 {
-            return fault(FaultKind::BadInteger, content.place);
+            return fault(FaultKind::BadInteger, content.place());
         }
         let start = if octets[0] >= 128 { -1 } else { 0 };
         let value = octets.iter().fold(start, |number: i64, octet| number << 8 | i64::from(*octet));
         if value < -(1 << 31) || value >= 1 << 32 {
-            return fault(FaultKind::BadInteger, content.place);
+            return fault(FaultKind::BadInteger, content.place());
         }
         Ok(value)
     }
@@ -199,39 +209,55 @@ mod reading {
     #[inline]
     fn natural_of(content: Cursor<'_>) -> Result<u32, Fault> {
         let value = integer_of(content)?;
-        u32::try_from(value).or(fault(FaultKind::BadInteger, content.place))
+        u32::try_from(value).or(fault(FaultKind::BadInteger, content.place()))
     }
 
+    /// The octets that the names of a sign begin with: nine sub-identifiers.
+    const DMS: [u8; 10] = [43, 6, 1, 4, 1, 137, 54, 4, 2, 3];
+
+    /// How many sub-identifiers these octets are; none where they are not whole ones in the shortest form, below 2^32.
     #[inline]
-    fn name_of(content: Cursor<'_>) -> Result<Oid<'_>, Fault> {
+    fn sub_identifiers(octets: &[u8]) -> Option<usize> {
         let mut count = 0;
         let mut number: u32 = 0;
-        let bad = fault(FaultKind::BadName, content.place);
-        for &octet in content.octets {
-            if number >= 1 << 25 || number == 0 && octet == 128 {
-                return bad;
-            }
-            if octet < 128 {
+        for &octet in octets {
+            if octet < 128 && number < 1 << 25 {
                 count += 1;
                 number = 0;
+            } else if number >= 1 << 25 || number == 0 && octet == 128 {
+                return None;
             } else {
                 number = number << 7 | u32::from(octet & 127);
             }
         }
-        if count == 0 || count > 127 || number != 0 {
-            return bad;
+        (number == 0).then_some(count)
+    }
+
+    #[inline]
+    fn name_of(content: Cursor<'_>) -> Result<Oid<'_>, Fault> {
+        let octets = content.octets;
+        let count = match octets.strip_prefix(&DMS) {
+            Some(rest) => sub_identifiers(rest).map(|count| count + 9),
+            None => sub_identifiers(octets),
+        };
+        match count {
+            Some(1..=127) => Ok(Oid { content: octets }),
+            _ => fault(FaultKind::BadName, content.place()),
         }
-        Ok(Oid { content: content.octets })
     }
 
     #[inline]
     fn value_of<'a>(cursor: &mut Cursor<'a>) -> Result<Value<'a>, Fault> {
-        let place = cursor.place;
+        if let [5, 0] = cursor.octets {
+            cursor.octets = &[];
+            return Ok(Value::Null);
+        }
+        let place = cursor.place();
         let tag = cursor.octet()?;
         if !matches!(tag, 2 | 4 | 5 | 6 | 64..=68) {
             return fault(FaultKind::BadTag, place);
         }
-        let before = cursor.place;
+        let before = cursor.place();
         let content = cursor.content(FaultKind::LengthPast)?;
         Ok(match tag {
             2 => Value::Integer(integer_of(content)?),
@@ -330,15 +356,15 @@ mod reading {
         if octets.len() > MAX_DATAGRAM {
             return fault(FaultKind::TooLong, MAX_DATAGRAM);
         }
-        let mut datagram = Cursor { octets, place: 0 };
+        let mut datagram = Cursor { octets, end: octets.len() };
         datagram.tag(48)?;
         let mut inside = datagram.content(FaultKind::Truncated)?;
         let version = inside.element(2)?;
         if integer_of(version)? != 0 {
-            return fault(FaultKind::BadVersion, version.place);
+            return fault(FaultKind::BadVersion, version.place());
         }
         let community = inside.element(4)?.octets;
-        let place = inside.place;
+        let place = inside.place();
         let Some(kind) = kind_of(inside.octet()?) else {
             return fault(FaultKind::BadTag, place);
         };
@@ -357,25 +383,45 @@ mod reading {
 mod writing {
     use super::message::*;
 
-    /// A datagram to send.
+    /// The most octets by which a head of short lengths is shorter than the room that is left for it.
+    const SHORTER: usize = 6;
+
+    /// A datagram to send, from `start` to `end`.
     pub struct Out {
-        octets: [u8; MAX_DATAGRAM],
-        len: usize,
+        octets: [u8; MAX_DATAGRAM + SHORTER],
+        start: usize,
+        end: usize,
     }
 
     pub struct TooBig;
 
     impl Out {
         pub fn new() -> Out {
-            Out { octets: [0; MAX_DATAGRAM], len: 0 }
+            Out { octets: [0; MAX_DATAGRAM + SHORTER], start: 0, end: 0 }
         }
 
         pub fn as_slice(&self) -> &[u8] {
-            &self.octets[..self.len]
+            &self.octets[self.start..self.end]
         }
 
         pub fn clear(&mut self) {
-            self.len = 0;
+            (self.start, self.end) = (0, 0);
+        }
+
+        /// Leaves room for a head of so many octets: what is written next stands behind it.
+        #[inline]
+        pub fn leave_head(&mut self, octets: usize) {
+            (self.start, self.end) = (octets, octets);
+        }
+
+        /// Writes a head of so many octets before what stands here.
+        #[inline]
+        pub fn put_head(&mut self, octets: usize, write: impl FnOnce(&mut Out)) {
+            let end = self.end;
+            self.start -= octets;
+            self.end = self.start;
+            write(self);
+            self.end = end;
         }
 
         /// Holds these octets, which are a datagram's.
@@ -385,29 +431,23 @@ mod writing {
         }
 
         #[inline]
-        fn push(&mut self, octet: u8) {
-            self.octets[self.len] = octet;
-            self.len += 1;
+        fn put<const N: usize>(&mut self, octets: [u8; N]) {
+            self.octets[self.end..self.end + N].copy_from_slice(&octets);
+            self.end += N;
         }
 
         #[inline]
-        fn extend(&mut self, content: &[u8]) {
-            self.octets[self.len..self.len + content.len()].copy_from_slice(content);
-            self.len += content.len();
+        pub fn extend(&mut self, content: &[u8]) {
+            self.octets[self.end..self.end + content.len()].copy_from_slice(content);
+            self.end += content.len();
         }
 
         #[inline]
         pub fn head(&mut self, tag: u8, size: usize) {
-            self.push(tag);
-            if size < 128 {
-                self.push(size as u8);
-            } else if size < 256 {
-                self.push(129);
-                self.push(size as u8);
-            } else {
-                self.push(130);
-                self.push((size >> 8) as u8);
-                self.push(size as u8);
+            match size {
+                0..128 => self.put([tag, size as u8]),
+                128..256 => self.put([tag, 129, size as u8]),
+                _ => self.put([tag, 130, (size >> 8) as u8, size as u8]),
             }
         }
 
@@ -420,10 +460,11 @@ mod writing {
         #[inline]
         pub fn number(&mut self, tag: u8, number: i64) {
             let size = size_of_number(number);
-            self.head(tag, size);
-            for digit in (0..size).rev() {
-                self.push((number >> (8 * digit)) as u8);
+            if size == 1 {
+                return self.put([tag, 1, number as u8]);
             }
+            self.put([tag, size as u8]);
+            self.extend(&number.to_be_bytes()[8 - size..]);
         }
 
         #[inline]
@@ -461,7 +502,7 @@ mod writing {
     }
 
     #[inline]
-    fn size_of_value(value: &Value<'_>) -> usize {
+    pub fn size_of_value(value: &Value<'_>) -> usize {
         size_of_element(match value {
             Value::Integer(number) => size_of_number(*number),
             Value::Octets(octets) | Value::Opaque(octets) => octets.len(),
@@ -480,7 +521,7 @@ mod writing {
     }
 
     pub fn write(parts: &MessageParts<'_>, out: &mut Out) -> Result<(), TooBig> {
-        out.len = 0;
+        out.clear();
         let mut list = 0;
         for bind in parts.binds {
             list += size_of_element(size_of_members(bind));

@@ -1,7 +1,7 @@
 //! A sign by hand in plain Rust: the same objects, requests, rows, activations and seconds as the proved sign, over the reader and the
 //! writer of `peer` and the texts of `peer_text`. Its defaults are those of the face; a SET of them is not among the measures.
 
-use crate::peer::{Bind, Kind, MAX_DATAGRAM, Message, Oid, Out, Value, read, size_of_element, size_of_members, size_of_number};
+use crate::peer::{Bind, Binds, Kind, MAX_DATAGRAM, Message, Out, Value, read, size_of_element, size_of_members, size_of_number, size_of_value};
 use crate::peer_text::{self, Code, Face};
 use std::hint::black_box;
 
@@ -69,6 +69,8 @@ struct Row {
     priority: u8,
     status: Status,
     checksum: u16,
+    /// The defaults under which the text of a valid row was found good.
+    under: [u8; 9],
 }
 
 /// A row as it is read.
@@ -86,7 +88,7 @@ struct View<'a> {
 impl Row {
     fn unused() -> Row {
         let (text, owner) = (Vec::with_capacity(512), Vec::with_capacity(127));
-        Row { text, owner, beacon: 0, pixel: 0, priority: 1, status: Status::NotUsed, checksum: 0 }
+        Row { text, owner, beacon: 0, pixel: 0, priority: 1, status: Status::NotUsed, checksum: 0, under: DEFAULTS }
     }
 
     fn permanent(text: &[u8]) -> Row {
@@ -242,23 +244,70 @@ impl Counts {
         self.place(content).map(|place| self.at(place))
     }
 
+    /// The rows of all types of memory that come before each row with a greater type, or this type and a greater number.
+    fn rows_up_to(&self, memory: u32, number: u32) -> usize {
+        let stored = self.permanent + self.changeable + self.volatile;
+        let within = |before: usize, count: usize| before + count.min(number as usize);
+        match memory {
+            0..2 => 0,
+            2 => within(0, self.permanent),
+            3 => within(self.permanent, self.changeable),
+            4 => within(self.permanent + self.changeable, self.volatile),
+            5 => within(stored, 1),
+            6 => stored + 1,
+            7 => within(stored + 1, 255),
+            _ => stored + 256,
+        }
+    }
+
+    /// How many instances of the table are not after the name with these numbers behind the table's.
+    fn cells_up_to(&self, mut rest: impl Iterator<Item = u32>) -> usize {
+        match rest.next() {
+            None | Some(0) => return 0,
+            Some(1) => {}
+            Some(_) => return 9 * self.rows(),
+        }
+        let column = rest.next().unwrap_or(0) as usize;
+        if column == 0 {
+            return 0;
+        }
+        if column > 9 {
+            return 9 * self.rows();
+        }
+        let rows = rest.next().map_or(0, |memory| self.rows_up_to(memory, rest.next().unwrap_or(0)));
+        (column - 1) * self.rows() + rows
+    }
+
+    /// The place of the first instance after a name that is none: where it first differs from the names that there are tells it.
+    fn place_after(&self, content: &[u8]) -> usize {
+        let Some(rest) = content.strip_prefix(&DMS) else {
+            return if numbers(content).lt(numbers(&DMS)) || DMS.starts_with(content) { 0 } else { self.places() };
+        };
+        let mut rest = numbers(rest);
+        let group = rest.next().unwrap_or(0).min(255) as u8;
+        let Some(number) = rest.next() else {
+            return self.objects_before((group, 0));
+        };
+        let number = number.min(255) as u8;
+        if (group, number) == (5, 8) {
+            return BEFORE_TABLE.len() + self.cells_up_to(rest);
+        }
+        let before = self.objects_before((group, number));
+        let is_object = BEFORE_TABLE.contains(&(group, number)) || AFTER_TABLE.contains(&(group, number));
+        before + usize::from(is_object && rest.next().is_some())
+    }
+
+    /// How many instances there are of objects before this one.
+    fn objects_before(&self, object: (u8, u8)) -> usize {
+        match BEFORE_TABLE.partition_point(|before| *before < object) {
+            19 if object > (5, 8) => 19 + 9 * self.rows() + AFTER_TABLE.partition_point(|before| *before < object),
+            before => before,
+        }
+    }
+
     /// The first instance after this name.
     fn next(&self, content: &[u8]) -> Option<Instance> {
-        let place = match self.place(content) {
-            Some(place) => place + 1,
-            None => {
-                let (mut low, mut high) = (0, self.places());
-                while low < high {
-                    let middle = (low + high) / 2;
-                    if numbers(Name::of(self.at(middle)).content()).gt(numbers(content)) {
-                        high = middle;
-                    } else {
-                        low = middle + 1;
-                    }
-                }
-                low
-            }
-        };
+        let place = self.place(content).map_or_else(|| self.place_after(content), |place| place + 1);
         (place < self.places()).then(|| self.at(place))
     }
 }
@@ -314,7 +363,7 @@ pub struct Sign {
     short_power_loss_time: u16,
     time_comm_loss: u16,
     silent: u32,
-    list: Option<Box<Out>>,
+    defaults: [u8; 9],
 }
 
 /// What a binding of a SET writes.
@@ -335,8 +384,28 @@ enum Change<'a> {
 
 /// A SET is refused at a binding with an error status.
 struct Refusal {
-    index: usize,
+    index: i64,
     status: i64,
+}
+
+/// The names of a SET's bindings that were met, each marked by a bit of its octets.
+struct Names<'a> {
+    binds: Binds<'a>,
+    met: usize,
+    marks: [u64; 16],
+}
+
+impl Names<'_> {
+    /// Whether a name was met before. It is from now on.
+    fn had(&mut self, content: &[u8]) -> bool {
+        let slot = content.iter().rev().take(4).fold(0_usize, |slot, octet| slot * 9 + usize::from(*octet)) % 1024;
+        let (word, bit) = (slot / 64, 1_u64 << (slot % 64));
+        let is_marked = self.marks[word] & bit != 0;
+        let had = is_marked && self.binds.take(self.met).any(|before| before.name.content == content);
+        self.marks[word] |= bit;
+        self.met += 1;
+        had
+    }
 }
 
 const TOO_BIG: i64 = 1;
@@ -488,7 +557,7 @@ impl Sign {
             short_power_loss_time: 0,
             time_comm_loss: 0,
             silent: 0,
-            list: Some(Box::new(Out::new())),
+            defaults: DEFAULTS,
         }
     }
 
@@ -532,7 +601,7 @@ impl Sign {
             (2, 3) => integer(64),
             (2, 4) => integer(256),
             (4, 11) => integer(3),
-            (4, number) => integer(usize::from(DEFAULTS[usize::from(number) - 1])),
+            (4, number) => integer(usize::from(self.defaults[usize::from(number) - 1])),
             (5, 1) => integer(self.permanent.len()),
             (5, 2) => integer(count_of(&self.changeable, Status::Valid)),
             (5, 3) => integer(self.changeable.len()),
@@ -587,8 +656,8 @@ impl Sign {
             Kind::Get => self.read_values(&message, false, out),
             Kind::GetNext => self.read_values(&message, true, out),
             Kind::Set => match self.set(may_write, &message) {
-                Ok(()) => self.repeat(&message, 0, 0, out),
-                Err(refusal) => self.repeat(&message, refusal.status, refusal.index as i64, out),
+                Ok(()) => repeat(&message, 0, 0, out),
+                Err(refusal) => repeat(&message, refusal.status, refusal.index, out),
             },
         }
         self.silent = 0;
@@ -596,50 +665,38 @@ impl Sign {
     }
 
     fn read_values(&mut self, message: &Message<'_>, next: bool, out: &mut Out) {
-        let mut list = self.list.take().unwrap_or_else(|| Box::new(Out::new()));
-        list.clear();
-        let mut status = 0;
-        let mut index = 0;
-        for bind in message.binds {
-            index += 1;
+        let room = room_before(message, 0, 0);
+        out.leave_head(room);
+        let mut fits = true;
+        for (bind, index) in message.binds.zip(1..) {
             let content = bind.name.content;
             let instance = if next { self.counts.next(content) } else { self.counts.named(content) };
-            let Some((instance, value)) = instance.and_then(|instance| Some((instance, self.value(instance)?))) else {
-                status = NO_SUCH_NAME;
-                break;
+            let Some(instance) = instance else {
+                return repeat(message, NO_SUCH_NAME, index, out);
             };
-            let name = Name::of(instance);
-            let name = Oid { content: if next { name.content() } else { content } };
-            if status == 0 && !push(&mut list, &Bind { name, value }) {
-                status = TOO_BIG;
+            if !fits {
+                continue;
             }
+            let Some(value) = self.value(instance) else {
+                return repeat(message, NO_SUCH_NAME, index, out);
+            };
+            fits = if next {
+                push(out, room, Name::of(instance).content(), &value)
+            } else {
+                push(out, room, content, &value)
+            };
         }
-        let sent = status == 0 && reply(message, 0, 0, list.as_slice(), out);
-        self.list = Some(list);
-        match status {
-            _ if sent => {}
-            NO_SUCH_NAME => self.repeat(message, status, index, out),
-            _ => self.repeat(message, TOO_BIG, 0, out),
+        if fits {
+            head(message, 0, 0, out);
+        } else {
+            repeat(message, TOO_BIG, 0, out);
         }
     }
 
-    /// A reply with the request's bindings.
-    fn repeat(&mut self, message: &Message<'_>, status: i64, index: i64, out: &mut Out) {
-        let mut list = self.list.take().unwrap_or_else(|| Box::new(Out::new()));
-        list.clear();
-        for bind in message.binds {
-            push(&mut list, &bind);
-        }
-        if !reply(message, status, index, list.as_slice(), out) {
-            reply(message, TOO_BIG, 0, list.as_slice(), out);
-        }
-        self.list = Some(list);
-    }
-
-    fn change_at<'a>(&self, message: &Message<'a>, index: usize, commanded: bool, bind: &Bind<'a>) -> Result<Change<'a>, i64> {
+    fn change_at<'a>(&self, names: &mut Names<'a>, commanded: bool, bind: &Bind<'a>) -> Result<Change<'a>, i64> {
         let instance = self.counts.named(bind.name.content).ok_or(NO_SUCH_NAME)?;
         let change = Change::of(instance, &bind.value).or(Err(NO_SUCH_NAME))?.ok_or(BAD_VALUE)?;
-        let is_among = message.binds.take(index).any(|before| before.name.content == bind.name.content);
+        let is_among = names.had(bind.name.content);
         let is_refused = change.row().is_some_and(|id| self.view(id).is_none_or(|row| row.status != Status::Modifying));
         if is_among || commanded && change.is_command() || is_refused {
             return Err(GEN_ERR);
@@ -649,33 +706,44 @@ impl Sign {
 
     fn set(&mut self, may_write: bool, message: &Message<'_>) -> Result<(), Refusal> {
         let mut command = None;
-        for (index, bind) in message.binds.enumerate() {
-            let change = if may_write { self.change_at(message, index, command.is_some(), &bind) } else { Err(NO_SUCH_NAME) };
+        let mut only = None;
+        let mut names = Names { binds: message.binds, met: 0, marks: [0; 16] };
+        for (bind, index) in message.binds.zip(1..) {
+            let change = if may_write { self.change_at(&mut names, command.is_some(), &bind) } else { Err(NO_SUCH_NAME) };
             match change {
-                Ok(change) if change.is_command() => command = Some((index + 1, change)),
-                Ok(_) => {}
-                Err(status) => return Err(Refusal { index: index + 1, status }),
+                Ok(change) if change.is_command() => command = Some((index, change)),
+                Ok(change) => only = Some(change),
+                Err(status) => return Err(Refusal { index, status }),
             }
         }
         let Some((index, command)) = command else {
-            self.assign(message);
+            match only {
+                Some(change) if names.met == 1 => self.change(change),
+                _ => self.assign(message),
+            }
             return Ok(());
         };
         let refused = Err(Refusal { index, status: GEN_ERR });
+        let alone = names.met == 1;
+        let assign = |sign: &mut Sign| {
+            if !alone {
+                sign.assign(message);
+            }
+        };
         match command {
             Change::Ask(id, ask) => {
                 let status = self.view(id).and_then(|row| row.status.next(ask));
                 let Some(status) = status.filter(|status| *status != Status::Validating || self.validating.is_none()) else {
                     return refused;
                 };
-                self.assign(message);
+                assign(self);
                 self.enter(id, status);
             }
             Change::Activate(code) => {
                 let id = [code[3], code[4], code[5], code[6], code[7]];
                 match self.decide(id, code[2]) {
                     Ok(row) => {
-                        self.assign(message);
+                        assign(self);
                         self.show(row, id, 8);
                         self.shown.address = [code[8], code[9], code[10], code[11]];
                         self.shown.remaining = seconds(u16::from_be_bytes([code[0], code[1]]));
@@ -690,7 +758,7 @@ impl Sign {
                 }
             }
             Change::Remaining(minutes) => {
-                self.assign(message);
+                assign(self);
                 match minutes {
                     0 => self.put_up(self.fallbacks[4], 14),
                     _ => self.shown.remaining = seconds(minutes),
@@ -703,25 +771,28 @@ impl Sign {
 
     fn assign(&mut self, message: &Message<'_>) {
         for bind in message.binds {
-            let Some(Ok(Some(change))) = self.counts.named(bind.name.content).map(|instance| Change::of(instance, &bind.value)) else {
-                continue;
-            };
-            match change {
-                Change::ShortPowerLossTime(number) => self.short_power_loss_time = number,
-                Change::TimeCommLoss(number) => self.time_comm_loss = number,
-                Change::Fallback(place, code) => self.fallbacks[place] = code,
-                _ => {
-                    let Some(row) = change.row().and_then(|id| self.row_mut(id)) else {
-                        continue;
-                    };
-                    match change {
-                        Change::Text(_, octets) => replace(&mut row.text, octets),
-                        Change::Owner(_, octets) => replace(&mut row.owner, octets),
-                        Change::Beacon(_, on) => row.beacon = on,
-                        Change::Pixel(_, on) => row.pixel = on,
-                        Change::Priority(_, priority) => row.priority = priority,
-                        _ => {}
-                    }
+            if let Some(Ok(Some(change))) = self.counts.named(bind.name.content).map(|instance| Change::of(instance, &bind.value)) {
+                self.change(change);
+            }
+        }
+    }
+
+    fn change(&mut self, change: Change<'_>) {
+        match change {
+            Change::ShortPowerLossTime(number) => self.short_power_loss_time = number,
+            Change::TimeCommLoss(number) => self.time_comm_loss = number,
+            Change::Fallback(place, code) => self.fallbacks[place] = code,
+            _ => {
+                let Some(row) = change.row().and_then(|id| self.row_mut(id)) else {
+                    return;
+                };
+                match change {
+                    Change::Text(_, octets) => replace(&mut row.text, octets),
+                    Change::Owner(_, octets) => replace(&mut row.owner, octets),
+                    Change::Beacon(_, on) => row.beacon = on,
+                    Change::Pixel(_, on) => row.pixel = on,
+                    Change::Priority(_, priority) => row.priority = priority,
+                    _ => {}
                 }
             }
         }
@@ -760,7 +831,8 @@ impl Sign {
         if priority < self.shown.priority {
             return Err(Cause::Priority);
         }
-        if memory != CURRENT_BUFFER {
+        let is_known = memory == BLANK || self.rows(memory).get(usize::from(number).wrapping_sub(1)).is_some_and(|row| row.under == self.defaults);
+        if memory != CURRENT_BUFFER && !is_known {
             peer_text::check(&self.face, row.text).map_err(|(code, place)| Cause::Syntax(code, place))?;
         }
         Ok(id)
@@ -854,7 +926,9 @@ impl Sign {
             Ok(_) => (2, 2, 0),
             Err((code, place)) => (5, syntax_number(code), place as u16),
         };
+        let under = self.defaults;
         if let Some(row) = self.row_mut(id) {
+            row.under = under;
             row.status = if checked.is_ok() { Status::Valid } else { Status::Error };
             row.checksum = checksum;
         }
@@ -884,36 +958,72 @@ fn replace(octets: &mut Vec<u8>, by: &[u8]) {
     octets.extend_from_slice(by);
 }
 
-/// Writes a binding to the list, where it has room.
-fn push(list: &mut Out, bind: &Bind<'_>) -> bool {
-    let members = size_of_members(bind);
-    if list.as_slice().len() + size_of_element(members) > MAX_DATAGRAM {
+/// Writes a binding behind the others, where the datagram has room; `before` octets are left for what stands before them.
+#[inline]
+fn push(out: &mut Out, before: usize, name: &[u8], value: &Value<'_>) -> bool {
+    let members = size_of_element(name.len()) + size_of_value(value);
+    if before + out.as_slice().len() + size_of_element(members) > MAX_DATAGRAM {
         return false;
     }
-    list.head(48, members);
-    list.element(6, bind.name.content);
-    list.value(&bind.value);
+    out.head(48, members);
+    out.element(6, name);
+    out.value(value);
     true
 }
 
-/// Writes the response to a message with these bindings, where it is not too big.
-fn reply(message: &Message<'_>, status: i64, index: i64, list: &[u8], out: &mut Out) -> bool {
-    let numbers = [message.request, status, index];
-    let pdu = numbers.iter().map(|number| size_of_element(size_of_number(*number))).sum::<usize>() + size_of_element(list.len());
+fn size_of_numbers(message: &Message<'_>, status: i64, index: i64) -> usize {
+    [message.request, status, index].iter().map(|number| size_of_element(size_of_number(*number))).sum()
+}
+
+/// The most octets of a response to this before its bindings.
+fn room_before(message: &Message<'_>, status: i64, index: i64) -> usize {
+    4 + 3 + size_of_element(message.community.len()) + 4 + size_of_numbers(message, status, index) + 4
+}
+
+/// Writes what stands before the bindings of a response; whether it is a datagram.
+fn head(message: &Message<'_>, status: i64, index: i64, out: &mut Out) -> bool {
+    let list = out.as_slice().len();
+    let pdu = size_of_numbers(message, status, index) + size_of_element(list);
     let inside = 3 + size_of_element(message.community.len()) + size_of_element(pdu);
     if size_of_element(inside) > MAX_DATAGRAM {
         return false;
     }
-    out.clear();
-    out.head(48, inside);
-    out.number(2, 0);
-    out.element(4, message.community);
-    out.head(162, pdu);
-    for number in numbers {
-        out.number(2, number);
-    }
-    out.element(48, list);
+    out.put_head(size_of_element(inside) - list, |out| {
+        out.head(48, inside);
+        out.number(2, 0);
+        out.element(4, message.community);
+        out.head(162, pdu);
+        for number in [message.request, status, index] {
+            out.number(2, number);
+        }
+        out.head(48, list);
+    });
     true
+}
+
+/// A reply with the request's bindings: as they lie in the datagram where each length is the shortest.
+fn repeat(message: &Message<'_>, status: i64, index: i64, out: &mut Out) {
+    let content = message.binds.content;
+    let shortest: usize = message.binds.map(|bind| size_of_element(size_of_members(&bind))).sum();
+    for (status, index) in [(status, index), (TOO_BIG, 0)] {
+        let before = room_before(message, status, index);
+        if before + shortest > MAX_DATAGRAM + 6 {
+            continue;
+        }
+        out.leave_head(before);
+        if shortest == content.len() {
+            out.extend(content);
+        } else {
+            for bind in message.binds {
+                out.head(48, size_of_members(&bind));
+                out.element(6, bind.name.content);
+                out.value(&bind.value);
+            }
+        }
+        if head(message, status, index, out) {
+            return;
+        }
+    }
 }
 
 fn played(sign: &mut Sign, script: &[u8], place: u32, out: &mut Out) -> u64 {

@@ -383,8 +383,9 @@ impl<'a> Checker<'a> {
     }
 }
 
-/// The number of a text's pages, or its fault and where it stands.
-pub fn check(face: &Face, text: &[u8]) -> Result<usize, (Code, usize)> {
+/// Walks a text while it fits, and hands over each item: the number of its pages, or its fault and where it stands.
+#[inline]
+fn walk(face: &Face, text: &[u8], mut each: impl FnMut(Item)) -> Result<usize, (Code, usize)> {
     if text.len() > 512 {
         return Err((Code::TooBig, 512));
     }
@@ -396,6 +397,7 @@ pub fn check(face: &Face, text: &[u8]) -> Result<usize, (Code, usize)> {
         let place = text.len() - rest.len();
         let (item, more) = item(rest).map_err(|code| (code, place))?;
         checker.take(item).map_err(|code| (code, place))?;
+        each(item);
         rest = more;
     }
     if !fit(&checker.closed(), face.height) {
@@ -404,16 +406,22 @@ pub fn check(face: &Face, text: &[u8]) -> Result<usize, (Code, usize)> {
     Ok(checker.pages + 1)
 }
 
+/// The number of a text's pages, or its fault and where it stands.
+pub fn check(face: &Face, text: &[u8]) -> Result<usize, (Code, usize)> {
+    walk(face, text, |_| {})
+}
+
 // ---- pages
 
-#[derive(Clone, Copy)]
+#[derive(Clone, Copy, PartialEq)]
 struct Flash {
     dark_first: bool,
     lit: u8,
     dark: u8,
 }
 
-#[derive(Clone, Copy)]
+/// What a cell shows.
+#[derive(Clone, Copy, PartialEq)]
 struct Cell {
     lit: bool,
     colour: u8,
@@ -450,7 +458,9 @@ pub struct Page {
     height: u32,
     #[allow(dead_code)]
     times: (u8, u8),
-    cells: Vec<Cell>,
+    /// What cells show, the dark ones first, and the number of each cell among these.
+    styles: Vec<Cell>,
+    cells: Vec<u8>,
 }
 
 fn begin(place: u8, whole: u32, size: u32) -> u32 {
@@ -463,8 +473,9 @@ fn begin(place: u8, whole: u32, size: u32) -> u32 {
 
 impl Page {
     fn drawn(face: &Face, lines: &[Line<'_>], background: u8, times: (u8, u8)) -> Page {
-        let dark = Cell { lit: false, colour: background, flash: None };
-        let mut page = Page { width: face.width, height: face.height, times, cells: vec![dark; (face.width * face.height) as usize] };
+        let styles = vec![Cell { lit: false, colour: background, flash: None }];
+        let cells = vec![0; (face.width * face.height) as usize];
+        let mut page = Page { width: face.width, height: face.height, times, styles, cells };
         for part in 2..=4 {
             let mut run = Run::default();
             for line in lines.iter().filter(|line| line.part == part) {
@@ -496,24 +507,33 @@ impl Page {
         }
     }
 
-    fn draw(&mut self, glyph: &Glyph, style: &Style<'_>, x: u32, y: u32) {
+    /// The number of what such cells show. A text of 512 octets has fewer than 130.
+    fn number(&mut self, style: &Style<'_>) -> u8 {
         let lit = Cell { lit: true, colour: style.foreground, flash: style.flash };
-        for (at, row) in glyph.rows.iter().enumerate() {
-            let start = ((y as usize + at) * self.width as usize) + x as usize;
-            let cells = &mut self.cells[start..start + glyph.width as usize];
+        let place = self.styles.iter().rposition(|other| *other == lit);
+        place.unwrap_or_else(|| {
+            self.styles.push(lit);
+            self.styles.len() - 1
+        }) as u8
+    }
+
+    fn draw(&mut self, glyph: &Glyph, style: &Style<'_>, x: u32, y: u32) {
+        let number = self.number(style);
+        let start = (y * self.width + x) as usize;
+        let rows = self.cells[start..].chunks_mut(self.width as usize);
+        for (cells, row) in rows.zip(&glyph.rows) {
             let mut bits = *row;
-            for cell in cells {
-                if bits >> 31 == 1 {
-                    *cell = lit;
-                }
-                bits <<= 1;
+            while bits != 0 {
+                let column = bits.leading_zeros();
+                cells[column as usize] = number;
+                bits &= !(1 << (31 - column));
             }
         }
     }
 
     fn row_weight(&self, y: u32) -> u64 {
         let start = (y * self.width) as usize;
-        self.cells[start..start + self.width as usize].iter().map(weight).sum()
+        self.cells[start..start + self.width as usize].iter().map(|number| weight(&self.styles[usize::from(*number)])).sum()
     }
 }
 
@@ -522,62 +542,92 @@ fn weight(cell: &Cell) -> u64 {
     u64::from(cell.lit) + u64::from(cell.colour) + flash
 }
 
-/// The pages of a text, or its fault and where it stands.
-pub fn pages(face: &Face, text: &[u8]) -> Result<Vec<Page>, (Code, usize)> {
-    check(face, text)?;
-    let defaults = &face.defaults;
-    let font = face.font(defaults.font).ok_or((Code::NoFont, 0))?;
-    let mut style = Style { font, foreground: defaults.foreground, flash: None, side: defaults.line };
-    let (mut background, mut times, mut part, mut gap) = (defaults.background, (defaults.on, defaults.off), defaults.page, None);
-    let mut pages = Vec::new();
-    let mut lines: Vec<Line<'_>> = Vec::new();
-    let mut characters = Vec::new();
-    let mut rest = text;
-    loop {
-        let next = if rest.is_empty() { None } else { Some(item(rest).map_err(|code| (code, text.len() - rest.len()))?) };
-        match next.map(|(item, _)| item) {
-            Some(Item::Char(character)) => characters.extend(style.font.glyph(character).map(|glyph| (glyph, style))),
-            Some(Item::NewLine(above)) => {
-                lines.push(Line { characters: std::mem::take(&mut characters), part, font: style.font, gap });
-                gap = above.map(u32::from);
-            }
-            Some(Item::NewPage) | None => {
-                if !characters.is_empty() || lines.iter().any(|line| line.part == part) {
-                    lines.push(Line { characters: std::mem::take(&mut characters), part, font: style.font, gap });
-                }
-                gap = None;
-                pages.push(Page::drawn(face, &lines, background, times));
-                lines.clear();
-            }
-            Some(Item::JustPage(other)) => {
-                let other = other.unwrap_or(defaults.page);
-                if other != part {
-                    if !characters.is_empty() || lines.iter().any(|line| line.part == part) {
-                        lines.push(Line { characters: std::mem::take(&mut characters), part, font: style.font, gap });
-                    }
-                    gap = None;
-                    part = other;
-                }
-            }
-            Some(Item::JustLine(side)) => style.side = side.unwrap_or(defaults.line),
-            Some(Item::Font(wanted)) => {
-                let number = wanted.map_or(defaults.font, |(number, _)| u32::from(number));
-                style.font = face.font(number).unwrap_or(style.font);
-            }
-            Some(Item::Background(colour)) => background = colour.unwrap_or(defaults.background),
-            Some(Item::Foreground(colour)) => style.foreground = colour.unwrap_or(defaults.foreground),
-            Some(Item::Flash { dark_first, lit, dark }) => {
-                let (lit, dark) = (lit.unwrap_or(defaults.flash_on), dark.unwrap_or(defaults.flash_off));
-                style.flash = Some(Flash { dark_first, lit, dark });
-            }
-            Some(Item::FlashEnd) => style.flash = None,
-            Some(Item::PageTime { lit, dark }) => times = (lit.unwrap_or(defaults.on), dark.unwrap_or(defaults.off)),
+/// The lines of a page, and what the page has.
+struct LaidOut<'a> {
+    lines: Vec<Line<'a>>,
+    background: u8,
+    times: (u8, u8),
+}
+
+/// A text that is being laid out.
+struct Layout<'a> {
+    face: &'a Face,
+    pages: Vec<LaidOut<'a>>,
+    lines: Vec<Line<'a>>,
+    characters: Vec<(&'a Glyph, Style<'a>)>,
+    style: Style<'a>,
+    background: u8,
+    times: (u8, u8),
+    part: u8,
+    gap: Option<u32>,
+}
+
+impl<'a> Layout<'a> {
+    fn new(face: &'a Face) -> Option<Layout<'a>> {
+        let defaults = &face.defaults;
+        let style = Style { font: face.font(defaults.font)?, foreground: defaults.foreground, flash: None, side: defaults.line };
+        let (lines, characters) = (Vec::new(), Vec::new());
+        let (background, times, part) = (defaults.background, (defaults.on, defaults.off), defaults.page);
+        Some(Layout { face, pages: Vec::new(), lines, characters, style, background, times, part, gap: None })
+    }
+
+    fn close_line(&mut self) {
+        let Layout { part, gap, .. } = *self;
+        self.lines.push(Line { characters: std::mem::take(&mut self.characters), part, font: self.style.font, gap });
+    }
+
+    fn close_part(&mut self) {
+        if !self.characters.is_empty() || self.lines.iter().any(|line| line.part == self.part) {
+            self.close_line();
         }
-        match next {
-            Some((_, more)) => rest = more,
-            None => return Ok(pages),
+        self.gap = None;
+    }
+
+    fn close_page(&mut self) {
+        self.close_part();
+        let Layout { background, times, .. } = *self;
+        self.pages.push(LaidOut { lines: std::mem::take(&mut self.lines), background, times });
+    }
+
+    fn take(&mut self, item: Item) {
+        let defaults = &self.face.defaults;
+        match item {
+            Item::Char(character) => self.characters.extend(self.style.font.glyph(character).map(|glyph| (glyph, self.style))),
+            Item::NewLine(above) => {
+                self.close_line();
+                self.gap = above.map(u32::from);
+            }
+            Item::NewPage => self.close_page(),
+            Item::JustPage(other) => {
+                let other = other.unwrap_or(defaults.page);
+                if other != self.part {
+                    self.close_part();
+                    self.part = other;
+                }
+            }
+            Item::JustLine(side) => self.style.side = side.unwrap_or(defaults.line),
+            Item::Font(wanted) => {
+                let number = wanted.map_or(defaults.font, |(number, _)| u32::from(number));
+                self.style.font = self.face.font(number).unwrap_or(self.style.font);
+            }
+            Item::Background(colour) => self.background = colour.unwrap_or(defaults.background),
+            Item::Foreground(colour) => self.style.foreground = colour.unwrap_or(defaults.foreground),
+            Item::Flash { dark_first, lit, dark } => {
+                let (lit, dark) = (lit.unwrap_or(defaults.flash_on), dark.unwrap_or(defaults.flash_off));
+                self.style.flash = Some(Flash { dark_first, lit, dark });
+            }
+            Item::FlashEnd => self.style.flash = None,
+            Item::PageTime { lit, dark } => self.times = (lit.unwrap_or(defaults.on), dark.unwrap_or(defaults.off)),
         }
     }
+}
+
+/// The pages of a text, or its fault and where it stands.
+pub fn pages(face: &Face, text: &[u8]) -> Result<Vec<Page>, (Code, usize)> {
+    let mut layout = Layout::new(face).ok_or((Code::NoFont, 0))?;
+    walk(face, text, |item| layout.take(item))?;
+    layout.close_page();
+    Ok(layout.pages.iter().map(|page| Page::drawn(face, &page.lines, page.background, page.times)).collect())
 }
 
 // ---- what is measured

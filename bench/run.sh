@@ -1,11 +1,11 @@
 #!/usr/bin/env bash
-# Builds the measures and prints their times, in nanoseconds a call: `bench/run.sh [DATAGRAM.hex ..]`.
+# Builds the measures and prints their tables, as Markdown: bench/run.sh [WORDS OF measured.py].
 set -eu
 case " $* " in *" --help "*) sed -n '2,/^[^#]/s/^# \{0,1\}//p' "$0"; exit ;; esac
 bench=$(cd "$(dirname "$0")" && pwd)
+case ${1-} in -h | --help) exec "$bench/measured.py" --help ;; esac
 crate=$bench/../crates/dms_bench
 build=$crate/out
-[ $# -gt 0 ] || set -- "$bench"/datagrams/*.hex
 
 log=$(mktemp)
 trap 'rm -f "$log"' EXIT
@@ -15,11 +15,12 @@ ar rcs "$build/libcrc.a" "$build/crc.o"
 # The kit's own few lines of C, through which what allocates calls malloc and free.
 kit=$(dirname "$("${RT:-rt}" doc)")
 rustc --edition 2024 -O -L "$build" -L "$kit/c" -l static=libc_c -o "$build/measure" "$bench/measure.rs"
-"$build/measure" "$@"
+"$bench/measured.py" "$@"
 
 if "${CC:-cc}" -O2 -o "$build/netsnmp" "$bench/netsnmp.c" -lnetsnmp 2> /dev/null; then
-    for datagram in "$@"; do
-        printf '%-16s %-24s %10s ns\n' "Net-SNMP's parse" "$(basename "$datagram" .hex)" "$("$build/netsnmp" "$(cat "$datagram")")"
+    printf '## Net-SNMP'"'"'s parse\n\n| datagram | ns |\n|---|---|\n'
+    for datagram in "$bench"/datagrams/*.hex; do
+        printf '| %s | %s |\n' "$(basename "$datagram" .hex)" "$("$build/netsnmp" "$(cat "$datagram")")"
     done
 else
     echo "Net-SNMP's parse was not measured: it wants Debian's package libsnmp-dev." >&2
