@@ -1,7 +1,6 @@
 #!/usr/bin/env bash
 # Builds the measures and prints their tables, as Markdown: bench/run.sh [WORDS OF measured.py].
 set -eu
-case " $* " in *" --help "*) sed -n '2,/^[^#]/s/^# \{0,1\}//p' "$0"; exit ;; esac
 bench=$(cd "$(dirname "$0")" && pwd)
 case ${1-} in -h | --help) exec "$bench/measured.py" --help ;; esac
 crate=$bench/../crates/dms_bench
