@@ -1,35 +1,38 @@
-"""A fleet in trouble: python3 -m control.chaos [--signs N] [--commands N] [--workers N] [--seconds N] [--seed N]
+"""A fleet in trouble: python3 -m control.chaos [--signs N] [--commands N] [--workers N] [--database KIND] [--seed N] ..
 
-Signs on loopback, where one datagram in ten is lost, late or doubled; commands to them; and workers, each a process, of
-which some are killed, or stopped for longer than their lease while others go on. At the end every command has ended,
-and all datagrams that came to a sign, what it accepted, its lines and its ledger are looked at. The seed decides the
-commands, the fate of each datagram, and who is killed or stopped when; not how fast the machine is.
+Signs on loopback, where one datagram in ten is lost, late or doubled; commands to them; workers, each a process, of
+which some are killed, or stopped for longer than their lease while others go on; and a server of PostgreSQL of its own,
+which crashes and is started again. At the end every command has ended, and all datagrams that came to a sign, what it
+accepted, its lines and its ledger are looked at. The seed decides the commands, the fate of each datagram, and after
+how many lines who is killed or stopped and the server crashes; not how fast the machine is.
 """
 
 import argparse
+import contextlib
 import os
 import pathlib
 import random
 import signal
-import subprocess
 import sys
 import tempfile
 import time
 from dataclasses import dataclass
+from typing import Iterator
 
-from door import description
-from door.records import Head
 from door.refusal import status_of, tell
-from model import text, wire
-from model.centre import Centre
 
-from . import SIGNTOOL, TOP, database, fleet
-from .loopback import Fates, Loopback, LoopbackSign
+from . import SIGNTOOL, TOP, cluster, database, fleet, start
+from .chaos_checks import Outcome, look_at
+from .chaos_workers import TICK, Workers
+from .database import Failed
+from .loopback import Fates, Loopback
 from .store import Store, whole
 
-TICK, LEASE = 0.2, 2.0
 TEXTS = ("FOG", "ROAD WORK", "LANE[nl]CLOSED", "[fo2]SLOW", "[fo9]NO FONT")
 DESCRIPTION = TOP / "signs/roadside.sign"
+PORTIONS = 20  # in which the commands are asked for
+LOOK = 0.2
+KINDS = ("sqlite", "postgresql")
 
 
 @dataclass
@@ -41,7 +44,35 @@ class Asked:
     workers: int
     seconds: float
     seed: int
+    database: str
     signtool: str
+
+
+@dataclass
+class Place:
+    """A database, and the server behind it where it is PostgreSQL's."""
+
+    where: str
+    server: cluster.Cluster | None = None
+    restarts: int = 0
+
+    def restart(self) -> None:
+        """The server crashes, and stands again."""
+        if self.server is not None:
+            self.server.stop(signal.SIGQUIT)
+            time.sleep(1)
+            self.server.start()
+            self.restarts += 1
+
+
+@contextlib.contextmanager
+def placed(asked: Asked, folder: pathlib.Path) -> Iterator[Place]:
+    """The database, as long as the run."""
+    if asked.database == "sqlite":
+        yield Place(str(folder / "database"))
+        return
+    with cluster.cluster() as server:
+        yield Place(server.database(), server)
 
 
 def command(chance: random.Random) -> str:
@@ -52,180 +83,93 @@ def command(chance: random.Random) -> str:
     return f"publish {row} {words} - 0 0 1 65535 {chance.choice((50, 255))} 192.0.2.1"
 
 
-class Workers:
-    """Processes, some of which are stopped."""
-
-    def __init__(self, asked: Asked, folder: pathlib.Path) -> None:
-        self.asked, self.folder = asked, folder
-        self.going: list[subprocess.Popen[bytes]] = []
-        self.stopped: list[tuple[float, subprocess.Popen[bytes]]] = []
-        self.killed = self.paused = 0
-
-    def fill(self) -> None:
-        """As many as are asked for go."""
-        while len(self.going) < self.asked.workers:
-            call = [sys.executable, "-m", "control.worker", "--fleet", str(self.folder / "fleet.toml"),
-                    "--database", str(self.folder / "database"), "--signtool", self.asked.signtool,
-                    "--tick", str(TICK), "--lease", str(LEASE)]
-            self.going.append(subprocess.Popen(call, cwd=TOP, stdin=subprocess.DEVNULL, stdout=subprocess.DEVNULL))
-
-    def trouble(self, chance: random.Random) -> None:
-        """One is killed or stopped, and another takes its place."""
-        worker = self.going.pop(chance.randrange(len(self.going)))
-        if chance.random() < 0.5:
-            worker.kill()
-            worker.wait()
-            self.killed += 1
-        else:
-            os.kill(worker.pid, signal.SIGSTOP)
-            self.stopped.append((time.monotonic() + chance.uniform(1.2, 2.5) * LEASE, worker))
-            self.paused += 1
-        self.fill()
-
-    def wake(self) -> None:
-        """Those whose lease is over go on, beside the others, until they are asked to end a lease later."""
-        now = time.monotonic()
-        for until, worker in [one for one in self.stopped if one[0] <= now]:
-            self.stopped.remove((until, worker))
-            os.kill(worker.pid, signal.SIGCONT)
-            self.going.append(worker)
-
-    def end(self) -> list[int]:
-        """How all that go ended."""
-        for _, worker in self.stopped:
-            os.kill(worker.pid, signal.SIGCONT)
-        every = self.going + [worker for _, worker in self.stopped]
-        for worker in every:
-            worker.terminate()
-        return [worker.wait(60) for worker in every]
-
-
-class Outcome:
-    """What was looked at, and what does not hold."""
-
-    def __init__(self) -> None:
-        self.passed = 0
-        self.failed: list[str] = []
-
-    def holds(self, name: str, is_so: bool) -> None:
-        self.passed, self.failed = self.passed + is_so, self.failed + [name] * (not is_so)
-
-
-def foretold(store: Store, row: int, sign: fleet.Sign) -> list[str]:
-    """The ledger that the model has after the sign's lines, one centre after the other."""
-    ledger: list[str] = []
-    centre: Centre | None = None
-    for (line,) in [*store.run("SELECT line FROM lines WHERE sign = ? ORDER BY number", row), ("journal",)]:
-        words = str(line).encode().split(b" ")
-        if words[0] == b"journal":
-            if centre is not None:
-                swapped = centre.swapped
-                ledger += [f"ledger {at} {code.octets(swapped).hex()} {how}" for at, code, how in centre.ledger]
-            head = Head.of(str(line).encode())
-            if head is not None and head.first is not None:
-                centre = text.World(text.described(description.with_first(sign.text, head.first))).centre
-        elif centre is not None and words[0] == b"datagram":
-            centre.receive(text.octets(words[1]))
-        elif centre is not None and words[0] == b"tick":
-            centre.tick()
-        elif centre is not None:
-            centre.command(text.event(words, centre.swapped))
-    return ledger
-
-
-def look_at_datagrams(found: Outcome, live: LoopbackSign) -> set[int]:
-    """No request number twice with other octets, none more than three times: the numbers of the activations."""
-    sent: dict[int, list[bytes]] = {}
-    activations: set[int] = set()
-    for octets in live.requests:
-        message = wire.spelled(octets)
-        found.holds(f"{live.name}: a datagram is a message", message is not None)
-        if message is not None:
-            sent.setdefault(message.number, []).append(octets)
-            if message.kind == wire.SET and message.bindings[0][0][-3:] == (6, 3, 0):
-                activations.add(message.number)
-    for number, datagrams in sent.items():
-        found.holds(f"{live.name}: number {number} has the same octets each time", len(set(datagrams)) == 1)
-        found.holds(f"{live.name}: number {number} goes out three times at most", len(datagrams) <= 3)
-    return activations
-
-
-def look_at(found: Outcome, store: Store, row: int, sign: fleet.Sign, live: LoopbackSign) -> None:
-    """What holds of a sign."""
-    activations = look_at_datagrams(found, live)
-    ledger = {int(line.split(" ")[1]): line.split(" ", 3)[2:] for line in store.ledger(row)}
-    found.holds(f"{live.name}: each activation that went out stands in the ledger", activations <= set(ledger))
-    found.holds(f"{live.name}: each acceptance of the sign stands in the ledger",
-                all(number in ledger and ledger[number][0] == code for number, code in live.accepted))
-    for number, (code, how) in ledger.items():
-        if how == "accepted":
-            found.holds(f"{live.name}: the sign accepted {number}", (number, code) in live.accepted)
-    accepted = store.run("SELECT count(*) FROM commands WHERE sign = ? AND how = 'accepted'", row)[0][0]
-    found.holds(f"{live.name}: each command that ended accepted has its activation",
-                accepted == sum(how == "accepted" for _, how in ledger.values()))
-    is_foretold = store.ledger(row) == foretold(store, row, sign)
-    found.holds(f"{live.name}: the ledger is the model's, handed the lines", is_foretold)
-    numbers = [line[0] for line in store.run("SELECT number FROM lines WHERE sign = ? ORDER BY number", row)]
-    found.holds(f"{live.name}: no line is missing", numbers == list(range(1, len(numbers) + 1)))
-
-
 def count(store: Store, rows: str) -> int:
     """How many rows there are."""
     return whole(store.run(f"SELECT count(*) FROM {rows}")[0][0])
 
 
-def carried(asked: Asked, store: Store, rows: dict[int, fleet.Sign], workers: Workers) -> None:
-    """Asks for all commands, in trouble, until they have ended or the time is over."""
-    chance = random.Random(asked.seed)
-    ends = time.monotonic() + asked.seconds
-    to_ask = [(chance.choice(sorted(rows)), command(chance)) for _ in range(asked.commands)]
-    due = chance.randint(5, 40)
-    while (to_ask or count(store, "commands WHERE how IS NULL")) and time.monotonic() < ends:
-        for row, line in to_ask[: max(1, asked.commands // 20)]:
-            store.ask(row, "chaos", line)
-        to_ask = to_ask[max(1, asked.commands // 20):]
-        workers.wake()
-        if (lines := count(store, "lines")) >= due:
-            workers.trouble(chance)
-            due = lines + chance.randint(5, 40)
-        time.sleep(0.2)
+class Run:
+    """The commands, and the trouble meanwhile."""
+
+    def __init__(self, asked: Asked, store: Store, rows: dict[int, fleet.Sign], workers: Workers, place: Place) -> None:
+        self.asked, self.store, self.workers, self.place = asked, store, workers, place
+        self.chance = random.Random(asked.seed)
+        self.to_ask = [(self.chance.choice(sorted(rows)), command(self.chance)) for _ in range(asked.commands)]
+        self.every = max(5, asked.commands // 20)  # lines from one trouble to the next at least
+        self.due = self.chance.randint(self.every, 4 * self.every)
+        self.crash_at = self.chance.randint(2 * asked.commands, 6 * asked.commands)  # lines
+        self.lines = 0
+
+    def carried(self) -> None:
+        """Until all commands have ended, or the time is over."""
+        ends = time.monotonic() + self.asked.seconds
+        while time.monotonic() < ends:
+            try:
+                if not self.step():
+                    return
+            except Failed:
+                pass  # the server is starting: what was asked is asked again
+            time.sleep(LOOK)
+
+    def step(self) -> bool:
+        """A portion of the commands, and the trouble that is due; False where all has ended."""
+        for _ in range(min(len(self.to_ask), max(1, self.asked.commands // PORTIONS))):
+            row, line = self.to_ask[-1]
+            self.store.ask(row, "chaos", line)
+            self.to_ask.pop()
+        self.workers.wake()
+        self.lines = count(self.store, "lines")
+        if self.lines >= self.due:
+            self.workers.trouble(self.chance)
+            self.due = self.lines + self.chance.randint(self.every, 4 * self.every)
+        if self.lines >= self.crash_at and not self.place.restarts:
+            self.place.restart()
+            self.workers.refill()
+        return bool(self.to_ask or count(self.store, "commands WHERE how IS NULL"))
 
 
-def run(asked: Asked, folder: pathlib.Path) -> Outcome:
+def run(asked: Asked, folder: pathlib.Path, place: Place) -> Outcome:
     """A run, and all that is looked at after it."""
     names = [f"sign {at}" for at in range(asked.signs)]
     loopback = Loopback(asked.signtool, {name: DESCRIPTION.read_bytes() for name in names}, Fates(asked.seed), TICK)
     (folder / "fleet.toml").write_text("".join(
         f'[[sign]]\nname = "{live.name}"\naddress = "127.0.0.1:{live.port}"\ndescription = "{DESCRIPTION}"\npoll = 2\n'
         for live in loopback.signs))
-    store = Store(database.opened(str(folder / "database")))
+    store = Store(database.opened(place.where))
     rows = store.enter(fleet.read(folder / "fleet.toml"))
-    workers, found = Workers(asked, folder), Outcome()
+    workers, found = Workers(asked.workers, folder, place.where, asked.signtool), Outcome()
     loopback.start()
+    begun = time.monotonic()
     try:
         workers.fill()
-        carried(asked, store, rows, workers)
+        Run(asked, store, rows, workers, place).carried()
         found.holds("every command ended", not count(store, "commands WHERE how IS NULL"))
     finally:
+        seconds = time.monotonic() - begun
         found.holds("every worker that was not killed ended well", {0, -signal.SIGTERM}.issuperset(workers.end()))
         loopback.end()
+    found.holds("the server crashed once", place.server is None or place.restarts == 1)
     lives = {live.name: live for live in loopback.signs}
     for row, sign in rows.items():
         look_at(found, store, row, sign, lives[sign.name])
-    told(store, loopback, workers)
+    told(store, loopback, workers, place, seconds)
     return found
 
 
-def told(store: Store, loopback: Loopback, workers: Workers) -> None:
+def told(store: Store, loopback: Loopback, workers: Workers, place: Place, seconds: float) -> None:
     """The numbers of a run."""
     for how, times in store.run("SELECT how, count(*) FROM commands GROUP BY how ORDER BY 2 DESC"):
         tell(f"{times} commands: {how}")
     lines, datagrams = count(store, "lines"), sum(len(live.requests) for live in loopback.signs)
-    tell(f"{datagrams} datagrams to signs, {lines} lines, {count(store, 'readings')} readings kept,"
-         f" {workers.killed} workers killed, {workers.paused} stopped past their lease")
+    accepted = sum(len(live.accepted) for live in loopback.signs)
+    tell(f"{datagrams} datagrams to signs, {lines} lines, {accepted} acceptances, {count(store, 'ledger')} entries of"
+         f" ledgers, {count(store, 'readings')} readings and {count(store, 'messages')} rows of tables kept")
+    tell(f"{workers.killed} workers killed, {workers.paused} stopped past their lease, {workers.gave_up} ended as there"
+         f" was no database, {place.restarts} crashes of the server")
+    tell(f"{seconds:.0f} seconds, load {os.getloadavg()[0]:.1f}")
 
 
-def main() -> int:
+def arguments() -> argparse.ArgumentParser:
     words = argparse.ArgumentParser(prog="python3 -m control.chaos", description=__doc__,
                                     formatter_class=argparse.RawDescriptionHelpFormatter)
     words.add_argument("--signs", type=int, default=10, metavar="N")
@@ -233,12 +177,22 @@ def main() -> int:
     words.add_argument("--workers", type=int, default=1, metavar="N", help="that go at a time")
     words.add_argument("--seconds", type=float, default=300, metavar="N", help="that the commands have to end")
     words.add_argument("--seed", type=int, default=1, metavar="N")
+    words.add_argument("--database", choices=KINDS, default=KINDS[0])
     words.add_argument("--signtool", default=str(SIGNTOOL), metavar="PATH")
+    return words
+
+
+def main() -> int:
+    words = arguments()
     asked = Asked(**vars(words.parse_args()))
     if min(asked.signs, asked.commands, asked.workers) < 1:
         words.error("signs, commands and workers are 1 or more")
-    with tempfile.TemporaryDirectory(prefix="chaos-") as folder:
-        found = run(asked, pathlib.Path(folder))
+    if asked.database == "postgresql":
+        start.needed("control.chaos", "psycopg")
+    with tempfile.TemporaryDirectory(prefix="chaos-") as folder, placed(asked, pathlib.Path(folder)) as place:
+        found = run(asked, pathlib.Path(folder), place)
+        if found.failed:
+            tell((pathlib.Path(folder) / "workers").read_text(errors="replace")[-4000:])
     for name in found.failed[:50]:
         tell(f"does not hold: {name}")
     tell(f"{found.passed} passed, {len(found.failed)} failed")

@@ -84,9 +84,15 @@ class Loopback(threading.Thread):
                 _, _, sign, octets, peer, is_request = heapq.heappop(self.late)
                 self.arrives(sign, octets, peer, is_request)
             if now >= due:
-                for sign in self.signs:
-                    sign.process.hand([b"tick"])
+                self.tick()
                 due = max(due + self.every, now)
+
+    def tick(self) -> None:
+        """A second of every sign, all at the same time."""
+        for sign in self.signs:
+            sign.process.write(b"tick\n")
+        for sign in self.signs:
+            sign.process.lines(1)
 
     def heard(self, sign: LoopbackSign) -> None:
         """What waits at a sign's socket was on the wire."""
