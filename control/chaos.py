@@ -23,7 +23,7 @@ from door.refusal import status_of, tell
 
 from . import SIGNTOOL, TOP, cluster, database, fleet, start
 from .chaos_checks import Outcome, look_at
-from .chaos_workers import TICK, Workers
+from .chaos_workers import Workers
 from .database import Failed
 from .loopback import Fates, Loopback
 from .store import Store, whole
@@ -44,6 +44,8 @@ class Asked:
     workers: int
     seconds: float
     seed: int
+    tick: float
+    lease: float
     database: str
     signtool: str
 
@@ -95,7 +97,7 @@ class Run:
         self.asked, self.store, self.workers, self.place = asked, store, workers, place
         self.chance = random.Random(asked.seed)
         self.to_ask = [(self.chance.choice(sorted(rows)), command(self.chance)) for _ in range(asked.commands)]
-        self.every = max(5, asked.commands // 20)  # lines from one trouble to the next at least
+        self.every = max(5, asked.commands // 8)  # lines from one trouble to the next at least
         self.due = self.chance.randint(self.every, 4 * self.every)
         self.crash_at = self.chance.randint(2 * asked.commands, 6 * asked.commands)  # lines
         self.lines = 0
@@ -131,13 +133,16 @@ class Run:
 def run(asked: Asked, folder: pathlib.Path, place: Place) -> Outcome:
     """A run, and all that is looked at after it."""
     names = [f"sign {at}" for at in range(asked.signs)]
-    loopback = Loopback(asked.signtool, {name: DESCRIPTION.read_bytes() for name in names}, Fates(asked.seed), TICK)
+    loopback = Loopback(asked.signtool, {name: DESCRIPTION.read_bytes() for name in names}, Fates(asked.seed),
+                        asked.tick)
     (folder / "fleet.toml").write_text("".join(
-        f'[[sign]]\nname = "{live.name}"\naddress = "127.0.0.1:{live.port}"\ndescription = "{DESCRIPTION}"\npoll = 2\n'
+        f'[[sign]]\nname = "{live.name}"\naddress = "127.0.0.1:{live.port}"\ndescription = "{DESCRIPTION}"\n'
+        f"poll = {max(2, asked.signs // 20)}\n"
         for live in loopback.signs))
     store = Store(database.opened(place.where))
     rows = store.enter(fleet.read(folder / "fleet.toml"))
-    workers, found = Workers(asked.workers, folder, place.where, asked.signtool), Outcome()
+    workers = Workers(asked.workers, folder, place.where, asked.signtool, asked.tick, asked.lease)
+    found = Outcome()
     loopback.start()
     begun = time.monotonic()
     try:
@@ -177,6 +182,8 @@ def arguments() -> argparse.ArgumentParser:
     words.add_argument("--workers", type=int, default=1, metavar="N", help="that go at a time")
     words.add_argument("--seconds", type=float, default=300, metavar="N", help="that the commands have to end")
     words.add_argument("--seed", type=int, default=1, metavar="N")
+    words.add_argument("--tick", type=float, default=0.2, metavar="SECONDS", help="from tick to tick, of all")
+    words.add_argument("--lease", type=float, default=2.0, metavar="SECONDS", help="of a worker")
     words.add_argument("--database", choices=KINDS, default=KINDS[0])
     words.add_argument("--signtool", default=str(SIGNTOOL), metavar="PATH")
     return words
@@ -189,6 +196,7 @@ def main() -> int:
         words.error("signs, commands and workers are 1 or more")
     if asked.database == "postgresql":
         start.needed("control.chaos", "psycopg")
+    signal.signal(signal.SIGTERM, lambda *_: sys.exit(143))  # so that nothing is left of it
     with tempfile.TemporaryDirectory(prefix="chaos-") as folder, placed(asked, pathlib.Path(folder)) as place:
         found = run(asked, pathlib.Path(folder), place)
         if found.failed:

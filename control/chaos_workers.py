@@ -10,16 +10,14 @@ import time
 
 from . import TOP
 
-TICK, LEASE = 0.2, 2.0
-
 
 class Workers:
     """Processes, some of which are stopped. What they say goes to a file."""
 
-    def __init__(self, count: int, folder: pathlib.Path, where: str, signtool: str) -> None:
-        self.count = count
+    def __init__(self, count: int, folder: pathlib.Path, where: str, signtool: str, tick: float, lease: float) -> None:
+        self.count, self.lease = count, lease
         self.call = [sys.executable, "-m", "control.worker", "--fleet", str(folder / "fleet.toml"),
-                     "--database", where, "--signtool", signtool, "--tick", str(TICK), "--lease", str(LEASE)]
+                     "--database", where, "--signtool", signtool, "--tick", str(tick), "--lease", str(lease)]
         self.said = folder / "workers"
         self.going: list[subprocess.Popen[bytes]] = []
         self.stopped: list[tuple[float, subprocess.Popen[bytes]]] = []
@@ -48,7 +46,7 @@ class Workers:
             self.killed += 1
         else:
             os.kill(worker.pid, signal.SIGSTOP)
-            self.stopped.append((time.monotonic() + chance.uniform(1.2, 2.5) * LEASE, worker))
+            self.stopped.append((time.monotonic() + chance.uniform(1.2, 2.5) * self.lease, worker))
             self.paused += 1
         self.fill()
 

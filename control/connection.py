@@ -25,15 +25,16 @@ class Database:
 
     clock = ""  # seconds since 1970 as an expression of SQL
     key = ""  # the type of a column that numbers its table's rows
-    skip = ""  # at the end of a SELECT: its rows are this transaction's, without those that are another one's
+    lock = ""  # at the end of a SELECT: its rows are this transaction's, in their order, until it ends
+    skip = ""  # the same, without those that are another one's now
 
     def __init__(self) -> None:
         self.turn = threading.RLock()
         self.is_within = self.is_spoilt = False
 
     def run(self, sql: str, *values: Value) -> list[Row]:
-        """The rows of a statement, in which each `?` stands for a value, {clock} for the database's time, and {skip}
-        as above. Outside a transaction it is one by itself: what it wrote is on the disk when it returns."""
+        """The rows of a statement, in which each `?` stands for a value, {clock} for the database's time; {lock}
+        and {skip} as above. Outside a transaction it is one by itself: what it wrote is on the disk when it returns."""
         with self.turn, self.watched():
             return self.rows(self.own(sql), values)
 
@@ -45,7 +46,7 @@ class Database:
 
     def own(self, sql: str) -> str:
         """The statement in this database's words."""
-        return sql.replace("{clock}", self.clock).replace("{skip}", self.skip)
+        return sql.replace("{clock}", self.clock).replace("{lock}", self.lock).replace("{skip}", self.skip)
 
     @contextlib.contextmanager
     def watched(self) -> Iterator[None]:
@@ -95,6 +96,10 @@ class Database:
 
     def mark(self) -> str:
         """Differs from an earlier mark where something was written since, by whomever; now and then where not."""
+        raise NotImplementedError
+
+    def has_table(self, name: str) -> bool:
+        """Whether there is a table of this name."""
         raise NotImplementedError
 
     def close(self) -> None:

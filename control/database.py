@@ -10,6 +10,7 @@ from .sqlite import Sqlite
 __all__ = ["Database", "Failed", "Row", "Taken", "Value", "connected", "is_url", "migrate", "migrations", "named",
            "opened"]
 MIGRATIONS = pathlib.Path(__file__).resolve().parent / "migrations"
+RESTORING = "restoring"  # a table of this name keeps all out of a database that control/backup.py restores
 URLS = ("postgresql://", "postgres://")
 WHERE = "a file of SQLite, made where there is none, or postgresql://USER@HOST/NAME"  # for the help of a program
 
@@ -25,12 +26,19 @@ def statements(text: str) -> list[str]:
     return [one.strip() for one in "\n".join(lines).split(";\n") if one.strip(" ;\n")]
 
 
+def numbers_of(database: Database) -> set[int]:
+    """The migrations that were run."""
+    return {int(row[0] or 0) for row in database.run("SELECT number FROM migrations")}
+
+
 def migrate(database: Database, known: list[tuple[int, str]]) -> list[int]:
     """Runs the migrations that are missing: the numbers of those that were run. A newer database is refused."""
     done: list[int] = []
+    if database.has_table("migrations") and numbers_of(database) == {number for number, _ in known}:
+        return done
     with database.transaction(is_alone=True):
         database.run("CREATE TABLE IF NOT EXISTS migrations (number BIGINT PRIMARY KEY, at DOUBLE PRECISION NOT NULL)")
-        found = {int(row[0] or 0) for row in database.run("SELECT number FROM migrations")}
+        found = numbers_of(database)
         newer = found - {number for number, _ in known}
         if newer:
             raise Refusal(f"the database is of a newer program: it has migration {max(newer)}")
@@ -62,6 +70,8 @@ def opened(where: str) -> Database:
     """The database of a file's path, made where there is none, or of postgresql://.., with today's tables."""
     database = connected(where)
     try:
+        if database.has_table(RESTORING):
+            raise Refusal("the database is being restored, or its restore failed: it wants an empty one")
         migrate(database, migrations())
     except Failed as fault:
         raise Refusal(f"{named(where)}: {fault}") from fault

@@ -77,7 +77,7 @@ class ReadingStore:
         """What signs said: a row for each that differs from the sign's one before."""
         if said:
             with self.database.transaction():
-                for one in said:
+                for one in sorted(said, key=lambda one: one.sign):
                     self.read_one(one)
 
     def read_one(self, said: Said) -> None:
@@ -119,7 +119,7 @@ class ReadingStore:
         """What signs said of rows: the newest of each row that was ever in use."""
         if said:
             with self.database.transaction():
-                for one in said:
+                for one in sorted(said, key=lambda one: one.sign):
                     self.read_row(one)
 
     def read_row(self, said: RowSaid) -> None:

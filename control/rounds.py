@@ -122,9 +122,10 @@ class Worker:
         self.release()
 
     def tick_later(self, row: int, line: bytes, now: float) -> None:
-        """The next tick is one after the last, or after the line that a command begins with."""
+        """The next tick is one after the last, or after the line that a command begins with; ticks that were missed do
+        not come in a row."""
         if line == b"tick":
-            self.ticks[row] = max(self.ticks[row] + self.pace.tick, now)
+            self.ticks[row] = max(self.ticks[row] + self.pace.tick, now + self.pace.tick / 2)
         elif not self.sessions[row].is_busy:
             self.ticks[row] = now + self.pace.tick
 

@@ -47,7 +47,7 @@ class Session:
     def __init__(self, store: Store, row: int, sign: Sign, worker: str, program: str, mib: Mib) -> None:
         self.store, self.row, self.sign, self.worker, self.program, self.mib = store, row, sign, worker, program, mib
         self.command: Command | None = None
-        self.is_busy = False
+        self.is_busy = self.is_ticked = False
         self.ledger: set[str] = set()
         self.out: bytes | None = None
         self.steps = Steps(mib)
@@ -116,13 +116,15 @@ class Session:
 
     def offer(self, is_due: bool) -> Line | None:
         """The line that is next: a tick that is due, a datagram that waits, or the next command where no job is under
-        way; None where there is none."""
+        way; None where there is none. After a tick a datagram that waits comes before the next one, so that a worker
+        that is slow takes no reply for a silence."""
         if not self.is_busy:
             return self.beginning()
-        if is_due:
-            return Line(self.row, self.number, b"tick")
-        heard = received(self.door)
-        return None if heard is None else Line(self.row, self.number, b"datagram " + (heard[0].hex().encode() or b"-"))
+        heard = received(self.door) if self.is_ticked or not is_due else None
+        self.is_ticked = heard is None and is_due
+        if heard is not None:
+            return Line(self.row, self.number, b"datagram " + (heard[0].hex().encode() or b"-"))
+        return Line(self.row, self.number, b"tick") if is_due else None
 
     def beginning(self) -> Line | None:
         """The next command, or before it a new centre, above all numbers, where the lines of this one grew long."""

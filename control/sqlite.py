@@ -63,5 +63,8 @@ class Sqlite(Database):
         with self.turn:
             return f"{self.rows('PRAGMA data_version', ())[0][0]} {self.connection.total_changes}"
 
+    def has_table(self, name: str) -> bool:
+        return bool(self.run("SELECT 1 FROM sqlite_master WHERE type = 'table' AND name = ?", name))
+
     def close(self) -> None:
         self.connection.close()

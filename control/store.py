@@ -44,12 +44,16 @@ class Store(CommandStore):
 
     def enter(self, signs: list[Sign]) -> dict[int, Sign]:
         """The fleet as rows: each sign by the number of its row."""
-        with self.database.transaction(is_alone=True):
-            return {whole(self.run("INSERT INTO signs (name, place, address, poll) VALUES (?, ?, ?, ?)"
-                                   " ON CONFLICT (name) DO UPDATE"
-                                   " SET place = excluded.place, address = excluded.address, poll = excluded.poll"
-                                   " RETURNING id", sign.name, sign.place, f"{sign.host}:{sign.port}",
-                                   sign.poll)[0][0]): sign for sign in signs}
+        said = {sign.name: (sign.place, f"{sign.host}:{sign.port}", sign.poll) for sign in signs}
+        held = {str(row[0]): row[1:] for row in self.run("SELECT name, place, address, poll FROM signs")}
+        new = [(name, *said[name]) for name in sorted(said) if held.get(name) != said[name]]
+        if new:
+            with self.database.transaction():
+                self.database.run_all("INSERT INTO signs (name, place, address, poll) VALUES (?, ?, ?, ?)"
+                                      " ON CONFLICT (name) DO UPDATE SET place = excluded.place,"
+                                      " address = excluded.address, poll = excluded.poll", new)
+        rows = {str(name): whole(row) for name, row in self.run("SELECT name, id FROM signs")}
+        return {rows[sign.name]: sign for sign in signs}
 
     def with_work(self) -> list[int]:
         """Signs that have a command which has not ended, and that nobody drives: the longest waiting first."""
@@ -72,14 +76,18 @@ class Store(CommandStore):
         """Which of these signs the worker still drives: for so many seconds from now on."""
         if not signs:
             return set()
-        rows = self.run(f"UPDATE signs SET until = {CLOCK} + ? WHERE holder = ? AND until >= {CLOCK}"
-                        f" AND id IN ({places(signs)}) RETURNING id", seconds, worker, *signs)
+        rows = self.run(f"WITH held AS MATERIALIZED (SELECT id FROM signs WHERE holder = ? AND until >= {CLOCK}"
+                        f" AND id IN ({places(signs)}) ORDER BY id {{lock}})"
+                        f" UPDATE signs SET until = {CLOCK} + ? WHERE id IN (SELECT id FROM held) RETURNING id",
+                        worker, *signs, seconds)
         return {whole(row[0]) for row in rows}
 
     def release(self, signs: Sequence[int], worker: str) -> None:
         """Lets those of the signs go that the worker has."""
         if signs:
-            self.run(f"UPDATE signs SET holder = NULL WHERE holder = ? AND id IN ({places(signs)})", worker, *signs)
+            self.run(f"WITH held AS MATERIALIZED (SELECT id FROM signs WHERE holder = ? AND id IN ({places(signs)})"
+                     " ORDER BY id {lock}) UPDATE signs SET holder = NULL WHERE id IN (SELECT id FROM held)",
+                     worker, *signs)
 
     # ---- lines
 
@@ -136,6 +144,7 @@ class Store(CommandStore):
     def keep(self, news: Sequence[News]) -> None:
         """What came of lines, in one transaction: before anything of it goes out. A sign whose command ended is read
         soon."""
+        news = sorted(news, key=lambda one: one.sign)
         ended = [one for one in news if one.how is not None]
         with self.database.transaction():
             for one in news:

@@ -8,10 +8,11 @@ SIGTERM; what was under way is carried on by the next one.
 import argparse
 import sys
 
-from door.refusal import status_of, tell
+from door.refusal import Refusal, status_of, tell
 from door.sockets import Waiting
 
 from . import SIGNTOOL, database, fleet, start
+from .database import Failed
 from .rounds import Pace, Worker
 from .store import Store
 
@@ -44,7 +45,11 @@ def main() -> int:
         start.needed("control.worker", "psycopg")
     signs = fleet.read(asked.fleet)
     store = Store(database.opened(asked.database))
-    worker = Worker(store, store.enter(signs), asked.signtool, Pace(asked.tick, asked.lease), Waiting())
+    try:
+        rows = store.enter(signs)
+    except Failed as fault:
+        raise Refusal(f"the database: {fault}") from fault
+    worker = Worker(store, rows, asked.signtool, Pace(asked.tick, asked.lease), Waiting())
     tell(f"a worker of {len(signs)} signs")
     worker.run()
     store.database.close()

@@ -17,8 +17,8 @@ from door.mib import Mib
 from door.sockets import Waiting
 
 PROGRAM = os.environ.get("SIGNTOOL", str(SIGNTOOL))
-TICK = 0.05
-PACE = Pace(tick=TICK, lease=5.0, look=0.02)
+TICK = 0.3  # so that a machine that is busy answers before a request has gone out three times
+PACE = Pace(tick=TICK, lease=10.0, look=0.05)
 TEXT = (TOP / "signs/roadside.sign").read_bytes()
 ADDRESS = "192.0.2.1"
 HELLO = f"publish 3 1 {b'HELLO'.hex()} {b'me'.hex()} 0 0 100 65535 255 {ADDRESS}"
