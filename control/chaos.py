@@ -8,7 +8,6 @@ how many lines who is killed or stopped and the server crashes; not how fast the
 """
 
 import argparse
-import contextlib
 import os
 import pathlib
 import random
@@ -17,12 +16,12 @@ import sys
 import tempfile
 import time
 from dataclasses import dataclass
-from typing import Iterator
 
 from door.refusal import status_of, tell
 
-from . import SIGNTOOL, TOP, cluster, database, fleet, start
+from . import SIGNTOOL, TOP, database, fleet, start
 from .chaos_checks import Outcome, look_at
+from .chaos_place import KINDS, Place, placed
 from .chaos_workers import Workers
 from .database import Failed
 from .loopback import Fates, Loopback
@@ -32,7 +31,6 @@ TEXTS = ("FOG", "ROAD WORK", "LANE[nl]CLOSED", "[fo2]SLOW", "[fo9]NO FONT")
 DESCRIPTION = TOP / "signs/roadside.sign"
 PORTIONS = 20  # in which the commands are asked for
 LOOK = 0.2
-KINDS = ("sqlite", "postgresql")
 
 
 @dataclass
@@ -48,33 +46,6 @@ class Asked:
     lease: float
     database: str
     signtool: str
-
-
-@dataclass
-class Place:
-    """A database, and the server behind it where it is PostgreSQL's."""
-
-    where: str
-    server: cluster.Cluster | None = None
-    restarts: int = 0
-
-    def restart(self) -> None:
-        """The server crashes, and stands again."""
-        if self.server is not None:
-            self.server.stop(signal.SIGQUIT)
-            time.sleep(1)
-            self.server.start()
-            self.restarts += 1
-
-
-@contextlib.contextmanager
-def placed(asked: Asked, folder: pathlib.Path) -> Iterator[Place]:
-    """The database, as long as the run."""
-    if asked.database == "sqlite":
-        yield Place(str(folder / "database"))
-        return
-    with cluster.cluster() as server:
-        yield Place(server.database(), server)
 
 
 def command(chance: random.Random) -> str:
@@ -197,7 +168,7 @@ def main() -> int:
     if asked.database == "postgresql":
         start.needed("control.chaos", "psycopg")
     signal.signal(signal.SIGTERM, lambda *_: sys.exit(143))  # so that nothing is left of it
-    with tempfile.TemporaryDirectory(prefix="chaos-") as folder, placed(asked, pathlib.Path(folder)) as place:
+    with tempfile.TemporaryDirectory(prefix="chaos-") as folder, placed(asked.database, pathlib.Path(folder)) as place:
         found = run(asked, pathlib.Path(folder), place)
         if found.failed:
             tell((pathlib.Path(folder) / "workers").read_text(errors="replace")[-4000:])

@@ -44,12 +44,13 @@ class Session:
     """From a lease on until there is nothing to do. A line is offered, inserted under its number by whoever has the
     session, handed over, and answered: control/carry.py has the order."""
 
+    command: Command | None = None
+    out: bytes | None = None
+    is_busy = is_ticked = False
+
     def __init__(self, store: Store, row: int, sign: Sign, worker: str, program: str, mib: Mib) -> None:
         self.store, self.row, self.sign, self.worker, self.program, self.mib = store, row, sign, worker, program, mib
-        self.command: Command | None = None
-        self.is_busy = self.is_ticked = False
         self.ledger: set[str] = set()
-        self.out: bytes | None = None
         self.steps = Steps(mib)
         self.ready_at = time.monotonic() + PACE
         self.head, begun_at, lines = self.centre()
