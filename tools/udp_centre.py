@@ -14,6 +14,8 @@ description's, or at --first, which has to be above any that was used. The exit 
 accepted, 1 where one did not, and 2 where it could not begin.
 """
 
+import door.interrupts  # noqa: F401, before all else
+
 import argparse
 import math
 import sys
@@ -22,7 +24,7 @@ from door import commands, description
 from door.centre_door import CentreDoor
 from door.records import Head
 from door.refusal import Refusal, say, status_of, tell
-from door.setting import begun, checked, journal_of, log_of, options
+from door.setting import MOST_NUMBER, begun, checked, journal_of, log_of, options
 from door.sockets import connected, host_and_port
 
 
@@ -45,8 +47,8 @@ def asked_for() -> argparse.Namespace:
     words.add_argument("--wait", type=seconds, default=120.0, metavar="SECONDS", help="how long a command may take")
     asked = words.parse_args()
     checked(asked)
-    if asked.first is not None and not 0 <= asked.first < 2**32:
-        raise Refusal(f"--first {asked.first} is no number of a request: 0 to 4294967295")
+    if asked.first is not None and not 0 <= asked.first <= MOST_NUMBER:
+        raise Refusal(f"--first {asked.first} is no number of a request: 0 to {MOST_NUMBER}")
     return asked
 
 
@@ -68,16 +70,17 @@ def main() -> int:
             say(f"request numbers begin at {first}: no journal tells which were used")
         elif journal.head.first is not None:
             first = begun_with(journal.head.first, asked.first, asked.fresh)
-        door = CentreDoor(begun(asked, "centre", first, journal), socket, journal, log, asked.tick, asked.wait)
-        is_well = True
-        if door.status()[0] == "busy":
-            is_well = door.finish([], asked.wait)
-        for line in commands.lines(door.waiting):
+            if journal.is_new:
+                say(f"{asked.journal}: a new journal, whose request numbers begin at {first}")
+        centre = begun(asked, "centre", description.with_first(text, first), journal)
+        operator = CentreDoor(centre, socket, journal, log, asked.tick, asked.wait)
+        is_well = operator.finish([], asked.wait) if operator.is_busy else True
+        for line in commands.lines(operator.waiting):
             if line is None:
                 tell("bad line: no UTF-8, or longer than 65536 octets")
-            is_well = line is not None and door.carry_out(line) and is_well
-        door.centre.end()
-    return 0 if is_well and not door.waiting.is_stopped else 1
+            is_well = line is not None and operator.carry_out(line) and is_well
+        centre.end()
+    return 0 if is_well and not operator.waiting.is_stopped else 1
 
 
 if __name__ == "__main__":

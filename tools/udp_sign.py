@@ -7,8 +7,10 @@
 Each datagram goes to the sign as a line and its reply back to where it came from; each second is a tick. With a journal
 the sign goes on where it was (docs/JOURNAL.md); what the time without a process was, a loss of power or seconds, is
 told by the kernel's boot id, or by --down. With --lose N every N-th datagram to the sign is lost. What the sign accepts
-is printed. It ends at an interrupt or a SIGTERM.
+is printed. It ends at an interrupt or a SIGTERM, and at a second one or before it is announced at once.
 """
+
+import door.interrupts  # noqa: F401, before all else
 
 import argparse
 import sys
@@ -36,21 +38,22 @@ def asked_for() -> argparse.Namespace:
     checked(asked)
     if asked.down and not asked.journal:
         raise Refusal("--down is of a --journal FILE")
+    if asked.lose < 0:
+        raise Refusal(f"--lose {asked.lose} is no number of datagrams")
     return asked
 
 
 def main() -> int:
     asked = asked_for()
-    log, waiting = log_of(asked), Waiting()
+    log, text = log_of(asked), description.read(asked.sign)
     with bound(asked.host, asked.port) as door:
-        head = Head("sign", description.digest(description.read(asked.sign)))
-        journal = journal_of(asked, head) if asked.journal else None
-        sign = begun(asked, "sign", None, journal)
+        journal = journal_of(asked, Head("sign", description.digest(text))) if asked.journal else None
+        sign = begun(asked, "sign", text, journal)
         keeper = Keeper(journal) if journal else None
         lines = keeper.start(Moment.now(), asked.down) if keeper else []
         if lines:
             sign.hand(lines)
-        at = door.getsockname()
+        at, waiting = door.getsockname(), Waiting()
         if log:
             log.event("start", at, {"down": b", ".join(lines).decode()} if lines else {})
         if not asked.quiet:

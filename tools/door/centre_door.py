@@ -13,6 +13,7 @@ from .sockets import Address, Waiting, received
 from .texts import ended, published
 
 COMMANDS = ("publish", "blank", "activate")
+MOST_LATE = 1000  # datagrams that are let go at once
 
 
 class CentreDoor:
@@ -25,31 +26,33 @@ class CentreDoor:
         self.every, self.wait, self.mib = tick, wait, Mib.read()
         self.to: Address = door.getpeername()
         self.waiting = Waiting()
+        self.is_busy = self.status()[0] == "busy"
 
     def status(self) -> list[str]:
         """Whether it is busy, how the last job ended, and the ledger."""
         return [line.decode("latin-1") for line in self.centre.ask(b"status")[:-1]]
 
     def hand(self, line: bytes) -> bytes:
-        """Records a line, hands it over, and sends what goes out: the answer."""
+        """Records a line, hands it over, and sends what goes out: the answer. A centre that sends is busy."""
         if self.journal:
             self.journal.keep([line])
         answer = self.centre.hand([line])[0]
-        if answer.startswith(b"send "):
+        self.is_busy = answer.startswith(b"send ")
+        if self.is_busy:
             self.send(bytes.fromhex(answer[5:].decode()))
+        else:
+            self.is_busy = self.status()[0] == "busy"
         return answer
 
     def send(self, octets: bytes) -> None:
-        """Sends a datagram; the fault of an earlier one is no fault of this one."""
-        for _ in range(2):
+        """Sends a datagram; the fault of an earlier one, which is told first, is no fault of this one."""
+        for is_again in (False, True):
             try:
                 self.door.send(octets)
                 break
-            except ConnectionError:
-                continue
             except OSError as fault:
-                say(f"a request is lost: {reason(fault)}")
-                break
+                if is_again:
+                    say(f"a request is lost: {reason(fault)}")
         if self.log:
             self.log.datagram("out", self.to, octets)
 
@@ -57,7 +60,7 @@ class CentreDoor:
         """Hands over ticks and replies until the centre is idle; False where that takes longer, or it is stopped."""
         begun = time.monotonic()
         ends, due = begun + wait, begun + self.every
-        while self.status()[0] == "busy":
+        while self.is_busy:
             now = time.monotonic()
             if now >= ends or self.waiting.is_stopped:
                 return False
@@ -86,8 +89,8 @@ class CentreDoor:
         if not is_done:
             why = "stopped" if self.waiting.is_stopped else f"given up after {wait:g} seconds"
             tell(f"{why}: the job is not done")
-        now = self.status()
-        self.show([*now[:2], *(line for line in now[2:] if line not in before)])
+        now, known = self.status(), set(before[2:])
+        self.show([*now[:2], *(line for line in now[2:] if line not in known)])
         return is_done and now[1] == "last accepted"
 
     def show(self, lines: list[str]) -> None:
@@ -112,7 +115,7 @@ class CentreDoor:
     def command(self, command: str) -> bool:
         """Whether a command was accepted. One that finds a job not done waits for its end, however long that takes."""
         before = self.status()
-        if before[0] == "busy":
+        if self.is_busy:
             self.finish(before, math.inf)
             before = self.status()
         if self.waiting.is_stopped:
@@ -132,6 +135,9 @@ class CentreDoor:
 
     def late(self) -> None:
         """What comes while no job is under way answers nothing, and is let go."""
-        while (heard := received(self.door)) is not None:
+        for _ in range(MOST_LATE):
+            heard = received(self.door)
+            if heard is None:
+                break
             if self.log:
                 self.log.datagram("late", self.to, heard[0])

@@ -9,6 +9,11 @@ MOST_MADE_UP = 86_400  # seconds that are made up by ticks after a process died
 MOST_SECONDS = 2**32 - 1
 
 
+def running() -> float:
+    """The seconds since the machine's boot, with those in which it slept: what ticks go by."""
+    return time.clock_gettime(time.CLOCK_BOOTTIME)
+
+
 @dataclass(frozen=True)
 class Moment:
     """A boot of the machine by its kernel's id, the wall clock in seconds since 1970, and the seconds since that
@@ -35,7 +40,7 @@ class Moment:
             boot = BOOT.read_text(encoding="ascii").strip() or "-"
         except (OSError, ValueError):
             boot = "-"
-        return Moment(boot, max(0, int(time.time())), int(time.clock_gettime(time.CLOCK_BOOTTIME)))
+        return Moment(boot, max(0, int(time.time())), int(running()))
 
     @staticmethod
     def of(start: bytes, clock: bytes) -> "Moment":
@@ -45,8 +50,9 @@ class Moment:
 
 def down(last: Moment, now: Moment, overruled: str | None = None) -> list[bytes]:
     """The lines that tell a sign what the time without a process was: a loss of power, or the seconds that passed."""
-    if overruled == "power" or overruled is None and last.boot != now.boot:
+    is_same_boot = last.boot == now.boot and (last.boot != "-" or last.up <= now.up)
+    if overruled == "power" or overruled is None and not is_same_boot:
         return [b"power-lost", b"power-back %d" % min(max(0, now.wall - last.wall), MOST_SECONDS)]
-    passed = now.up - last.up if last.boot == now.boot else now.wall - last.wall
+    passed = now.up - last.up if is_same_boot else now.wall - last.wall
     made_up = min(max(0, passed), MOST_MADE_UP)
     return [b"ticks %d" % made_up] if made_up else []

@@ -12,18 +12,23 @@ MOST_LINE = 65_536
 def lines(waiting: Waiting) -> Iterator[str | None]:
     """Each line without spaces around it; None for one that is no UTF-8, or too long. Empty ones and comments are
     skipped."""
-    left, has_more = b"", sys.stdin is not None
+    left, has_more, is_long = b"", sys.stdin is not None, False
     file = sys.stdin.fileno() if has_more else -1
-    while not waiting.is_stopped and (has_more or left):
+    while not waiting.is_stopped and (has_more or left or is_long):
         if has_more and b"\n" not in left:
+            if len(left) > MOST_LINE:
+                left, is_long = b"", True
             if file in waiting.until([file], None):
                 more = os.read(file, 65_536)
                 left, has_more = left + more, bool(more)
             continue
         line, _, left = left.partition(b"\n")
         text = line.strip(b" \t\r")
-        if text and not text.startswith(b"#"):
+        if is_long:
+            yield None
+        elif text and not text.startswith(b"#"):
             yield decoded(text)
+        is_long = False
 
 
 def decoded(line: bytes) -> str | None:

@@ -9,6 +9,7 @@ from typing import Callable
 from .refusal import Refusal, reason
 
 MODE = 0o600
+NEW = ".new"  # the end of the name of a file that is to take another one's place
 
 
 def opened(path: str) -> int:
@@ -34,8 +35,15 @@ def lock(file: int, path: str) -> None:
         raise Refusal(f"{path}: another door holds this journal") from None
     except OSError as fault:
         raise Refusal(f"{path}: {reason(fault)}") from fault
-    if os.fstat(file).st_mode & 0o077:
-        os.fchmod(file, MODE)
+
+
+def own(file: int, path: str) -> None:
+    """A file that is known to be a door's is its owner's alone."""
+    try:
+        if os.fstat(file).st_mode & 0o077:
+            os.fchmod(file, MODE)
+    except OSError as fault:
+        raise Refusal(f"{path}: {reason(fault)}") from fault
 
 
 def is_named(file: int, path: str) -> bool:
@@ -43,6 +51,15 @@ def is_named(file: int, path: str) -> bool:
     try:
         return os.path.samestat(os.fstat(file), os.stat(path))
     except FileNotFoundError:
+        return False
+
+
+def stands(file: int, path: str, size: int) -> bool:
+    """Whether the name still stands for the open file, and the file has what was written and no more."""
+    try:
+        named = os.stat(path)
+        return named.st_size == size and os.path.samestat(named, os.fstat(file))
+    except OSError:
         return False
 
 
@@ -57,11 +74,14 @@ def cut(file: int, size: int, path: str) -> None:
 
 def synced_folder(path: str) -> None:
     """The names in the file's folder are on the disk."""
-    folder = os.open(os.path.dirname(os.path.abspath(path)), os.O_RDONLY | os.O_DIRECTORY | os.O_CLOEXEC)
     try:
-        os.fsync(folder)
-    finally:
-        os.close(folder)
+        folder = os.open(os.path.dirname(os.path.realpath(path)), os.O_RDONLY | os.O_DIRECTORY | os.O_CLOEXEC)
+        try:
+            os.fsync(folder)
+        finally:
+            os.close(folder)
+    except OSError as fault:
+        raise Refusal(f"the folder of {path}: {reason(fault)}", 1) from fault
 
 
 def aside_of(path: str) -> str:
@@ -76,7 +96,7 @@ def aside_of(path: str) -> str:
 def put_aside(path: str, begin: Callable[[int], None]) -> tuple[int, str]:
     """A new file, begun, in the place of the one of this name, which is kept under another. At each moment there is a
     file of this name, so that a centre's numbers are never begun again."""
-    made, aside = path + ".new", aside_of(path)
+    made, aside = path + NEW, aside_of(path)
     try:
         if os.path.lexists(made):
             os.unlink(made)

@@ -5,9 +5,11 @@ import os
 from typing import Iterator
 
 from .clock import Moment
-from .files import cut, opened, put_aside, synced_folder
-from .records import SUM, Head, checksum_at, is_torn, lines_of, records, whole
+from .files import NEW, cut, opened, own, put_aside, stands, synced_folder
+from .records import SECTOR, SUM, Head, checksum_at, is_torn, lines_of, records, whole
 from .refusal import Refusal, reason, say
+
+MOST_OWED = 1000  # lines that are written at once of those that waited for a disk
 
 
 class NotKept(Refusal):
@@ -22,6 +24,7 @@ class Journal:
         self.size = self.checksum = 0
         self.last: Moment | None = None  # of the last record, its seconds since the clock counted in
         self.owed: list[bytes] = []
+        self.is_new = False
         self.refused = ""  # why the disk refused last, until it takes a record again
 
     @staticmethod
@@ -32,6 +35,7 @@ class Journal:
             if not journal.read():
                 cut(journal.file, 0, path)
                 journal.begin()
+            synced_folder(path)  # whoever made the file, or renamed it, may have been killed before this
         except Refusal:
             os.close(journal.file)
             raise
@@ -40,16 +44,18 @@ class Journal:
     @staticmethod
     def fresh(path: str, head: Head) -> "Journal":
         """A new journal in the place of an old one, which is put aside under a name with the date."""
-        file, aside = put_aside(path, lambda file: Journal(path, file, head).begin())
+        file, aside = put_aside(path, lambda file: Journal(path + NEW, file, head).begin())
         say(f"{path}: put aside as {aside}")
         journal = Journal(path, file, head)
         journal.read()
+        journal.is_new = True
         return journal
 
     def begin(self) -> None:
         """The first record of a file without octets."""
+        own(self.file, self.path)
         self.append([self.head.line()], synced=True)
-        synced_folder(self.path)
+        self.is_new = True
 
     def text(self) -> mmap.mmap | bytes:
         """The file's octets."""
@@ -60,11 +66,12 @@ class Journal:
         """Finds the end of the whole records and cuts what is torn; False where there is nothing yet."""
         text = self.text()
         size = whole(text)
-        if not size and self.is_begun(text[:1000].rstrip(b"\0")):
+        if not size and self.is_begun(text):
             return False
         self.compare(text[: text.find(b"\n", 0, size) + 1])
         if not is_torn(text, size):
             raise Refusal(f"{self.path}: what stands at octet {size} was not written by a door (--fresh begins anew)")
+        own(self.file, self.path)
         kept = self.started(text, size)
         if kept < len(text):
             say(f"{self.path}: {len(text) - kept} octets of records that were not finished are cut away")
@@ -72,10 +79,10 @@ class Journal:
         self.size, self.checksum = kept, checksum_at(text, kept)
         return True
 
-    def is_begun(self, octets: bytes) -> bool:
+    def is_begun(self, text: mmap.mmap | bytes) -> bool:
         """Whether a file without a whole record is what a door leaves that was killed at the first one."""
-        begun = self.head.line() + b" #"
-        return b"\n" not in octets[:-1] and (begun.startswith(octets) or octets.startswith(begun))
+        begun, octets = self.head.line() + b" #", text[:SECTOR].rstrip(b"\0")
+        return len(text) < SECTOR and b"\n" not in octets[:-1] and (begun.startswith(octets) or octets.startswith(begun))
 
     def compare(self, first: bytes) -> None:
         """Refuses a journal of something else, by what differs."""
@@ -115,6 +122,7 @@ class Journal:
 
     def keep(self, lines: list[bytes]) -> None:
         """These lines are on the disk after it, and what was owed before them; raises NotKept where they are not."""
+        self.pay(MOST_OWED)
         self.append(self.owed + lines, synced=True)
         self.owed = []
 
@@ -122,10 +130,16 @@ class Journal:
         """A line that goes with the next record; it is written now if the disk takes it."""
         self.owed.append(line)
         try:
-            self.append(self.owed, synced=False)
+            self.pay(0)
         except NotKept:
             return
-        self.owed = []
+
+    def pay(self, left: int) -> None:
+        """Writes what is owed, a part after the other, until no more than so many lines are left. Where the disk
+        refuses, the rest is owed on."""
+        while len(self.owed) > left:
+            self.append(self.owed[:MOST_OWED], synced=False)
+            del self.owed[:MOST_OWED]
 
     def append(self, lines: list[bytes], synced: bool) -> None:
         """Writes records. After a write that failed the file is cut back; what is on the disk is not known where that,
@@ -142,6 +156,8 @@ class Journal:
         if synced:
             sync(self.file, self.path)
         self.size, self.checksum = self.size + len(octets), checksum
+        if not stands(self.file, self.path, self.size):
+            raise Refusal(f"{self.path}: another hand moved or changed it: what was recorded last is not kept", 1)
         self.tell("")
 
     def close(self) -> None:
@@ -172,10 +188,3 @@ def seconds_of(line: bytes) -> int:
     word, _, count = line.partition(b" ")
     return int(count) if word == b"ticks" else int(line == b"tick")
 
-
-def count_of_records(file: int) -> int:
-    """How many lines a file has, whatever they are."""
-    count, at = 1, 0
-    while octets := os.pread(file, 1 << 20, at):
-        count, at = count + octets.count(b"\n"), at + len(octets)
-    return count

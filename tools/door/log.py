@@ -1,11 +1,9 @@
 """A line an event: with the time, the peer, and what was said in words."""
 
 import datetime
-import io
 import json
 import os
-import sys
-from typing import TextIO
+import stat
 
 from .datagrams import fields_of
 from .files import MODE
@@ -14,44 +12,51 @@ from .refusal import Refusal, reason, say
 from .sockets import Address, named
 
 
-def file_of(path: str) -> TextIO:
+def file_of(path: str) -> int:
     """The file that is written to at its end; `-` is standard output."""
     if path == "-":
-        if isinstance(sys.stdout, io.TextIOWrapper):
-            sys.stdout.reconfigure(errors="backslashreplace")
-        return sys.stdout
+        return 1
     try:
-        file = os.open(path, os.O_WRONLY | os.O_CREAT | os.O_APPEND | os.O_CLOEXEC, MODE)
-        if os.path.isfile(path):
+        file = os.open(path, os.O_WRONLY | os.O_CREAT | os.O_APPEND | os.O_CLOEXEC | os.O_NOCTTY, MODE)
+        if stat.S_ISREG(os.fstat(file).st_mode):
             os.fchmod(file, MODE)
     except OSError as fault:
         raise Refusal(reason(fault)) from fault
-    return open(file, "w", encoding="utf-8", buffering=1)
+    return file
 
 
 class Log:
-    """Where events are told, as text or as JSON."""
+    """Where events are told, as text or as JSON. A log that cannot be written leaves events out, and says so once."""
 
     def __init__(self, path: str, is_json: bool) -> None:
-        self.file, self.is_json, self.mib = file_of(path), is_json, Mib.read()
-        self.is_given_up = False
+        self.path, self.file, self.is_json, self.mib = path, file_of(path), is_json, Mib.read()
+        self.left_out = 0
+        self.is_torn = False
 
     def datagram(self, event: str, peer: Address, octets: bytes) -> None:
         """A datagram that came or went."""
         self.event(event, peer, fields_of(self.mib, octets))
 
     def event(self, event: str, peer: Address | None = None, fields: dict[str, object] | None = None) -> None:
-        """An event of any kind. A log that cannot be written is given up, and the door goes on."""
-        if self.is_given_up:
-            return
+        """An event of any kind, in one line."""
         time = datetime.datetime.now(datetime.timezone.utc).isoformat(timespec="milliseconds").replace("+00:00", "Z")
         told: dict[str, object] = {"time": time, "peer": named(peer) if peer else "", "event": event, **(fields or {})}
+        self.write(json.dumps(told) if self.is_json else line_of(told))
+
+    def write(self, line: str) -> None:
+        """A line, in one write, after a newline where the last one was written in part."""
+        octets = b"\n" * self.is_torn + line.encode("utf-8", "backslashreplace") + b"\n"
         try:
-            self.file.write(json.dumps(told) + "\n" if self.is_json else line_of(told) + "\n")
-            self.file.flush()
-        except (OSError, ValueError) as fault:
-            say(f"the log is not written: {fault}")
-            self.is_given_up = True
+            written = os.write(self.file, octets)
+        except OSError as fault:
+            if not self.left_out:
+                say(f"the log {self.path} is not written: {fault.strerror}")
+            self.left_out += 1
+            return
+        self.is_torn = written < len(octets)
+        if self.left_out and not self.is_torn:
+            say(f"the log {self.path} is written again, without {self.left_out} events")
+            self.left_out = 0
 
 
 def line_of(told: dict[str, object]) -> str:

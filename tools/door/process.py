@@ -7,9 +7,17 @@ from typing import Iterable, NoReturn, Sequence
 
 from .refusal import Refusal, reason
 
-WAIT = 10  # milliseconds, after which answers are read away though the process takes nothing
+WAIT = 10  # milliseconds, after which answers are read though the process takes nothing
+PATIENCE = 60_000  # milliseconds that a program may take to its first answer
 ENDS = (b"ok", b"dropped", b"bad line")
 ENDING_WORDS = (b"reply", b"accepted", b"send", b"refused")
+FIRST_WORDS = (b"shown", b"idle", b"busy")  # of what is asked first
+REFUSED = (b"read", b"too long", b"memory")  # what stands in place of a description's answers, with `line N`
+
+
+def is_last(answer: bytes) -> bool:
+    """Whether a line is the last one of an answer."""
+    return answer in ENDS or answer.split(b" ")[0] in ENDING_WORDS
 
 
 class CoProcess:
@@ -25,16 +33,39 @@ class CoProcess:
             raise Refusal(f"{program}: {reason(fault) if fault.filename != program else fault.strerror}") from fault
         assert self.process.stdin is not None and self.process.stdout is not None
         self.input, self.output = self.process.stdin.fileno(), self.process.stdout.fileno()
-        self.left = b""
+        os.set_blocking(self.input, False)
+        self.room, self.answers = select.poll(), select.poll()
+        self.room.register(self.input, select.POLLOUT)
+        self.answers.register(self.output, select.POLLIN)
+        self.program, self.left = program, b""
         self.description = description or b""
 
     def write(self, octets: bytes) -> None:
-        """Hands octets over whole."""
+        """Hands octets over whole. Where the process takes no more, it is room for more that is waited for, and its
+        answers are read meanwhile, since else both pipes fill."""
+        left = memoryview(octets)
+        while left:
+            left = left[self.taken(left) :]
+            if left:
+                self.room.poll(WAIT)
+                while self.answers.poll(0):
+                    self.read()
+
+    def taken(self, octets: memoryview) -> int:
+        """How many octets the process takes now."""
         try:
-            while octets:
-                octets = octets[os.write(self.input, octets) :]
+            return os.write(self.input, octets)
+        except BlockingIOError:
+            return 0
         except BrokenPipeError:
             self.died()
+
+    def read(self) -> None:
+        """Takes up what the process answered, and waits for it."""
+        more = os.read(self.output, 1 << 17)
+        if not more:
+            self.died()
+        self.left += more
 
     def died(self) -> NoReturn:
         """Says how the process ended. What it answered last, if it is no answer to a line, is why."""
@@ -48,12 +79,9 @@ class CoProcess:
 
     def lines(self, count: int) -> list[bytes]:
         """The next lines that it answers."""
-        while (have := self.left.count(b"\n")) < count:
-            more = os.read(self.output, 1 << 17)
-            if not more:
-                self.died()
-            self.left += more
-        *lines, self.left = self.left.split(b"\n", count) if have >= count else [self.left]
+        while self.left.count(b"\n") < count:
+            self.read()
+        *lines, self.left = self.left.split(b"\n", count)
         return lines
 
     def until(self, last: bytes) -> list[bytes]:
@@ -74,76 +102,51 @@ class CoProcess:
     def ask(self, line: bytes) -> list[bytes]:
         """The whole answer to a line."""
         self.write(line + b"\n")
-        answer = []
-        while True:
-            answer += self.lines(1)
-            if answer[-1] in ENDS or answer[-1].split(b" ")[0] in ENDING_WORDS:
-                return answer
+        while not (self.left.endswith(b"\n") and is_last(self.left[self.left.rfind(b"\n", 0, -1) + 1 : -1])):
+            self.read()
+        answer, self.left = self.left[:-1].split(b"\n"), b""
+        return answer
 
     def send(self, line: str) -> list[str]:
         """The whole answer to a line, as text."""
         return [answer.decode("latin-1") for answer in self.ask(line.encode())]
 
     def begin(self, line: bytes, name: str) -> None:
-        """Hands the description over, and asks for something that changes nothing: refuses what is not taken."""
+        """Hands the description over, and asks for something that changes nothing: refuses what is not taken, and a
+        program that is another one."""
         try:
             self.write(self.description + line + b"\n")
+            if not self.answers.poll(PATIENCE):
+                raise Refusal("it does not answer")
             answer = self.lines(1)[0]
         except Refusal as refused:
+            self.process.kill()
             raise Refusal(f"{name}: {refused}") from refused
-        if answer.startswith(b"line ") or answer in (b"read", b"too long", b"memory"):
+        if answer.startswith(b"line ") or answer in REFUSED:
             raise Refusal(f"{name}: {answer.decode()}: no description of a sign")
-        while answer not in ENDS:
+        if answer.split(b" ")[0] not in FIRST_WORDS:
+            self.process.kill()
+            raise Refusal(f"{self.program} does not answer as signtool does")
+        while not is_last(answer):
             answer = self.lines(1)[0]
 
     def replay(self, chunks: Iterable[list[bytes]]) -> int:
         """Hands recorded lines over, each of which is answered by one line, and throws the answers away: how many."""
         counted = answered = 0
-        self.set_blocking(False)
         for lines in chunks:
             if lines:
                 counted += len(lines)
-                answered += self.push(b"\n".join(lines) + b"\n")
-        self.set_blocking(True)
+                self.write(b"\n".join(lines) + b"\n")
+                answered += self.thrown_away()
         while answered < counted:
+            self.read()
             answered += self.thrown_away()
         return counted
 
-    def set_blocking(self, is_blocking: bool) -> None:
-        """Whether a pipe that is full, or has nothing, is waited for."""
-        os.set_blocking(self.input, is_blocking)
-        os.set_blocking(self.output, is_blocking)
-
-    def push(self, octets: bytes) -> int:
-        """Hands octets over while answers are read away, since else both pipes fill: how many answers there were. It is
-        room for more octets that is waited for, and not each answer."""
-        ready = select.poll()
-        ready.register(self.input, select.POLLOUT)
-        left, answered = memoryview(octets), 0
-        while left:
-            ready.poll(WAIT)
-            left = left[self.taken(left) :]
-            answered += self.thrown_away()
-        return answered
-
-    def taken(self, octets: memoryview) -> int:
-        """How many octets the process takes now."""
-        try:
-            return os.write(self.input, octets)
-        except BlockingIOError:
-            return 0
-        except BrokenPipeError:
-            self.died()
-
     def thrown_away(self) -> int:
-        """How many answers were read."""
-        try:
-            octets = os.read(self.output, 1 << 17)
-        except BlockingIOError:
-            return 0
-        if not octets:
-            self.died()
-        return octets.count(b"\n")
+        """How many answers there were."""
+        count, self.left = self.left.count(b"\n"), b""
+        return count
 
     def end(self) -> None:
         """Ends its input, and waits for its end."""

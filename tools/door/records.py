@@ -10,6 +10,8 @@ TAIL = 9  # the eight digits of a sum and the newline
 SUM = 10  # a space, a number sign and the eight digits
 CHUNK = 1 << 20
 SECTOR = 512
+SHORTEST = 15  # octets of the shortest record that is handed over: `tick`
+MOST_TORN = 1 << 20  # octets that a crash may leave unfinished at most: more than a door writes in an hour without a sync
 OWN = (b"journal ", b"start ", b"clock ")  # records of the door's own; all others are lines that are handed over
 
 
@@ -88,6 +90,8 @@ def whole(text: Octets) -> int:
 def is_torn(text: Octets, size: int) -> bool:
     """Whether what follows the whole records is what a kill or a loss of power leaves: at most one line, or octets that
     never reached the disk. Anything else was written by another hand."""
+    if len(text) - size > MOST_TORN:
+        return False
     return text.find(b"\n", size) in (-1, len(text) - 1) or is_hole(text, text.find(b"\0", size))
 
 

@@ -22,7 +22,8 @@ def reason(fault: OSError) -> str:
 def say(words: str) -> None:
     """A line on standard error, as far as that can be written."""
     try:
-        print(words, file=sys.stderr, flush=True)
+        if sys.stderr is not None:
+            print(words, file=sys.stderr, flush=True)
     except (OSError, ValueError):
         pass
 
@@ -30,13 +31,32 @@ def say(words: str) -> None:
 def tell(words: str) -> None:
     """A line on standard output; where nobody reads it any more a door goes on."""
     try:
-        print(words, flush=True)
+        print(words.encode("utf-8", "backslashreplace").decode(), flush=True)
+    except UnicodeEncodeError:
+        tell(words.encode("ascii", "backslashreplace").decode())
+    except (OSError, ValueError):
+        os.dup2(os.open(os.devnull, os.O_WRONLY), 1)
+
+
+def keep_standard_files() -> None:
+    """The files 0, 1 and 2 are open, so that nothing that a door opens has their numbers."""
+    while (file := os.open(os.devnull, os.O_RDWR)) < 3:
+        pass
+    os.close(file)
+
+
+def flushed() -> None:
+    """What was printed is written, or nobody reads it."""
+    try:
+        if sys.stdout is not None:
+            sys.stdout.flush()
     except (OSError, ValueError):
         os.dup2(os.open(os.devnull, os.O_WRONLY), 1)
 
 
 def status_of(door: Callable[[], int]) -> int:
     """The exit status of a door, its refusals in words on standard error."""
+    keep_standard_files()
     try:
         return door()
     except Refusal as refused:
@@ -45,5 +65,10 @@ def status_of(door: Callable[[], int]) -> int:
     except OSError as fault:
         say(reason(fault))
         return 1
+    except MemoryError:
+        say("out of memory")
+        return 1
     except KeyboardInterrupt:
         return 1
+    finally:
+        flushed()

@@ -5,14 +5,15 @@ import argparse
 import dataclasses
 import os
 
-from . import description
 from .files import opened
-from .journal import Journal, count_of_records
+from .journal import Journal
 from .log import Log
 from .places import SIGNTOOL, in_words_of_command
 from .process import CoProcess
-from .records import SUM, Head
+from .records import SECTOR, SHORTEST, SUM, Head, whole
 from .refusal import Refusal, say
+
+MOST_NUMBER = 2**31 - 1  # of a request
 
 
 def options(about: str | None) -> argparse.ArgumentParser:
@@ -32,13 +33,25 @@ def options(about: str | None) -> argparse.ArgumentParser:
 
 
 def checked(asked: argparse.Namespace) -> None:
-    """Refuses options that go with none that is there."""
+    """Refuses names without a character, and options that go with none that is there."""
+    for name in ("signtool", "sign", "journal", "log"):
+        if getattr(asked, name) == "":
+            raise Refusal(f"--{name} has no name")
     if asked.fresh and not asked.journal:
         raise Refusal("--fresh is of a --journal FILE")
     if asked.json and not asked.log:
         raise Refusal("--json is of a --log FILE")
-    if asked.log and asked.journal and os.path.realpath(asked.log) == os.path.realpath(asked.journal):
-        raise Refusal(f"{asked.log} cannot be the log and the journal")
+    for what, other in (("journal", asked.journal), ("description", asked.sign)):
+        if asked.log and other and is_same(asked.log, other):
+            raise Refusal(f"{asked.log} cannot be the log and the {what}")
+
+
+def is_same(one: str, other: str) -> bool:
+    """Whether two names are of one file."""
+    try:
+        return os.path.samefile(one, other)
+    except OSError:
+        return os.path.realpath(one) == os.path.realpath(other)
 
 
 def log_of(asked: argparse.Namespace) -> Log | None:
@@ -47,17 +60,23 @@ def log_of(asked: argparse.Namespace) -> Log | None:
 
 def number_above(path: str, file: int, end: str) -> int | None:
     """A number above all that the centre of a journal used: each of its records sent at most one request of a new
-    number."""
-    text = os.pread(file, 1 << 12, 0)
-    found = Head.of(text.split(b"\n")[0][:-SUM])
-    if found is None and text.strip(b"\0"):
+    number, and none is shorter than `tick`. None of a sign's, and of a file whose first record was never finished."""
+    text, size = os.pread(file, SECTOR, 0), os.fstat(file).st_size
+    first = text[: text.find(b"\n") + 1]
+    found = Head.of(first[: -SUM - 1]) if first and whole(first) else None
+    if found is None and (size >= SECTOR or text.strip(b"\0")):
         raise Refusal(
             f"{path} is no journal: it is not put aside"
             + (", and --first says no number above its own" if end == "centre" else "")
         )
     if found is not None and found.end != end:
         raise Refusal(f"{path} is the journal of a {found.end}: it is not put aside")
-    return None if found is None or found.first is None else found.first + count_of_records(file)
+    if found is None or found.first is None:
+        return None
+    above = found.first + size // SHORTEST
+    if above > MOST_NUMBER:
+        raise Refusal(f"{path}: no number of a request is left above those that it may have used")
+    return above
 
 
 def journal_of(asked: argparse.Namespace, head: Head) -> Journal:
@@ -73,11 +92,8 @@ def journal_of(asked: argparse.Namespace, head: Head) -> Journal:
     return journal
 
 
-def begun(asked: argparse.Namespace, end: str, first: int | None, journal: Journal | None) -> CoProcess:
-    """The co-process, where the lines of the journal left it."""
-    text = description.read(asked.sign)
-    if first is not None:
-        text = description.with_first(text, first)
+def begun(asked: argparse.Namespace, end: str, text: bytes | None, journal: Journal | None) -> CoProcess:
+    """The co-process of this description, where the lines of the journal left it."""
     process = CoProcess(asked.signtool, [end], text)
     process.begin(b"state" if end == "sign" else b"status", asked.sign or asked.signtool)
     if journal is not None:

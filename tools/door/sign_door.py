@@ -1,9 +1,9 @@
 """A sign behind a UDP port: what waits is recorded, handed over and answered, many datagrams at a time."""
 
 import socket
-import time
 from binascii import hexlify, unhexlify
 
+from .clock import running
 from .datagrams import is_get
 from .keeper import Keeper
 from .log import Log
@@ -37,9 +37,9 @@ class SignDoor:
 
     def serve(self, waiting: Waiting, has_ticks: bool) -> None:
         """Until it is stopped."""
-        due = time.monotonic() + 1
+        due = running() + 1
         while not waiting.is_stopped:
-            left = due - time.monotonic() if has_ticks else None
+            left = due - running() if has_ticks else None
             if left is not None and left <= 0:
                 passed = 1 + int(-left)
                 self.tick(passed)

@@ -9,6 +9,8 @@ from typing import Any, Callable
 from .refusal import Refusal
 
 MOST_DATAGRAM = 1472  # octets of a datagram of this profile
+MOST_FAULTS = 100  # of earlier datagrams, that are passed over at once
+MOST_WAIT = 86_400.0  # seconds that are waited for at once
 Address = tuple[Any, ...]
 
 
@@ -61,20 +63,21 @@ def connected(host: str, port: int) -> socket.socket:
 
 
 def received(door: socket.socket) -> tuple[bytes, Address] | None:
-    """A datagram that waits, with its sender; None where none does. An error that an earlier datagram met is no
-    datagram."""
-    while True:
+    """A datagram that waits, with its sender; None where none does. What an earlier datagram met on its way, such as a
+    machine that is off, is no datagram."""
+    for _ in range(MOST_FAULTS):
         try:
             return door.recvfrom(MOST_DATAGRAM + 1, socket.MSG_DONTWAIT)
         except BlockingIOError:
             return None
-        except ConnectionError:
+        except OSError:
             continue
+    return None
 
 
 class Waiting:
     """Waits for a file or a socket, and for an interrupt or a SIGTERM, which is seen between two steps and never within
-    one."""
+    one. The next one ends the process at once, as a kill does."""
 
     def __init__(self) -> None:
         self.is_stopped = False
@@ -87,11 +90,13 @@ class Waiting:
 
     def stop(self, *_: Any) -> None:
         self.is_stopped = True
+        for number in (signal.SIGINT, signal.SIGTERM):
+            signal.signal(number, signal.SIG_DFL)
 
     def until(self, files: list[int], seconds: float | None) -> list[int]:
         """Which of these files can be read, after at most so many seconds."""
         ready = select.poll()
         for file in (*files, self.woken.fileno()):
             ready.register(file, select.POLLIN)
-        found = ready.poll(None if seconds is None else max(0, 1000 * seconds))
+        found = ready.poll(None if seconds is None else 1000 * min(max(0.0, seconds), MOST_WAIT))
         return [] if self.is_stopped else [file for file, _ in found if file in files]

@@ -70,6 +70,7 @@ class Centres:
     def __init__(self, trial: Trial, relay: Relay, path: pathlib.Path) -> None:
         self.trial, self.relay, self.path = trial, relay, path
         self.commands = self.killed = 0
+        self.takes = 1.5  # seconds of a life that is not killed
         self.printed: set[str] = set()
 
     def command(self) -> str:
@@ -123,10 +124,13 @@ class Centres:
         """A life with a command, which is killed at a random moment, or ends by itself."""
         door = self.started(command)
         if which is not None:
-            timer = killed_later(door, which, self.trial.chance.uniform(0.05, 1.8))
-            door.ended()
+            timer = killed_later(door, which, self.trial.chance.uniform(0.05, 1.2 * self.takes))
+            begun = time.monotonic()
+            is_killed = door.ended() < 0 or b"by signal 9" in door.errors
             timer.cancel()
-            self.killed += 1
+            self.killed += is_killed
+            if not is_killed:
+                self.takes = time.monotonic() - begun
         self.over(door)
         return door
 
@@ -232,9 +236,7 @@ def run(trial: Trial, count: int) -> None:
     relay.start()
     centres = Centres(trial, relay, folder / "centre")
     library = built(trial)
-    for _ in range(count):
-        if trial.is_late():
-            break
+    while centres.killed < count and centres.commands < 3 * count and not trial.is_late():
         if library and trial.chance.random() < 0.3:
             centres.refused(library)
         else:

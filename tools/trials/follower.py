@@ -39,11 +39,11 @@ class Follower:
         self.asked: list[tuple[bytes, bool]] = []  # datagrams that are no Gets, and whether each was answered
         self.at = 0  # of these, how many the journal has or will never have
 
-    def ask(self, manager: Manager, octets: bytes, patience: float = 2.0) -> bytes | None:
-        """Asks a sign, and remembers it."""
-        reply = manager.exchange(octets, patience)
-        self.asked.append((octets, reply is not None))
-        return reply
+    def ask(self, manager: Manager, many: list[bytes], patience: float) -> list[bytes | None]:
+        """Asks a sign, all at once, and remembers it."""
+        replies = manager.exchange_all(many, patience)
+        self.asked += [(octets, reply is not None) for octets, reply in zip(many, replies)]
+        return replies
 
     def surely(self, manager: Manager, octets: bytes, is_over: Callable[[], bool]) -> bool:
         """Asks a sign that may not answer, and remembers it: whether it did."""

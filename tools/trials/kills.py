@@ -27,13 +27,31 @@ class Kills:
         self.trial, self.path = trial, folder / "journal"
         self.follower, self.changes = Follower(self.path), Changes(trial.chance)
         self.counted: list[int] = []  # values that the counter may have: the last one answered, and those after it
-        self.answered = self.killed = 0
+        self.answered = self.killed = self.early_kills = 0
+        self.takes = 0.3  # seconds of a start
+
+    def early(self, at: int) -> None:
+        """A life that is killed while it starts, or soon after."""
+        which = ("door", "co-process", "both")[self.trial.chance.randrange(3)]
+        name = f"life {at}, {which} killed at its start"
+        door = self.trial.door("udp_sign.py", "--port", "0", "--journal", str(self.path), "--no-ticks")
+        time.sleep(self.trial.chance.uniform(0.0, 1.2 * self.takes))
+        inner = door.inner()
+        door.kill(which)
+        if which == "co-process":
+            eventually(lambda: door.process.poll() is not None, self.takes)
+            door.stop()
+        self.over(name, door, inner)
+        is_killed = which != "co-process" or inner is not None
+        self.killed, self.early_kills = self.killed + is_killed, self.early_kills + is_killed
 
     def life(self, at: int) -> None:
         """A life with ticks or without, which is looked at where no tick can change it meanwhile."""
         has_ticks = at % 3 == 2
         which = ("door", "co-process", "both")[self.trial.chance.randrange(3)]
+        begun = time.monotonic()
         door = self.trial.sign("--journal", str(self.path), *([] if has_ticks else ["--no-ticks"]))
+        self.takes = time.monotonic() - begun
         name = f"life {at}, {which} killed"
         if not self.trial.holds(f"{name}: it starts", door.port != 0, door.errors.decode()):
             return
@@ -46,17 +64,17 @@ class Kills:
         timer.join()
         if which == "co-process":
             self.dies_too(name, door)
+        self.over(name, door, inner)
+        manager.close()
+        self.killed += 1
+
+    def over(self, name: str, door: Door, inner: int | None) -> None:
+        """Nothing of this life stays."""
         self.trial.holds(f"{name}: it ended", door.ended() != 999)
         self.trial.holds(f"{name}: its co-process ended", eventually(lambda: is_gone(inner)), inner)
         self.trial.holds(f"{name}: no traceback", b"Traceback" not in door.errors, door.errors.decode())
-        self.end(manager, door)
-
-    def end(self, manager: Manager, door: Door) -> None:
-        """Nothing of this life stays."""
-        manager.close()
         door.forget()
         self.trial.doors.remove(door)
-        self.killed += 1
 
     def dies_too(self, name: str, door: Door) -> None:
         """A door whose co-process was killed says so and ends, at the next datagram at the latest."""
@@ -71,28 +89,42 @@ class Kills:
         )
 
     def ask(self, door: Door, manager: Manager) -> None:
-        """SETs and Gets until the kill."""
+        """SETs and Gets until the kill, one by one or up to sixteen at once."""
         while door.process.poll() is None:
-            before = self.changes.count
-            octets = self.changes.next(manager)
-            reply = self.follower.ask(manager, octets, 0.3)
-            self.answered += reply is not None
-            self.count(before, octets, reply)
-            if reply is None:
+            many, counts = [], []
+            for _ in range(self.trial.chance.choice([1, 1, 1, 2, 16])):
+                before = self.changes.count
+                many.append(self.changes.next(manager))
+                counts.append(self.changes.count if self.changes.count != before else None)
+            replies = self.follower.ask(manager, many, 0.3)
+            for count, reply in zip(counts, replies):
+                self.answered += reply is not None
+                self.count(count, reply)
+            if None in replies:
                 return
             if self.trial.chance.random() < 0.2:
                 manager.get([Changes.COUNTER], 0.3)
 
-    def count(self, before: int, octets: bytes, reply: bytes | None) -> None:
-        """What the counter may be after a SET."""
-        if self.changes.count == before:
+    def count(self, count: int | None, reply: bytes | None) -> None:
+        """What the counter may be after a SET of it."""
+        if count is None:
             return
-        value = self.changes.count % 65_536
         message = None if reply is None else wire.spelled(reply)
         if message is None:
-            self.counted.append(value)
+            self.counted.append(count % 65_536)
         elif message.status == 0:
-            self.counted = [value]
+            self.counted = [count % 65_536]
+
+    def last(self) -> None:
+        """A life that ends well."""
+        door = self.trial.sign("--journal", str(self.path), "--no-ticks")
+        if self.trial.holds("after all kills: it starts", door.port != 0, door.errors.decode()):
+            manager = Manager(door.port)
+            self.look("after all kills", manager)
+            manager.close()
+        self.trial.holds("after all kills: it ends at a SIGTERM", door.stop() == 0, door.errors.decode())
+        door.forget()
+        self.trial.doors.remove(door)
 
     def look(self, name: str, manager: Manager) -> None:
         """After a start: the journal, the counter, the whole walk."""
@@ -113,12 +145,13 @@ def run(trial: Trial, count: int) -> None:
     """So many kills, and a last look."""
     begun = time.monotonic()
     kills = Kills(trial, trial.new_folder())
-    for at in range(count):
-        if not trial.is_late():
-            kills.life(at)
-    kills.life(3)
+    at = 0
+    while kills.killed < count and at < 2 * count and not trial.is_late():
+        (kills.early if at % 8 == 7 else kills.life)(at)
+        at += 1
+    kills.last()
     print(
-        f"kills of a sign: {kills.killed}, {kills.answered} SETs answered, "
+        f"kills of a sign: {kills.killed}, {kills.early_kills} of them at a start, {kills.answered} SETs answered, "
         f"a journal of {kills.path.stat().st_size} octets, "
         f"{time.monotonic() - begun:.0f} s",
         flush=True,

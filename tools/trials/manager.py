@@ -42,6 +42,22 @@ class Manager:
             pass
         return None
 
+    def exchange_all(self, many: list[bytes], patience: float) -> list[bytes | None]:
+        """The replies to datagrams that are sent at once, None for each that has none after so many seconds."""
+        at = {number_of(octets): place for place, octets in enumerate(many)}
+        replies: list[bytes | None] = [None] * len(many)
+        ends = time.monotonic() + patience
+        try:
+            for octets in many:
+                self.socket.send(octets)
+            while None in replies and select.select([self.socket], [], [], max(0.0, ends - time.monotonic()))[0]:
+                reply = self.socket.recv(65_535)
+                if number_of(reply) in at:
+                    replies[at[number_of(reply)]] = reply
+        except OSError:
+            pass
+        return replies
+
     def surely(self, octets: bytes, is_over: Callable[[], bool]) -> bytes | None:
         """The reply to a datagram; None where a Get that was sent after it was answered first, or the sign is gone."""
         wanted, after = number_of(octets), self.request(wire.GET, [])

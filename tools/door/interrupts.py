@@ -1,0 +1,6 @@
+"""Imported before all else: until a door waits for an interrupt, one ends it at once, and without a traceback."""
+
+import signal
+
+if signal.getsignal(signal.SIGINT) is signal.default_int_handler:
+    signal.signal(signal.SIGINT, signal.SIG_DFL)
