@@ -18,11 +18,11 @@ import time
 from typing import Callable
 
 from door.places import SIGNTOOL
-from trials import centres, disks, downs, faults, files, gets, kills, parts, speed, words, year
+from trials import centres, disks, downs, faults, files, gets, kills, parts, speed, stops, words, year
 from trials.bench import Trial
 
 # Seconds of the short form after which a kind of trial begins no more lives: on a machine that is busy there are fewer.
-SHARES = {"kills": 14, "faults": 10, "files": 7, "gets": 5, "downs": 6, "words": 8, "centres": 10}
+SHARES = {"kills": 14, "faults": 10, "files": 7, "gets": 5, "downs": 6, "stops": 8, "words": 8, "centres": 10}
 ENOUGH = 100.0  # seconds of the short form, after which no other kind of trial begins
 TRIALS: dict[str, Callable[[Trial], None]] = {
     "parts": parts.run,
@@ -33,6 +33,7 @@ TRIALS: dict[str, Callable[[Trial], None]] = {
     "gets": gets.run,
     "disks": disks.run,
     "downs": downs.run,
+    "stops": stops.run,
     "words": words.run,
     "year": year.run,
     "speed": speed.run,

@@ -1,7 +1,7 @@
 /* A preloaded disk that refuses: of the calls named $DISK_CALL (open, write, fdatasync, fsync, ftruncate, link, rename) on the
-   file $DISK_FILE, the $DISK_AT-th and the next $DISK_MORE after it answer the error $DISK_ERROR; a write of $DISK_SHORT octets is
-   done before the refused one, where that is set. $DISK_CUT refuses each ftruncate of the file from then on. All else is the C
-   library's. See lasting.py. */
+   file $DISK_FILE, the one of that name with .new after it, and the folder $DISK_FOLDER, the $DISK_AT-th and the next
+   $DISK_MORE after it answer the error $DISK_ERROR; a write of $DISK_SHORT octets is done before the refused one, where that
+   is set. $DISK_CUT refuses each ftruncate of the file from then on. All else is the C library's. See lasting.py. */
 #define _GNU_SOURCE
 #include <dlfcn.h>
 #include <errno.h>
@@ -20,8 +20,10 @@ static long number(const char *name) {
 }
 
 static int is_named(const char *path) {
-    const char *wanted = getenv("DISK_FILE");
+    const char *wanted = getenv("DISK_FILE"), *folder = getenv("DISK_FOLDER");
     size_t size = wanted ? strlen(wanted) : 0;
+    if (folder && path && strcmp(path, folder) == 0)
+        return 1;
     return size && path && strncmp(path, wanted, size) == 0 && (path[size] == 0 || strcmp(path + size, ".new") == 0);
 }
 

@@ -16,7 +16,7 @@ import argparse
 import sys
 
 from door import description
-from door.clock import Moment
+from door.clock import Moment, running
 from door.keeper import Keeper
 from door.records import Head
 from door.refusal import Refusal, status_of, tell
@@ -50,7 +50,8 @@ def main() -> int:
         journal = journal_of(asked, Head("sign", description.digest(text))) if asked.journal else None
         sign = begun(asked, "sign", text, journal)
         keeper = Keeper(journal) if journal else None
-        lines = keeper.start(Moment.now(), asked.down) if keeper else []
+        up = running()
+        lines = keeper.start(Moment.at(up), asked.down) if keeper else []
         if lines:
             sign.hand(lines)
         at, waiting = door.getsockname(), Waiting()
@@ -58,7 +59,7 @@ def main() -> int:
             log.event("start", at, {"down": b", ".join(lines).decode()} if lines else {})
         if not asked.quiet:
             tell(f"a sign at {named(at if ':' in at[0] else (asked.host, at[1]))}")
-        SignDoor(sign, door, keeper, log, asked.lose, asked.quiet).serve(waiting, not asked.no_ticks)
+        SignDoor(sign, door, keeper, log, up, asked.lose, asked.quiet).serve(waiting, not asked.no_ticks)
     sign.end()
     if log:
         log.event("end")

@@ -35,12 +35,17 @@ class Moment:
         return Moment(self.boot, self.wall + seconds, self.up + seconds)
 
     @staticmethod
-    def now() -> "Moment":
+    def at(up: float) -> "Moment":
+        """The moment of so many seconds since the boot."""
         try:
             boot = BOOT.read_text(encoding="ascii").strip() or "-"
         except (OSError, ValueError):
             boot = "-"
-        return Moment(boot, max(0, int(time.time())), int(running()))
+        return Moment(boot, max(0, int(time.time() - running() + up)), int(up))
+
+    @staticmethod
+    def now() -> "Moment":
+        return Moment.at(running())
 
     @staticmethod
     def of(start: bytes, clock: bytes) -> "Moment":

@@ -21,12 +21,12 @@ class Keeper:
         self.journal.keep([now.start(), *lines, now.clock()])
         return lines
 
-    def tick(self, seconds: int) -> None:
-        """Seconds passed, and were handed over."""
+    def tick(self, seconds: int, up: float) -> None:
+        """Seconds passed up to a moment, and were handed over."""
         self.seconds, self.since_clock = self.seconds + seconds, self.since_clock + seconds
         self.is_heard = False
         if self.since_clock >= MINUTE:
-            self.clock(Moment.now())
+            self.clock(Moment.at(up))
 
     def clock(self, now: Moment) -> None:
         """The record of the clock, which need not be on the disk at once."""
@@ -60,10 +60,10 @@ class Keeper:
             self.journal.owe(b"heard")
         self.is_heard = True
 
-    def end(self) -> None:
-        """The last seconds, on the disk."""
+    def end(self, up: float) -> None:
+        """The last seconds, on the disk, up to a moment."""
         self.count()
         try:
-            self.journal.keep([Moment.now().clock()])
+            self.journal.keep([Moment.at(up).clock()])
         except NotKept:
             pass

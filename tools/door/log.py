@@ -31,7 +31,7 @@ class Log:
     def __init__(self, path: str, is_json: bool) -> None:
         self.path, self.file, self.is_json, self.mib = path, file_of(path), is_json, Mib.read()
         self.left_out = 0
-        self.is_torn = False
+        self.is_torn = self.is_given_up = False
 
     def datagram(self, event: str, peer: Address, octets: bytes) -> None:
         """A datagram that came or went."""
@@ -45,6 +45,8 @@ class Log:
 
     def write(self, line: str) -> None:
         """A line, in one write, after a newline where the last one was written in part."""
+        if self.is_given_up:
+            return
         octets = b"\n" * self.is_torn + line.encode("utf-8", "backslashreplace") + b"\n"
         try:
             written = os.write(self.file, octets)
@@ -52,6 +54,7 @@ class Log:
             if not self.left_out:
                 say(f"the log {self.path} is not written: {fault.strerror}")
             self.left_out += 1
+            self.is_given_up = self.path == "-" and isinstance(fault, BrokenPipeError)
             return
         self.is_torn = written < len(octets)
         if self.left_out and not self.is_torn:

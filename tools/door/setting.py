@@ -34,8 +34,8 @@ def options(about: str | None) -> argparse.ArgumentParser:
 
 def checked(asked: argparse.Namespace) -> None:
     """Refuses names without a character, and options that go with none that is there."""
-    for name in ("signtool", "sign", "journal", "log"):
-        if getattr(asked, name) == "":
+    for name in ("signtool", "sign", "journal", "log", "host"):
+        if getattr(asked, name, None) == "":
             raise Refusal(f"--{name} has no name")
     if asked.fresh and not asked.journal:
         raise Refusal("--fresh is of a --journal FILE")

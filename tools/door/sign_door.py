@@ -12,6 +12,7 @@ from .refusal import reason, say, tell
 from .sockets import MOST_DATAGRAM, Address, Waiting, received
 
 AT_ONCE = 16  # datagrams that are recorded with one sync, and handed over together
+AT_ONCE_TICKS = 1000  # seconds that are handed over together
 Heard = tuple[bytes, Address]
 
 
@@ -21,7 +22,8 @@ def line_of(octets: bytes) -> bytes:
 
 
 class SignDoor:
-    """`lose`: every so many datagrams one is lost, 0 for none. Without a keeper nothing is kept."""
+    """`lose`: every so many datagrams one is lost, 0 for none. Without a keeper nothing is kept. `up` is the moment up
+    to which the sign was told the time."""
 
     def __init__(
         self,
@@ -29,34 +31,33 @@ class SignDoor:
         door: socket.socket,
         keeper: Keeper | None,
         log: Log | None,
+        up: float,
         lose: int = 0,
         is_quiet: bool = False,
     ) -> None:
         self.sign, self.door, self.keeper, self.log = sign, door, keeper, log
-        self.lose, self.is_quiet, self.count = lose, is_quiet, 0
+        self.up, self.lose, self.is_quiet, self.count = up, lose, is_quiet, 0
 
     def serve(self, waiting: Waiting, has_ticks: bool) -> None:
-        """Until it is stopped."""
-        due = running() + 1
+        """Until it is stopped. Seconds that have passed go before datagrams that wait."""
         while not waiting.is_stopped:
-            left = due - running() if has_ticks else None
+            left = self.up + 1 - running() if has_ticks else None
             if left is not None and left <= 0:
-                passed = 1 + int(-left)
-                self.tick(passed)
-                due += passed
-            elif waiting.until([self.door.fileno()], left):
+                self.tick()
+            elif waiting.until([self.door.fileno()], left) and not (has_ticks and running() >= self.up + 1):
                 self.answer(self.waiting_datagrams())
+        if has_ticks:
+            self.tick()
         if self.keeper:
-            self.keeper.end()
+            self.keeper.end(self.up if has_ticks else running())
 
-    def tick(self, seconds: int) -> None:
-        """Seconds pass."""
-        while seconds:
-            some = min(seconds, 1000)
-            self.sign.hand([b"tick"] * some)
+    def tick(self) -> None:
+        """Hands over the seconds that have passed."""
+        while (seconds := min(int(running() - self.up), AT_ONCE_TICKS)) > 0:
+            self.sign.hand([b"tick"] * seconds)
+            self.up += seconds
             if self.keeper:
-                self.keeper.tick(some)
-            seconds -= some
+                self.keeper.tick(seconds, self.up)
 
     def waiting_datagrams(self) -> list[Heard]:
         """What waits, at most so many at once; one that is longer than this profile's counts as lost."""

@@ -2,6 +2,7 @@
 sign."""
 
 import errno
+import itertools
 import os
 import pathlib
 import select
@@ -19,6 +20,7 @@ from .kills import killed_later
 from .manager import DMS
 
 ACTIVATE = DMS + (6, 3, 0)
+FAULTS = (("write", errno.ENOSPC), ("write", errno.EIO), ("fdatasync", errno.EIO))
 
 
 class Relay(threading.Thread):
@@ -72,6 +74,7 @@ class Centres:
         self.commands = self.killed = 0
         self.takes = 1.5  # seconds of a life that is not killed
         self.printed: set[str] = set()
+        self.faults = itertools.cycle([(call, error, at) for at in range(1, 13) for call, error in FAULTS])
 
     def command(self) -> str:
         """What an operator asks for."""
@@ -105,11 +108,9 @@ class Centres:
         return door
 
     def refused(self, library: pathlib.Path) -> None:
-        """A life with a disk that refuses a call."""
-        call, error = self.trial.chance.choice(
-            [("write", errno.ENOSPC), ("write", errno.EIO), ("fdatasync", errno.EIO)]
-        )
-        at, short = self.trial.chance.randint(1, 12), self.trial.chance.choice([0, 15])
+        """A life with a disk that refuses a call: each call in turn."""
+        call, error, at = next(self.faults)
+        short = self.trial.chance.choice([0, 15])
         door = self.started(self.command(), refusing(library, self.path, call, at, error, short=short))
         status = door.ended()
         told = os.strerror(error).encode() in door.errors

@@ -1,5 +1,5 @@
-"""A fault of the disk at each write, fdatasync, fsync, ftruncate and open of a sign's journal in turn, by
-tools/refuse_disk.c."""
+"""A fault of the disk at each write, fdatasync, fsync, ftruncate and open of a sign's journal and of its folder in turn,
+by tools/refuse_disk.c."""
 
 import errno
 import os
@@ -15,6 +15,19 @@ from .manager import PATIENCE, Manager
 from .requests import Changes
 
 SETS = 6  # of a life
+MOST_CALLS = 20  # of one kind in a life
+LIVES: list[tuple[str, int, dict[str, int]]] = [
+    ("write", errno.ENOSPC, {}),
+    ("write", errno.EIO, {"short": 20}),
+    ("write", errno.EROFS, {"more": 2}),
+    ("write", errno.EIO, {"short": 20, "cut": 1}),
+    ("fdatasync", errno.EIO, {}),
+    ("fsync", errno.EIO, {}),
+    ("ftruncate", errno.EIO, {}),
+    ("open", errno.EACCES, {}),
+    ("open", errno.EROFS, {}),
+    ("open", errno.ENOSPC, {}),
+]
 
 
 def built(trial: Trial) -> pathlib.Path | None:
@@ -46,6 +59,7 @@ def refusing(library: pathlib.Path, path: pathlib.Path, call: str, at: int, erro
     """The environment in which the disk refuses a call on a file."""
     words = {
         "DISK_FILE": str(path),
+        "DISK_FOLDER": str(path.parent),
         "DISK_CALL": call,
         "DISK_AT": str(at),
         "DISK_ERROR": str(error),
@@ -62,14 +76,15 @@ def is_ending(door: Door) -> bool:
 class Faults:
     """Lives over one journal: each with a fault, and then one without, which has SETs answered after it."""
 
+    lives = 0
+
     def __init__(self, trial: Trial, library: pathlib.Path) -> None:
         self.trial, self.library = trial, library
         self.path = trial.new_folder() / "journal"
         self.follower, self.changes = Follower(self.path), Changes(trial.chance)
-        self.count = 0
 
-    def life(self, call: str, at: int, error: int, **more: int) -> None:
-        """A life with a fault, and one after it."""
+    def life(self, call: str, at: int, error: int, **more: int) -> bool:
+        """A life with a fault, and one after it: whether there was a call to refuse."""
         also = "".join(f", {word} {value}" for word, value in more.items())
         name = f"{call} {at} refused with {errno.errorcode[error]}{also}"
         door = self.trial.sign(
@@ -100,10 +115,17 @@ class Faults:
             (status, door.errors.decode()),
         )
         self.trial.holds(f"{name}: no traceback", b"Traceback" not in door.errors, door.errors.decode())
-        if self.trial.chance.random() < 0.5:
+        if told and self.trial.chance.random() < 0.5:
             door.kill()
         self.forget(door, stops=True)
+        told = os.strerror(error).encode() in door.errors
         self.after(name)
+        return told
+
+    def tear(self) -> None:
+        """The journal has a record at its end that was not finished."""
+        with open(self.path, "ab") as file:
+            file.write(b"datagram 30")
 
     def fresh(self, call: str) -> None:
         """A fresh journal whose old one cannot be put aside: the old one stays, and goes on."""
@@ -120,8 +142,8 @@ class Faults:
     def ask(self, door: Door) -> list[bool]:
         """Whether each of several SETs was answered."""
         manager = Manager(door.port)
-        answered = []
-        for _ in range(SETS):
+        answered: list[bool] = []
+        while len(answered) < SETS or not answered[-1] and not is_ending(door) and len(answered) < 2 * SETS:
             octets = manager.request(wire.SET, self.changes.counter())
             answered.append(self.follower.surely(manager, octets, lambda: is_ending(door)))
         manager.close()
@@ -129,7 +151,7 @@ class Faults:
 
     def after(self, name: str) -> None:
         """A life without a fault: what it finds, and SETs that are answered."""
-        self.count += 1
+        Faults.lives += 1
         door = self.trial.sign("--journal", str(self.path), "--no-ticks")
         if self.trial.holds(f"after {name}: it starts", door.port != 0, door.errors.decode()):
             manager = Manager(door.port)
@@ -147,31 +169,42 @@ class Faults:
         self.trial.doors.remove(door)
 
 
+def each(trial: Trial, library: pathlib.Path, faults: Faults, most: int) -> None:
+    """Each call of each kind in turn, as long as there is one more: over a journal that goes on, and over new ones."""
+    for call, error, more in LIVES:
+        for at in range(1, most):
+            if call in ("ftruncate", "fsync"):
+                faults.tear()
+            if trial.is_late() or not faults.life(call, at, error, **more):
+                break
+    for call, error, more in LIVES:
+        for at in range(1, most):
+            if trial.is_late() or not Faults(trial, library).life(call, at, error, **more):
+                break
+
+
+def some(trial: Trial, faults: Faults) -> None:
+    """The first calls of those that a life makes at each datagram, and others once."""
+    for at in range(1, 4):
+        for call, error, more in (LIVES[0], LIVES[1], LIVES[4]):
+            if not trial.is_late():
+                faults.life(call, at, error, **more)
+    for call, error, more in (LIVES[3], LIVES[5], LIVES[7], LIVES[8]):
+        if not trial.is_late():
+            faults.life(call, 3 if call == "write" else 1, error, **more)
+
+
 def run(trial: Trial) -> None:
     """Each call in turn."""
     library = built(trial)
     if library is None:
         return
     faults = Faults(trial, library)
-    most = 4 if trial.is_short else SETS + 4
-    for at in range(1, most):
-        if trial.is_late():
-            break
-        faults.life("write", at, errno.ENOSPC)
-        faults.life("write", at, errno.EIO, short=20)
-        faults.life("fdatasync", at, errno.EIO)
-        if not trial.is_short:
-            faults.life("write", at, errno.EROFS, more=2)
-            faults.life("write", at, errno.EIO, short=20, cut=1)
-            faults.life("fsync", at, errno.EIO)
-            faults.life("ftruncate", at, errno.EIO)
-    faults.life("write", 3, errno.EIO, short=20, cut=1)
-    for error in (errno.EACCES, errno.EROFS, errno.ENOSPC):
-        if trial.is_late():
-            break
-        faults.life("open", 1, error)
+    if trial.is_short:
+        some(trial, faults)
+    else:
+        each(trial, library, faults, MOST_CALLS)
     for call in ("link", "rename"):
-        if trial.is_late():
-            break
-        faults.fresh(call)
-    print(f"faults of the disk: {faults.count}", flush=True)
+        if not trial.is_late():
+            faults.fresh(call)
+    print(f"faults of the disk: {Faults.lives}", flush=True)

@@ -137,14 +137,14 @@ def test_seconds_and_polls_in_a_row_are_one_record() -> None:
         keeper = Keeper(Journal.opened(path, HEAD))
         assert keeper.start(NOW, None) == []
         for seconds, is_heard in ((3, True), (4, True), (1, False), (2, False)):
-            keeper.tick(seconds)
+            keeper.tick(seconds, 10.0)
             if is_heard:
                 keeper.heard(by_kept=False)
                 keeper.heard(by_kept=False)
         keeper.keep([b"datagram 30"])
         keeper.heard(by_kept=True)
         keeper.heard(by_kept=False)
-        keeper.tick(5)
+        keeper.tick(5, 10.0)
         os.close(keeper.journal.file)
         assert kept(path) == [b"ticks 3", b"heard", b"ticks 4", b"heard", b"ticks 3", b"datagram 30"]
 
@@ -162,10 +162,10 @@ def test_seconds_that_could_not_be_recorded_go_with_the_next_record() -> None:
         keeper = Keeper(Journal.opened(path, HEAD))
         keeper.journal.__class__ = Refusing
         for seconds in (30, 20):
-            keeper.tick(seconds)
+            keeper.tick(seconds, 10.0)
             assert not keeper.keep([b"datagram 31"])
         keeper.heard(by_kept=False)
-        keeper.tick(2)
+        keeper.tick(2, 10.0)
         keeper.journal.__class__ = Journal
         assert keeper.keep([b"datagram 32"])
         os.close(keeper.journal.file)
