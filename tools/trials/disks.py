@@ -51,12 +51,7 @@ def full(trial: Trial, mounted: Mounted) -> None:
     filler = mounted.folder / "filler"
     door = trial.sign("--journal", str(path), "--no-ticks")
     trial.holds("on a small disk SETs are answered", all(answered(follower, door, changes, 3)), door.errors.decode())
-    with open(filler, "wb", buffering=0) as file:
-        try:
-            while file.write(b"\0" * 512):
-                pass
-        except OSError:
-            pass
+    fill(filler)
     found = answered(follower, door, changes, 40)
     trial.holds(
         "on a full disk SETs are lost", not any(found[found.index(False) :] if False in found else [True]), found
@@ -69,6 +64,48 @@ def full(trial: Trial, mounted: Mounted) -> None:
     trial.holds("with room again SETs are answered", all(answered(follower, door, changes, 3)), door.errors.decode())
     door.kill()
     look_again(trial, "after a full disk", path, follower)
+
+
+def fill(filler: pathlib.Path) -> None:
+    """No octet is left on the disk."""
+    with open(filler, "wb", buffering=0) as file:
+        for size in (512, 1):
+            try:
+                while file.write(b"\0" * size):
+                    pass
+            except OSError:
+                pass
+
+
+def full_at_start(trial: Trial, mounted: Mounted) -> None:
+    """A door that begins a journal on a full disk says why and ends; one that goes on is a trial of faults."""
+    filler = mounted.folder / "filler"
+    fill(filler)
+    door = trial.sign("--journal", str(mounted.folder / "none"), "--no-ticks")
+    is_well = door.ended() in (1, 2) and b"No space left" in door.errors and b"Traceback" not in door.errors
+    trial.holds("a new journal on a full disk: said in words", is_well and not door.output, door.errors.decode())
+    filler.unlink()
+    door = trial.sign("--journal", str(mounted.folder / "none"), "--no-ticks")
+    trial.holds("and it is begun where there is room", door.port != 0 and door.stop() == 0, door.errors.decode())
+
+
+def log_on_full(trial: Trial, mounted: Mounted) -> None:
+    """A log whose disk is full: its door goes on, and writes it again where there is room."""
+    log, filler = mounted.folder / "log", mounted.folder / "filler"
+    path = trial.new_folder() / "journal"
+    follower, changes = Follower(path), Changes(trial.chance)
+    door = trial.sign("--journal", str(path), "--no-ticks", "--log", str(log))
+    fill(filler)
+    trial.holds(
+        "with a log on a full disk SETs are answered", all(answered(follower, door, changes, 30)), door.errors.decode()
+    )
+    trial.holds("and the door says so", b"the log" in door.errors and b"No space left" in door.errors, door.errors)
+    filler.unlink()
+    trial.holds("with room again SETs are answered", all(answered(follower, door, changes, 3)), door.errors.decode())
+    trial.holds("and the log is written again", b"written again" in door.errors, door.errors.decode())
+    trial.holds("such a door ends well", door.stop() == 0 and b"Exception" not in door.errors, door.errors.decode())
+    torn = [line for line in log.read_text(encoding="utf-8").splitlines() if not line.startswith("20")]
+    trial.holds("each line of the log is one", not torn, torn)
 
 
 def look_again(trial: Trial, name: str, path: pathlib.Path, follower: Follower) -> None:
@@ -118,6 +155,8 @@ def run(trial: Trial) -> None:
     try:
         if mounted.is_there:
             full(trial, mounted)
+            full_at_start(trial, mounted)
+            log_on_full(trial, mounted)
             read_only(trial, mounted)
         else:
             trial.skip("a full disk, a folder that can only be read", "no file system can be mounted")
