@@ -60,7 +60,7 @@ class Kills:
             self.look(name, manager)
         inner = door.inner()
         timer = killed_later(door, which, self.trial.chance.uniform(0.001, 1.3 if has_ticks else 0.1))
-        self.ask(door, manager)
+        self.ask(door, manager, 0.1 if has_ticks else 0.0)
         timer.join()
         if which == "co-process":
             self.dies_too(name, door)
@@ -88,11 +88,12 @@ class Kills:
             (status, door.errors.decode()),
         )
 
-    def ask(self, door: Door, manager: Manager) -> None:
-        """SETs and Gets until the kill, one by one or up to sixteen at once."""
+    def ask(self, door: Door, manager: Manager, pause: float) -> None:
+        """SETs and Gets until the kill, one by one or up to sixteen at once, with pauses between them."""
         while door.process.poll() is None:
+            time.sleep(self.trial.chance.uniform(0.0, pause))
             many, counts = [], []
-            for _ in range(self.trial.chance.choice([1, 1, 1, 2, 16])):
+            for _ in range(self.trial.chance.choice([1, 1, 1, 1, 1, 2, 16])):
                 before = self.changes.count
                 many.append(self.changes.next(manager))
                 counts.append(self.changes.count if self.changes.count != before else None)
@@ -149,6 +150,8 @@ def run(trial: Trial, count: int) -> None:
     while kills.killed < count and at < 2 * count and not trial.is_late():
         (kills.early if at % 8 == 7 else kills.life)(at)
         at += 1
+        if at % 100 == 0:
+            print(f"{kills.killed} kills, {time.monotonic() - begun:.0f} s", flush=True)
     kills.last()
     print(
         f"kills of a sign: {kills.killed}, {kills.early_kills} of them at a start, {kills.answered} SETs answered, "
