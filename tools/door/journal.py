@@ -82,7 +82,8 @@ class Journal:
     def is_begun(self, text: mmap.mmap | bytes) -> bool:
         """Whether a file without a whole record is what a door leaves that was killed at the first one."""
         begun, octets = self.head.line() + b" #", text[:SECTOR].rstrip(b"\0")
-        return len(text) < SECTOR and b"\n" not in octets[:-1] and (begun.startswith(octets) or octets.startswith(begun))
+        is_like = begun.startswith(octets) or octets.startswith(begun)
+        return len(text) < SECTOR and b"\n" not in octets[:-1] and is_like
 
     def compare(self, first: bytes) -> None:
         """Refuses a journal of something else, by what differs."""

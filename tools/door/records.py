@@ -11,7 +11,7 @@ SUM = 10  # a space, a number sign and the eight digits
 CHUNK = 1 << 20
 SECTOR = 512
 SHORTEST = 15  # octets of the shortest record that is handed over: `tick`
-MOST_TORN = 1 << 20  # octets that a crash may leave unfinished at most: more than a door writes in an hour without a sync
+MOST_TORN = 1 << 20  # octets that a crash leaves unfinished at most: more than a door writes in an hour without a sync
 OWN = (b"journal ", b"start ", b"clock ")  # records of the door's own; all others are lines that are handed over
 
 

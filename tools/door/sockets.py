@@ -81,8 +81,10 @@ class Waiting:
 
     def __init__(self) -> None:
         self.is_stopped = False
+        self.files: list[int] = []  # that were waited for last, by this poll
         self.woken, self.waker = socket.socketpair()
         self.waker.setblocking(False)
+        self.ready = self.poll_of([])
         signal.set_wakeup_fd(self.waker.fileno(), warn_on_full_buffer=False)
         stop: Callable[..., None] = self.stop
         for number in (signal.SIGINT, signal.SIGTERM):
@@ -93,10 +95,16 @@ class Waiting:
         for number in (signal.SIGINT, signal.SIGTERM):
             signal.signal(number, signal.SIG_DFL)
 
-    def until(self, files: list[int], seconds: float | None) -> list[int]:
-        """Which of these files can be read, after at most so many seconds."""
+    def poll_of(self, files: list[int]) -> "select.poll":
+        """What waits for these files, and for a signal."""
         ready = select.poll()
         for file in (*files, self.woken.fileno()):
             ready.register(file, select.POLLIN)
-        found = ready.poll(None if seconds is None else 1000 * min(max(0.0, seconds), MOST_WAIT))
+        return ready
+
+    def until(self, files: list[int], seconds: float | None) -> list[int]:
+        """Which of these files can be read, after at most so many seconds."""
+        if files != self.files:
+            self.files, self.ready = list(files), self.poll_of(files)
+        found = self.ready.poll(None if seconds is None else 1000 * min(max(0.0, seconds), MOST_WAIT))
         return [] if self.is_stopped else [file for file, _ in found if file in files]

@@ -1,5 +1,5 @@
-"""A fault of the disk at each write, fdatasync, fsync, ftruncate and open of a sign's journal and of its folder in turn,
-by tools/refuse_disk.c."""
+"""A fault of the disk at each write, fdatasync, fsync, ftruncate and open of a sign's journal and of its folder, in
+turn, by tools/refuse_disk.c."""
 
 import errno
 import os
