@@ -114,6 +114,17 @@ class Door:
             return None
         return int(words[0]) if words else None
 
+    def processor_time(self) -> float:
+        """The seconds of a processor that it and its co-process had so far."""
+        ticks = 0
+        for number in (self.process.pid, self.inner()):
+            try:
+                words = pathlib.Path(f"/proc/{number}/stat").read_text(encoding="latin-1").rpartition(")")[2].split()
+            except OSError:
+                continue
+            ticks += int(words[11]) + int(words[12])
+        return ticks / os.sysconf("SC_CLK_TCK")
+
     def kill(self, which: str = "door") -> None:
         """SIGKILL to the door, to its co-process, or to both."""
         numbers = [self.inner()] if which in ("co-process", "both") else []

@@ -7,10 +7,12 @@ from door.places import TOP
 from model import text, wire
 from model.sign import Sign
 
-from .bench import Trial
+from .bench import Door, Trial
+from .follower import lines_of
 from .manager import PATIENCE, Manager
 
-FORMS = 6  # the short form where it does, and one to four digits; the last mixes them
+Form = tuple[int, int, int, int]
+SHORTEST, LONGEST = (0, 0, 0, 0), (4, 4, 4, 4)
 
 
 def requests() -> list[tuple[bytes, bool]]:
@@ -31,7 +33,7 @@ def element(tag: int, content: bytes, form: int) -> bytes:
     return bytes([tag]) + length(len(content), form) + content
 
 
-def respelled(octets: bytes, forms: tuple[int, int, int, int]) -> bytes | None:
+def respelled(octets: bytes, forms: Form) -> bytes | None:
     """The same message with the lengths of the message, the version, the community and the PDU in these forms."""
     message = wire.spelled(octets)
     if message is None:
@@ -46,7 +48,7 @@ def respelled(octets: bytes, forms: tuple[int, int, int, int]) -> bytes | None:
     return element(wire.SEQUENCE, made, forms[0])
 
 
-def forms() -> Iterator[tuple[int, int, int, int]]:
+def forms() -> Iterator[Form]:
     """Every form of each of the four lengths alone, and all at once."""
     yield 0, 0, 0, 0
     for form in range(1, 5):
@@ -55,42 +57,79 @@ def forms() -> Iterator[tuple[int, int, int, int]]:
         yield form, form, form, form
 
 
-def life(trial: Trial, form: tuple[int, int, int, int], some: list[bytes]) -> None:
-    """Requests in a form, a kill, and the walk of what comes back: the model is handed each datagram that was
-    answered."""
-    name = f"{len(some)} requests with lengths {form}"
-    path = trial.new_folder() / "journal"
-    sign = Sign(text.bench())
-    door = trial.sign("--journal", str(path), "--no-ticks")
-    manager = Manager(door.port)
-    for octets in some:
-        made = respelled(octets, form)
-        if made is None or len(made) > wire.MOST_DATAGRAM:
-            continue
-        wanted, _ = sign.receive(made)
-        reply = manager.exchange(made, 0.0 if wanted is None else PATIENCE)
-        if not trial.holds(f"{name}: the reply", reply == wanted, (made.hex(), reply, wanted)):
-            break
-    manager.close()
-    door.kill(trial.chance.choice(["door", "both"]))
-    door.forget()
-    after = trial.sign("--journal", str(path), "--no-ticks")
-    manager = Manager(after.port)
-    names = sign.instances()
-    found = manager.values(names)
-    other = [one for one in names if found.get(one) != sign.value(one)]
-    trial.holds(f"{name}: after a kill the sign is what they left", not other, other[:5])
-    manager.close()
-    trial.holds(f"{name}: it ends", after.stop() == 0, after.errors.decode())
+class Lives:
+    """Lives of a sign over one journal: requests in some form of their lengths, a kill, and the whole walk after it. The
+    model is handed each datagram that was answered."""
+
+    def __init__(self, trial: Trial) -> None:
+        self.trial, self.path = trial, trial.new_folder() / "journal"
+        self.sign = Sign(text.bench())
+        self.names = self.sign.instances()
+        self.count = 0
+
+    def start(self) -> tuple[Door, Manager]:
+        """A life that begins; the seconds since the one before are the model's too."""
+        door = self.trial.sign("--journal", str(self.path), "--no-ticks")
+        self.trial.holds("a life of requests begins", door.port != 0, door.errors.decode())
+        lines = lines_of(self.path.read_bytes())
+        for line in lines[max((at for at, line in enumerate(lines) if line.startswith(b"start ")), default=0) :]:
+            if line.startswith(b"ticks "):
+                self.sign.ticks(int(line[6:]))
+        return door, Manager(door.port)
+
+    def ask(self, name: str, manager: Manager, made: bytes) -> None:
+        """A request, and its reply by the model."""
+        wanted, _ = self.sign.receive(made)
+        reply = manager.exchange(made, 0.05 if wanted is None else PATIENCE)
+        self.trial.holds(f"{name}: the reply", reply == wanted, (made.hex(), reply, wanted))
+
+    def compare(self, name: str, manager: Manager) -> None:
+        found = manager.values(self.names)
+        other = [one for one in self.names if found.get(one) != self.sign.value(one)]
+        self.trial.holds(f"{name}: after a kill the sign is what they left", not other, other[:5])
+
+    def life(self, form: Form, some: list[bytes]) -> None:
+        """Some requests, a kill, and what comes back; a journal that grew long is begun anew."""
+        name = f"{len(some)} requests with lengths {form}, after {self.count} lives"
+        if self.count % 100 == 99:
+            self.path, self.sign = self.trial.new_folder() / "journal", Sign(text.bench())
+        door, manager = self.start()
+        for octets in some:
+            made = respelled(octets, form)
+            if made is not None and len(made) <= wire.MOST_DATAGRAM:
+                self.ask(name, manager, made)
+        manager.close()
+        self.over(door)
+        after, manager = self.start()
+        self.compare(name, manager)
+        manager.close()
+        self.over(after)
+        self.count += 1
+
+    def over(self, door: Door) -> None:
+        """A kill, after which nothing of the life stays."""
+        door.kill(self.trial.chance.choice(["door", "both"]))
+        door.forget()
+        self.trial.doors.remove(door)
+
+
+def is_spelled(octets: bytes) -> bool:
+    """Whether it can be spelled in another form."""
+    return wire.spelled(octets) is not None
 
 
 def run(trial: Trial) -> None:
-    """All requests in each form; in the long form those that change a sign also one by one, with a kill after each."""
-    every = [octets for octets, _ in requests()]
+    """All requests in each form of their lengths, with a kill after all; in the long form those that change a sign with
+    a kill at each in each form, and all others with a kill at each in the shortest form and in the longest."""
+    every = [octets for octets, _ in requests() if is_spelled(octets)]
     changing = [octets for octets, changes in requests() if changes]
+    lives = Lives(trial)
     for form in forms() if not trial.is_short else [(0, 0, 0, 0), (0, 0, 0, 1), (1, 1, 1, 1)]:
         if trial.is_late():
             break
-        life(trial, form, changing if trial.is_short else every)
-        for octets in [] if trial.is_short else changing:
-            life(trial, form, [octets])
+        lives.life(form, every)
+    if not trial.is_short:
+        for form in forms():
+            for octets in every if form in (SHORTEST, LONGEST) else changing:
+                lives.life(form, [octets])
+    print(f"requests in forms of their lengths: {lives.count} lives with a kill at the end of each", flush=True)

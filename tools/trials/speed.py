@@ -1,5 +1,6 @@
 """How many requests a second a sign's door answers, with and without a journal, one or sixteen in flight."""
 
+import os
 import select
 import socket
 import time
@@ -62,7 +63,7 @@ def run(trial: Trial) -> None:
                 trial.holds(f"{name}, {in_flight} in flight: answered", found > 1, found)
                 print(
                     f"{'with' if is_kept else 'without'} a journal, {name}, {in_flight} in flight: "
-                    f"{found:.0f} a second",
+                    f"{found:.0f} a second, load {os.getloadavg()[0]:.1f} of {os.cpu_count()} processors",
                     flush=True,
                 )
         trial.holds("a sign ends after many requests", door.stop() == 0, door.errors.decode())

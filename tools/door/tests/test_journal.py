@@ -9,7 +9,7 @@ from typing import Callable
 from door import records
 from door.clock import Moment
 from door.files import opened
-from door.journal import Journal, NotKept
+from door.journal import MOST_OWED, Journal, NotKept
 from door.keeper import Keeper
 from door.records import Head
 from door.refusal import Refusal
@@ -170,3 +170,36 @@ def test_seconds_that_could_not_be_recorded_go_with_the_next_record() -> None:
         assert keeper.keep([b"datagram 32"])
         os.close(keeper.journal.file)
         assert kept(path) == [b"ticks 50", b"heard", b"ticks 2", b"datagram 32"]
+
+
+def test_lines_that_wait_for_a_disk_are_written_part_by_part() -> None:
+    with tempfile.TemporaryDirectory() as folder:
+        path = f"{folder}/journal"
+        keeper = Keeper(Journal.opened(path, HEAD))
+        keeper.journal.__class__ = Refusing
+        wanted = []
+        for at in range(5 * MOST_OWED):
+            keeper.tick(1, 10.0)
+            keeper.heard(by_kept=False)
+            wanted += [b"ticks 1", b"heard"]
+        keeper.journal.__class__ = Half
+        owed = len(keeper.journal.owed)
+        assert not keeper.keep([b"datagram 31"])
+        assert len(keeper.journal.owed) == owed - 2 * MOST_OWED
+        keeper.journal.__class__ = Journal
+        assert keeper.keep([b"datagram 32"]) and keeper.journal.owed == []
+        keeper.journal.close()
+        assert kept(path) == [*wanted, b"datagram 32"]
+
+
+class Half(Journal):
+    """A journal whose disk takes two parts, and then no record."""
+
+    parts = 2
+
+    def append(self, lines: list[bytes], synced: bool) -> None:
+        assert len(lines) <= MOST_OWED
+        self.parts -= 1
+        if self.parts < 0:
+            raise NotKept("the disk is full", 1)
+        super().append(lines, synced)

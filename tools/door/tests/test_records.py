@@ -58,6 +58,12 @@ def test_octets_that_never_reached_the_disk_are_a_torn_end() -> None:
     assert not is_torn(changed, whole(changed))
 
 
+def test_more_than_a_crash_leaves_is_no_torn_end() -> None:
+    for most, wanted in ((records.MOST_TORN, True), (records.MOST_TORN + 1, False)):
+        assert is_torn(TEXT + bytes(most), len(TEXT)) == wanted
+        assert is_torn(TEXT + b"3" * most, len(TEXT)) == wanted
+
+
 def test_many_chunks_are_whole_and_give_their_lines() -> None:
     lines = [b"ticks %d" % at for at in range(120_000)]
     text, _ = records.records(lines, 0)
@@ -69,6 +75,10 @@ def test_many_chunks_are_whole_and_give_their_lines() -> None:
 
 def test_records_of_the_door_are_not_handed_over() -> None:
     assert [line for some in lines_of(TEXT, 0, len(TEXT)) for line in some] == LINES[3:]
+
+
+def test_no_record_that_is_handed_over_is_shorter() -> None:
+    assert len(record(b"tick", 0)[0]) == records.SHORTEST
 
 
 def test_a_head_is_read_as_it_is_written() -> None:

@@ -1,0 +1,70 @@
+"""A journal that another hand moved, changed or put in its place, and the numbers of a centre that begins anew."""
+
+import os
+import pathlib
+import tempfile
+
+from door import records
+from door.journal import Journal
+from door.records import Head
+from door.refusal import Refusal
+from door.setting import number_above
+
+from .test_journal import HEAD, kept, refused
+
+
+def test_what_another_hand_did_is_seen_at_the_next_record() -> None:
+    for change in (os.unlink, lambda path: os.truncate(path, 9), lambda path: os.rename(path, path + "-")):
+        with tempfile.TemporaryDirectory() as folder:
+            journal = Journal.opened(f"{folder}/journal", HEAD)
+            change(f"{folder}/journal")
+            assert "another hand" in refused(lambda: journal.keep([b"tick"]))
+            journal.close()
+
+
+def test_zeros_in_place_of_a_journal_are_refused() -> None:
+    with tempfile.TemporaryDirectory() as folder:
+        path = pathlib.Path(folder, "journal")
+        for size, words in ((len(HEAD.line()) + 11, ""), (512, "is no journal"), (100_000, "is no journal")):
+            path.write_bytes(bytes(size))
+            assert words in refused(lambda: kept(str(path)))
+            assert words == "" or path.read_bytes() == bytes(size)
+
+
+def test_a_file_of_another_hand_keeps_its_mode() -> None:
+    with tempfile.TemporaryDirectory() as folder:
+        path = pathlib.Path(folder, "notes")
+        path.write_bytes(b"notes\n")
+        path.chmod(0o644)
+        assert "is no journal" in refused(lambda: kept(str(path)))
+        assert path.stat().st_mode & 0o777 == 0o644
+        path.write_bytes(b"")
+        assert kept(str(path)) == [] and path.stat().st_mode & 0o777 == 0o600
+
+
+def above(octets: bytes, end: str) -> int | str | None:
+    """The number that a fresh centre begins with after such a file; or why it is refused."""
+    with tempfile.TemporaryFile() as file:
+        file.write(octets)
+        file.flush()
+        try:
+            return number_above("it", file.fileno(), end)
+        except Refusal as found:
+            return str(found)
+
+
+def test_a_fresh_centre_begins_above_all_that_a_file_may_have_used() -> None:
+    lines = [Head("centre", "bench", 40).line(), b"blank 1 2 3 127.0.0.1", *[b"tick"] * 50]
+    octets, _ = records.records(lines, 0)
+    assert above(octets, "centre") == 40 + len(octets) // 15 > 40 + len(lines) - 1
+    hole = octets[:120] + bytes(len(octets) - 120)
+    assert above(hole, "centre") == above(octets, "centre")
+    assert above(b"", "centre") is None and above(bytes(60), "centre") is None
+    for other, words in (
+        (octets.replace(b"first 40", b"first 10"), "is no journal"),
+        (octets[:30], "is no journal"),
+        (bytes(512), "is no journal"),
+        (records.records([HEAD.line()], 0)[0], "of a sign"),
+        (records.records([Head("centre", "bench", 2**31 - 1).line(), *lines[1:]], 0)[0], "no number of a request"),
+    ):
+        assert words in str(above(other, "centre")), other
