@@ -1,7 +1,7 @@
 //! A dynamic message sign's controller and its central system on the command line.
 //!
-//! `signtool CALL ..` hands its words, its input and its outputs to dms_tool, which has all that it does. This page says what can be
-//! asked of it, each call with what it prints. The rules behind the answers are those of docs/PROFILE.md.
+//! `signtool CALL ..` hands its words to dms_cli, and the call that they are, its input and its outputs to dms_acts. This page says what
+//! can be asked of it, each call with what it prints. The rules behind the answers are those of docs/PROFILE.md.
 //!
 //! # Which sign
 //!
@@ -123,7 +123,8 @@
 //! standard error.
 #![tactic(auto)]
 
-use dms_tool::{act_saying, asked};
+use dms_acts::act_saying;
+use dms_cli::asked;
 use std::env::{Env, FillError};
 use std::io;
 use std::process::ExitCode;

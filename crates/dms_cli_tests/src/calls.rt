@@ -1,8 +1,8 @@
 //! Calls of the program by their words and their input, each with what it prints.
 
+use dms_acts::act::{act, act_saying};
 use dms_calls::{Call, Drawing, SignWanted};
-use dms_tool::act::{act, act_saying};
-use dms_tool::asked;
+use dms_cli::asked;
 use std::alloc::Global;
 use std::io;
 use std::io::Read;

@@ -3,29 +3,42 @@
 use crate::subcommands::command;
 use clap::ArgMatches;
 use dms_calls::{Call, CodeWords, Drawing, SignWanted, TableRow};
-use std::alloc::Global;
+use std::alloc::{AllocError, Global};
 use std::convert::AsStr;
 use std::fmt;
 
-/// Why a command line is no call: it is at fault, asks for help, or memory was wanting.
+/// Why a command line is no call.
 #[derive(Debug, Drop)]
 pub enum Usage {
-    Line(clap::Error),
+    /// It is at fault, or asks for help: the lines that say so.
+    Line(String),
+    /// It has no subcommand, or one without its words.
     NoCall,
+    /// No memory.
+    Memory,
 }
 
 impl fmt::Display for Usage {
     fn fmt<W: fmt::Write>(&self, f: &mut fmt::Formatter<W>) -> fmt::Result {
         match self {
-            Usage::Line(error) => write!(f, "{error}"),
+            Usage::Line(lines) => f.write_str(lines.as_str()),
             Usage::NoCall => writeln!(f, "a subcommand and its words are wanted"),
+            Usage::Memory => writeln!(f, "error: out of memory"),
         }
     }
 }
 
-impl From<clap::Error> for Usage {
-    fn from(error: clap::Error) -> Usage {
-        Usage::Line(error)
+impl From<AllocError> for Usage {
+    fn from(_: AllocError) -> Usage {
+        Usage::Memory
+    }
+}
+
+/// The lines that say what is wrong, or the help.
+fn lines_of(alloc: Global, error: clap::Error) -> Usage {
+    match format!(in alloc; "{error}") {
+        Ok(lines) => Usage::Line(lines),
+        Err(_) => Usage::Memory,
     }
 }
 
@@ -36,9 +49,10 @@ pub fn asked<S: AsStr>(alloc: Global, words: &[S]) -> Result<Call<'_>, Usage> {
     {
         return Ok(Call::Version);
     }
-    let matches = command(alloc)
-        .map_err(clap::Error::from)?
-        .try_get_matches_from(words)?;
+    let matches = match command(alloc)?.try_get_matches_from(words) {
+        Ok(matches) => matches,
+        Err(error) => return Err(lines_of(alloc, error)),
+    };
     match matches.subcommand() {
         Some(("answer", answer)) => {
             let hex = answer.get_str("HEX").ok_or(Usage::NoCall)?;

@@ -1,0 +1,12 @@
+//! The command line as a call: the program's subcommands, their words and their help. It needs no sign.
+//!
+//! ```
+//! let call = asked(alloc, &["signtool", "check", "A[nl]B"])?;
+//! assert!(rt; matches!(call, Call::Check { sign: SignWanted::Bench, .. }));
+//! ```
+#![tactic(auto)]
+
+pub mod command_line;
+mod subcommands;
+
+pub use command_line::{Usage, asked};
