@@ -11,20 +11,24 @@ from .bench import Trial
 from .manager import Manager, Name
 
 
-def lines_of(octets: bytes) -> list[bytes]:
-    """The lines of the whole records of a journal, by docs/JOURNAL.md."""
+def records_of(octets: bytes, begin: int, before: int) -> tuple[list[bytes], int, int]:
+    """The lines of the whole records of a journal from an octet on, by docs/JOURNAL.md, with the octet after them; the
+    sum of what is before is the third."""
     found: list[bytes] = []
-    begin = 0
-    sum_so_far = 0
     while (end := octets.find(b"\n", begin)) != -1:
         summed = octets[begin : end - 8]
-        sum_so_far = zlib.crc32(summed, sum_so_far)
-        if not summed.endswith(b" #") or octets[end - 8 : end] != b"%08x" % sum_so_far:
+        total = zlib.crc32(summed, before)
+        if not summed.endswith(b" #") or octets[end - 8 : end] != b"%08x" % total:
             break
         found.append(summed[:-2])
-        sum_so_far = zlib.crc32(octets[end - 8 : end + 1], sum_so_far)
+        before = zlib.crc32(octets[end - 8 : end + 1], total)
         begin = end + 1
-    return found
+    return found, begin, before
+
+
+def lines_of(octets: bytes) -> list[bytes]:
+    """The lines of all whole records of a journal."""
+    return records_of(octets, 0, 0)[0]
 
 
 class Follower:
@@ -35,7 +39,7 @@ class Follower:
         self.path = path
         self.sign = Sign(text.bench() if description is None else text.described(description))
         self.names: list[Name] = self.sign.instances()
-        self.seen: list[bytes] = []
+        self.seen, self.sum = b"", 0  # the whole records that were looked at, and their sum
         self.asked: list[tuple[bytes, bool]] = []  # datagrams that are no Gets, and whether each was answered
         self.at = 0  # of these, how many the journal has or will never have
 
@@ -54,10 +58,10 @@ class Follower:
     def catch_up(self, trial: Trial, name: str) -> None:
         """The file still begins as it did; what was answered is in it, in its order; nothing is in it that was not
         asked. The model is handed what is new."""
-        lines = lines_of(self.path.read_bytes())
-        trial.holds(f"{name}: the journal begins as it did", lines[: len(self.seen)] == self.seen, self.path)
-        new = lines[len(self.seen) :]
-        self.seen = lines
+        octets = self.path.read_bytes()
+        trial.holds(f"{name}: the journal begins as it did", octets.startswith(self.seen), self.path)
+        new, end, self.sum = records_of(octets, len(self.seen), self.sum)
+        self.seen = octets[:end]
         wanted = [bytes.fromhex(line[9:].decode()) for line in new if line.startswith(b"datagram ")]
         for octets in wanted:
             while self.at < len(self.asked) and self.asked[self.at][0] != octets:
