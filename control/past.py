@@ -1,0 +1,61 @@
+"""What the pages ask the database for: what was asked together, the ledger, earlier readings, the audit."""
+
+from dataclasses import dataclass, field
+
+from .database import Database
+from .views import COMMANDS, CommandView, Shown, command_view, text_or_none, time_of, whole
+
+
+@dataclass(frozen=True)
+class Batch:
+    """What was asked with one confirmation."""
+
+    id: int
+    who: str
+    at: float
+    what: str
+    commands: list[CommandView] = field(default_factory=list)
+
+
+def batch(held: Database, number: int) -> Batch | None:
+    rows = held.run("SELECT id, who, at, what FROM batches WHERE id = ?", number)
+    if not rows:
+        return None
+    of = held.run(f"{COMMANDS} JOIN batch_commands ON batch_commands.command = commands.id"
+                  " WHERE batch_commands.batch = ? ORDER BY commands.id", number)
+    return Batch(whole(rows[0][0]), str(rows[0][1]), time_of(rows[0][2]), str(rows[0][3]), list(map(command_view, of)))
+
+
+def people(held: Database) -> list[str]:
+    """Those who ever asked for something."""
+    return [str(row[0]) for row in held.run("SELECT DISTINCT who FROM commands ORDER BY who")]
+
+
+def ledger(held: Database, number: int, most: int = 200) -> list[tuple[int, str, str, float]]:
+    """The newest entries: the request's number, the code, the outcome, and when it was noted."""
+    rows = held.run("SELECT number, code, outcome, at FROM ledger WHERE sign = ? ORDER BY number DESC LIMIT ?",
+                    number, most)
+    return [(whole(row[0]), str(row[1]), str(row[2]), time_of(row[3])) for row in rows]
+
+
+@dataclass(frozen=True)
+class ReadingView:
+    """What a sign said it showed, or why it said nothing, from when until when."""
+
+    at: float
+    heard: float
+    shown: Shown | None
+    fault: str | None
+
+
+def readings(held: Database, number: int, most: int = 100) -> list[ReadingView]:
+    rows = held.run("SELECT at, heard, shown, fault FROM readings WHERE sign = ? ORDER BY number LIMIT ?", number, most)
+    return [ReadingView(time_of(row[0]), time_of(row[1]), None if row[2] is None else Shown.of(str(row[2])),
+                        text_or_none(row[3])) for row in rows]
+
+
+def audit(held: Database, before: int | None, most: int = 100) -> list[tuple[int, float, str, str]]:
+    """The newest lines: number, time, who, what."""
+    where, values = ("", []) if before is None else (" WHERE id < ?", [before])
+    rows = held.run(f"SELECT id, at, who, what FROM audit{where} ORDER BY id DESC LIMIT ?", *values, most)
+    return [(whole(row[0]), time_of(row[1]), str(row[2]), str(row[3])) for row in rows]

@@ -1,0 +1,82 @@
+"""The pages in a thread of their own, beside the worker or alone."""
+
+import asyncio
+import threading
+from dataclasses import dataclass
+
+from aiohttp import web
+
+from door.refusal import Refusal, reason, say
+from door.sockets import Waiting
+
+from . import database
+from .fleet import Sign
+from .rounds import Pace, Worker
+from .store import Store
+from .web.app import application
+from .web.room import Room
+from .web.settings import Settings
+
+PATIENCE = 20.0  # seconds until the pages stand, or have ended
+
+
+@dataclass
+class Pages:
+    """A loop in a thread, from start to stop."""
+
+    settings: Settings
+    signs: list[Sign]
+    host: str
+    port: int
+
+    def start(self) -> None:
+        """Returns when the pages can be asked for; refused where they cannot."""
+        self.room = Room(self.settings, self.signs)
+        self.loop = asyncio.new_event_loop()
+        self.fault: BaseException | None = None
+        self.is_up = threading.Event()
+        self.thread = threading.Thread(target=self.serve, name="pages", daemon=True)
+        self.thread.start()
+        self.is_up.wait(PATIENCE)
+        if self.fault is not None or not self.is_up.is_set():
+            words = reason(self.fault) if isinstance(self.fault, OSError) else str(self.fault or "no pages in time")
+            raise Refusal(f"{self.host}:{self.port}: {words}")
+
+    def serve(self) -> None:
+        """The thread."""
+        asyncio.set_event_loop(self.loop)
+        try:
+            self.runner = web.AppRunner(application(self.room), access_log=None)
+            self.loop.run_until_complete(self.runner.setup())
+            site = web.TCPSite(self.runner, self.host, self.port, shutdown_timeout=2.0)
+            self.loop.run_until_complete(site.start())
+            self.port = int(self.runner.addresses[0][1])
+        except (OSError, OverflowError) as fault:
+            self.fault = fault
+            self.is_up.set()
+            return
+        self.is_up.set()
+        self.loop.run_forever()
+        self.loop.run_until_complete(self.runner.cleanup())
+        self.loop.close()
+
+    def stop(self) -> None:
+        """Ends what is under way, and waits for it."""
+        self.loop.call_soon_threadsafe(self.loop.stop)
+        self.thread.join(PATIENCE)
+        if self.thread.is_alive():
+            say("the pages did not end in time")
+        self.room.close()
+
+    @property
+    def address(self) -> str:
+        """Where a browser finds them."""
+        host = f"[{self.host}]" if ":" in self.host else self.host
+        return f"http://{host}:{self.port}/"
+
+
+def work(settings: Settings, signs: list[Sign], pace: Pace, waiting: Waiting) -> None:
+    """The worker, until it is stopped."""
+    store = Store(database.opened(settings.database))
+    Worker(store, store.enter(signs), settings.program, pace, waiting).run()
+    store.database.close()

@@ -1,0 +1,83 @@
+"""Server-sent events: what has changed, to those who listen, as long as their log-in stands."""
+
+import asyncio
+import json
+import pathlib
+from typing import Any
+
+import pytest
+
+pytest.importorskip("aiohttp", reason="this Python does not see aiohttp: apt-get install python3-aiohttp")
+pytest.importorskip("jinja2", reason="this Python does not see jinja2: apt-get install python3-jinja2")
+
+from control import users
+from control.tests.visits import Bench, Visitor, run
+from control.users import Role
+from control.web import events
+
+
+async def listened(one: Visitor, view: str) -> Any:
+    answer = await one.client.get(f"/events?view={view}")
+    assert answer.status == 200 and answer.headers["Content-Type"] == "text/event-stream"
+    return answer
+
+
+async def told(answer: Any) -> dict[str, str]:
+    """The next event."""
+    while True:
+        line = await asyncio.wait_for(answer.content.readline(), 20)
+        assert line, "the stream has ended"
+        if line.startswith(b"data: "):
+            held: dict[str, str] = json.loads(line[6:])
+            return held
+
+
+def test_what_has_changed_is_told(tmp_path: pathlib.Path, where: str) -> None:
+    async def act(bench: Bench, visitor) -> None:
+        bench.read(bench.one)
+        one, two = [await bench.logged_in(visitor, name) for name in ("reader", "operator")]
+        streams = [await listened(one, "wall"), await listened(two, "wall")]
+        for stream in streams:
+            assert set(await told(stream)) == {f"sign-{row}" for row in bench.rows.values()}, "all at first"
+        bench.read(bench.two, text=b"NEW".hex())
+        for stream in streams:
+            parts = await told(stream)
+            assert set(parts) == {f"sign-{bench.two}"} and "shows NEW" in parts[f"sign-{bench.two}"]
+        sign = await listened(one, f"sign/{bench.one}")
+        assert set(await told(sign)) == {"shown", "commands"}
+        bench.store.ask(bench.one, "operator", "blank 1 65535 255 127.0.0.1")
+        parts = await told(sign)
+        assert set(parts) == {"commands"} and "waits for its turn" in parts["commands"]
+        for stream in (*streams, sign):
+            stream.close()
+
+    run(tmp_path, where, act)
+
+
+def test_a_stream_ends_with_its_log_in(tmp_path: pathlib.Path, monkeypatch: pytest.MonkeyPatch) -> None:
+    monkeypatch.setattr(events, "SILENCE", 0.2)
+    monkeypatch.setattr(events, "AGES", 60.0)
+
+    async def act(bench: Bench, visitor) -> None:
+        one = await bench.logged_in(visitor, "operator")
+        stream = await listened(one, f"sign/{bench.one}")
+        await told(stream)
+        users.change_role(bench.store.database, "operator", Role.READER, "a test")
+        await asyncio.wait_for(stream.content.read(), 20)
+
+    run(tmp_path, str(tmp_path / "database"), act)
+
+
+def test_streams_are_counted(tmp_path: pathlib.Path, monkeypatch: pytest.MonkeyPatch) -> None:
+    monkeypatch.setattr(events, "MOST_OF_ONE", 2)
+
+    async def act(bench: Bench, visitor) -> None:
+        one = await bench.logged_in(visitor, "reader")
+        streams = [await listened(one, "wall") for _ in range(2)]
+        assert (await one.answered("/events?view=wall")).status == 503
+        for wrong in ("", "walls", "sign/999", "sign/x"):
+            assert (await one.answered(f"/events?view={wrong}")).status == 404
+        for stream in streams:
+            stream.close()
+
+    run(tmp_path, str(tmp_path / "database"), act)

@@ -1,0 +1,142 @@
+"""Server-sent events: parts of pages that have changed, as they change."""
+
+import asyncio
+import json
+import re
+import time
+from typing import Callable
+
+from aiohttp import web
+
+from ..database import Database, Failed, Taken
+from . import logins, send, sign_pages, wall
+from .connections import Connections
+from .room import Room, room_of, visitor_of
+
+VIEW = re.compile(r"wall|(sign|table|batch)/(\d{1,9})")
+MOST_STREAMS, MOST_OF_ONE = 400, 12
+SILENCE = 15.0  # seconds after which a line says that the stream is there, and the log-in is looked at
+AGES = 5.0  # seconds after which what was said may be too old, though nothing was written
+MOST_WAITING = 20  # events that a browser has not taken; then it has to begin anew
+Parts = dict[str, str]
+OF = {"sign": sign_pages.parts, "table": sign_pages.table_parts, "batch": send.parts}
+
+
+class Stream:
+    """A browser that listens to a view."""
+
+    def __init__(self, view: str, login: str) -> None:
+        self.view, self.login = view, login
+        self.queue: asyncio.Queue[Parts | None] = asyncio.Queue(MOST_WAITING)
+
+    def put(self, parts: Parts | None) -> None:
+        """Hands an event over; a browser that takes none is let go."""
+        if self.queue.full():
+            while not self.queue.empty():
+                self.queue.get_nowait()
+            parts = None
+        self.queue.put_nowait(parts)
+
+
+class Hub:
+    """Looks for what has changed as long as somebody listens, once for all."""
+
+    def __init__(self, room: Room) -> None:
+        self.room = room
+        self.streams: set[Stream] = set()
+        self.connections = Connections(room.settings.database, 1)  # a mark is of one connection
+        self.last: dict[str, Parts] = {}
+        self.mark, self.looked = "", 0.0
+
+    def made(self, view: str) -> Callable[[Database], Parts]:
+        """How the parts of a view are made."""
+        found = VIEW.fullmatch(view)
+        assert found is not None
+        if found[1] is None:
+            return lambda held: wall.parts(self.room, held)
+        of = OF[found[1]]
+        return lambda held: of(self.room, held, int(found[2]))
+
+    async def run(self) -> None:
+        """For ever."""
+        while True:
+            await asyncio.sleep(self.room.settings.look)
+            if self.streams:
+                try:
+                    await self.look()
+                except (Failed, Taken):
+                    self.mark = ""
+
+    async def look(self) -> None:
+        """What has changed goes to those who listen to it."""
+        mark, now = await self.connections.run(lambda held: held.mark()), time.monotonic()
+        views = {stream.view for stream in self.streams}
+        is_new = mark != self.mark or now - self.looked > AGES
+        self.last = {view: parts for view, parts in self.last.items() if view in views}
+        for view in views:
+            if not is_new and view in self.last:
+                continue
+            parts = await self.connections.run(self.made(view))
+            before = self.last.get(view, {})
+            changed = {name: html for name, html in parts.items() if before.get(name) != html}
+            self.last[view] = parts
+            for stream in self.streams:
+                if changed and stream.view == view:
+                    stream.put(changed)
+        self.mark, self.looked = mark, now if is_new else self.looked
+
+    def enter(self, view: str, login: str) -> Stream:
+        """A new stream; it is told all that is known of its view first."""
+        if len(self.streams) >= MOST_STREAMS or sum(one.login == login for one in self.streams) >= MOST_OF_ONE:
+            raise web.HTTPServiceUnavailable(text="Too many pages listen.")
+        stream = Stream(view, login)
+        if view in self.last:
+            stream.put(self.last[view])
+        self.streams.add(stream)
+        return stream
+
+    def end_streams(self) -> None:
+        for stream in self.streams:
+            stream.put(None)
+
+    def close(self) -> None:
+        self.end_streams()
+        self.connections.close()
+
+
+def hub_of(request: web.Request) -> Hub:
+    found: Hub = request.app["hub"]
+    return found
+
+
+async def events(request: web.Request) -> web.StreamResponse:
+    """A stream of a view, as long as the log-in stands."""
+    room, visitor, view = room_of(request), visitor_of(request), request.query.get("view", "")
+    found = VIEW.fullmatch(view)
+    if found is None or found[1] in ("sign", "table") and int(found[2]) not in room.signs:
+        raise web.HTTPNotFound(text="There is no such view.")
+    stream = hub_of(request).enter(view, visitor.login)
+    answer = web.StreamResponse(headers={"Content-Type": "text/event-stream", "X-Accel-Buffering": "no"})
+    try:
+        await answer.prepare(request)
+        await answer.write(b"retry: 3000\n\n")
+        while await told(room, stream, answer, visitor.login):
+            pass
+    except ConnectionError:
+        pass
+    finally:
+        hub_of(request).streams.discard(stream)
+    return answer
+
+
+async def told(room: Room, stream: Stream, answer: web.StreamResponse, login: str) -> bool:
+    """Tells the next event; False where the stream ends."""
+    try:
+        parts = await asyncio.wait_for(stream.queue.get(), SILENCE)
+    except asyncio.TimeoutError:
+        await answer.write(b": here\n\n")
+        return await room.connections.run(lambda held: logins.find(held, login)) is not None
+    if parts is None:
+        return False
+    await answer.write(f"data: {json.dumps(parts)}\n\n".encode())
+    return True

@@ -1,0 +1,135 @@
+// Parts of the page that change, ages that grow, the choice of signs, pictures that are held still.
+"use strict";
+
+const body = document.body;
+const ahead = body.dataset.now ? Number(body.dataset.now) - Date.now() / 1000 : 0;
+
+function ageWord(seconds) {
+  const whole = Math.max(0, Math.floor(seconds));
+  if (whole >= 2 * 86400) return Math.floor(whole / 86400) + " d ago";
+  if (whole >= 2 * 3600) return Math.floor(whole / 3600) + " h ago";
+  if (whole >= 60) return Math.floor(whole / 60) + " min ago";
+  return whole + " s ago";
+}
+
+function tellAges() {
+  const now = Date.now() / 1000 + ahead;
+  for (const time of document.querySelectorAll("time[data-at]")) {
+    const words = ageWord(now - Number(time.dataset.at));
+    if (time.textContent !== words) time.textContent = words;
+  }
+}
+
+// ---- pictures: of two that are the same the old one stays, so that it goes on where it is
+
+const still = document.getElementById("still");
+
+function isStill() {
+  return still !== null && still.getAttribute("aria-pressed") === "true";
+}
+
+function hold(within) {
+  for (const image of within.querySelectorAll(".lamps img")) {
+    const address = image.getAttribute("src").split("?")[0];
+    const wanted = isStill() ? address + "?page=1" : address;
+    if (image.getAttribute("src") !== wanted) image.src = wanted;
+  }
+}
+
+function setStill(on) {
+  still.setAttribute("aria-pressed", String(on));
+  try { localStorage.setItem("still", on ? "1" : ""); } catch (fault) { /* a browser may keep nothing */ }
+  hold(document);
+}
+
+function replace(name, html) {
+  const old = document.getElementById(name);
+  if (!old) return;
+  const made = document.createElement("template");
+  made.innerHTML = html;
+  const fresh = made.content.firstElementChild;
+  if (!fresh) return;
+  hold(fresh);
+  for (const image of fresh.querySelectorAll("picture")) {
+    const address = image.querySelector("img").getAttribute("src");
+    const same = [...old.querySelectorAll("picture")].find((one) => one.querySelector("img").getAttribute("src") === address);
+    if (same) { same.querySelector("img").alt = image.querySelector("img").alt; image.replaceWith(same); }
+  }
+  const had = old.contains(document.activeElement) ? document.activeElement.getAttribute("href") : null;
+  old.replaceWith(fresh);
+  if (had) { const again = [...fresh.querySelectorAll("a")].find((one) => one.getAttribute("href") === had); if (again) again.focus(); }
+}
+
+// ---- events
+
+function listen(view) {
+  const link = document.getElementById("link");
+  const source = new EventSource("/events?view=" + encodeURIComponent(view));
+  source.onopen = () => { link.textContent = "The page follows what happens."; };
+  source.onerror = () => { link.textContent = "The page has lost the service, and tries again."; };
+  source.onmessage = (event) => {
+    const parts = JSON.parse(event.data);
+    for (const name of Object.keys(parts)) replace(name, parts[name]);
+    tellAges();
+    choose();
+  };
+}
+
+// ---- the wall
+
+const find = document.getElementById("find");
+const only = document.getElementById("only");
+
+function seen(card) {
+  const inner = card.querySelector(".inner");
+  const words = (card.dataset.words + " " + inner.querySelector("img, p").getAttribute("alt")).toLowerCase();
+  return words.includes(find.value.trim().toLowerCase()) && (!only.value || inner.dataset.state === only.value);
+}
+
+function choose() {
+  if (!find) return;
+  let count = 0;
+  for (const card of document.querySelectorAll(".card")) {
+    card.hidden = !seen(card);
+    count += !card.hidden;
+  }
+  document.getElementById("nothing").hidden = count > 0;
+  const chosen = document.getElementById("chosen");
+  if (chosen) {
+    const all = document.querySelectorAll(".card input:checked").length;
+    chosen.textContent = all ? all + " chosen" : "";
+  }
+}
+
+if (find) {
+  find.addEventListener("input", choose);
+  only.addEventListener("change", choose);
+  find.addEventListener("keydown", (event) => { if (event.key === "Enter") event.preventDefault(); });
+  document.addEventListener("change", (event) => { if (event.target.name === "sign") choose(); });
+  document.addEventListener("keydown", (event) => {
+    const isWriting = event.target.matches("input, textarea, select");
+    if (event.key === "/" && !isWriting) { event.preventDefault(); find.focus(); }
+  });
+  const all = document.getElementById("all");
+  if (all) {
+    all.hidden = false;
+    all.addEventListener("click", () => {
+      const boxes = [...document.querySelectorAll(".card:not([hidden]) input[name=sign]")];
+      const on = boxes.some((box) => !box.checked);
+      for (const box of boxes) box.checked = on;
+      choose();
+    });
+  }
+  choose();
+}
+
+if (still) {
+  still.hidden = !document.querySelector(".lamps");
+  still.addEventListener("click", () => setStill(!isStill()));
+  let kept = "";
+  try { kept = localStorage.getItem("still"); } catch (fault) { /* a browser may keep nothing */ }
+  if (kept) setStill(true);
+}
+tellAges();
+setInterval(tellAges, 1000);
+if (body.dataset.view) listen(body.dataset.view);
