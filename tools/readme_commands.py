@@ -2,15 +2,17 @@
 """Runs README's commands: `tools/readme_commands.py [--program PATH]` prints `N passed, N failed`.
 
 Each block of `sh` that begins with `./signtool` or `cp` is run at a copy of signs/ and the built program, line by line
-(a here-document is one line). The block of the SNMP tools is run whole, without its `apt-get`, where they are installed,
-and else skipped, which is said; with --short it is left out. A block without a language right after it is what its last
-command, or the whole block, prints. The two commands that prove, `tools/build.py` and the gate, are left to the gate.
+(a here-document is one line). The block of the SNMP tools is run whole, without its `apt-get` and on a port that is
+free, where they are installed, and else skipped, which is said; with --short it is left out. A block without a language
+right after it is what its last command, or the whole block, prints. The two commands that prove, `tools/build.py` and
+the gate, are left to the gate.
 """
 
 import argparse
 import pathlib
 import re
 import shutil
+import socket
 import subprocess
 import sys
 import tempfile
@@ -32,13 +34,51 @@ def commands(block):
             yield "\n".join(command) + "\n"
 
 
+def free_port():
+    """A UDP port that nobody has now."""
+    with socket.socket(socket.AF_INET, socket.SOCK_DGRAM) as door:
+        door.bind(("127.0.0.1", 0))
+        return door.getsockname()[1]
+
+
+def with_snmp_tools(block, after, program):
+    """Whether the block of the SNMP tools prints what README says, on a port that is free."""
+    port = free_port()
+    whole = "shopt -s expand_aliases\n" + block.split("\n", 1)[1]
+    for old, new in (
+        ("tools/udp_sign.py", f"tools/udp_sign.py --port {port} --signtool {program}"),
+        ("tools/udp_centre.py", f"tools/udp_centre.py --signtool {program}"),
+        ("127.0.0.1:1161", f"127.0.0.1:{port}"),
+        ("&    #", "& sleep 1    #"),
+    ):
+        whole = whole.replace(old, new)
+    ended = subprocess.run(["bash", "-c", whole], cwd=TOP, capture_output=True, text=True, timeout=120, check=False)
+    well = ended.stdout == after.replace("127.0.0.1:1161", f"127.0.0.1:{port}")
+    if not well:
+        print(f"{block}exit {ended.returncode}\n{ended.stdout}{ended.stderr}")
+    return well
+
+
+def runs(block, after, folder):
+    """For each command of a block whether it runs, the last with the output that README says."""
+    made = list(commands(block))
+    for at, command in enumerate(made):
+        call = ["bash", "-c", command]
+        ended = subprocess.run(call, cwd=folder, capture_output=True, text=True, timeout=60, check=False)
+        wanted = after if after and at + 1 == len(made) else None
+        well = ended.returncode == 0 and ended.stdout and not ended.stderr and wanted in (None, ended.stdout)
+        if not well:
+            print(f"{command}exit {ended.returncode}\n{ended.stdout}{ended.stderr}")
+        yield bool(well)
+
+
 def main():
     words = argparse.ArgumentParser(description=__doc__, formatter_class=argparse.RawDescriptionHelpFormatter)
     words.add_argument("--program", default=str(TOP / "crates/signtool/out/signtool"))
     words.add_argument("--short", action="store_true", help="without the block of the SNMP tools")
     asked = words.parse_args()
     text = (TOP / "README.md").read_text(encoding="utf-8")
-    passed = failed = 0
+    results = []
     with tempfile.TemporaryDirectory() as folder:
         shutil.copy(asked.program, f"{folder}/signtool")
         shutil.copytree(TOP / "signs", f"{folder}/signs")
@@ -46,25 +86,11 @@ def main():
             if block.startswith("apt-get") and not asked.short and not shutil.which("snmpget"):
                 print("skipped the SNMP tools: snmpget is not here")
             elif block.startswith("apt-get") and not asked.short:
-                whole = "shopt -s expand_aliases\n" + block.split("\n", 1)[1].replace("tools/udp_sign.py", f"tools/udp_sign.py --signtool {asked.program}").replace(
-                    "tools/udp_centre.py", f"tools/udp_centre.py --signtool {asked.program}").replace("&    #", "& sleep 1    #")
-                ended = subprocess.run(["bash", "-c", whole], cwd=TOP, capture_output=True, text=True, timeout=120, check=False)
-                well = ended.stdout == after
-                passed, failed = passed + bool(well), failed + (not well)
-                if not well:
-                    print(f"{block}exit {ended.returncode}\n{ended.stdout}{ended.stderr}")
-            if not block.startswith(("./signtool", "cp ")):
-                continue
-            made = list(commands(block))
-            for at, command in enumerate(made):
-                ended = subprocess.run(["bash", "-c", command], cwd=folder, capture_output=True, text=True, timeout=60, check=False)
-                wanted = after if after and at + 1 == len(made) else None
-                well = ended.returncode == 0 and ended.stdout and not ended.stderr and wanted in (None, ended.stdout)
-                passed, failed = passed + bool(well), failed + (not well)
-                if not well:
-                    print(f"{command}exit {ended.returncode}\n{ended.stdout}{ended.stderr}")
-    print(f"{passed} passed, {failed} failed")
-    return 1 if failed else 0
+                results.append(with_snmp_tools(block, after, asked.program))
+            elif block.startswith(("./signtool", "cp ")):
+                results += runs(block, after, folder)
+    print(f"{sum(results)} passed, {len(results) - sum(results)} failed")
+    return 0 if all(results) else 1
 
 
 if __name__ == "__main__":
