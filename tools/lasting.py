@@ -18,11 +18,12 @@ import time
 from typing import Callable
 
 from door.places import SIGNTOOL
-from trials import centres, disks, downs, faults, files, gets, kills, parts, speed, stops, words, year
+from trials import centres, disks, downs, faults, files, gets, kills, logs, operators, parts, speed, stops, words, year
 from trials.bench import Trial
 
 # Seconds of the short form after which a kind of trial begins no more lives: on a machine that is busy there are fewer.
-SHARES = {"kills": 14, "faults": 10, "files": 7, "gets": 5, "downs": 6, "stops": 8, "words": 8, "centres": 10}
+SHARES = {"kills": 14, "faults": 10, "files": 7, "gets": 5, "downs": 6, "stops": 8, "words": 8, "operators": 8,
+          "logs": 5, "centres": 10}
 ENOUGH = 100.0  # seconds of the short form, after which no other kind of trial begins
 TRIALS: dict[str, Callable[[Trial], None]] = {
     "parts": parts.run,
@@ -35,6 +36,8 @@ TRIALS: dict[str, Callable[[Trial], None]] = {
     "downs": downs.run,
     "stops": stops.run,
     "words": words.run,
+    "operators": operators.run,
+    "logs": logs.run,
     "year": year.run,
     "speed": speed.run,
 }

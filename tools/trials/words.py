@@ -1,14 +1,16 @@
 """What a door says to a user who is wrong: a line, a status, and never a traceback."""
 
 import os
+import pathlib
+import signal
 import socket
 import subprocess
+import sys
 
 from door.places import TOP
 
-from .bench import Door, Trial
-from .manager import PATIENCE, Manager
-from .requests import Changes
+from .bench import Door, Trial, eventually
+from .follower import lines_of
 
 ROADSIDE = str(TOP / "signs/roadside.sign")
 
@@ -37,6 +39,9 @@ def signs(trial: Trial) -> None:
     short.write_text("size 23 14\n", encoding="utf-8")
     more = folder / "more.sign"
     more.write_bytes((TOP / "signs/roadside.sign").read_bytes() + b"tick\n")
+    pipe, ring = folder / "pipe", folder / "ring"
+    os.mkfifo(pipe)
+    ring.symlink_to(ring)
     with socket.socket(socket.AF_INET, socket.SOCK_DGRAM) as other:
         other.bind(("127.0.0.1", 0))
         port = str(other.getsockname()[1])
@@ -63,6 +68,20 @@ def signs(trial: Trial) -> None:
             ("no such program", ["--signtool", str(folder / "none")], 2, "No such file or directory"),
             ("a program that is none", ["--signtool", str(bad)], 2, "Permission denied"),
             ("another program", ["--signtool", "/bin/true"], 2, "co-process ended"),
+            ("a program that answers otherwise", ["--signtool", "/usr/bin/yes"], 2, "does not answer as signtool does"),
+            ("a journal without a name", ["--journal", ""], 2, "--journal has no name"),
+            ("a log without a name", ["--log", ""], 2, "--log has no name"),
+            ("a host without a name", ["--host", ""], 2, "--host has no name"),
+            ("datagrams below none", ["--lose", "-1"], 2, "--lose -1"),
+            ("a port in words", ["--port", "http"], 2, "--port"),
+            ("another word", ["more"], 2, "unrecognized"),
+            ("a journal that is a pipe", ["--journal", str(pipe)], 2, "is no plain file"),
+            ("a journal that is a description", ["--journal", str(bad)], 2, "is no journal"),
+            ("a journal of links in a ring", ["--journal", str(ring)], 2, "symbolic links"),
+            ("a journal whose name is too long", ["--journal", str(folder / ("a" * 300))], 2, "File name too long"),
+            ("a log that is the description", ["--log", str(more), "--sign", str(more)], 2, "the log and the description"),
+            ("a description that is none", ["--sign", "/bin/sh"], 2, "no line `end`"),
+            ("a description without a line", ["--sign", "/dev/null"], 2, "no line `end`"),
         ]
         doors = [trial.door("udp_sign.py", "--port", "0", *words) for _, words, _, _ in rows]
         for (name, _, status, told), door in zip(rows, doors):
@@ -78,183 +97,84 @@ def centres(trial: Trial) -> None:
         ("no such host", ["--to", "no.such.host.invalid:1161"], "no.such.host.invalid"),
         ("a bad --first", ["--to", "127.0.0.1:1161", "--first", "-1"], "--first"),
         ("a bad --tick", ["--to", "127.0.0.1:1161", "--tick", "0"], "--tick"),
+        ("a --tick that is no number", ["--to", "127.0.0.1:1161", "--tick", "nan"], "--tick"),
+        ("a bad --wait", ["--to", "127.0.0.1:1161", "--wait", "-1"], "--wait"),
+        ("a --first above all numbers", ["--to", "127.0.0.1:1161", "--first", "2147483648"], "--first 2147483648"),
+        ("no --to", [], "--to"),
+        ("a host in brackets that is none", ["--to", "[zz]:1161"], "zz"),
+        ("a label that is too long", ["--to", "a" * 70 + ".example:1161"], "no such host"),
+        ("a broadcast", ["--to", "255.255.255.255:1161"], "Permission denied"),
+        ("--fresh without a journal", ["--to", "127.0.0.1:1161", "--fresh"], "--journal"),
     ]
     doors = [trial.door("udp_centre.py", *words) for _, words, _ in rows]
     for (name, _, told), door in zip(rows, doors):
         says(trial, name, door, 2, told)
 
 
-def commanded(trial: Trial, port: int, lines: str, *words: str) -> tuple[int, list[str]]:
-    """The status of a centre's door that is given lines, and what it printed."""
-    door = trial.door("udp_centre.py", "--to", f"127.0.0.1:{port}", "--tick", "0.2", *words, stdin=subprocess.PIPE)
-    assert door.process.stdin is not None
-    door.process.stdin.write(lines.encode())
-    door.process.stdin.close()
-    status = door.ended()
-    trial.holds("a centre's door prints no traceback", b"Traceback" not in door.errors, door.errors.decode())
-    return status, door.output.decode().splitlines()
-
-
-def operated(trial: Trial) -> None:
-    """Commands, what they end as, and the exit status."""
-    sign = trial.sign()
-    rows = [
-        ("blank 5 65535 255 127.0.0.1", 0, "last accepted"),
-        ("blank 5 65535 255 127.0.0.1\nnonsense", 1, "bad line"),
-        ("# nothing\n\n", 0, ""),
-        ("blank 0 65535 255 127.0.0.1", 1, "refused a value is out of its range"),
-        ("status", 0, "last none"),
-        ("tick", 1, "bad line"),
-        ("blank x", 1, "bad line"),
-        ('publish-text 3 1 "\u20ac" - 0 0 9 65535 255 127.0.0.1', 1, "bad line: TEXT: character 1, U+20AC"),
-        ('publish-text 3 1 "AB" "me" 0 0 9 65535 255 127.0.0.1', 0, "last accepted"),
-        (
-            'publish-text 3 2 "ABABABABAB" - 0 0 9 65535 255 127.0.0.1',
-            1,
-            "last failed at step 5: the row has status 5, error",
-        ),
-        (
-            "blank 5 65535 8 127.0.0.1",
-            1,
-            "last failed at step 7: the sign refused the activation for cause 3, priority",
-        ),
-    ]
-    for line, status, told in rows:
+def closed(trial: Trial) -> None:
+    """Standard files that are closed, or full: no file of a door's own has their numbers, and the door goes on."""
+    rows = [">&-", "2>&-", "<&- >&- 2>&-", ">/dev/full", "2>/dev/full", "| true"]
+    for row in rows:
         if trial.is_late():
             break
-        found = commanded(trial, sign.port, line + "\n")
-        trial.holds(
-            f"{line!r}: exit {status}, {told}",
-            found[0] == status and any(told in line for line in found[1] or [""]),
-            found,
-        )
-    else:
-        last = [
-            line for line in commanded(trial, sign.port, "blank 5 65535 8 127.0.0.1\n")[1] if line.startswith("ledger")
-        ]
-        trial.holds("a ledger's status in words", bool(last) and last[0].endswith(" refused 5, genErr"), last)
-    trial.holds("a sign ends at a SIGTERM", sign.stop() == 0, sign.errors.decode())
-    with socket.socket(socket.AF_INET, socket.SOCK_DGRAM) as silent:
-        silent.bind(("127.0.0.1", 0))
-        status, lines = commanded(
-            trial,
-            silent.getsockname()[1],
-            "blank 5 65535 255 127.0.0.1\nblank 6 65535 255 127.0.0.1\n",
-            "--wait",
-            "0.3",
-        )
-    wanted = [
-        "given up after 0.3 seconds: the job is not done",
-        "busy",
-        "last none",
-        "ledger 1 ffffff07000500007f000001 waiting",
-        "idle",
-        "last failed at step 7: no reply",
-        "ledger 1 ffffff07000500007f000001 noreply",
-        "given up after 0.3 seconds: the job is not done",
-        "busy",
-        "last failed at step 7: no reply",
-        "ledger 2 ffffff07000600007f000001 waiting",
-    ]
-    trial.holds(
-        "a silent sign is given up, and the next command waits for the job's end",
-        status == 1 and lines == wanted,
-        (status, lines),
-    )
-    status, lines = commanded(trial, silent_port(), "blank 5 65535 255 127.0.0.1\n")
-    trial.holds("no sign there", status == 1 and "last failed at step 7: no reply" in lines, (status, lines))
+        path = trial.new_folder() / "journal"
+        words = ["udp_sign.py", "--port", "0", "--signtool", trial.program, "--journal", str(path), "--log", "-"]
+        process = shell(f'exec "$@" {row}' if row != "| true" else '"$@" | true', words)
+        trial.holds(f"a sign with {row} begins", eventually(lambda: has_begun(path), 60.0), path)
+        ends(process, path)
+        errors = process.communicate()[1]
+        is_well = b"Traceback" not in errors and b"Exception" not in errors
+        trial.holds(f"a sign with {row} ends", process.returncode == 0 and is_well, (process.returncode, errors))
+        lines = lines_of(path.read_bytes())
+        trial.holds(f"a sign with {row} keeps a journal", lines[-1].startswith(b"clock ") and len(lines) >= 4, lines)
+        if row != "| true":
+            status = shell(f'exec "$@" {row}', ["udp_centre.py", "--to", "x"]).wait(60)
+            trial.holds(f"a centre with {row} has its status", status == 2, status)
 
 
-def outsiders(trial: Trial) -> None:
-    """A reply from another address than the sign's answers nothing, though it spells what is waited for."""
-    with socket.socket(socket.AF_INET, socket.SOCK_DGRAM) as sign, socket.socket(
-        socket.AF_INET, socket.SOCK_DGRAM
-    ) as other:
-        sign.bind(("127.0.0.1", 0))
-        sign.settimeout(PATIENCE)
-        door = trial.door(
-            "udp_centre.py", "--to", f"127.0.0.1:{sign.getsockname()[1]}", "--wait", "30", stdin=subprocess.PIPE
-        )
-        assert door.process.stdin is not None
-        door.process.stdin.write(b"blank 5 65535 255 127.0.0.1\n")
-        door.process.stdin.close()
-        octets, centre = sign.recvfrom(2048)
-        reply = octets.replace(b"\xa3", b"\xa2", 1)
-        other.sendto(reply, centre)
-        sent_again = sign.recvfrom(2048)[0]
-        trial.holds(
-            "a reply from elsewhere answers nothing",
-            sent_again == octets and door.process.poll() is None,
-            door.output.decode(),
-        )
-        sign.sendto(reply, centre)
-        trial.holds("and the sign's does", door.ended() == 0 and b"last accepted" in door.output, door.output.decode())
+def shell(line: str, words: list[str]) -> subprocess.Popen[bytes]:
+    """A tool that a shell starts with other standard files."""
+    call = ["sh", "-c", line, "sh", sys.executable, str(TOP / "tools" / words[0]), *words[1:]]
+    return subprocess.Popen(call, stdin=subprocess.DEVNULL, stdout=subprocess.PIPE, stderr=subprocess.PIPE)
 
 
-def silent_port() -> int:
-    """A port where nobody is."""
-    with socket.socket(socket.AF_INET, socket.SOCK_DGRAM) as one:
-        one.bind(("127.0.0.1", 0))
-        return int(one.getsockname()[1])
-
-
-def logged(trial: Trial) -> None:
-    """A log as lines and as JSON, and its mode; a co-process that is killed; an IPv6 address."""
-    path = trial.new_folder() / "log"
-    rows: list[tuple[list[str], bytes]] = [
-        ([], b" in Get community admin request-id 1 dmsShortPowerLossTime.0"),
-        (["--json"], b'"request-id": 1'),
-    ]
-    for words, told in rows:
-        door = trial.sign("--log", str(path), *words)
-        manager = Manager(door.port)
-        manager.get([Changes.COUNTER])
-        manager.close()
-        trial.holds("a log tells of datagrams", told in path.read_bytes(), path.read_bytes())
-        trial.holds("a log is its owner's", os.stat(path).st_mode & 0o777 == 0o600)
-        door.kill("co-process")
-        last = Manager(door.port)
-        last.get([Changes.COUNTER], 0.1)
-        last.close()
-        says_dead(trial, door)
-    if has_ipv6():
-        door = trial.sign("--host", "::1")
-        trial.holds("an IPv6 address", b"a sign at [::1]:" in door.output, door.errors.decode())
-        centre = trial.door("udp_centre.py", "--to", f"[::1]:{door.port}", stdin=subprocess.PIPE)
-        assert centre.process.stdin is not None
-        centre.process.stdin.write(b"blank 5 65535 255 127.0.0.1\n")
-        centre.process.stdin.close()
-        trial.holds(
-            "a centre over IPv6", centre.ended() == 0 and b"last accepted" in centre.output, centre.errors.decode()
-        )
-        trial.holds("a sign over IPv6 ends", door.stop() == 0)
-    else:
-        trial.skip("IPv6", "no address ::1 here")
-
-
-def says_dead(trial: Trial, door: Door) -> None:
-    """A door whose co-process was killed."""
-    trial.holds(
-        "a co-process that was killed",
-        door.ended() == 1 and b"co-process ended by signal 9" in door.errors,
-        door.errors.decode(),
-    )
-
-
-def has_ipv6() -> bool:
-    """Whether this machine has the address ::1."""
+def has_begun(path: pathlib.Path) -> bool:
+    """Whether a door has recorded its start."""
     try:
-        with socket.socket(socket.AF_INET6, socket.SOCK_DGRAM) as one:
-            one.bind(("::1", 0))
-            return True
+        return any(line.startswith(b"clock ") for line in lines_of(path.read_bytes()))
     except OSError:
         return False
+
+
+def ends(process: subprocess.Popen[bytes], path: pathlib.Path) -> None:
+    """Asks the door of a journal to end, whose process may be a shell's."""
+    numbers = [int(name) for name in os.listdir("/proc") if name.isdecimal()]
+    for number in numbers:
+        try:
+            words = pathlib.Path(f"/proc/{number}/cmdline").read_bytes().split(b"\0")
+        except OSError:
+            continue
+        if str(path).encode() in words and words[0] == sys.executable.encode():
+            eventually(lambda number=number: is_waiting(number), 10.0)
+            os.kill(number, signal.SIGTERM)
+    try:
+        process.wait(60)
+    except subprocess.TimeoutExpired:
+        process.kill()
+
+
+def is_waiting(number: int) -> bool:
+    """Whether a process takes a SIGTERM by itself."""
+    try:
+        status = pathlib.Path(f"/proc/{number}/status").read_text(encoding="latin-1")
+    except OSError:
+        return True
+    caught = int(status.split("SigCgt:")[1].split()[0], 16)
+    return bool(caught >> (signal.SIGTERM - 1) & 1)
 
 
 def run(trial: Trial) -> None:
     """Everything."""
     signs(trial)
     centres(trial)
-    operated(trial)
-    outsiders(trial)
-    logged(trial)
+    closed(trial)

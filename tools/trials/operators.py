@@ -1,0 +1,127 @@
+"""What an operator's commands end as, and what a centre takes for a reply."""
+
+import socket
+import subprocess
+
+from .bench import Trial
+from .manager import PATIENCE
+
+
+def commanded(trial: Trial, port: int, lines: str, *words: str) -> tuple[int, list[str]]:
+    """The status of a centre's door that is given lines, and what it printed."""
+    door = trial.door("udp_centre.py", "--to", f"127.0.0.1:{port}", "--tick", "0.2", *words, stdin=subprocess.PIPE)
+    assert door.process.stdin is not None
+    door.process.stdin.write(lines.encode())
+    door.process.stdin.close()
+    status = door.ended()
+    trial.holds("a centre's door prints no traceback", b"Traceback" not in door.errors, door.errors.decode())
+    return status, door.output.decode().splitlines()
+
+
+def operated(trial: Trial) -> None:
+    """Commands, what they end as, and the exit status."""
+    sign = trial.sign()
+    rows = [
+        ("blank 5 65535 255 127.0.0.1", 0, "last accepted"),
+        ("blank 5 65535 255 127.0.0.1\nnonsense", 1, "bad line"),
+        ("# nothing\n\n", 0, ""),
+        ("blank 0 65535 255 127.0.0.1", 1, "refused a value is out of its range"),
+        ("status", 0, "last none"),
+        ("tick", 1, "bad line"),
+        ("blank x", 1, "bad line"),
+        ('publish-text 3 1 "\u20ac" - 0 0 9 65535 255 127.0.0.1', 1, "bad line: TEXT: character 1, U+20AC"),
+        ('publish-text 3 1 "AB" "me" 0 0 9 65535 255 127.0.0.1', 0, "last accepted"),
+        (
+            'publish-text 3 2 "ABABABABAB" - 0 0 9 65535 255 127.0.0.1',
+            1,
+            "last failed at step 5: the row has status 5, error",
+        ),
+        (
+            "blank 5 65535 8 127.0.0.1",
+            1,
+            "last failed at step 7: the sign refused the activation for cause 3, priority",
+        ),
+    ]
+    for line, status, told in rows:
+        if trial.is_late():
+            break
+        found = commanded(trial, sign.port, line + "\n")
+        trial.holds(
+            f"{line!r}: exit {status}, {told}",
+            found[0] == status and any(told in line for line in found[1] or [""]),
+            found,
+        )
+    else:
+        last = [
+            line for line in commanded(trial, sign.port, "blank 5 65535 8 127.0.0.1\n")[1] if line.startswith("ledger")
+        ]
+        trial.holds("a ledger's status in words", bool(last) and last[0].endswith(" refused 5, genErr"), last)
+    trial.holds("a sign ends at a SIGTERM", sign.stop() == 0, sign.errors.decode())
+    with socket.socket(socket.AF_INET, socket.SOCK_DGRAM) as silent:
+        silent.bind(("127.0.0.1", 0))
+        status, lines = commanded(
+            trial,
+            silent.getsockname()[1],
+            "blank 5 65535 255 127.0.0.1\nblank 6 65535 255 127.0.0.1\n",
+            "--wait",
+            "0.3",
+        )
+    wanted = [
+        "given up after 0.3 seconds: the job is not done",
+        "busy",
+        "last none",
+        "ledger 1 ffffff07000500007f000001 waiting",
+        "idle",
+        "last failed at step 7: no reply",
+        "ledger 1 ffffff07000500007f000001 noreply",
+        "given up after 0.3 seconds: the job is not done",
+        "busy",
+        "last failed at step 7: no reply",
+        "ledger 2 ffffff07000600007f000001 waiting",
+    ]
+    trial.holds(
+        "a silent sign is given up, and the next command waits for the job's end",
+        status == 1 and lines == wanted,
+        (status, lines),
+    )
+    status, lines = commanded(trial, silent_port(), "blank 5 65535 255 127.0.0.1\n")
+    trial.holds("no sign there", status == 1 and "last failed at step 7: no reply" in lines, (status, lines))
+
+
+def outsiders(trial: Trial) -> None:
+    """A reply from another address than the sign's answers nothing, though it spells what is waited for."""
+    with socket.socket(socket.AF_INET, socket.SOCK_DGRAM) as sign, socket.socket(
+        socket.AF_INET, socket.SOCK_DGRAM
+    ) as other:
+        sign.bind(("127.0.0.1", 0))
+        sign.settimeout(PATIENCE)
+        door = trial.door(
+            "udp_centre.py", "--to", f"127.0.0.1:{sign.getsockname()[1]}", "--wait", "30", stdin=subprocess.PIPE
+        )
+        assert door.process.stdin is not None
+        door.process.stdin.write(b"blank 5 65535 255 127.0.0.1\n")
+        door.process.stdin.close()
+        octets, centre = sign.recvfrom(2048)
+        reply = octets.replace(b"\xa3", b"\xa2", 1)
+        other.sendto(reply, centre)
+        sent_again = sign.recvfrom(2048)[0]
+        trial.holds(
+            "a reply from elsewhere answers nothing",
+            sent_again == octets and door.process.poll() is None,
+            door.output.decode(),
+        )
+        sign.sendto(reply, centre)
+        trial.holds("and the sign's does", door.ended() == 0 and b"last accepted" in door.output, door.output.decode())
+
+
+def silent_port() -> int:
+    """A port where nobody is."""
+    with socket.socket(socket.AF_INET, socket.SOCK_DGRAM) as one:
+        one.bind(("127.0.0.1", 0))
+        return int(one.getsockname()[1])
+
+
+def run(trial: Trial) -> None:
+    """Everything."""
+    operated(trial)
+    outsiders(trial)
