@@ -10,6 +10,7 @@ administrator`. Further workers may stand beside it: python3 -m control.worker.
 import argparse
 import sys
 
+from door.places import called, in_words_of_command
 from door.refusal import status_of, tell
 from door.sockets import Waiting, host_and_port
 
@@ -19,7 +20,7 @@ LISTEN = "127.0.0.1:8080"
 
 
 def arguments() -> argparse.ArgumentParser:
-    words = argparse.ArgumentParser(prog="python3 -m control", description=__doc__,
+    words = argparse.ArgumentParser(prog=called("control"), description=in_words_of_command(__doc__),
                                     formatter_class=argparse.RawDescriptionHelpFormatter)
     words.add_argument("--fleet", required=True, metavar="FILE", help="the signs, as in signs/fleet.toml")
     words.add_argument("--database", default="room.sqlite", metavar="WHERE", help=database.WHERE)
@@ -44,7 +45,7 @@ def main() -> int:
     signs = fleet.read(asked.fleet)
     held = database.opened(asked.database)
     if not users(held):
-        tell("there is no user yet: python3 -m control.users --database .. add NAME administrator")
+        tell(f"there is no user yet: {called('control.users')} --database .. add NAME administrator")
     held.close()
     waiting = Waiting()
     pages = Pages(settings, signs, host, port)

@@ -20,6 +20,7 @@ import subprocess
 import sys
 from typing import Iterator
 
+from door import places
 from door.files import MODE, synced_folder
 from door.refusal import Refusal, reason, status_of, tell
 
@@ -154,8 +155,10 @@ def advanced(where: str, who: str, first: int | None) -> str:
 
 
 def arguments() -> argparse.ArgumentParser:
-    words = argparse.ArgumentParser(prog="python3 -m control.backup", description=__doc__,
-                                    formatter_class=argparse.RawDescriptionHelpFormatter)
+    words = argparse.ArgumentParser(
+        prog=places.called("control.backup"), description=places.in_words_of_command(__doc__),
+        formatter_class=argparse.RawDescriptionHelpFormatter,
+    )
     words.add_argument("what", choices=("copy", "restore", "advance"))
     words.add_argument("--database", required=True, metavar="WHERE", help=database.WHERE)
     words.add_argument("--to", type=pathlib.Path, metavar="FILE", help="where the copy goes")

@@ -17,6 +17,7 @@ import tempfile
 import time
 from dataclasses import dataclass
 
+from door.places import called, in_words_of_command
 from door.refusal import status_of, tell
 
 from . import SIGNTOOL, TOP, database, fleet, start
@@ -146,7 +147,7 @@ def told(store: Store, loopback: Loopback, workers: Workers, place: Place, secon
 
 
 def arguments() -> argparse.ArgumentParser:
-    words = argparse.ArgumentParser(prog="python3 -m control.chaos", description=__doc__,
+    words = argparse.ArgumentParser(prog=called("control.chaos"), description=in_words_of_command(__doc__),
                                     formatter_class=argparse.RawDescriptionHelpFormatter)
     words.add_argument("--signs", type=int, default=10, metavar="N")
     words.add_argument("--commands", type=int, default=40, metavar="N")

@@ -11,6 +11,7 @@ import getpass
 import sys
 import time
 
+from door.places import called, in_words_of_command
 from door.refusal import Refusal, status_of, tell
 from door.texts import published
 
@@ -47,7 +48,7 @@ def waited(store: Store, command: int, wait: float) -> str | None:
 
 
 def main() -> int:
-    words = argparse.ArgumentParser(prog="python3 -m control.command", description=__doc__,
+    words = argparse.ArgumentParser(prog=called("control.command"), description=in_words_of_command(__doc__),
                                     formatter_class=argparse.RawDescriptionHelpFormatter)
     words.add_argument("--database", required=True, metavar="WHERE", help=database.WHERE)
     words.add_argument("--who", default=getpass.getuser(), metavar="NAME", help="who asks; else the user")

@@ -15,6 +15,7 @@ import tempfile
 import tomllib
 from typing import Iterator
 
+from door.places import called, in_words_of_command
 from door.refusal import Refusal, status_of, tell
 from door.sockets import host_and_port
 
@@ -79,7 +80,7 @@ def enter(where: str) -> None:
 
 
 def main() -> int:
-    words = argparse.ArgumentParser(prog="python3 -m control.demo", description=__doc__,
+    words = argparse.ArgumentParser(prog=called("control.demo"), description=in_words_of_command(__doc__),
                                     formatter_class=argparse.RawDescriptionHelpFormatter)
     words.add_argument("--listen", default=LISTEN, metavar="HOST:PORT")
     words.add_argument("--signtool", default=str(SIGNTOOL), metavar="PATH")

@@ -16,6 +16,7 @@ import re
 import sys
 from dataclasses import dataclass
 
+from door.places import called, in_words_of_command
 from door.refusal import Refusal, status_of, tell
 
 from . import database, passwords
@@ -122,7 +123,7 @@ def asked_password() -> str:
 
 
 def arguments() -> argparse.ArgumentParser:
-    words = argparse.ArgumentParser(prog="python3 -m control.users", description=__doc__,
+    words = argparse.ArgumentParser(prog=called("control.users"), description=in_words_of_command(__doc__),
                                     formatter_class=argparse.RawDescriptionHelpFormatter)
     words.add_argument("--database", required=True, metavar="FILE", help="a file of SQLite, or postgresql://..")
     calls = words.add_subparsers(dest="call", required=True, metavar="CALL")

@@ -8,6 +8,7 @@ SIGTERM; what was under way is carried on by the next one.
 import argparse
 import sys
 
+from door.places import called, in_words_of_command
 from door.refusal import Refusal, status_of, tell
 from door.sockets import Waiting
 
@@ -28,7 +29,7 @@ def seconds(word: str) -> float:
 
 
 def arguments() -> argparse.ArgumentParser:
-    words = argparse.ArgumentParser(prog="python3 -m control.worker", description=__doc__,
+    words = argparse.ArgumentParser(prog=called("control.worker"), description=in_words_of_command(__doc__),
                                     formatter_class=argparse.RawDescriptionHelpFormatter)
     words.add_argument("--fleet", required=True, metavar="FILE", help="the signs, as in signs/fleet.toml")
     words.add_argument("--database", required=True, metavar="WHERE", help=database.WHERE)

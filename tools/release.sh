@@ -100,7 +100,7 @@ completions() {
     "$made" "$1" wisangub-centre "$usr/bin/wisangub-centre"
     "$made" "$1" wisangub-conform "$usr/bin/wisangub-conform" centre mutants.door
     "$made" "$1" wisangub-control "$usr/bin/wisangub-control" \
-        $(sed -n 's/^\.Cm \([a-z]*\)$/\1/p' "$source/tools/release/man/wisangub-control.1" | sort -u)
+        $(sed -n 's/^\.It Cm \([a-z]*\)$/\1/p' "$source/tools/release/man/wisangub-control.1")
 }
 
 # library: the library for C and its header, where they are there

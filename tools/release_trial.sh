@@ -3,7 +3,7 @@
 #
 #     tools/release_trial.sh [--program PATH] [BASE]
 #
-# BASE is a root that debootstrap made with python3 and snmp in it; where it is not there it is made (three minutes,
+# BASE is a root that debootstrap made with what the package wants; where it is not there it is made (three minutes,
 # from deb.debian.org). The trial works in a copy: a release is made twice, unpacked, installed over an older one, and
 # removed. It answers, walks, publishes, is tested and driven on ports of 127.0.0.1, and all that it starts it ends. It
 # wants root, and programs of Debian's debootstrap and dpkg.
@@ -79,7 +79,8 @@ version=$(tools/version.py)
 
 # --- an empty root --------------------------------------------------------------------------------------------------
 if [ ! -x "$base/usr/bin/snmpget" ]; then
-    debootstrap --variant=minbase --include=python3,snmp bookworm "$base" http://deb.debian.org/debian > "$room/log" \
+    packages=python3,snmp,python3-aiohttp,python3-jinja2,python3-psycopg
+    debootstrap --variant=minbase --include=$packages bookworm "$base" http://deb.debian.org/debian > "$room/log" \
         || { tail -n 3 "$room/log"; exit 1; }
 fi
 cp -a "$base" "$root"
@@ -124,11 +125,15 @@ is "the tester" as_user timeout 120 wisangub-conform --to "127.0.0.1:$port" \
     --sign /usr/share/wisangub/signs/roadside.sign --only get --only communities --html report.html
 printf '[[sign]]\nname = "one"\naddress = "127.0.0.1:%s"\ndescription = "%s"\nfirst = 1000000\n' "$port" \
     /usr/share/wisangub/signs/roadside.sign > "$root/var/lib/signs/fleet.toml"
-begin wisangub-control worker --fleet fleet.toml --database room.sqlite > "$room/worker" 2>&1 &
+is "a user" sh -c "echo a-long-password | chroot --userspec=65534:65534 '$root' /usr/bin/env -C /var/lib/signs \
+    wisangub-control users --database room.sqlite add someone operator"
+begin wisangub-control --fleet fleet.toml --database room.sqlite --listen 127.0.0.1:0 > "$room/worker" 2>&1 &
 worker=$!
 started+=("$worker")
-for _ in $(seq 50); do [ -s "$root/var/lib/signs/room.sqlite" ] && break; sleep 0.2; done
-sleep 2
+for _ in $(seq 100); do grep -q 'is at http' "$room/worker" && break; sleep 0.2; done
+pages=$(sed -n 's/.* is at \(http[^ ]*\).*/\1/p;T;q' "$room/worker")
+is "its pages at $pages" inside python3 -c \
+    "import urllib.request; assert b'<form' in urllib.request.urlopen('$pages', timeout=20).read(); assert '$pages'"
 is "the control room" as_user timeout 60 wisangub-control command --database room.sqlite one \
     'publish-text 3 1 "SLOW" "me" 0 0 100 65535 255 127.0.0.1'
 is "what is shown by it" same "$(get dmsMessageMultiString.5.1)" '"SLOW"'

@@ -11,18 +11,19 @@ RELEASED = TOP.parents[1] / "bin/wisangub-signtool"  # of share/wisangub
 SIGNTOOL = BUILT if (TOP / "crates").is_dir() else RELEASED
 
 
-def command_of_release() -> str | None:
-    """The name of the release's command that runs, if one does."""
-    name = pathlib.PurePath(sys.argv[0]).name
-    return name if name.startswith("wisangub-") else None
+def is_released() -> bool:
+    """Whether it is a command of a release that runs."""
+    return pathlib.PurePath(sys.argv[0]).name.startswith("wisangub-")
 
 
 def called(module: str) -> str:
-    """How a person calls a module: by the name of a release's command, or by the interpreter."""
-    return command_of_release() or f"python3 -m {module}"
+    """How a person calls a module: by the name of a release's command and the module's part, or by the interpreter."""
+    return f"wisangub-{module.replace('.', ' ', 1)}" if is_released() else f"python3 -m {module}"
 
 
 def in_words_of_command(about: str | None) -> str | None:
-    """A tool's words on itself, with the name that it is called by."""
-    name = command_of_release()
-    return re.sub(r"tools/udp_\w+\.py", name, about) if name and about else about
+    """A tool's words on itself and on others, with the names that they are called by."""
+    if not is_released() or about is None:
+        return about
+    words = re.sub(r"tools/udp_(sign|centre)\.py", r"wisangub-\1", about)
+    return re.sub(r"python3 -m ((?:conform|control)(?:\.[a-z_]+)*)", lambda found: called(found[1]), words)
