@@ -66,12 +66,15 @@ class ReadingStore:
         return [whole(row[0]) for row in
                 self.run(f"SELECT id FROM signs WHERE polled + poll <= {CLOCK} ORDER BY polled")]
 
-    def numbers(self, sign: int, count: int) -> range | None:
-        """So many numbers of requests below all that the sign's readings had; None where they are used up."""
-        rows = self.run("UPDATE signs SET reading_number = reading_number - ?"
-                        " WHERE id = ? AND reading_number - ? >= ? RETURNING reading_number",
-                        count, sign, count, LEAST_NUMBER)
-        return range(whole(rows[0][0]), whole(rows[0][0]) + count) if rows else None
+    def numbers(self, signs: Sequence[int]) -> dict[int, int]:
+        """A request's number for each of the signs, below all that its readings had; none where they are used up."""
+        if not signs:
+            return {}
+        rows = self.run(f"WITH asked AS MATERIALIZED (SELECT id FROM signs WHERE id IN ({places(signs)})"
+                        " AND reading_number > ? ORDER BY id {lock})"
+                        " UPDATE signs SET reading_number = reading_number - 1 WHERE id IN (SELECT id FROM asked)"
+                        " RETURNING id, reading_number", *signs, LEAST_NUMBER)
+        return {whole(row): whole(number) for row, number in rows}
 
     def read(self, said: Sequence[Said]) -> None:
         """What signs said: a row for each that differs from the sign's one before."""

@@ -47,24 +47,23 @@ class Pass:
         self.to_ask = places(sign)
         self.used: list[tuple[Place, int]] = []
 
-    def go_on(self) -> None:
+    @property
+    def is_done(self) -> bool:
+        return not self.to_ask and not self.used
+
+    def go_on(self, number: int) -> None:
         """The next Get: for the statuses first, then for the rows that are in use."""
         if self.to_ask:
             asked, self.to_ask = self.to_ask[:STATUSES], self.to_ask[STATUSES:]
             names = [(*self.tables.status, *place) for place in asked]
-            self.ask(names, partial(self.statuses, asked))
-        elif self.used:
-            place, status = self.used.pop(0)
-            self.ask([(*column, *place) for column in self.tables.columns.values()], partial(self.held, place, status))
+            self.ask(number, names, partial(self.statuses, asked))
         else:
-            self.tables.going.discard(self.row)
+            place, status = self.used.pop(0)
+            names = [(*column, *place) for column in self.tables.columns.values()]
+            self.ask(number, names, partial(self.held, place, status))
 
-    def ask(self, names: list[Name], take: "partial[None]") -> None:
-        numbers = self.tables.store.numbers(self.row, 1)
-        if numbers is None:
-            self.tables.going.discard(self.row)
-            return
-        self.tables.gets.begin(self.sign, numbers[0], names, partial(self.end, take, numbers[0]))
+    def ask(self, number: int, names: list[Name], take: "partial[None]") -> None:
+        self.tables.gets.begin(self.sign, number, names, partial(self.end, take, number))
 
     def end(self, take: "partial[None]", number: int, values: Values | str) -> None:
         """A sign that does not answer is asked again at the next time; else its table is read on."""
@@ -107,13 +106,19 @@ class Tables:
         for row in self.store.tables_due(free, EVERY, MOST - len(self.going)):
             self.going.add(row)
             self.ready.append(Pass(self, row, self.signs[row]))
-        while self.ready:
-            one = self.ready.pop()
-            try:
-                one.go_on()
-            except BaseException:
-                self.going.discard(one.row)
-                raise
+        self.go_on()
+
+    def go_on(self) -> None:
+        """The next Get of each that heard something; a reading that ended or cannot go on is let go."""
+        ready, self.ready = self.ready, []
+        for one in ready:
+            self.going.discard(one.row)
+        more = [one for one in ready if not one.is_done]
+        numbers = self.store.numbers([one.row for one in more])
+        for one in more:
+            if one.row in numbers:
+                self.going.add(one.row)
+                one.go_on(numbers[one.row])
 
     def keep(self) -> None:
         """Puts what was said since the last time into the database."""

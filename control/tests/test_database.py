@@ -188,7 +188,7 @@ def test_the_ledger_goes_on_from_what_waits_alone(where: str) -> None:
 def test_a_reading_is_a_row_where_it_is_another(where: str) -> None:
     first, second, sign = two_stores(where)
     assert first.to_read() == [sign] and first.due([sign]) == [(sign, -1)] and second.due([sign]) == []
-    assert first.numbers(sign, 3) == range(-4, -1) and second.numbers(sign, 2**31) is None
+    assert [store.numbers([sign])[sign] for store in (first, second, first)] == [-2, -3, -4]
     first.read([Said(sign, -1, 5, "a"), Said(sign, -5, 4, "a")])
     assert first.readings(sign) == [(4, "a", None)]
     second.read([Said(sign, -7, fault="no reply")])
@@ -205,3 +205,9 @@ def test_a_table_has_the_newest_of_each_row(where: str) -> None:
     second.read_rows([RowSaid(sign, 3, 2, -4, 4, "b"), RowSaid(sign, 3, 1, -5, 5, "c")])
     first.read_rows([RowSaid(sign, 3, 2, -3, 4, "late"), RowSaid(sign, 3, 1, -6, 1, None)])
     assert [row[:4] for row in first.table(sign)] == [(3, 1, 1, None), (3, 2, 4, "b")]
+
+
+def test_numbers_of_readings_are_used_up_once(where: str) -> None:
+    store, _, sign = two_stores(where)
+    store.run("UPDATE signs SET reading_number = ? WHERE id = ?", -2**31 + 1, sign)
+    assert store.numbers([sign]) == {sign: -2**31} and store.numbers([sign]) == {} and store.due([sign]) == []

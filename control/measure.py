@@ -1,0 +1,162 @@
+"""What the control room does in a second: python3 -m control.measure [--signs N] [--commands N] [--workers N] ..
+
+Proved signs on loopback without trouble; workers, each a process, over a database of their own; and publications, all
+asked for at once or so many a second. It prints how many ended a second, how long each took from the asking to its end,
+and the processor's time and the memory of the workers and their co-processes, without the database's server and the
+signs.
+"""
+
+import argparse
+import os
+import pathlib
+import signal
+import statistics
+import sys
+import tempfile
+import time
+from dataclasses import dataclass
+
+from door.refusal import status_of, tell
+
+from . import SIGNTOOL, TOP, database, fleet, start
+from .chaos_place import KINDS, placed
+from .chaos_workers import Workers
+from .loopback import Fates, Loopback
+from .store import Store, whole
+from .usage import Usage
+
+DESCRIPTION = TOP / "signs/roadside.sign"
+LOOK = 0.1
+START = 300.0  # seconds that the first readings of all signs may take
+
+
+@dataclass
+class Asked:
+    """The options."""
+
+    signs: int
+    commands: int
+    workers: int
+    rate: float
+    poll: float
+    seconds: float
+    tick: float
+    is_pinned: bool
+    database: str
+    signtool: str
+
+
+def publication(at: int) -> str:
+    """A text of its own for each."""
+    return f"publish 3 1 {f'MESSAGE {at}'.encode().hex()} - 0 0 1 65535 255 192.0.2.1"
+
+
+def count(store: Store, rows: str) -> int:
+    return whole(store.run(f"SELECT count(*) FROM {rows}")[0][0])
+
+
+def begun_once(store: Store, rows: list[int]) -> None:
+    """Waits until each sign was read and had a command, so that what is measured is the work that goes on."""
+    with store.database.transaction():
+        store.database.run_all("INSERT INTO commands (sign, who, at, line) VALUES (?, 'before', {clock}, ?)",
+                               [(row, "blank 1 65535 255 192.0.2.1") for row in rows])
+    ends = time.monotonic() + START
+    while (count(store, "commands WHERE how IS NULL") or count(store, "messages") < len(rows)
+           or count(store, "signs WHERE id IN (SELECT sign FROM readings)") < len(rows)):
+        if time.monotonic() > ends:
+            break
+        time.sleep(LOOK)
+
+
+def carried(asked: Asked, store: Store, rows: list[int], usage: Usage) -> float:
+    """Asks for the commands, and waits for their ends: the seconds that it took."""
+    begun = time.monotonic()
+    ends, sent = begun + asked.seconds, 0
+    while time.monotonic() < ends:
+        now = time.monotonic() - begun
+        to_send = asked.commands if not asked.rate else min(asked.commands, 1 + int(now * asked.rate))
+        if sent < to_send:
+            with store.database.transaction():
+                store.database.run_all(
+                    "INSERT INTO commands (sign, who, at, line) VALUES (?, 'measure', {clock}, ?)",
+                    [(rows[at % len(rows)], publication(at)) for at in range(sent, to_send)])
+            sent = to_send
+        usage.look()
+        if sent == asked.commands and not count(store, "commands WHERE how IS NULL"):
+            break
+        time.sleep(LOOK)
+    return time.monotonic() - begun
+
+
+def told(asked: Asked, store: Store, seconds: float, usage: Usage) -> None:
+    """The numbers."""
+    took = sorted(float(row[0] or 0) for row in store.run(
+        "SELECT ended - at FROM commands WHERE who = 'measure' AND how = 'accepted'"))
+    readings = count(store, "signs WHERE reading_number < 0")
+    tell(f"{asked.signs} signs, {asked.workers} workers, {asked.database}, tick {asked.tick:g} s, poll {asked.poll:g} s,"
+         f" {'all at once' if not asked.rate else f'{asked.rate:g} a second'}")
+    tell(f"{len(took)} of {asked.commands} commands accepted in {seconds:.1f} s: {len(took) / seconds:.1f} a second")
+    if took:
+        at = [took[min(len(took) - 1, len(took) * part // 100)] for part in (50, 95)]
+        tell(f"time to accepted: median {statistics.median(took):.2f} s, 95 of 100 within {at[1]:.2f} s, all within"
+             f" {took[-1]:.2f} s")
+    tell(f"{readings} signs read; {count(store, 'lines')} lines")
+    tell(usage.told(seconds, asked.signs))
+    tell(f"load {os.getloadavg()[0]:.1f}, {os.cpu_count()} processors")
+
+
+def run(asked: Asked, folder: pathlib.Path, where: str) -> bool:
+    """A measure; whether all commands were accepted."""
+    names = [f"sign {at}" for at in range(asked.signs)]
+    loopback = Loopback(asked.signtool, {name: DESCRIPTION.read_bytes() for name in names}, Fates(1, 0.0), 1.0)
+    (folder / "fleet.toml").write_text("".join(
+        f'[[sign]]\nname = "{live.name}"\naddress = "127.0.0.1:{live.port}"\ndescription = "{DESCRIPTION}"\n'
+        f"poll = {asked.poll}\n" for live in loopback.signs))
+    store = Store(database.opened(where))
+    rows = sorted(store.enter(fleet.read(folder / "fleet.toml")))
+    workers = Workers(asked.workers, folder, where, asked.signtool, asked.tick, 10.0)
+    loopback.start()
+    try:
+        workers.fill()
+        if asked.is_pinned:
+            for worker in workers.going:
+                os.sched_setaffinity(worker.pid, {0})
+        begun_once(store, rows)
+        usage = Usage([worker.pid for worker in workers.going])
+        seconds = carried(asked, store, rows, usage)
+        told(asked, store, seconds, usage)
+        return count(store, "commands WHERE who = 'measure' AND how = 'accepted'") == asked.commands
+    finally:
+        workers.end()
+        loopback.end()
+
+
+def arguments() -> argparse.ArgumentParser:
+    words = argparse.ArgumentParser(prog="python3 -m control.measure", description=__doc__,
+                                    formatter_class=argparse.RawDescriptionHelpFormatter)
+    words.add_argument("--signs", type=int, default=200, metavar="N")
+    words.add_argument("--commands", type=int, default=200, metavar="N")
+    words.add_argument("--workers", type=int, default=1, metavar="N")
+    words.add_argument("--rate", type=float, default=0, metavar="N",
+                       help="commands asked for a second; else all at once")
+    words.add_argument("--poll", type=float, default=10.0, metavar="SECONDS", help="from reading to reading of a sign")
+    words.add_argument("--seconds", type=float, default=300, metavar="N", help="that the commands have to end")
+    words.add_argument("--tick", type=float, default=1.0, metavar="SECONDS")
+    words.add_argument("--one-processor", action="store_true", dest="is_pinned", help="workers and co-processes on one")
+    words.add_argument("--database", choices=KINDS, default=KINDS[0])
+    words.add_argument("--signtool", default=str(SIGNTOOL), metavar="PATH")
+    return words
+
+
+def main() -> int:
+    asked = Asked(**vars(arguments().parse_args()))
+    if asked.database == "postgresql":
+        start.needed("control.measure", "psycopg")
+    signal.signal(signal.SIGTERM, lambda *_: sys.exit(143))
+    with tempfile.TemporaryDirectory(prefix="measure-") as folder, \
+            placed(asked.database, pathlib.Path(folder)) as place:
+        return 0 if run(asked, pathlib.Path(folder), place.where) else 1
+
+
+if __name__ == "__main__":
+    sys.exit(status_of(main))
