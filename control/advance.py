@@ -41,7 +41,7 @@ class Step:
         when = datetime.datetime.fromtimestamp(self.newest, datetime.timezone.utc).strftime("%d %B %Y, %H:%M:%S UTC")
         return (f"The newest entry of this database is of {when}, {self.seconds:.0f} seconds ago.\n"
                 f"What happened since is not in it: its ledger lacks the activations of that time, and {self.ended}"
-                " commands that had not ended are ended as unknown.\n"
+                " commands that had not ended are ended as unknown. Users log in anew, with the passwords of that time.\n"
                 f"Each centre of its {self.signs} signs begins anew, from number {self.least} to number {self.most},"
                 " above all that were used before")
 
@@ -101,9 +101,10 @@ def check(known: dict[int, int], begins: dict[int, int]) -> None:
 
 
 def end_all(store: Store) -> int:
-    """Ends what had not ended when the copy was made; how many commands."""
+    """Ends what had not ended when the copy was made, log-ins too; how many commands."""
     begun = store.run(f"UPDATE commands SET how = ?, ended = {CLOCK} WHERE number IS NOT NULL AND how IS NULL"
                       " RETURNING id", RESTORED)
     waiting = store.run(f"UPDATE commands SET how = ?, ended = {CLOCK} WHERE how IS NULL RETURNING id", NOT_DONE)
     store.run(f"UPDATE ledger SET outcome = 'unknown', at = {CLOCK} WHERE outcome = 'waiting'")
+    store.run(f"UPDATE logins SET ended = {CLOCK} WHERE ended IS NULL")  # one that was ended since would count again
     return len(begun) + len(waiting)

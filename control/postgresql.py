@@ -2,9 +2,12 @@
 
 import contextlib
 import logging
+import os
 from typing import Iterator, Sequence
 
-import psycopg
+os.environ.setdefault("PSYCOPG_WAIT_FUNC", "wait_selector")  # select, its first choice, takes no file above 1023
+
+import psycopg  # noqa: E402
 
 from door.refusal import Refusal
 

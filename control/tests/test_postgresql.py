@@ -181,3 +181,18 @@ def test_a_python_that_sees_the_packages_is_looked_for(monkeypatch: pytest.Monke
     assert called == [[sys.executable, sys.executable, "-m", "control.worker", "--fleet", "a"]]
     with pytest.raises(Refusal, match="apt-get install python3-psycopg"):
         start.needed("control.worker", "psycopg")
+
+
+def test_a_connection_of_a_process_with_many_files(url: str) -> None:
+    files = [os.open("/dev/null", os.O_RDONLY)]
+    try:
+        while files[-1] < 1100:
+            files.append(os.dup(files[0]))
+        held = database.connected(url)
+        assert held.run("SELECT 1") == [(1,)]
+        held.close()
+    except OSError as fault:
+        pytest.skip(f"so many files are not allowed: {fault}")
+    finally:
+        for file in files:
+            os.close(file)
