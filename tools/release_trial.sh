@@ -127,18 +127,20 @@ printf '[[sign]]\nname = "one"\naddress = "127.0.0.1:%s"\ndescription = "%s"\nfi
     /usr/share/wisangub/signs/roadside.sign > "$root/var/lib/signs/fleet.toml"
 is "a user" sh -c "echo a-long-password | chroot --userspec=65534:65534 '$root' /usr/bin/env -C /var/lib/signs \
     wisangub-control users --database room.sqlite add someone operator"
-begin wisangub-control --fleet fleet.toml --database room.sqlite --listen 127.0.0.1:0 > "$room/worker" 2>&1 &
+free='import socket; print("127.0.0.1:%d" % socket.create_server(("127.0.0.1", 0)).getsockname()[1])'
+listen=$(python3 -c "$free")
+begin wisangub-control --fleet fleet.toml --database room.sqlite --listen "$listen" > "$room/worker" 2>&1 &
 worker=$!
 started+=("$worker")
 for _ in $(seq 100); do grep -q 'is at http' "$room/worker" && break; sleep 0.2; done
 pages=$(sed -n 's/.* is at \(http[^ ]*\).*/\1/p;T;q' "$room/worker")
-is "its pages at $pages" inside python3 -c \
+[ -n "$pages" ] || cat "$room/worker"
+is "its pages" inside python3 -c \
     "import urllib.request; assert b'<form' in urllib.request.urlopen('$pages', timeout=20).read(); assert '$pages'"
 is "the control room" as_user timeout 60 wisangub-control command --database room.sqlite one \
     'publish-text 3 1 "SLOW" "me" 0 0 100 65535 255 127.0.0.1'
 is "what is shown by it" same "$(get dmsMessageMultiString.5.1)" '"SLOW"'
-kill "$worker"
-wait "$worker"
+kill "$worker" && wait "$worker"
 ended
 
 # --- removed: nothing but what was written by who ran it stays ------------------------------------------------------
