@@ -15,31 +15,43 @@ import random
 import sys
 import tempfile
 import time
+from dataclasses import dataclass
 from typing import Callable
 
 from door.places import SIGNTOOL
-from trials import centres, disks, downs, faults, files, gets, kills, logs, operators, parts, speed, stops, words, year
+from trials import centres, disks, downs, faults, files, gets, kills, logs
+from trials import operators, parts, speed, spelled, stops, streams, words, year
 from trials.bench import Trial
 
-# Seconds of the short form after which a kind of trial begins no more lives: on a machine that is busy there are fewer.
-SHARES = {"kills": 14, "faults": 10, "files": 7, "gets": 5, "downs": 6, "stops": 8, "words": 8, "operators": 8,
-          "logs": 5, "centres": 10}
 ENOUGH = 100.0  # seconds of the short form, after which no other kind of trial begins
-TRIALS: dict[str, Callable[[Trial], None]] = {
-    "parts": parts.run,
-    "kills": lambda trial: kills.run(trial, 24 if trial.is_short else 1000),
-    "faults": faults.run,
-    "centres": lambda trial: centres.run(trial, 10 if trial.is_short else 200),
-    "files": files.run,
-    "gets": gets.run,
-    "disks": disks.run,
-    "downs": downs.run,
-    "stops": stops.run,
-    "words": words.run,
-    "operators": operators.run,
-    "logs": logs.run,
-    "year": year.run,
-    "speed": speed.run,
+
+
+@dataclass(frozen=True)
+class Kind:
+    """A kind of trial, and the seconds of the short form after which it begins no more lives: on a machine that is busy
+    there are fewer."""
+
+    run: Callable[[Trial], None]
+    share: float = 5.0
+
+
+KINDS = {
+    "parts": Kind(parts.run),
+    "kills": Kind(lambda trial: kills.run(trial, 24 if trial.is_short else 1000), 14.0),
+    "faults": Kind(faults.run, 10.0),
+    "centres": Kind(lambda trial: centres.run(trial, 6 if trial.is_short else 200), 14.0),
+    "files": Kind(files.run, 7.0),
+    "gets": Kind(gets.run),
+    "spelled": Kind(spelled.run, 4.0),
+    "disks": Kind(disks.run),
+    "downs": Kind(downs.run, 6.0),
+    "stops": Kind(stops.run, 8.0),
+    "streams": Kind(streams.run, 4.0),
+    "words": Kind(words.run, 8.0),
+    "operators": Kind(operators.run, 8.0),
+    "logs": Kind(logs.run),
+    "year": Kind(year.run),
+    "speed": Kind(speed.run),
 }
 
 
@@ -48,7 +60,7 @@ def main() -> int:
     options.add_argument("program", nargs="?", default=str(SIGNTOOL))
     options.add_argument("--short", action="store_true", help="at most two minutes")
     options.add_argument("--seed", type=int, default=1)
-    options.add_argument("--only", choices=sorted(TRIALS), help="one kind of trial alone")
+    options.add_argument("--only", choices=sorted(KINDS), help="one kind of trial alone")
     asked = options.parse_args()
     if not os.access(asked.program, os.X_OK):
         print(f"no program at {asked.program}: (cd crates/signtool && rt run -- --help) builds it", file=sys.stderr)
@@ -57,13 +69,13 @@ def main() -> int:
         trial = Trial(os.path.abspath(asked.program), asked.short, random.Random(asked.seed), pathlib.Path(folder))
         started = time.monotonic()
         try:
-            for name, run in TRIALS.items():
+            for name, kind in KINDS.items():
                 if asked.short and time.monotonic() > started + ENOUGH:
                     trial.skip(name, "this machine is too busy for it in the short form")
                 elif asked.only in (None, name):
                     begun = time.monotonic()
-                    trial.ends = begun + SHARES.get(name, 5)
-                    run(trial)
+                    trial.ends = begun + kind.share
+                    kind.run(trial)
                     print(f"{name}: {time.monotonic() - begun:.0f} s", flush=True)
         finally:
             trial.end()

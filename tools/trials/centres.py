@@ -5,10 +5,7 @@ import errno
 import itertools
 import os
 import pathlib
-import select
-import socket
 import subprocess
-import threading
 import time
 
 from model import text, wire
@@ -18,52 +15,10 @@ from .faults import built, refusing
 from .follower import lines_of
 from .kills import killed_later
 from .manager import DMS
+from .relay import Relay
 
 ACTIVATE = DMS + (6, 3, 0)
 FAULTS = (("write", errno.ENOSPC), ("write", errno.EIO), ("fdatasync", errno.EIO))
-
-
-class Relay(threading.Thread):
-    """Stands between a centre and a sign, remembers all datagrams, and loses some."""
-
-    def __init__(self, trial: Trial, port: int) -> None:
-        super().__init__(daemon=True)
-        self.trial = trial
-        self.centre, self.sign = (socket.socket(socket.AF_INET, socket.SOCK_DGRAM) for _ in range(2))
-        self.centre.bind(("127.0.0.1", 0))
-        self.sign.connect(("127.0.0.1", port))
-        self.requests: list[bytes] = []
-        self.replies: list[bytes] = []
-        self.is_done = False
-
-    def run(self) -> None:
-        """Until it is done."""
-        peer = None
-        while not self.is_done:
-            for file in select.select([self.centre, self.sign], [], [], 0.05)[0]:
-                try:
-                    octets, sender = file.recvfrom(65_535)
-                except OSError:
-                    continue
-                is_lost = self.trial.chance.random() < 0.15
-                if file is self.centre:
-                    peer = sender
-                    self.requests.append(octets)
-                    if not is_lost:
-                        self.sign.send(octets)
-                else:
-                    self.replies.append(octets)
-                    if not is_lost and peer is not None:
-                        self.centre.sendto(octets, peer)
-
-    def port(self) -> int:
-        return int(self.centre.getsockname()[1])
-
-    def end(self) -> None:
-        self.is_done = True
-        self.join()
-        self.centre.close()
-        self.sign.close()
 
 
 class Centres:
@@ -84,7 +39,7 @@ class Centres:
         text = self.trial.chance.choice(["A", "B", "AB", "A[nl]B"])
         return f'publish-text {self.trial.chance.choice(["3 1", "3 2", "4 1"])} "{text}" "me" 0 0 1 65535 255 127.0.0.1'
 
-    def started(self, command: str, environment: dict[str, str] | None = None) -> Door:
+    def started(self, command: str, *words: str, environment: dict[str, str] | None = None) -> Door:
         """A door that is given a command."""
         door = self.trial.door(
             "udp_centre.py",
@@ -96,6 +51,7 @@ class Centres:
             "0.15",
             "--wait",
             "20",
+            *words,
             environment=environment,
             stdin=subprocess.PIPE,
         )
@@ -111,7 +67,8 @@ class Centres:
         """A life with a disk that refuses a call: each call in turn."""
         call, error, at = next(self.faults)
         short = self.trial.chance.choice([0, 15])
-        door = self.started(self.command(), refusing(library, self.path, call, at, error, short=short))
+        environment = refusing(library, self.path, call, at, error, short=short)
+        door = self.started(self.command(), environment=environment)
         status = door.ended()
         told = os.strerror(error).encode() in door.errors
         self.trial.holds(
@@ -121,9 +78,9 @@ class Centres:
         )
         self.over(door)
 
-    def life(self, which: str | None, command: str) -> Door:
+    def life(self, which: str | None, command: str, *words: str) -> Door:
         """A life with a command, which is killed at a random moment, or ends by itself."""
-        door = self.started(command)
+        door = self.started(command, *words)
         if which is not None:
             timer = killed_later(door, which, self.trial.chance.uniform(0.05, 1.2 * self.takes))
             begun = time.monotonic()
@@ -148,17 +105,7 @@ class Centres:
 
     def look(self, status: list[str]) -> None:
         """What holds over all lives: the numbers, the ledger, the model that is handed the journal."""
-        sent: dict[int, list[bytes]] = {}
-        activations: set[int] = set()
-        for octets in list(self.relay.requests):
-            message = wire.spelled(octets)
-            if self.trial.holds("a centre sends messages", message is not None, octets.hex()) and message is not None:
-                sent.setdefault(message.number, []).append(octets)
-                if message.kind == wire.SET and message.bindings[0][0] == ACTIVATE:
-                    activations.add(message.number)
-        for number, datagrams in sent.items():
-            self.trial.holds(f"number {number} has the same octets each time", len(set(datagrams)) == 1, datagrams)
-            self.trial.holds(f"number {number} is sent three times at most", len(datagrams) <= 3, len(datagrams))
+        activations = numbers(self.trial, list(self.relay.requests))
         ledger = {int(line.split()[1]): line for line in status if line.startswith("ledger ")}
         by_sign = {
             message.number
@@ -196,6 +143,39 @@ class Centres:
             else:
                 centre.command(text.event(words, False))
         return ["busy" if centre.job else "idle", f"last {centre.last or 'none'}", *world.report()[3:]]
+
+
+def numbers(trial: Trial, requests: list[bytes]) -> set[int]:
+    """No number has two requests, or is sent a fourth time: the numbers of activations."""
+    sent: dict[int, list[bytes]] = {}
+    activations: set[int] = set()
+    for octets in requests:
+        message = wire.spelled(octets)
+        if trial.holds("a centre sends messages", message is not None, octets.hex()) and message is not None:
+            sent.setdefault(message.number, []).append(octets)
+            if message.kind == wire.SET and message.bindings[0][0] == ACTIVATE:
+                activations.add(message.number)
+    for number, datagrams in sent.items():
+        trial.holds(f"number {number} has the same octets each time", len(set(datagrams)) == 1, datagrams)
+        trial.holds(f"number {number} is sent three times at most", len(datagrams) <= 3, len(datagrams))
+    return activations
+
+
+def fresh_lives(trial: Trial, port: int, count: int) -> int:
+    """Centres that begin anew again and again, and are killed at random moments: no number is used again. How many were
+    killed."""
+    relay = Relay(trial, port)
+    relay.start()
+    centres = Centres(trial, relay, trial.new_folder() / "centre")
+    for at in range(count):
+        if trial.is_late():
+            break
+        centres.life("door", centres.command(), *(["--fresh"] if at % 3 else []))
+    relay.end()
+    numbers(trial, relay.requests)
+    aside = [path.read_bytes() for path in centres.path.parent.iterdir()]
+    trial.holds("no journal of a centre that began anew is lost", len(set(aside)) == len(aside), len(aside))
+    return centres.killed
 
 
 def again(trial: Trial, centres: Centres) -> None:
@@ -249,8 +229,10 @@ def run(trial: Trial, count: int) -> None:
     )
     again(trial, centres)
     relay.end()
+    begun_anew = fresh_lives(trial, sign.port, 3 if trial.is_short else 60)
     trial.holds("the sign goes on", sign.stop() == 0, sign.errors.decode())
     print(
-        f"kills of a centre: {centres.killed}, {len(relay.requests)} requests, {time.monotonic() - begun:.0f} s",
+        f"kills of a centre: {centres.killed}, {len(relay.requests)} requests, and {begun_anew} of centres that began "
+        f"anew, {time.monotonic() - begun:.0f} s",
         flush=True,
     )

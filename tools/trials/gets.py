@@ -58,8 +58,8 @@ def forms() -> Iterator[Form]:
 
 
 class Lives:
-    """Lives of a sign over one journal: requests in some form of their lengths, a kill, and the whole walk after it. The
-    model is handed each datagram that was answered."""
+    """Lives of a sign over one journal: requests in some form of their lengths, a kill, and the whole walk after it.
+    The model is handed each datagram that was answered."""
 
     def __init__(self, trial: Trial) -> None:
         self.trial, self.path = trial, trial.new_folder() / "journal"
@@ -120,16 +120,15 @@ def is_spelled(octets: bytes) -> bool:
 
 def run(trial: Trial) -> None:
     """All requests in each form of their lengths, with a kill after all; in the long form those that change a sign with
-    a kill at each in each form, and all others with a kill at each in the shortest form and in the longest."""
+    a kill at each in the shortest form and in the longest. All of them one at a time are a trial of `spelled`."""
     every = [octets for octets, _ in requests() if is_spelled(octets)]
     changing = [octets for octets, changes in requests() if changes]
     lives = Lives(trial)
-    for form in forms() if not trial.is_short else [(0, 0, 0, 0), (0, 0, 0, 1), (1, 1, 1, 1)]:
+    for form in forms() if not trial.is_short else [SHORTEST, (0, 0, 0, 1), (1, 1, 1, 1)]:
         if trial.is_late():
             break
         lives.life(form, every)
-    if not trial.is_short:
-        for form in forms():
-            for octets in every if form in (SHORTEST, LONGEST) else changing:
-                lives.life(form, [octets])
+    for form in () if trial.is_short else (SHORTEST, LONGEST):
+        for octets in changing:
+            lives.life(form, [octets])
     print(f"requests in forms of their lengths: {lives.count} lives with a kill at the end of each", flush=True)

@@ -1,16 +1,13 @@
 """What a door says to a user who is wrong: a line, a status, and never a traceback."""
 
 import os
-import pathlib
-import signal
+import re
 import socket
 import subprocess
-import sys
 
 from door.places import TOP
 
-from .bench import Door, Trial, eventually
-from .follower import lines_of
+from .bench import Door, Trial
 
 ROADSIDE = str(TOP / "signs/roadside.sign")
 
@@ -79,13 +76,36 @@ def signs(trial: Trial) -> None:
             ("a journal that is a description", ["--journal", str(bad)], 2, "is no journal"),
             ("a journal of links in a ring", ["--journal", str(ring)], 2, "symbolic links"),
             ("a journal whose name is too long", ["--journal", str(folder / ("a" * 300))], 2, "File name too long"),
-            ("a log that is the description", ["--log", str(more), "--sign", str(more)], 2, "the log and the description"),
+            ("a log that is the description", ["--log", str(more), "--sign", str(more)], 2, "log and the description"),
             ("a description that is none", ["--sign", "/bin/sh"], 2, "no line `end`"),
             ("a description without a line", ["--sign", "/dev/null"], 2, "no line `end`"),
         ]
         doors = [trial.door("udp_sign.py", "--port", "0", *words) for _, words, _, _ in rows]
         for (name, _, status, told), door in zip(rows, doors):
             says(trial, name, door, status, told)
+
+
+def described(trial: Trial) -> None:
+    """A description that is refused: both doors show its line, and what the program says of it."""
+    text = (TOP / "signs/roadside.sign").read_text(encoding="utf-8")
+    folder = trial.new_folder()
+    for name, wrong, right in (
+        ("a matrix that is too wide", "size 300 27", "size 96 27"),
+        ("two spaces", "size 96  27", "size 96 27"),
+        ("a text that is not hexadecimal", "permanent xy ", "permanent "),
+        ("a line that is none", "nonsense\nend", "end"),
+    ):
+        path = folder / "wrong.sign"
+        path.write_text(re.sub(f"^{right}", wrong, text, count=1, flags=re.MULTILINE), encoding="utf-8")
+        with open(path, "rb") as file:
+            program = subprocess.run([trial.program, "sign", "--sign"], stdin=file, capture_output=True, check=False)
+        line = program.stdout.decode().strip()
+        trial.holds(f"{name}: the program refuses it", re.fullmatch(r"line \d+", line) is not None, program)
+        for tool, words in (("udp_sign.py", ["--port", "0"]), ("udp_centre.py", ["--to", "127.0.0.1:9"])):
+            door = trial.door(tool, "--sign", str(path), *words)
+            says(trial, f"{name}, {tool}", door, 2, f"{path}: {line}: no description of a sign")
+            is_told = all(said in door.errors for said in program.stderr.splitlines())
+            trial.holds(f"{name}, {tool}: with the program's reason", is_told, (program.stderr, door.errors))
 
 
 def centres(trial: Trial) -> None:
@@ -111,70 +131,8 @@ def centres(trial: Trial) -> None:
         says(trial, name, door, 2, told)
 
 
-def closed(trial: Trial) -> None:
-    """Standard files that are closed, or full: no file of a door's own has their numbers, and the door goes on."""
-    rows = [">&-", "2>&-", "<&- >&- 2>&-", ">/dev/full", "2>/dev/full", "| true"]
-    for row in rows:
-        if trial.is_late():
-            break
-        path = trial.new_folder() / "journal"
-        words = ["udp_sign.py", "--port", "0", "--signtool", trial.program, "--journal", str(path), "--log", "-"]
-        process = shell(f'exec "$@" {row}' if row != "| true" else '"$@" | true', words)
-        trial.holds(f"a sign with {row} begins", eventually(lambda: has_begun(path), 60.0), path)
-        ends(process, path)
-        errors = process.communicate()[1]
-        is_well = b"Traceback" not in errors and b"Exception" not in errors
-        trial.holds(f"a sign with {row} ends", process.returncode == 0 and is_well, (process.returncode, errors))
-        lines = lines_of(path.read_bytes())
-        trial.holds(f"a sign with {row} keeps a journal", lines[-1].startswith(b"clock ") and len(lines) >= 4, lines)
-        if row != "| true":
-            status = shell(f'exec "$@" {row}', ["udp_centre.py", "--to", "x"]).wait(60)
-            trial.holds(f"a centre with {row} has its status", status == 2, status)
-
-
-def shell(line: str, words: list[str]) -> subprocess.Popen[bytes]:
-    """A tool that a shell starts with other standard files."""
-    call = ["sh", "-c", line, "sh", sys.executable, str(TOP / "tools" / words[0]), *words[1:]]
-    return subprocess.Popen(call, stdin=subprocess.DEVNULL, stdout=subprocess.PIPE, stderr=subprocess.PIPE)
-
-
-def has_begun(path: pathlib.Path) -> bool:
-    """Whether a door has recorded its start."""
-    try:
-        return any(line.startswith(b"clock ") for line in lines_of(path.read_bytes()))
-    except OSError:
-        return False
-
-
-def ends(process: subprocess.Popen[bytes], path: pathlib.Path) -> None:
-    """Asks the door of a journal to end, whose process may be a shell's."""
-    numbers = [int(name) for name in os.listdir("/proc") if name.isdecimal()]
-    for number in numbers:
-        try:
-            words = pathlib.Path(f"/proc/{number}/cmdline").read_bytes().split(b"\0")
-        except OSError:
-            continue
-        if str(path).encode() in words and words[0] == sys.executable.encode():
-            eventually(lambda number=number: is_waiting(number), 10.0)
-            os.kill(number, signal.SIGTERM)
-    try:
-        process.wait(60)
-    except subprocess.TimeoutExpired:
-        process.kill()
-
-
-def is_waiting(number: int) -> bool:
-    """Whether a process takes a SIGTERM by itself."""
-    try:
-        status = pathlib.Path(f"/proc/{number}/status").read_text(encoding="latin-1")
-    except OSError:
-        return True
-    caught = int(status.split("SigCgt:")[1].split()[0], 16)
-    return bool(caught >> (signal.SIGTERM - 1) & 1)
-
-
 def run(trial: Trial) -> None:
     """Everything."""
     signs(trial)
+    described(trial)
     centres(trial)
-    closed(trial)
