@@ -48,6 +48,34 @@ ended "replay: a script of 1,048,576 octets" 0 "events 0
 sent 0 0
 shown 7 1 0000 mode 10 priority 1 remaining 65535 text -"; }
 
+# --- what is wrong with a line is said on standard error ---------------------------------------------------------------
+# said NAME WORDS: the last call said these words
+said() {
+    if grep -qxF "$2" "$folder/err"; then
+        passed=$((passed + 1))
+    else
+        failed=$((failed + 1))
+        echo "$1: said '$(head -c 200 "$folder/err")' (wanted '$2')"
+    fi
+}
+roadside=$top/signs/roadside.sign
+end=$(grep -n '^end' "$roadside" | cut -d: -f1)
+# refused LINE EDIT WORDS: what is said of the roadside sign's description with this edit of sed
+refused() {
+    sed "$2" "$roadside" > "$folder/refused"
+    for words in "check A --sign" "sign --sign" "replay"; do
+        call $words < "$folder/refused"; ended "$words: $2" 1 "line $1"; said "$words: $2" "line $1: $3"
+    done
+}
+refused "$end" 's/^size .*/size 257 64/' "the matrix is wider than 256"
+refused "$end" 's/^communities .*/communities same same/' "both communities are the same"
+refused "$end" 's/^rows .*/rows 65 1/' "there are more than 64 changeable rows"
+refused "$end" 's/^end/stop/' 'a row, a font, a character or `end` is wanted'
+call replay < /dev/null; said "replay: no input" "the standard input is empty: < FILE gives it one"
+call check A --sign < /dev/null; said "check: no input" 'line 1: the text ends before its line `end`'
+printf 'bench\nsign-tick now\n' > "$folder/refused"
+call replay < "$folder/refused"; ended "replay: a word too many" 1 "line 2"; said "replay: a word too many" "line 2: word 2: no more words are wanted"
+
 # --- output: a failed write has status 1, whatever was to be printed -------------------------------------------------
 printed() { status=$1; : > "$folder/out"; }
 for words in "answer $get" "check A" "check [x]" "pages A" "code 3 1 A" "code 3 1 A --address x" "replay" "answer 30" "answer x"; do

@@ -12,7 +12,8 @@ use dms_live::{ConversationFault, Input, Party, converse};
 use dms_pages::{Page, PagesFault, pages};
 use dms_parties::{LiveCentre, LiveSign};
 use dms_picture::{picture, still};
-use dms_replay::{ReplayFault, address, bench, described, replay};
+use dms_refusal::{Refusal, described_before, described_whole, replayed};
+use dms_replay::{ReplayFault, address, bench};
 use dms_sign::Receipt;
 use dms_streams::{Counted, Source};
 use dms_wire::{Out, read};
@@ -52,47 +53,49 @@ pub fn act_saying<R: Read, W: Write, E: Write>(
             drawing,
         } => match setup(alloc, sign, reader) {
             Ok(setup) => print_pages(alloc, text, setup.sign.face(), drawing, writer, errors),
-            Err(fault) => tell_input_fault(writer, fault),
+            Err(refusal) => tell_refusal(writer, errors, refusal),
         },
         Call::Decode { hex, spaced } => decode(alloc, hex, spaced, writer),
         Call::Items { text } => list_items(text, writer, errors),
         Call::Version => tell(writer, VERSION, 0),
         Call::Code(words) => code(alloc, &words, writer),
-        Call::Replay => print_report(alloc, reader, writer),
-        Call::Sign { sign } => be_sign(alloc, sign, reader, writer),
-        Call::Centre { sign } => be_centre(alloc, sign, reader, writer),
+        Call::Replay => print_report(alloc, reader, writer, errors),
+        Call::Sign { sign } => be_sign(alloc, sign, reader, writer, errors),
+        Call::Centre { sign } => be_centre(alloc, sign, reader, writer, errors),
     }
 }
 
 /// Answers the lines to a sign that the standard input has, or has after the sign's description.
-fn be_sign<R: Read, W: Write>(
+fn be_sign<R: Read, W: Write, E: Write>(
     alloc: Global,
     wanted: SignWanted,
     reader: &mut R,
     writer: &mut W,
+    errors: &mut E,
 ) -> u8 {
     let Ok(mut input) = Input::new(alloc, Counted::new(&mut *reader)) else {
         return tell(writer, "memory", 1);
     };
     match live_setup(alloc, wanted, &mut input) {
         Ok(setup) => talk(alloc, LiveSign::new(setup.sign), &mut input, writer),
-        Err(fault) => tell_input_fault(writer, fault),
+        Err(refusal) => tell_refusal(writer, errors, refusal),
     }
 }
 
 /// Answers the lines to a sign's central system that the standard input has, or has after the sign's description.
-fn be_centre<R: Read, W: Write>(
+fn be_centre<R: Read, W: Write, E: Write>(
     alloc: Global,
     wanted: SignWanted,
     reader: &mut R,
     writer: &mut W,
+    errors: &mut E,
 ) -> u8 {
     let Ok(mut input) = Input::new(alloc, Counted::new(&mut *reader)) else {
         return tell(writer, "memory", 1);
     };
     let setup = match live_setup(alloc, wanted, &mut input) {
         Ok(setup) => setup,
-        Err(fault) => return tell_input_fault(writer, fault),
+        Err(refusal) => return tell_refusal(writer, errors, refusal),
     };
     match LiveCentre::new(alloc, &setup) {
         Ok(centre) => talk(alloc, centre, &mut input, writer),
@@ -105,10 +108,10 @@ fn live_setup<S: Source>(
     alloc: Global,
     wanted: SignWanted,
     input: &mut Input<S>,
-) -> Result<Setup, ReplayFault> {
+) -> Result<Setup, Refusal> {
     match wanted {
-        SignWanted::Bench => bench(alloc),
-        SignWanted::Described => dms_parties::described(alloc, input),
+        SignWanted::Bench => bench(alloc).map_err(Refusal::from),
+        SignWanted::Described => described_before(alloc, input),
     }
 }
 
@@ -131,21 +134,25 @@ fn talk<P: Party + Drop, S: Source, W: Write>(
 }
 
 /// The sign that a call is about, and the number of its centre's first request.
-fn setup<R: Read>(alloc: Global, sign: SignWanted, reader: &mut R) -> Result<Setup, ReplayFault> {
+fn setup<R: Read>(alloc: Global, sign: SignWanted, reader: &mut R) -> Result<Setup, Refusal> {
     match sign {
-        SignWanted::Bench => bench(alloc),
-        SignWanted::Described => described(alloc, &mut Counted::new(&mut *reader)),
+        SignWanted::Bench => bench(alloc).map_err(Refusal::from),
+        SignWanted::Described => described_whole(alloc, Counted::new(&mut *reader)),
     }
 }
 
 /// Prints the report of the script on the standard input.
-fn print_report<R: Read, W: Write>(alloc: Global, reader: &mut R, writer: &mut W) -> u8 {
-    let mut source = Counted::new(&mut *reader);
+fn print_report<R: Read, W: Write, E: Write>(
+    alloc: Global,
+    reader: &mut R,
+    writer: &mut W,
+    errors: &mut E,
+) -> u8 {
     let mut sink = Counted::new(&mut *writer);
-    match replay(alloc, &mut source, &mut sink) {
+    match replayed(alloc, Counted::new(&mut *reader), &mut sink) {
         Ok(()) => 0,
-        Err(ReplayFault::Write) => 1,
-        Err(fault) => tell_input_fault(writer, fault),
+        Err(refusal) if refusal.fault == ReplayFault::Write => 1,
+        Err(refusal) => tell_refusal(writer, errors, refusal),
     }
 }
 
@@ -164,7 +171,7 @@ fn answer<R: Read, W: Write, E: Write>(
     };
     let mut setup = match setup(alloc, sign, reader) {
         Ok(setup) => setup,
-        Err(fault) => return tell_input_fault(writer, fault),
+        Err(refusal) => return tell_refusal(writer, errors, refusal),
     };
     let mut reply = Out::new();
     match setup.sign.receive(datagram.as_slice(), &mut reply) {
@@ -190,7 +197,7 @@ fn check_text<R: Read, W: Write, E: Write>(
 ) -> u8 {
     let setup = match setup(alloc, sign, reader) {
         Ok(setup) => setup,
-        Err(fault) => return tell_input_fault(writer, fault),
+        Err(refusal) => return tell_refusal(writer, errors, refusal),
     };
     match check(setup.sign.face(), text.as_bytes()) {
         Ok(pages) => tell_done(writer, pages),
@@ -396,8 +403,8 @@ fn tell_fault<W: Write, E: Write>(writer: &mut W, errors: &mut E, fault: MultiFa
 }
 
 /// Prints what is wrong with a script or a description on the standard input, or that there is no memory.
-fn tell_input_fault<W: Write>(writer: &mut W, fault: ReplayFault) -> u8 {
-    let _ = writeln!(writer, "{fault}");
+fn tell_refusal<W: Write, E: Write>(writer: &mut W, errors: &mut E, refusal: Refusal) -> u8 {
+    refusal.tell(writer, errors);
     1
 }
 
