@@ -1,6 +1,7 @@
 -- What a line makes of the central system, and the lines that answer it (this profile).
-use Rattle.std.specs.Prelude.{ℕ, Bool, true, false, List, ◌++◌, codes, flat_map, Option, Some, None}
+use Rattle.std.specs.Prelude.{ℕ, ◌+◌, ◌*◌, Bool, true, false, List, ◌++◌, codes, flat_map, Option, Some, None}
 use Rattle.hex.specs.Hex.{encode_lower}
+use Rattle.dms_ber.specs.Limits.{longest_datagram}
 use Rattle.dms_centre.specs.declared.fault.CommandFault.{CommandFault}
 use Rattle.dms_centre.specs.declared.ended.Ended.{Ended}
 use Rattle.dms_centre.specs.declared.ended.Ended.TheVariants.{Never, Accepted, Failed}
@@ -24,6 +25,10 @@ bad_line = ended (codes "bad line")
 abbrev pub sent_line : Option (List ℕ) → List ℕ
 sent_line None = ok_line
 sent_line (Some octets) = ended (codes "send " ++ encode_lower octets)
+
+-- the most octets of such a line
+abbrev pub longest_sent : ℕ
+longest_sent = 2 * longest_datagram + 6
 
 -- a command that is not taken says why
 abbrev pub refused_line : CommandFault → List ℕ

@@ -3,7 +3,8 @@
 ghost use Rattle.std.specs.Prelude.{◌≡◌, ◌≤◌, ◌+◌, ◌*◌, [], IfOk, length, codes, vec_len, vec_capacity, ◌++◌};
 ghost use Rattle.hex.specs.Hex.{encode_lower};
 ghost use Rattle.dms_centre.specs.CodeView.{sent_in};
-ghost use Rattle.dms_centre_lines.specs.Answers.{ok_line, bad_line, refused_line, sent_line};
+ghost use Rattle.dms_ber.specs.Limits.{longest_datagram};
+ghost use Rattle.dms_centre_lines.specs.Answers.{ok_line, bad_line, refused_line, sent_line, longest_sent};
 
 use dms_centre::CommandFault;
 use dms_wire::{MAX_DATAGRAM, Out};
@@ -41,7 +42,7 @@ pub(crate) fn refused(alloc: Global, fault: CommandFault) -> Result<Vec<u8>, All
 /// An empty text with room for the line of any datagram.
 pub(crate) fn room(alloc: Global) -> Result<Vec<u8>, AllocError>
     ensures empty { IfOk result (λ text. text.items ≡ []) }
-    ensures room { IfOk result (λ text. 2950 ≤ vec_capacity text) }
+    ensures room { IfOk result (λ text. longest_sent ≤ vec_capacity text) }
 {
     Vec::with_capacity(alloc, LONGEST_SENT)
 }
@@ -49,7 +50,7 @@ pub(crate) fn room(alloc: Global) -> Result<Vec<u8>, AllocError>
 /// Writes the datagram that goes out, in small hexadecimal digits, or `ok` where none does, into a text that has room for it.
 pub(crate) fn put_sent(text: &mut Vec<u8>, datagram: &Out)
     requires empty { text.old.items ≡ [] }
-    requires room { 2950 ≤ vec_capacity text.old }
+    requires room { longest_sent ≤ vec_capacity text.old }
     ensures { text.new.items ≡ sent_line (sent_in datagram.now.items) }
 {
     if datagram.is_empty() {
@@ -63,7 +64,7 @@ pub(crate) fn put_sent(text: &mut Vec<u8>, datagram: &Out)
 
 /// Appends octets as pairs of hexadecimal digits, where there is room for them.
 fn put_digits(text: &mut Vec<u8>, octets: &[u8])
-    requires short { length octets.now ≤ 1472 }
+    requires short { length octets.now ≤ longest_datagram }
     requires room { vec_len text.old + 2 * length octets.now ≤ vec_capacity text.old }
     ensures items { text.new.items ≡ text.old.items ++ encode_lower octets.now }
     ensures len { vec_len text.new ≡ vec_len text.old + 2 * length octets.now }
