@@ -1,5 +1,6 @@
 """Logs of doors, IPv6, and a co-process that is killed."""
 
+import json
 import os
 import socket
 import subprocess
@@ -43,6 +44,36 @@ def logged(trial: Trial) -> None:
         trial.skip("IPv6", "no address ::1 here")
 
 
+def of_a_centre(trial: Trial) -> None:
+    """A centre's log tells what was asked for, what went out and what came in, in words; as JSON too, on its standard
+    output."""
+    sign = trial.sign("--log", "-", "--json")
+    words = ["--to", f"127.0.0.1:{sign.port}", "--tick", "0.4", "--log", "-"]
+    for is_json in (False, True):
+        centre = trial.door("udp_centre.py", *words, *(["--json"] if is_json else []), stdin=subprocess.PIPE)
+        assert centre.process.stdin is not None
+        centre.process.stdin.write(b'publish-text 3 1 "AB" "me" 0 0 9 65535 255 127.0.0.1\n')
+        centre.process.stdin.close()
+        trial.holds("a centre with a log is accepted", centre.ended() == 0, centre.errors.decode())
+        lines = centre.output.decode().splitlines()
+        if is_json:
+            told = [json.loads(line) for line in lines if line.startswith("{")]
+            kinds = [(one["event"], one.get("kind", "")) for one in told]
+            wanted = {("command", ""), ("out", "Set"), ("out", "Get"), ("in", "Response")}
+            trial.holds("events as JSON", wanted <= set(kinds) and all(one["time"] for one in told), kinds)
+        else:
+            rows = [
+                "command line publish 3 1 4142 6d65 0 0 9 65535 255 127.0.0.1",
+                "out Set community admin request-id 1 dmsMessageStatus.3.1=modifyReq(6)",
+                "in Response community admin request-id 1 error-status noError error-index 0",
+            ]
+            trial.holds("events in words", all(any(row in line for line in lines) for row in rows), lines)
+    trial.holds("a sign with a log ends", sign.stop() == 0, sign.errors.decode())
+    told = [json.loads(line) for line in sign.output.decode().splitlines() if line.startswith("{")]
+    events = {one["event"] for one in told}
+    trial.holds("a sign's events as JSON", {"start", "in", "out", "accepted", "end"} <= events, events)
+
+
 def says_dead(trial: Trial, door: Door) -> None:
     """A door whose co-process was killed."""
     trial.holds(
@@ -65,3 +96,4 @@ def has_ipv6() -> bool:
 def run(trial: Trial) -> None:
     """Everything."""
     logged(trial)
+    of_a_centre(trial)
