@@ -1,0 +1,23 @@
+"""What commands are called, in the repository and in a release."""
+
+import pytest
+
+from door import places
+
+
+def test_in_the_repository() -> None:
+    assert places.SIGNTOOL == places.BUILT
+    assert places.called("conform.centre") == "python3 -m conform.centre"
+    assert places.in_words_of_command("tools/udp_sign.py") == "tools/udp_sign.py"
+
+
+@pytest.mark.parametrize("name", ["/usr/bin/wisangub-sign", "/usr/bin/wisangub-control worker"])
+def test_in_a_release(monkeypatch: pytest.MonkeyPatch, name: str) -> None:
+    monkeypatch.setattr("sys.argv", [name])
+    assert places.called("conform") == "wisangub-conform"
+    assert places.called("control.users") == "wisangub-control users"
+    about = "tools/udp_centre.py, python3 -m conform.mutants.door and python3 -m control.worker."
+    assert places.in_words_of_command(about) == (
+        "wisangub-centre, wisangub-conform mutants.door and wisangub-control worker."
+    )
+    assert places.in_words_of_command(None) is None
