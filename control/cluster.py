@@ -1,9 +1,12 @@
 """A PostgreSQL server of its own, for tests and chaos: a cluster in a temporary folder, on a port that is free.
 
+python3 -m control.cluster tries whether there can be one: its exit status is 0, or it says why not.
+
 It refuses to run as root, so root has it run as another user by setpriv. It ends with the process that began it,
 whatever happens to that one.
 """
 
+import argparse
 import contextlib
 import os
 import pathlib
@@ -12,11 +15,12 @@ import shutil
 import signal
 import socket
 import subprocess
+import sys
 import tempfile
 import time
 from typing import Iterator
 
-from door.refusal import Refusal
+from door.refusal import Refusal, status_of
 
 USERS = ("postgres", "nobody")
 START = 60.0  # seconds that the server has to answer
@@ -26,10 +30,10 @@ PLACES = "/usr/lib/postgresql"
 def program(name: str) -> str:
     """A program of the newest PostgreSQL that is installed."""
     versions = [path for path in pathlib.Path(PLACES).glob(f"*/bin/{name}") if path.parts[-3].isdecimal()]
-    found = max(versions, key=lambda path: int(path.parts[-3]), default=None) or shutil.which(name)
+    found = str(max(versions, key=lambda path: int(path.parts[-3]))) if versions else shutil.which(name)
     if found is None:
         raise Refusal(f"there is no {name}: apt-get install postgresql")
-    return str(found)
+    return found
 
 
 def free_port() -> int:
@@ -123,3 +127,15 @@ def cluster() -> Iterator[Cluster]:
             yield made
         finally:
             made.stop(signal.SIGQUIT)
+
+
+def main() -> int:
+    words = argparse.ArgumentParser(prog="python3 -m control.cluster", description=__doc__,
+                                    formatter_class=argparse.RawDescriptionHelpFormatter)
+    words.parse_args()
+    with cluster():
+        return 0
+
+
+if __name__ == "__main__":
+    sys.exit(status_of(main))

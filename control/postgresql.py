@@ -21,8 +21,9 @@ SETTINGS = {
 }
 NEEDED = ("fsync", "full_page_writes")  # of the server: without them a committed line can be lost
 ALONE = 0x5163_6E73  # the advisory lock of those transactions of which one is under way at a time
-SILENCE = {"connect_timeout": 10, "tcp_user_timeout": 10_000, "keepalives_idle": 5, "keepalives_interval": 2,
-           "keepalives_count": 3}  # after which a server that does not answer is given up
+SILENCE: dict[str, int | str | None] = {  # after which a server that does not answer is given up
+    "connect_timeout": 10, "tcp_user_timeout": 10_000, "keepalives_idle": 5, "keepalives_interval": 2,
+    "keepalives_count": 3}
 logging.getLogger("psycopg").setLevel(logging.CRITICAL)  # what it would say comes as an exception too
 
 

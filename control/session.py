@@ -31,7 +31,8 @@ class Lost(Exception):
 
 def is_command(line: str) -> bool:
     """Whether it is one line, and begins as a command of a centre does; the centre judges the rest."""
-    return line.split(" ")[0] in COMMANDS and len(line.encode()) <= MOST_LINE and not set(line) & {"\n", "\r", "\0"}
+    is_plain = line.isascii() and not set(line) & {"\n", "\r", "\0"}
+    return is_plain and line.split(" ")[0] in COMMANDS and len(line) <= MOST_LINE
 
 
 def above(head: Head, count: int) -> int:

@@ -54,6 +54,7 @@ STEPS = (
     Step("lasting", "tools/lasting.py --short {program}", 400),
     Step("conformance", "python3 -m conform.short", 500),
     Step("helps", "tools/helps.sh", 180),
+    Step("control room", "python3 -m control.short --signtool {program}", 600),
 )
 
 

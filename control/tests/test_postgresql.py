@@ -49,7 +49,8 @@ def ended_from_beside(url: str) -> None:
     beside.close()
 
 
-def test_a_line_whose_insert_has_no_known_outcome(tmp_path: pathlib.Path, url: str) -> None:
+def test_a_line_whose_insert_has_no_known_outcome(tmp_path: pathlib.Path, url: str,
+                                                  monkeypatch: pytest.MonkeyPatch) -> None:
     with bench(tmp_path, url) as at:
         command = at.ask(HELLO)
         found = at.session("first")
@@ -61,11 +62,11 @@ def test_a_line_whose_insert_has_no_known_outcome(tmp_path: pathlib.Path, url: s
             commit()
             raise Failed("the connection was lost as the answer to COMMIT was awaited")
 
-        found.store.database.commit = lost  # type: ignore[method-assign]
+        monkeypatch.setattr(found.store.database, "commit", lost)
         with pytest.raises(Failed):
             carried(found, line)
         assert found.number == line.number and not at.live.requests, "nothing was handed over or sent"
-        found.store.database.commit = commit  # type: ignore[method-assign]
+        monkeypatch.setattr(found.store.database, "commit", commit)
         with pytest.raises(Lost):
             carried(found, line)
         found.close()

@@ -69,6 +69,35 @@ def test_a_reading_says_what_is_shown(tmp_path: pathlib.Path, where: str) -> Non
         assert below and all(message.kind == wire.GET and message.community == b"public" for message in below)
 
 
+def test_a_table_is_read_where_it_is_in_use(tmp_path: pathlib.Path, where: str) -> None:
+    with bench(tmp_path, where) as at:
+        worker = at.worker()
+        command = at.ask(HELLO)
+        assert at.ended(worker, command) == "accepted"
+        ends = time.monotonic() + 60
+        while len(at.store.table(at.row)) < 3 and time.monotonic() < ends:
+            worker.round()
+        rows = {row[:2]: (row[2], json.loads(row[3] or "{}")) for row in at.store.table(at.row)}
+        assert list(rows) == [(2, 1), (2, 2), (3, 1)] and {status for status, _ in rows.values()} == {4}
+        assert rows[3, 1][1]["text"] == b"HELLO".hex() and rows[3, 1][1]["owner"] == b"me".hex()
+        assert b"ROAD WORK" in bytes.fromhex(rows[2, 1][1]["text"]) and rows[2, 1][1]["priority"] == 100
+        assert at.store.run("SELECT step FROM commands WHERE id = ?", command) == [(7,)]
+        numbers = [message.number for message in map(wire.spelled, at.live.requests) if message.number < 0]
+        assert len(set(numbers)) >= 2 + 3, "a number for the status of each 30 rows, and one for each row in use"
+
+
+def test_the_steps_of_a_publication(tmp_path: pathlib.Path, where: str) -> None:
+    with bench(tmp_path, where) as at:
+        at.ask(HELLO)
+        found, steps = at.session("first"), []
+        begin(found)
+        while found.is_busy:
+            steps.append(found.steps.step)
+            carried_on(found, 1)
+        found.close()
+        assert list(dict.fromkeys(steps)) == [1, 2, 3, 4, 5, 6, 7]
+
+
 def test_a_sign_that_is_silent(tmp_path: pathlib.Path, where: str, monkeypatch: pytest.MonkeyPatch) -> None:
     monkeypatch.setattr(Fates, "of", lambda *_: [])
     with bench(tmp_path, where) as at:

@@ -1,0 +1,110 @@
+"""The tests of the control room that fit into the gate, and a short chaos: python3 -m control.short [--signtool PATH]
+
+Both run side by side with a python3 that sees Debian's packages. What is skipped is said in lines `skipped NAME: why`;
+the last line counts, `N passed, M failed`.
+"""
+
+import argparse
+import os
+import re
+import subprocess
+import sys
+import tempfile
+from dataclasses import dataclass, field
+
+from door.refusal import status_of, tell
+
+from . import SIGNTOOL, TOP, start
+
+MODULES = ("pytest", "aiohttp", "jinja2", "psycopg")
+CHAOS = ("--signs", "8", "--commands", "24", "--workers", "2", "--tick", "0.3", "--lease", "3", "--seconds", "200")
+TESTS = ("-q", "-rs", "-p", "no:cacheprovider", "control/tests")
+WORDS = re.compile(r"(\d+) (passed|failed|error|errors)\b")
+SKIPPED = re.compile(r"^SKIPPED \[\d+\] (\S+?)(?::\d+)?: (.*)$", re.MULTILINE)
+LIMIT = 480  # seconds
+MOST_SHOWN = 6000
+
+
+@dataclass
+class Outcome:
+    """What a program printed, as counts and as what it skipped."""
+
+    passed: int = 0
+    failed: int = 0
+    skipped: list[str] = field(default_factory=list)
+
+
+class Program:
+    """A module of Python that runs to its end, its output in a file."""
+
+    def __init__(self, python: str, environment: dict[str, str], module: str, *words: str) -> None:
+        self.module = module
+        self.output = tempfile.TemporaryFile()
+        self.process = subprocess.Popen([python, "-m", module, *words], cwd=TOP, env=environment,
+                                        stdin=subprocess.DEVNULL, stdout=self.output, stderr=self.output)
+
+    def ended(self) -> tuple[int | None, str]:
+        """Its exit status, none where it took too long, and what it printed."""
+        try:
+            status: int | None = self.process.wait(LIMIT)
+        except subprocess.TimeoutExpired:
+            self.process.terminate()
+            self.process.wait()
+            status = None
+        self.output.seek(0)
+        return status, self.output.read().decode(errors="replace")
+
+
+def judged(program: Program) -> Outcome:
+    """What came of it; of one that failed the output is shown."""
+    status, said = program.ended()
+    counts = {word.rstrip("s"): int(count) for count, word in WORDS.findall("\n".join(said.splitlines()[-2:]))}
+    found = Outcome(counts.get("passed", 0), counts.get("failed", 0) + counts.get("error", 0))
+    found.skipped = list(dict.fromkeys(f"{name}: {why}" for name, why in SKIPPED.findall(said)))
+    if status:
+        found.failed = max(found.failed, 1)
+    if status is None or found.failed:
+        found.failed = max(found.failed, 1)
+        tell(f"--- {program.module}, exit {status}\n{said[-MOST_SHOWN:].rstrip()}")
+    tell(f"{program.module}: {found.passed} passed, {found.failed} failed")
+    return found
+
+
+def kind_of_database(python: str, environment: dict[str, str]) -> tuple[str, list[str]]:
+    """PostgreSQL's where a server of its own can be started; else SQLite's, and what is skipped and why."""
+    done = subprocess.run([python, "-m", "control.cluster"], cwd=TOP, env=environment, stdin=subprocess.DEVNULL,
+                          capture_output=True, text=True)
+    if done.returncode == 0:
+        return "postgresql", []
+    return "sqlite", [f"chaos over PostgreSQL: {(done.stderr.strip().splitlines() or ['no server'])[-1]}"]
+
+
+def short(python: str, program: str) -> int:
+    """Tests and chaos, side by side."""
+    environment = {**os.environ, "SIGNTOOL": program}
+    tests = Program(python, environment, "pytest", *TESTS)
+    kind, skipped = kind_of_database(python, environment)
+    chaos = Program(python, environment, "control.chaos", *CHAOS, "--database", kind, "--signtool", program)
+    found = [judged(chaos), judged(tests)]
+    for words in [*skipped, *(words for outcome in found for words in outcome.skipped)]:
+        tell(f"skipped {words}")
+    failed = sum(outcome.failed for outcome in found)
+    tell(f"{sum(outcome.passed for outcome in found)} passed, {failed} failed")
+    return 1 if failed else 0
+
+
+def main() -> int:
+    words = argparse.ArgumentParser(prog="python3 -m control.short", description=__doc__,
+                                    formatter_class=argparse.RawDescriptionHelpFormatter)
+    words.add_argument("--signtool", default=str(SIGNTOOL), metavar="PATH")
+    program = os.path.abspath(words.parse_args().signtool)
+    python = start.seeing(MODULES)
+    if python is None or not os.access(program, os.X_OK):
+        why = f"there is no program at {program}" if python else f"no python3 sees {', '.join(MODULES)}"
+        tell(f"skipped control room: {why}\n0 passed, 0 failed")
+        return 0
+    return short(python, program)
+
+
+if __name__ == "__main__":
+    sys.exit(status_of(main))
