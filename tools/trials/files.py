@@ -9,9 +9,9 @@ from door.journal import Journal
 from door.records import Head
 from door.refusal import Refusal
 from door.places import TOP
-from model import wire
 
-from .bench import Door, Trial, eventually
+from .anew import Anew, answers
+from .bench import Trial
 from .follower import Follower, lines_of
 from .manager import Manager
 from .requests import Changes
@@ -148,7 +148,7 @@ class Files:
             second.ended() == 2 and b"another door holds this journal" in second.errors,
             second.errors.decode(),
         )
-        self.trial.holds("and the first goes on", self.answers(door) and door.stop() == 0, door.errors.decode())
+        self.trial.holds("and the first goes on", answers(door) and door.stop() == 0, door.errors.decode())
 
     def older(self) -> None:
         """A journal that another program wrote under the same rules."""
@@ -168,46 +168,12 @@ class Files:
             door.errors.decode(),
         )
 
-    def answers(self, door: Door) -> bool:
-        """Whether a sign answers."""
-        manager = Manager(door.port)
-        found = manager.get([Changes.COUNTER])
-        manager.close()
-        return bool(found)
-
-    def fresh(self) -> None:
-        """`--fresh` keeps the old file, and a centre goes on above its numbers."""
-        self.path.write_bytes(self.written)
-        door = self.trial.sign("--journal", str(self.path), "--fresh", "--no-ticks")
-        manager = Manager(door.port)
-        found = manager.get([Changes.COUNTER])
-        manager.close()
-        self.trial.holds("a fresh sign is as it was made", bool(found) and found[0][1] == (wire.INTEGER, 0), found)
-        aside = [path for path in self.path.parent.iterdir() if path != self.path]
-        self.trial.holds("its old journal is kept", len(aside) == 1 and aside[0].read_bytes() == self.written, aside)
-        self.trial.holds("a fresh sign ends", door.stop() == 0)
-
-    def fresh_at_once(self, count: int) -> None:
-        """Of many doors that begin anew at once one does; the others end in words, and no file is lost."""
-        self.path = self.trial.new_folder() / "journal"
-        self.path.write_bytes(self.written)
-        words = ["--port", "0", "--journal", str(self.path), "--fresh", "--no-ticks"]
-        doors = [self.trial.door("udp_sign.py", *words) for _ in range(count)]
-        eventually(lambda: all(door.process.poll() is not None or b"a sign at" in door.output for door in doors), 60.0)
-        on = [door for door in doors if door.process.poll() is None]
-        self.trial.holds("of doors that begin anew at once one does", len(on) == 1, [door.errors for door in doors])
-        for door in doors:
-            door.wait_for_port()
-            is_well = door in on or door.ended() == 2 and b"another door holds this journal" in door.errors
-            self.trial.holds("and the others end in words", is_well, door.errors.decode())
-        self.trial.holds("which answers", len(on) == 1 and self.answers(on[0]) and on[0].stop() == 0)
-        aside = [path.read_bytes() for path in self.path.parent.iterdir() if path != self.path]
-        self.trial.holds("and the old journal is there once", aside == [self.written], len(aside))
-
 
 def run(trial: Trial) -> None:
     """All of it."""
     files = Files(trial)
-    for part in (files.others, files.fresh, files.changed, files.prefixes):
+    for part in (files.others, files.changed, files.prefixes):
         part()
-    files.fresh_at_once(3 if trial.is_short else 8)
+    anew = Anew(trial, files.path.parent, files.written)
+    anew.fresh()
+    anew.fresh_at_once(3 if trial.is_short else 8)

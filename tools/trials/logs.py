@@ -48,7 +48,7 @@ def of_a_centre(trial: Trial) -> None:
     """A centre's log tells what was asked for, what went out and what came in, in words; as JSON too, on its standard
     output."""
     sign = trial.sign("--log", "-", "--json")
-    words = ["--to", f"127.0.0.1:{sign.port}", "--tick", "0.4", "--log", "-"]
+    words = ["--to", f"127.0.0.1:{sign.port}", "--log", "-"]
     for is_json in (False, True):
         centre = trial.door("udp_centre.py", *words, *(["--json"] if is_json else []), stdin=subprocess.PIPE)
         assert centre.process.stdin is not None
@@ -69,6 +69,8 @@ def of_a_centre(trial: Trial) -> None:
             ]
             trial.holds("events in words", all(any(row in line for line in lines) for row in rows), lines)
     trial.holds("a sign with a log ends", sign.stop() == 0, sign.errors.decode())
+    is_said = b"nothing is kept" in sign.errors and b"nothing is kept" in centre.errors
+    trial.holds("without a journal both say that nothing is kept", is_said, (sign.errors, centre.errors))
     told = [json.loads(line) for line in sign.output.decode().splitlines() if line.startswith("{")]
     events = {one["event"] for one in told}
     trial.holds("a sign's events as JSON", {"start", "in", "out", "accepted", "end"} <= events, events)

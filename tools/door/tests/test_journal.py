@@ -149,6 +149,22 @@ def test_seconds_and_polls_in_a_row_are_one_record() -> None:
         assert kept(path) == [b"ticks 3", b"heard", b"ticks 4", b"heard", b"ticks 3", b"datagram 30"]
 
 
+def test_a_record_of_the_clock_goes_in_each_minute() -> None:
+    with tempfile.TemporaryDirectory() as folder:
+        path = pathlib.Path(folder, "journal")
+        keeper = Keeper(Journal.opened(str(path), HEAD))
+        keeper.start(NOW, None)
+        for second in range(1, 131):
+            keeper.tick(1, 10.0 + second)
+        keeper.journal.close()
+        lines = [line.partition(b" #")[0] for line in path.read_bytes().splitlines()]
+        assert [line for line in lines if line.startswith(b"ticks")] == [b"ticks 60", b"ticks 60"]
+        assert [line.split()[2] for line in lines if line.startswith(b"clock")] == [b"10", b"70", b"130"]
+        after = Journal.opened(str(path), HEAD)
+        assert after.last is not None and after.last.up == 130
+        after.close()
+
+
 class Refusing(Journal):
     """A journal whose disk takes no record."""
 
