@@ -53,7 +53,7 @@ STEPS = (
     Step("no memory", "tools/no_memory.sh --built --count 1000", 120, "crates/dms_bench/out/libdms_bench.a"),
     Step("lasting", "tools/lasting.py --short {program}", 400),
     Step("conformance", "python3 -m conform.short", 500),
-    Step("helps", "tools/helps.sh", 180),
+    Step("helps", "tools/helps.sh", 400),
     Step("control room", "python3 -m control.short --signtool {program}", 600),
 )
 

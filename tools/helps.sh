@@ -28,20 +28,22 @@ modules() {
         sed -e 's#/__main__\.py$##' -e 's#\.py$##' -e 's#/#.#g' | sort
 }
 
-# asks COMMAND..: its help in $folder/out and $folder/err, its status, and what it changed
+# asks COMMAND..: its help in $folder/out and $folder/err, its status, and what it changed since the one before
 asks() {
-    standing > "$folder/before"
-    timeout 20 "$@" --help < /dev/null > "$folder/out" 2> "$folder/err"
+    timeout 60 "$@" --help < /dev/null > "$folder/out" 2> "$folder/err"
     status=$?
     standing > "$folder/after"
-    [ "$status" = 0 ] || fault="--help ends with $status"
     [ -s "$folder/out" ] || fault="--help prints nothing"
     [ ! -s "$folder/err" ] || fault="--help says '$(head -c 200 "$folder/err")' on standard error"
+    [ "$status" = 0 ] || fault="--help ends with $status"
+    [ "$status" != 124 ] || fault="--help does not end in a minute"
     changed=$(diff "$folder/before" "$folder/after" | sed -n 2p)
     [ -z "$changed" ] || fault="--help changes $changed"
+    mv "$folder/after" "$folder/before"
 }
 
 shopt -s nullglob
+standing > "$folder/before"
 [ $# != 0 ] || set -- tools/*.py tools/*.sh bench/*.py bench/*.sh measures/*.py measures/*.sh $(modules)
 for tool in "$@"; do
     fault=
