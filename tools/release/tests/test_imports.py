@@ -1,0 +1,39 @@
+"""All that a release's Python imports is in the release, in Python, or a package that it recommends."""
+
+import ast
+import pathlib
+import re
+import sys
+from collections.abc import Iterator
+
+TOP = pathlib.Path(__file__).resolve().parents[3]
+SCRIPT = (TOP / "tools/release.sh").read_text(encoding="utf-8")
+PACKAGES = ["conform", "control", "tools/door", "tools/model"]
+LEFT_OUT = re.compile(r"/tests/|^conform/short\.py$")
+
+
+def files() -> list[pathlib.Path]:
+    """The Python of a release, as tools/release.sh copies it."""
+    tools = re.findall(r'"\$source"/(tools/\w+\.py)', SCRIPT)
+    found = [TOP / name for name in tools]
+    for package in PACKAGES:
+        assert f'"$source"/{package} ' in SCRIPT, package
+        found += sorted((TOP / package).rglob("*.py"))
+    return [path for path in found if not LEFT_OUT.search(str(path.relative_to(TOP)))]
+
+
+def imported(path: pathlib.Path) -> Iterator[str]:
+    """The first names of what a file imports, but for its own package's parts."""
+    for node in ast.walk(ast.parse(path.read_text(encoding="utf-8"))):
+        if isinstance(node, ast.Import):
+            yield from (name.name.split(".")[0] for name in node.names)
+        elif isinstance(node, ast.ImportFrom) and node.level == 0:
+            yield str(node.module).split(".")[0]
+
+
+def test_imports() -> None:
+    shipped = {pathlib.PurePath(package).name for package in PACKAGES} | {path.stem for path in files()}
+    recommended = set(re.findall(r"(\w+):python3-\w+", SCRIPT))
+    known = set(sys.stdlib_module_names) | shipped | recommended
+    unknown = {f"{path.relative_to(TOP)}: {name}" for path in files() for name in imported(path) if name not in known}
+    assert not unknown
