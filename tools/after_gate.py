@@ -55,6 +55,7 @@ STEPS = (
     Step("conformance", "python3 -m conform.short", 500),
     Step("helps", "tools/helps.sh", 400),
     Step("control room", "python3 -m control.short --signtool {program}", 600),
+    Step("house", "tools/house.py --check", 60),
 )
 
 
