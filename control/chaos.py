@@ -45,6 +45,7 @@ class Asked:
     seed: int
     tick: float
     lease: float
+    troubles: int | None
     database: str
     signtool: str
 
@@ -93,7 +94,8 @@ class Run:
             self.to_ask.pop()
         self.workers.wake()
         self.lines = count(self.store, "lines")
-        if self.lines >= self.due:
+        troubles = self.workers.killed + self.workers.paused
+        if self.lines >= self.due and troubles < (self.asked.troubles or self.lines):
             self.workers.trouble(self.chance)
             self.due = self.lines + self.chance.randint(self.every, 4 * self.every)
         if self.lines >= self.crash_at and not self.place.restarts:
@@ -156,6 +158,7 @@ def arguments() -> argparse.ArgumentParser:
     words.add_argument("--seed", type=int, default=1, metavar="N")
     words.add_argument("--tick", type=float, default=0.2, metavar="SECONDS", help="from tick to tick, of all")
     words.add_argument("--lease", type=float, default=2.0, metavar="SECONDS", help="of a worker")
+    words.add_argument("--troubles", type=int, metavar="N", help="workers killed or stopped at most; else no end")
     words.add_argument("--database", choices=KINDS, default=KINDS[0])
     words.add_argument("--signtool", default=str(SIGNTOOL), metavar="PATH")
     return words

@@ -17,7 +17,8 @@ from door.refusal import status_of, tell
 from . import SIGNTOOL, TOP, start
 
 MODULES = ("pytest", "aiohttp", "jinja2", "psycopg")
-CHAOS = ("--signs", "6", "--commands", "16", "--workers", "2", "--tick", "0.3", "--lease", "3", "--seconds", "400")
+CHAOS = ("--signs", "6", "--commands", "16", "--workers", "2", "--troubles", "6", "--tick", "0.5", "--lease", "5",
+         "--seconds", "400")
 TESTS = ("-q", "-rs", "-p", "no:cacheprovider", "control/tests")
 WORDS = re.compile(r"(\d+) (passed|failed|error|errors)\b")
 SKIPPED = re.compile(r"^SKIPPED \[\d+\] (\S+?)(?::\d+)?: (.*)$", re.MULTILINE)
