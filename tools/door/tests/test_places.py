@@ -1,6 +1,6 @@
 """What commands are called, in the repository and in a release."""
 
-import pytest
+from unittest import mock
 
 from door import places
 
@@ -11,13 +11,13 @@ def test_in_the_repository() -> None:
     assert places.in_words_of_command("tools/udp_sign.py") == "tools/udp_sign.py"
 
 
-@pytest.mark.parametrize("name", ["/usr/bin/wisangub-sign", "/usr/bin/wisangub-control worker"])
-def test_in_a_release(monkeypatch: pytest.MonkeyPatch, name: str) -> None:
-    monkeypatch.setattr("sys.argv", [name])
-    assert places.called("conform") == "wisangub-conform"
-    assert places.called("control.users") == "wisangub-control users"
-    about = "tools/udp_centre.py, python3 -m conform.mutants.door and python3 -m control.worker."
-    assert places.in_words_of_command(about) == (
-        "wisangub-centre, wisangub-conform mutants.door and wisangub-control worker."
-    )
-    assert places.in_words_of_command(None) is None
+def test_in_a_release() -> None:
+    for name in ("/usr/bin/wisangub-sign", "/usr/bin/wisangub-control worker"):
+        with mock.patch("sys.argv", [name]):
+            assert places.called("conform") == "wisangub-conform"
+            assert places.called("control.users") == "wisangub-control users"
+            about = "tools/udp_centre.py, python3 -m conform.mutants.door and python3 -m control.worker."
+            assert places.in_words_of_command(about) == (
+                "wisangub-centre, wisangub-conform mutants.door and wisangub-control worker."
+            )
+            assert places.in_words_of_command(None) is None
