@@ -3,19 +3,22 @@
 from dataclasses import dataclass
 
 from model import wire
+from model.sign import Sign
 
 from . import before, classify
 from .compare import Kind, Mismatch, mismatch, value_words
 from .context import Context
 from .found import Difference
-from .known import Known, Unreached
+from .known import Known
 from .objects import Name, row_of, scalar, spoken
 from .pair import Exchange, Pair
 from .results import Results, Watcher
 from .rules import RULES, Rule
-from .steps import Ask, Wait, get
+from .steps import Ask, Wait, get, looks
+from .wanted import Unreached
 
 CAUSE = scalar(6, 17)
+READS = (Kind.STATUS, Kind.BINDINGS, Kind.VALUE)
 
 
 @dataclass
@@ -33,6 +36,7 @@ class Beginning:
             return False
         self.configure()
         self.reach_first()
+        self.compare_all()
         return True
 
     def configure(self) -> None:
@@ -41,6 +45,10 @@ class Beginning:
             self.results.configuration.append((spoken(name), value_words(wanted), read))
             self.add(self.configuration_difference(name))
             self.pair.masked.add(name)
+
+        for name, wanted, have in before.differing(self.known, before.defaults(self.context)):
+            read = "nothing" if have is None else value_words(have)
+            self.results.set_back.append((spoken(name), value_words(wanted), read))
 
     def configuration_difference(self, name: Name) -> Difference:
         exchange = self.on_both(get(name))
@@ -61,6 +69,23 @@ class Beginning:
                 break
             self.tell_unreached(unreached)
         self.results.is_learnt = self.pair.ticks.is_learnt()
+
+    def compare_all(self) -> None:
+        """Every instance of both, one after the other: of those that read otherwise the first of each rule is told."""
+        names = [name for name in Sign(self.context.described).instances() if name not in self.pair.masked]
+        told: set[str] = set()
+        for look in looks(names):
+            self.pair.pass_ticks()
+            if self.on_both(look).mismatch is None:
+                continue
+            for name, _ in look.bindings:
+                exchange = self.on_both(get(name))
+                if exchange.mismatch is None or exchange.mismatch.kind not in READS:
+                    continue
+                rule = classify.rule_of(exchange.octets, exchange.ours, exchange.theirs, exchange.mismatch)
+                if rule.key not in told:
+                    told.add(rule.key)
+                    self.add(Difference.of(rule, "known state", exchange, [exchange.step], [exchange.octets]))
 
     def tell_unreached(self, unreached: list[Unreached]) -> None:
         """The first of the objects is told, with the others by name; all are left out from here on."""

@@ -3,51 +3,20 @@
 from dataclasses import dataclass, field
 
 from model import wire
-from model.codes import BLANK_1
-from model.sign import CENTRAL
 
 from .context import Context, activate
+from .lost import ours_reads
 from .messages import spelled
-from .objects import NO_ADDRESS, OWN_CODES, Name, Row, Value, integer, octets, scalar
+from .objects import Name, Row, Value, scalar
 from .pair import Pair
-from .steps import Ask, Step, Wait, get, looks, put
+from .steps import Ask, get, looks, put
+from .wanted import VERDICTS, Unreachable, Unreached, Wanted
 
 ROUNDS = 4
 POLL, SURE = 0.004, 0.04
 LONGEST_SETTLING = 3.5
-VERDICTS = (scalar(5, 9), scalar(6, 18), scalar(6, 19))
+MOST_KEPT = 400  # datagrams after which ours is begun anew
 Read = dict[Name, Value | None]
-
-
-class Unreachable(Exception):
-    """The known state cannot be reached: these objects stay."""
-
-    def __init__(self, unreached: "list[Unreached]") -> None:
-        super().__init__(len(unreached))
-        self.unreached = unreached
-
-
-@dataclass
-class Unreached:
-    """An object that cannot be brought to its value, with the last request for it and the reply."""
-
-    name: Name
-    wanted: Value
-    read: Value | None
-    request: Ask
-    reply: bytes | None
-
-    def is_refused(self) -> bool:
-        """Whether the sign did not take the request that is to bring it there."""
-        message = spelled(self.reply or b"")
-        is_set = self.request.kind == wire.SET and self.name != scalar(6, 24)
-        return is_set and (message is None or message.status != wire.NO_ERROR)
-
-    def steps(self, row: Row | None) -> list[Step]:
-        """What is to bring the object there, and a read of it."""
-        if self.name in VERDICTS and row is not None:
-            return [put(row.status(6)), put(row.status(7)), Wait(1), get(self.name)]
-        return [self.request, get(self.name)] if self.request.kind == wire.SET else [self.request]
 
 
 @dataclass
@@ -56,61 +25,32 @@ class Known:
     context: Context
     last: dict[Name, tuple[Ask, bytes | None]] = field(default_factory=dict)
     is_settling_seen: bool = True
+    is_together: bool = False  # whether ours is handed what brings the sign under test there
 
-    # --- what is wanted --------------------------------------------------------------------------------------
-
-    def settings(self) -> dict[Name, Value]:
-        """What is set directly."""
-        blank = BLANK_1.octets(self.context.described.swapped)
-        wanted = {scalar(4, member): integer(value) for member, value in enumerate(self.context.defaults, 1)}
-        wanted |= {scalar(6, member): octets(blank) for member in OWN_CODES}
-        return wanted | {scalar(6, 10): integer(0), scalar(6, 13): integer(0)}
-
-    def verdicts(self) -> dict[Name, Value]:
-        """What a validation of an empty row leaves."""
-        if not self.context.rows:
-            return {}
-        return {scalar(5, 9): integer(2), scalar(6, 18): integer(2), scalar(6, 19): integer(0)}
-
-    def shown(self) -> dict[Name, Value]:
-        """What the activation of blank message 1 leaves."""
-        return {
-            scalar(6, 3): octets(self.context.known_code),
-            scalar(6, 4): integer(65535),
-            scalar(6, 5): octets(BLANK_1.octets(self.context.described.swapped)),
-            scalar(6, 6): (wire.ADDRESS, NO_ADDRESS),
-            scalar(6, 7): integer(CENTRAL),
-            scalar(6, 17): integer(2),
-        }
-
-    def refused(self) -> dict[Name, Value]:
-        return {scalar(6, 24): octets(self.context.refused_code)}
-
-    def emptied(self, row: Row) -> dict[Name, Value]:
-        """The fields of a row that is not used."""
-        return dict([row.text(b""), row.owner(b""), row.beacon(0), row.pixel(0), row.priority(1)])
+    def __post_init__(self) -> None:
+        self.objects = Wanted(self.context)
 
     def wanted(self) -> dict[Name, Value]:
-        rows: dict[Name, Value] = {row.cell(9): integer(1) for row in self.touched()}
-        for row in self.touched():
-            rows |= self.emptied(row)
-        everything = rows | self.settings() | self.verdicts() | self.refused() | self.shown()
-        return {name: value for name, value in everything.items() if name not in self.pair.masked}
+        """What is to be read. Of a validation's verdict that stays which both have, where they go there together."""
+        left_out = self.pair.masked | set(VERDICTS if self.is_together else ())
+        return {name: value for name, value in self.objects.all(self.touched()).items() if name not in left_out}
 
     def touched(self) -> list[Row]:
-        return sorted(
-            (row for row in self.pair.touched if row in self.context.rows), key=lambda row: (row.memory, row.number)
-        )
+        rows = (row for row in self.pair.touched if row in self.context.rows)
+        return sorted(rows, key=lambda row: (row.memory, row.number))
 
     # --- the sign under test ---------------------------------------------------------------------------------
 
     def ask(self, request: Ask) -> bytes | None:
-        """A request to the sign under test alone. A SET is sent once."""
+        """A request to the sign under test. A SET is sent once; where both go there together it is handed to ours."""
         number = self.pair.port.new_number()
         sent = request.octets(number, self.pair.communities)
-        if request.kind == wire.SET:
-            return self.pair.port.ask_once(sent, number).reply
-        return self.pair.port.ask(sent, number).reply
+        if request.kind != wire.SET:
+            return self.pair.port.ask(sent, number).reply
+        if self.is_together:
+            self.pair.pass_ticks()
+            self.pair.hand(sent)
+        return self.pair.port.ask_once(sent, number).reply
 
     def ask_height(self) -> bytes | None:
         """Any Get at all."""
@@ -155,20 +95,20 @@ class Known:
         for row in self.touched():
             if row.cell(9) in wrong:
                 self.empty(row)
-            elif any(name in wrong for name in self.emptied(row)):
+            elif any(name in wrong for name in self.objects.emptied(row)):
                 self.put(put(row.status(6)))
-                self.put(put(*self.emptied(row).items()), *self.emptied(row))
+                self.put(put(*self.objects.emptied(row).items()), *self.objects.emptied(row))
                 self.empty(row)
-        for name, value in self.settings().items():
+        for name, value in self.objects.settings().items():
             if name in wrong:
                 self.put(put((name, value)), name)
-        if observe or any(name in wrong for name in self.verdicts()):
+        if observe or any(name in wrong for name in self.objects.verdicts()):
             self.validate(self.context.rows[0])
-        if any(name in wrong for name in self.refused()):
-            self.put(activate(self.context.refused_code), *self.refused(), scalar(6, 17))
-            wrong = [*wrong, *self.shown()]
-        if any(name in wrong for name in self.shown()):
-            self.put(activate(self.context.known_code), *self.shown())
+        is_refusal_wrong = any(name in wrong for name in self.objects.refused())
+        if is_refusal_wrong:
+            self.put(activate(self.context.refused_code), *self.objects.refused(), scalar(6, 17))
+        if is_refusal_wrong or any(name in wrong for name in self.objects.shown()):
+            self.put(activate(self.context.known_code), *self.objects.shown())
 
     def put(self, request: Ask, *names: Name) -> None:
         reply = self.ask(request)
@@ -204,30 +144,49 @@ class Known:
     def validate(self, row: Row) -> None:
         """An empty row is validated, for its verdict and to see when the sign's tick comes."""
         for asked in (6, 7):
-            self.put(put(row.status(asked)), *self.verdicts())
+            self.put(put(row.status(asked)), *self.objects.verdicts())
         self.is_settling_seen = self.settled(row)
         self.put(put(row.status(8)), row.cell(9))
         self.pair.touched.add(row)
 
     # --- both ------------------------------------------------------------------------------------------------
 
-    def reach(self, observe: bool = False) -> list[Unreached]:
-        """Both signs in the known state; what cannot be brought there is told."""
+    def reach(self, observe: bool = False, is_alike: bool = False) -> list[Unreached]:
+        """Both signs in the known state; what cannot be brought there is told.
+
+        Where both are alike they may go there together, and keep the verdict of their last validation: no tick has
+        to be waited for.
+        """
         observe |= not self.pair.ticks.is_learnt() and self.is_settling_seen and bool(self.context.rows)
         if not observe and not self.pair.is_dirty:
             return []
-        unreached = self.bring(observe)
-        self.pair.restart_ours()
-        for request in (activate(self.context.refused_code), activate(self.context.known_code)):
-            self.pair.hand(request.octets(self.pair.port.new_number(), self.pair.communities))
-        self.pair.pass_ticks()
+        unreached: list[Unreached] = []
+        if observe or not is_alike or len(self.pair.log) > MOST_KEPT or not self.go_together():
+            unreached = self.bring(observe)
+            self.pair.restart_ours()
+            for request in (activate(self.context.refused_code), activate(self.context.known_code)):
+                self.pair.hand(request.octets(self.pair.port.new_number(), self.pair.communities))
+            self.pair.pass_ticks()
         self.pair.is_dirty = bool(unreached)
         if not unreached:
             self.pair.touched.clear()
         return unreached
 
-    def reach_or_end(self, is_timed: bool = False) -> None:
+    def go_together(self) -> bool:
+        """Whether the same requests brought both there, and both read the same."""
+        self.is_together = True
+        try:
+            unreached = self.bring(False)
+        finally:
+            self.is_together = False
+        if unreached:
+            return False
+        self.pair.pass_ticks()
+        names = [name for name in self.wanted() if name not in self.pair.masked]
+        return self.read(names) == ours_reads(self.pair, names)
+
+    def reach_or_end(self, is_timed: bool = False, is_alike: bool = False) -> None:
         """The known state; before a sequence of seconds a tick is looked for where the last was seen long ago."""
-        unreached = self.reach(is_timed and self.pair.ticks.is_old())
+        unreached = self.reach(is_timed and self.pair.ticks.is_old(), is_alike)
         if unreached:
             raise Unreachable(unreached)

@@ -4,4 +4,29 @@ import functools
 
 from model import wire
 
-spelled = functools.lru_cache(maxsize=4096)(wire.spelled)
+from .objects import NULL
+
+KEPT: dict[bytes, wire.Message] = {}
+MOST_KEPT = 256
+
+
+@functools.lru_cache(maxsize=4096)
+def read(octets: bytes) -> wire.Message | None:
+    found: wire.Message | None = wire.spelled(octets)
+    return found
+
+
+def spelled(octets: bytes) -> wire.Message | None:
+    """The message, or None where the octets spell none."""
+    return KEPT.get(octets) or read(octets)
+
+
+def written(message: wire.Message) -> bytes:
+    """The message's octets. What a request of names alone spells is known without reading it back."""
+    octets: bytes = wire.written(message)
+    is_plain = all(value == NULL and max(name) < 2**31 for name, value in message.bindings)
+    if is_plain and len(octets) <= wire.MOST_DATAGRAM and 0 <= message.number < 2**31:
+        if len(KEPT) >= MOST_KEPT:
+            KEPT.clear()
+        KEPT[octets] = message
+    return octets

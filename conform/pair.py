@@ -32,6 +32,7 @@ class Exchange:
     theirs: bytes | None
     mismatch: Mismatch | None = None
     is_lost: bool = False  # a SET whose reply did not come, though it is known by reading what it did
+    is_set: bool = False
 
 
 @dataclass
@@ -102,7 +103,6 @@ class Pair:
             self.pass_ticks()
             return None
         self.requests += 1
-        self.note_rows(step)
         for samples in range(SAMPLES):
             self.pass_ticks()
             number = self.number_of(step)
@@ -123,22 +123,23 @@ class Pair:
                 exchange.mismatch = None
         return exchange
 
-    def note_rows(self, step: Ask | Raw) -> None:
-        if isinstance(step, Ask) and step.kind == wire.SET:
-            rows = (row_of(name) for name, _ in step.bindings)
+    def note_rows(self, message: wire.Message | None) -> None:
+        if message is not None and message.kind == wire.SET:
+            rows = (row_of(name) for name, _ in message.bindings)
             self.touched.update(Row(*row) for row in rows if row is not None)
 
     def exchange(self, step: Ask | Raw, octets: bytes, number: int) -> tuple[Exchange, bool]:
         """The replies, and whether a difference between them is sure."""
         ours = self.hand(octets)
         self.is_dirty |= ours is None or not is_read(octets)
+        message = spelled(octets)
+        self.note_rows(message)
         if ours is None:
             return self.dropped(step, octets, number), True
-        message = spelled(octets)
         assert message is not None
         if message.kind == wire.SET:
             return self.set(step, octets, message, ours), True
-        heard = self.port.ask(octets, message.number)
+        heard = self.port.ask(octets, message.number, ours)
         if heard.tries > 1:
             self.pass_ticks()
             ours = self.hand(octets)
@@ -147,16 +148,16 @@ class Pair:
         return Exchange(step, octets, ours, heard.reply, differs), is_sure
 
     def set(self, step: Ask | Raw, octets: bytes, message: wire.Message, ours: bytes) -> Exchange:
-        heard = self.port.ask_once(octets, message.number)
+        heard = self.port.ask_once(octets, message.number, ours)
         if heard.reply is None:
             self.settle_lost(octets, message, ours)
-            return Exchange(step, octets, ours, None, Mismatch(Kind.NO_ANSWER), True)
+            return Exchange(step, octets, ours, None, Mismatch(Kind.NO_ANSWER), True, True)
         differs = mismatch(ours, heard.reply, frozenset(self.masked))
         if differs is not None and self.ticks.is_in_doubt(heard.begun, heard.ended) and self.doubts < MOST_DOUBTS:
             self.doubts += 1
             self.ticks.was_late()
             raise Inconclusive("a tick of the sign came while it answered")
-        return Exchange(step, octets, ours, heard.reply, differs)
+        return Exchange(step, octets, ours, heard.reply, differs, is_set=True)
 
     def settle_lost(self, octets: bytes, message: wire.Message, ours: bytes) -> None:
         """A SET has no reply: afterwards ours is handed it or not, as it is known of the sign under test."""
@@ -167,7 +168,7 @@ class Pair:
         """Octets that ours does not answer."""
         message = spelled(octets)
         if message is not None:
-            self.port.odd.add(message.number)
+            self.port.note(message.number, octets)
             number = message.number
         if isinstance(step, Raw) and step.is_quiet:
             answer = self.port.ask_once(octets, number).reply

@@ -2,12 +2,15 @@
 
 from dataclasses import dataclass, field
 
+from model import wire
+
 from .clock import Clock
 from .link import Link
 from .messages import spelled
 from .steps import FIRST_NUMBER, LAST_NUMBER
 
 TRIES = 3
+MOST_KEPT = 8  # datagrams of one request number that are remembered
 
 
 @dataclass
@@ -28,7 +31,7 @@ class Port:
     clock: Clock
     wait: float = 1.0
     number: int = FIRST_NUMBER
-    odd: set[int] = field(default_factory=set)  # request numbers sent that are not of our row
+    odd: dict[int, list[bytes]] = field(default_factory=dict)  # what was sent under numbers that are not of our row
     sent: int = 0
     passed_over: int = 0
     asked_again: int = 0
@@ -36,6 +39,13 @@ class Port:
     def new_number(self) -> int:
         self.number = self.number + 1 if self.number < LAST_NUMBER else FIRST_NUMBER
         return self.number
+
+    def note(self, number: int, octets: bytes) -> None:
+        """A request number that is not the next of our row is used, perhaps not for the first time."""
+        sent = self.odd.setdefault(number, [])
+        if octets in sent:
+            sent.remove(octets)
+        self.odd[number] = [*sent, octets][-MOST_KEPT:]
 
     def send(self, octets: bytes) -> None:
         self.sent += 1
@@ -45,29 +55,38 @@ class Port:
         """Whether a reply with this number belongs to another request that was sent."""
         return number != waited_for and (FIRST_NUMBER < number <= self.number or number in self.odd)
 
-    def await_reply(self, number: int) -> bytes | None:
-        """The reply to the request with this number, or one that belongs to no request at all."""
+    def is_of_another(self, reply: wire.Message, number: int, octets: bytes) -> bool:
+        """Whether a reply is none to these octets, by its number or as it answers earlier ones with this number."""
+        if reply.number != number:
+            return self.is_earlier(reply.number, number)
+        if may_answer(reply, octets):
+            return False
+        return any(may_answer(reply, earlier) for earlier in self.odd.get(number, []) if earlier != octets)
+
+    def await_reply(self, number: int, octets: bytes, expected: bytes | None) -> bytes | None:
+        """The reply to these octets with this number, or one that belongs to no request at all."""
         until = self.clock.now() + self.wait
         while True:
-            octets = self.link.receive(until)
-            if octets is None:
-                return None
-            message = spelled(octets)
-            if message is None or not self.is_earlier(message.number, number):
-                return octets
+            reply = self.link.receive(until)
+            if reply is None or reply == expected:
+                return reply
+            message = spelled(reply)
+            if message is None or not self.is_of_another(message, number, octets):
+                return reply
             self.passed_over += 1
 
-    def ask_once(self, octets: bytes, number: int) -> Heard:
+    def ask_once(self, octets: bytes, number: int, expected: bytes | None = None) -> Heard:
+        """A request that is sent once. The octets of the reply that is expected need not be looked into."""
         if not FIRST_NUMBER < number <= LAST_NUMBER:
-            self.odd.add(number)
+            self.note(number, octets)
         begun = self.clock.now()
         self.send(octets)
-        return Heard(self.await_reply(number), 1, begun, self.clock.now())
+        return Heard(self.await_reply(number, octets, expected), 1, begun, self.clock.now())
 
-    def ask(self, octets: bytes, number: int) -> Heard:
+    def ask(self, octets: bytes, number: int, expected: bytes | None = None) -> Heard:
         """A request that may be asked again, three times in all."""
         for tries in range(1, TRIES + 1):
-            heard = self.ask_once(octets, number)
+            heard = self.ask_once(octets, number, expected)
             heard.tries = tries
             if heard.reply is not None:
                 break
@@ -89,8 +108,19 @@ class Port:
                 message = spelled(reply)
                 if message is not None and message.number == sentinel_number:
                     return answer, True
-                if message is None or not self.is_earlier(message.number, number):
+                if message is None or not self.is_of_another(message, number, octets):
                     answer = reply
                 else:
                     self.passed_over += 1
         return answer, False
+
+
+def may_answer(reply: wire.Message, octets: bytes) -> bool:
+    """Whether a reply may be one to these octets, by its community and names, and its values where it repeats them."""
+    request = spelled(octets)
+    if request is None or request.community != reply.community or len(request.bindings) != len(reply.bindings):
+        return False
+    if reply.status or request.kind == wire.SET:
+        return reply.bindings == request.bindings
+    names = [name for name, _ in request.bindings]
+    return request.kind == wire.GET_NEXT or [name for name, _ in reply.bindings] == names

@@ -38,6 +38,7 @@ class Results:
     chapters: list[ChapterResult] = field(default_factory=list)
     before: list[Difference] = field(default_factory=list)
     configuration: list[tuple[str, str, str]] = field(default_factory=list)  # object, as described, as read
+    set_back: list[tuple[str, str, str]] = field(default_factory=list)  # what the known state changes, likewise
     is_silent: bool = False
     is_learnt: bool = True
 

@@ -47,34 +47,35 @@ class Runner:
                 sent += [None] * step.ticks if isinstance(step, Wait) else []
                 continue
             sent.append(exchange.octets)
-            if exchange.mismatch is not None and not self.is_lost(exchange):
+            is_lost = self.is_lost(exchange)
+            if exchange.mismatch is not None and not is_lost:
                 return Run(exchange, list(steps[: at + 1]), sent)
         return None
 
     def is_lost(self, exchange: Exchange) -> bool:
         """Whether a SET without a reply is one of many whose replies came, on a way that loses some."""
-        likes = likeness(exchange)
         if exchange.theirs is not None:
-            self.answered.update(likes)
+            self.answered.update(likeness(exchange) if exchange.is_set else ())
             return False
-        return exchange.is_lost and self.pair.port.is_lossy() and likes <= self.answered
+        return exchange.is_lost and self.pair.port.is_lossy() and likeness(exchange) <= self.answered
 
-    def anew(self, steps: Sequence[Step], after_a_tick: bool = True) -> Run | None:
+    def anew(self, steps: Sequence[Step], after_a_tick: bool = True, is_alike: bool = False) -> Run | None:
         """The steps from the known state; a sequence that cannot be told is begun again.
 
-        Where ticks matter it begins right after one, so that no other comes between its steps.
+        Where ticks matter it begins right after one, so that no other comes between its steps. Where both signs are
+        alike they may keep the verdict of their last validation.
         """
         self.runs += 1
         for left in range(TRIES, 0, -1):
             try:
-                self.known.reach_or_end(is_timed(steps))
+                self.known.reach_or_end(is_timed(steps), is_alike)
                 self.pair.begin()
                 if after_a_tick and is_timed(steps):
                     self.pair.ticks.wait(1)
                     self.pair.pass_ticks()
                 return self.steps(steps)
             except Inconclusive:
-                self.pair.is_dirty = True
+                self.pair.is_dirty, is_alike = True, False
                 if left == 1:
                     raise
         return None

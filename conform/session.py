@@ -9,12 +9,13 @@ from .chapters import ALL, Block, Chapter
 from .compare import Kind
 from .context import Context
 from .found import Difference, subject
-from .known import Known, Unreachable
+from .known import Known
 from .pair import Inconclusive, Pair
 from .results import ChapterResult, Results, Watcher
 from .rules import RULES, Rule
 from .runs import Run, Runner, shrunk
 from .steps import Step
+from .wanted import Unreachable
 
 MOST_SHRUNK, MOST_TOLD = 4, 12  # differences of a chapter that are made small, and that are told
 
@@ -43,6 +44,8 @@ class Session:
                 break
             if not chapter.is_slow or self.context.is_slow:
                 self.chapter(chapter)
+        if is_heard:
+            self.known.reach()
         return self.results
 
     # --- chapters --------------------------------------------------------------------------------------------
@@ -69,7 +72,8 @@ class Session:
         self.pair.doubts = 0
         try:
             if history is None or block.is_fresh:
-                run, history = self.runner.anew(block.steps, after_a_tick=False), []
+                is_alike = history is not None
+                run, history = self.runner.anew(block.steps, after_a_tick=False, is_alike=is_alike), []
             else:
                 self.pair.begin()
                 run = self.runner.steps(block.steps)

@@ -5,6 +5,7 @@ from typing import Callable, Sequence, Union
 
 from model import wire
 
+from .messages import written
 from .objects import NULL, Binding, Name
 
 FIRST_NUMBER, LAST_NUMBER = 0x010000, 0x7FFFFF  # each takes three octets, so that sizes do not hang on them
@@ -23,7 +24,7 @@ class Ask:
 
     def octets(self, number: int, communities: tuple[bytes, bytes]) -> bytes:
         community = self.community if self.community is not None else communities[self.is_writer]
-        return wire.written(wire.Message(self.kind, community, number, 0, 0, list(self.bindings)))
+        return written(wire.Message(self.kind, community, number, 0, 0, list(self.bindings)))
 
     def with_bindings(self, bindings: Sequence[Binding]) -> "Ask":
         return replace(self, bindings=tuple(bindings))
