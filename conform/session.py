@@ -123,6 +123,10 @@ class Session:
             result.differences[-1].alike += 1
         return len(result.differences) >= MOST_TOLD
 
+    def is_loss(self, run: Run) -> bool:
+        """Whether no answer came on a way that loses some, be it three times."""
+        return run.signature.kind is Kind.NO_ANSWER and (run.exchange.is_lost or self.pair.port.is_lossy())
+
     def difference(self, result: ChapterResult, block: Block, run: Run, steps: list[Step]) -> None:
         """A difference is made small and told; one like it is counted."""
         self.pair.is_dirty = True
@@ -132,7 +136,7 @@ class Session:
         is_repeated = True
         if is_shrunk:
             run, is_repeated = self.made_small(run, steps)
-        if not is_repeated and run.exchange.is_lost:
+        if not is_repeated and self.is_loss(run):
             result.untold += 1
             return
         found = Difference.of(self.rule_of(block, run), result.chapter.name, run.exchange, run.steps, run.sent)
