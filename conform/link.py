@@ -1,5 +1,6 @@
 """The way to the sign under test: datagrams out, datagrams in."""
 
+import errno
 import select
 import socket
 from typing import Protocol
@@ -36,6 +37,9 @@ class UdpLink:
             self.socket.send(octets)
         except ConnectionRefusedError:  # of an earlier datagram; nobody hears this one either, which is no answer
             pass
+        except OSError as fault:
+            if fault.errno != errno.EMSGSIZE:  # longer than UDP takes: nobody hears it
+                raise
 
     def receive(self, until: float) -> bytes | None:
         while True:

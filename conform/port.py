@@ -31,7 +31,7 @@ class Port:
     clock: Clock
     wait: float = 1.0
     number: int = FIRST_NUMBER
-    odd: dict[int, list[bytes]] = field(default_factory=dict)  # what was sent under numbers that are not of our row
+    odd: dict[int, list[bytes]] = field(default_factory=dict)  # what was sent under numbers that are not our newest
     sent: int = 0
     passed_over: int = 0
     asked_again: int = 0
@@ -41,7 +41,7 @@ class Port:
         return self.number
 
     def note(self, number: int, octets: bytes) -> None:
-        """A request number that is not the next of our row is used, perhaps not for the first time."""
+        """A request number that is not the newest of our row is used, perhaps not for the first time."""
         sent = self.odd.setdefault(number, [])
         if octets in sent:
             sent.remove(octets)
@@ -77,7 +77,7 @@ class Port:
 
     def ask_once(self, octets: bytes, number: int, expected: bytes | None = None) -> Heard:
         """A request that is sent once. The octets of the reply that is expected need not be looked into."""
-        if not FIRST_NUMBER < number <= LAST_NUMBER:
+        if number != self.number:
             self.note(number, octets)
         begun = self.clock.now()
         self.send(octets)

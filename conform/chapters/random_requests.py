@@ -26,6 +26,7 @@ from ..steps import Ask, Raw, Step, Wait
 from .block import Block, Chapter, look
 
 LENGTH = 60  # requests of a sequence
+MOST_OCTETS = 4096  # of a hostile datagram
 BOUNDS = [
     0,
     1,
@@ -214,12 +215,13 @@ class Requests:
         state = self.chance.randrange(2**32)
 
         def make(number: int, _: tuple[bytes, bytes]) -> bytes:
+            made: bytes
             self.maker.random.seed(state)
             self.maker.rate = self.maker.one([0.0, 0.005, 0.02, 0.1])
             made = self.maker.message(self.maker.one([wire.GET, wire.GET, wire.GET_NEXT, wire.SET]), number)
             for _ in range(self.maker.one([0, 0, 1, 1, 2])):
                 made = self.maker.changed(made)
-            return made
+            return made[:MOST_OCTETS]
 
         return Raw(make)
 
