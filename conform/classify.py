@@ -46,6 +46,7 @@ def rule_of(octets: bytes, ours: bytes | None, theirs: bytes | None, differs: Mi
 
 
 CERTAIN = ("counts", "free memory", "row checksum", "checksum", "blank checksum", "priority", "fits now")
+UNTIMED = ("get", "rows", "validation", "priorities", "sizes")  # chapters that are about no durations
 GENERAL = ("ber", "communities", "set", "getnext")  # chapters whose steps touch objects that others are about
 
 
@@ -56,6 +57,8 @@ def better(named: Rule | None, octets: bytes, ours: bytes | None, theirs: bytes 
         return found
     if found.key == "too big":
         return named if named.chapter == "sizes" else found
+    if found.key == "error reply" and differs.kind is Kind.STATUS:
+        return found
     request = spelled(octets)
     if request is None or ours is None or theirs is None or differs.kind is Kind.SPELLING:
         return named
@@ -63,6 +66,8 @@ def better(named: Rule | None, octets: bytes, ours: bytes | None, theirs: bytes 
         return named if named.chapter == "getnext" else found
     if named.chapter in ("durations", "silence", "defaults") and found.key in ("priority", "fits now"):
         return named
+    if found.key == "minutes" and named.chapter in UNTIMED:
+        return found
     if differs.kind is Kind.VALUE and named.chapter != found.chapter:
         return found if found.key in CERTAIN or named.chapter in GENERAL else named
     is_alone = request.kind == wire.SET and len(request.bindings) == 1 and differs.kind is Kind.STATUS
@@ -87,6 +92,8 @@ def key_of(octets: bytes, ours: bytes | None, theirs: bytes | None, differs: Mis
     if wire.TOO_BIG in (want.status, have.status) and want.status != have.status:
         return "too big"
     if differs.kind is Kind.STATUS:
+        if want.status == have.status and len(request.bindings) == 1:
+            return "error reply"
         return by_request(request) if request.kind != wire.SET else by_refusal(request, want, have)
     if want.status:
         return "error reply"

@@ -112,6 +112,24 @@ def mixed(context: Context) -> list[Sample]:
     return made("room", found, 1)
 
 
+def heights(context: Context) -> list[Sample]:
+    """A line whose first character is lower than its second, above as many others as fit, and one row more."""
+    face = context.described.face
+    units = {}
+    for font in face.fonts:
+        number = next((number for number in font.glyphs if number < 256 and number not in b"[]"), None)
+        if number is not None:
+            units[font.height] = b"[fo%d]" % font.number + bytes([number])
+    found = []
+    for low, high in itertools.combinations(sorted(units), 2):
+        front = units[low] + units[high] + (b"[nl0]" + units[high]) * (face.height // high - 2)
+        texts = [front + b"[nl%d]" % gap + units[high] for gap in range(10)]
+        first = next((at for at, text in enumerate(texts) if context.fault(text) is not None), None)
+        if first is not None:
+            found += texts[max(0, first - 1) : first + 1]
+    return made("room", found, 0)
+
+
 def gaps(context: Context) -> list[Sample]:
     """The greatest gap between two lines, and one more."""
     one = context.character()

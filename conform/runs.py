@@ -134,6 +134,13 @@ class Shrinking:
         """Whether so many runs in a row show the difference at the last of the steps."""
         return all(self.shows(steps, of_any_cost=True) for _ in range(times))
 
+    def waits_alone(self) -> None:
+        """So many seconds in one, and the request that differs; also after the first of the steps."""
+        steps = self.best.steps
+        wait = Wait(sum(step.ticks for step in steps if isinstance(step, Wait)))
+        if wait.ticks:
+            _ = self.shows([wait, steps[-1]]) or self.shows([steps[0], wait, steps[-1]])
+
     def without_steps(self) -> None:
         size = max(1, (len(self.best.steps) - 1) // 2)
         while not self.is_bounded():
@@ -193,6 +200,7 @@ def shrunk(runner: Runner, run: Run, block: Sequence[Step]) -> tuple[Run, bool]:
         is_seen = is_seen or shrinking.is_seen_again(run.steps, times)
     if not is_seen:
         return run, False
+    shrinking.waits_alone()
     shrinking.without_steps()
     shrinking.without_bindings()
     return shrinking.best, True

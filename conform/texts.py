@@ -3,7 +3,7 @@
 import random
 
 from .context import Context
-from .rooms import Sample, gaps, longest, made, mixed, rooms, touching
+from .rooms import Sample, gaps, heights, longest, made, mixed, rooms, touching
 
 MARKUP = [  # each with one fault of the markup, by the rule that it breaks
     ("markup code", [b"[zz]", b"[", b"]", b"[ nl]", b"[]", b"[nl", b"A]", b"[/f]", b"[/FLx", b"[n]", b"[[]"]),
@@ -42,12 +42,12 @@ MARKUP = [  # each with one fault of the markup, by the rule that it breaks
     ),
 ]
 FIRST_MARKUP, OTHERS = 4, 2
-GOOD_MARKUP = [
-    b"[NL][nl9][nl00009]",
-    b"[cf][cf9][cb0][pb][pb9]",
+GOOD_MARKUP = [  # the last three have no place behind the others
+    b"[cf][cf9][cb0][pb][pb9][cf00009][pb04]",
     b"[fl][FLt][flo][flt99o99][flo0t0][/fl][/FL]",
-    b"[pt][pt255o255][pto][pt1o][PTO5]",
+    b"[pt][pt255o255][pto][pt1o][PTO5][pt007o00255]",
     b"[jl][jl2][JL3][jl4]",
+    b"[NL][nl9][nl00009]",
     b"[jp]",
     b"[fo]",
 ]
@@ -80,6 +80,7 @@ def characters(context: Context) -> list[Sample]:
         b"[[" + one + b"]]",
         b"[hcFFFF]",
         b"[HC%04x]" % one[0] if one else b"",
+        b"[hc%x]" % (one[0] + 256) if one else b"",
         b"[[",
         b"]]",
     ]
@@ -97,7 +98,16 @@ def characters(context: Context) -> list[Sample]:
 
 def parts(context: Context) -> list[Sample]:
     one = context.character()
-    lines = [b"[jl3]%s[jl2]%s", b"[jl4]%s[nl][jl2]%s", b"[jl2]%s[jl2]%s", b"[jl4]%s[jl3]%s", b"[jl4]%s[np][jl2]%s"]
+    lines = [
+        b"[jl3]%s[jl2]%s",
+        b"[jl4]%s[nl][jl2]%s",
+        b"[jl2]%s[jl2]%s",
+        b"[jl4]%s[jl3]%s",
+        b"[jl4]%s[np][jl2]%s",
+        b"[jl4][nl0]%s[jl3]%s",
+        b"[jl4][np]%s[jl3]%s",
+        b"[jl3][nl0]%s[jl2]%s",
+    ]
     pages = [
         b"[jp3]%s[jp2]%s",
         b"[jp4]%s[np][jp2]%s",
@@ -108,6 +118,9 @@ def parts(context: Context) -> list[Sample]:
         b"[jp3][jp2]%s%s",
         b"[jp2]%s[jp4]%s",
         b"[jp2]%s[jp3]%s",
+        b"[jp2]%s[jp3][jp2]%s",
+        b"[jp4][np]%s[jp3]%s",
+        b"[jp3][np]%s[jp2]%s",
     ]
     found = made("line parts", [*[form % (one, one) for form in lines], b"[jl4]" + one + b"[jl3]"], 2)
     return found + made("page parts", [form % (one, one) for form in pages], 4)
@@ -118,6 +131,20 @@ def pages(context: Context) -> list[Sample]:
     return made(
         "pages", [one + b"[np]" * 5 + one, b"[np]" * 6, b"[np]" * 5, one + b"[np]" * 6 + one, (one + b"[np]") * 7], 2
     )
+
+
+def kept(context: Context) -> list[Sample]:
+    """The font stays over a new page, and over a new line: as many of its characters as fit, and one more."""
+    face, found = context.described.face, []
+    for font in face.fonts:
+        unit = next((bytes([number]) for number in font.glyphs if number < 256 and number not in b"[]"), b"")
+        if font.number == context.defaults[4] or not unit:
+            continue
+        for between in (b"[np]", b"[nl0]"):
+            front = b"[fo%d]" % font.number + between
+            count = longest(context, unit, front=front)
+            found += [front + unit * (count + more) for more in (0, 1)] if count else []
+    return made("room", found, 0)
 
 
 def both(context: Context) -> list[Sample]:
@@ -146,10 +173,12 @@ def samples(context: Context) -> list[Sample]:
         + gaps(context)
         + rooms(context)
         + mixed(context)
+        + heights(context)
+        + kept(context)
         + touching(context)
         + both(context)
     )
-    found += made("markup", [b"".join(GOOD_MARKUP[:-2]), *GOOD_MARKUP], 1)
+    found += made("markup", [b"".join(GOOD_MARKUP[:-3]), *GOOD_MARKUP], 1)
     for rule, texts in MARKUP:
         found += made(rule, [context.character() + text for text in texts], FIRST_MARKUP)
     known: dict[bytes, Sample] = {}

@@ -64,6 +64,8 @@ def changeable(context: Context, row: Row) -> Iterator[Block]:
     yield Block(
         "the current buffer", "current buffer", [*tried(context, Row(5, 1), crc, address=bytes([10, 0, 0, 1])), *look()]
     )
+    ending = activate(context.code(Row(5, 1), crc, minutes=30))
+    yield Block("the current buffer with an end", "current buffer", [ending, *look()])
     yield Block("the current buffer, another checksum", "deciding", tried(context, Row(5, 1), crc ^ 1))
     yield Block("the current buffer, no second", "deciding", tried(context, Row(5, 2), crc))
     changed: list[Step] = [modify(row), put(row.text(b""), row.owner(b""), row.priority(9)), *look(rule="copied")]
@@ -77,6 +79,8 @@ def errors(context: Context, row: Row) -> Iterator[Block]:
     bad = b"[zz]"
     steps: list[Step] = [*message(row, bad), *tried(context, row, context.crc(bad)), *tried(context, row, 0)]
     yield Block("a row with an error", "deciding", steps, True)
+    good = activate(context.blank_code(2))
+    yield Block("a success leaves the fault of a text", "accepted", [good, reports()])
 
 
 def order(context: Context) -> Iterator[Block]:

@@ -5,7 +5,7 @@ from typing import Iterator
 from ..context import Context, activate, remaining
 from ..objects import Binding, Row, octets, scalar
 from ..steps import Step, Wait, get, put
-from .block import Block, Chapter, look, message, reports
+from .block import Block, Chapter, fill, look, message, modify, reports, validate
 
 REMAINING = scalar(6, 4)
 
@@ -75,6 +75,16 @@ def nothing_left(context: Context) -> Iterator[Block]:
             activate(context.blank_code(1, 255, 0)),
         ]
         yield Block("an end that shows a row", "own activation", [*begun, Wait(1), *look(row)], True)
+        together = [
+            modify(row),
+            fill(row, text, b"", 0, 0, 255),
+            put(end_code(context.message_code(row, context.crc(text)))),
+            Wait(0),
+            validate(row),
+            activate(context.blank_code(1, 255, 0)),
+            Wait(1),
+        ]
+        yield Block("an end at the tick of a validation", "settled", [*together, *look(row)], True)
 
 
 def whole(context: Context) -> Iterator[Block]:
@@ -94,6 +104,10 @@ def whole(context: Context) -> Iterator[Block]:
         get(REMAINING),
     ]
     yield Block("three minutes as they pass", "minutes", steps, True)
+    endless: list[Step] = [put(remaining(65535)), Wait(61), get(REMAINING)]
+    yield Block("no end after a minute", "remaining", endless, True)
+    shown: list[Step] = [activate(context.blank_code(200)), Wait(61), get(REMAINING)]
+    yield Block("an activation without end after a minute", "minutes", shown, True)
 
 
 def blocks(context: Context) -> Iterator[Block]:
