@@ -28,15 +28,15 @@ def described(context: Context) -> dict[Name, Value]:
     return wanted
 
 
-def defaults(context: Context) -> dict[Name, Value]:
-    return {scalar(4, member): integer(value) for member, value in enumerate(context.defaults, 1)}
+def first_state(context: Context) -> dict[Name, Value]:
+    """What the description says of the defaults, and rows that nobody uses: requests may have changed them."""
+    defaults = {scalar(4, member): integer(value) for member, value in enumerate(context.defaults, 1)}
+    return defaults | {row.cell(9): integer(1) for row in context.rows}
 
 
 def differing(known: Known, wanted: dict[Name, Value]) -> list[tuple[Name, Value, Value | None]]:
     """Each object that reads otherwise, with what is described and what is read."""
-    have: dict[Name, Value | None] = {}
-    for name in wanted:
-        have |= known.read([name])
+    have = known.read(list(wanted))
     return [(name, value, have[name]) for name, value in wanted.items() if have[name] != value]
 
 

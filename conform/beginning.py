@@ -46,7 +46,7 @@ class Beginning:
             self.add(self.configuration_difference(name))
             self.pair.masked.add(name)
 
-        for name, wanted, have in before.differing(self.known, before.defaults(self.context)):
+        for name, wanted, have in before.differing(self.known, before.first_state(self.context)):
             read = "nothing" if have is None else value_words(have)
             self.results.set_back.append((spoken(name), value_words(wanted), read))
 

@@ -13,7 +13,8 @@ from .known import Known
 from .pair import Inconclusive, Pair
 from .results import ChapterResult, Results, Watcher
 from .rules import RULES, Rule
-from .runs import Run, Runner, shrunk
+from .runs import Run, Runner
+from .shrinking import shrunk
 from .steps import Step
 from .wanted import Unreachable
 

@@ -11,6 +11,7 @@ from .objects import KINDS, Name, column_of, row_of, scalar, scalar_of, spoken
 RowName = tuple[int, int]
 ERROR = scalar(6, 17)
 FIELDS = (3, 4, 6, 7, 8)
+COMMANDS = ((6, 3), (6, 4))
 SOON = 0.95  # seconds: what comes sooner than this after the same read polls faster than once a second
 
 
@@ -57,6 +58,7 @@ class Watch:
     reads: dict[tuple[int, tuple[Name, ...]], float] = field(default_factory=dict)
     missing: tuple[Name, ...] | None = None  # what the request before this one was told that there is not
     is_refused: bool = False  # the request before this one was an activation that was refused
+    refused: set[Name] = field(default_factory=set)  # objects outside the table, refused and not written since
 
     def note(self, habit: Habit, moment: float, octets: bytes, words: str) -> None:
         self.seen.append(Seen(habit, moment, words, octets))
@@ -126,6 +128,8 @@ class Watch:
                 self.asked(moment, octets, row, held, is_taken)
             elif scalar_of(name) == (6, 3) and isinstance(held, bytes) and len(held) == 12:
                 self.activated(moment, octets, held, is_taken)
+        settings = {name for name in names if scalar_of(name) not in (None, *COMMANDS)}
+        self.refused = self.refused - settings if is_taken else self.refused | settings
         for row in {row for name in names if (row := row_of(name)) is not None}:
             written = {name for name in names if row_of(name) == row and column_of(name) in FIELDS}
             refused = self.row(row).refused
@@ -150,6 +154,10 @@ class Watch:
 
     def activated(self, moment: float, octets: bytes, code: bytes, is_taken: bool) -> None:
         row = (code[3], int.from_bytes(code[4:6], "big"))
+        if self.refused:
+            words = f"{spoken(min(self.refused))} was refused, and a message is activated"
+            self.note(Habit.IGNORED, moment, octets, words)
+            self.refused = set()
         if row[0] in (3, 4):
             known = self.row(row)
             if not known.is_read:

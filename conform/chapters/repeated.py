@@ -18,7 +18,7 @@ def again(ask: Ask, times: int = 2) -> list[Step]:
     return [replace(ask, group=group)] * times
 
 
-def blocks(context: Context) -> Iterator[Block]:
+def scalars(context: Context) -> Iterator[Block]:
     for ask in (
         get(scalar(2, 3)),
         get_next(scalar(2, 3)),
@@ -49,26 +49,23 @@ def blocks(context: Context) -> Iterator[Block]:
         [put((scalar(6, 15), octets(b"\7\0\7\0\0"))), *again(put(remaining(0))), *look()],
         True,
     )
+
+
+def rows(context: Context, row: Row) -> Iterator[Block]:
+    filled = fill(row, context.character())
+    validate = again(put(row.status(7)))
+    early: list[Step] = [filled, *again(put(row.status(7))), *again(modify(row)), *look(row)]
+    yield Block("a publication out of order", "repeated", early, True)
+    twice: list[Step] = [*again(modify(row)), *again(filled), Wait(0), *validate, Wait(1), *look(row)]
+    yield Block("commands of a row repeated", "repeated", twice, True)
+    late: list[Step] = [validate[0], look_at(row.cell(9)), *again(unuse(row)), validate[0], *look(row)]
+    yield Block("a validation that comes late", "repeated", late)
+
+
+def blocks(context: Context) -> Iterator[Block]:
+    yield from scalars(context)
     for row in context.rows[:1]:
-        filled = fill(row, context.character())
-        validate = again(put(row.status(7)))
-        yield Block(
-            "a publication out of order",
-            "repeated",
-            [filled, *again(put(row.status(7))), *again(modify(row)), *look(row)],
-            True,
-        )
-        yield Block(
-            "commands of a row repeated",
-            "repeated",
-            [*again(modify(row)), *again(filled), Wait(0), *validate, Wait(1), *look(row)],
-            True,
-        )
-        yield Block(
-            "a validation that comes late",
-            "repeated",
-            [validate[0], look_at(row.cell(9)), *again(unuse(row)), validate[0], *look(row)],
-        )
+        yield from rows(context, row)
 
 
 CHAPTER = Chapter("repeated", "Repeated and out of order", blocks)

@@ -40,16 +40,11 @@ def transitions(context: Context, row: Row) -> Iterator[Block]:
         )
     refused = [step for ask in (*asks.values(), *writes(row)) for step in (ask, look_at(row.cell(9)))]
     yield Block("status 3 asked and written", "statuses", [*reaching(context, row, 3), *refused, *look(row)], True)
-    for status in (4, 5):
-        steps = [*reaching(context, row, status), *writes(row), *look(row), asks[6], *look(row)]
-        yield Block(f"status {status}: fields, asked 6", "statuses", steps, True)
-        for value in (7, 8):
-            yield Block(
-                f"status {status} asked {value}",
-                "statuses",
-                [*reaching(context, row, status), asks[value], *look(row)],
-                True,
-            )
+    for status, last in ((4, 6), (5, 8)):  # a valid row is emptied in `counts`, one in error modified in `settling`
+        steps = [*reaching(context, row, status), *writes(row), *look(row)]
+        yield Block(f"status {status}: fields", "fields", steps, True)
+        steps = [asks[7], *look(row), Wait(1), *look(row), asks[last], *look(row)]
+        yield Block(f"status {status} asked 7, and {last}", "statuses", steps)
 
 
 def two_rows(context: Context, row: Row, other: Row) -> Iterator[Block]:
@@ -58,14 +53,15 @@ def two_rows(context: Context, row: Row, other: Row) -> Iterator[Block]:
     tried = [
         put(other.status(7)),
         look_at(row.cell(9), other.cell(9)),
-        put(other.status(6)),
         put(other.status(8)),
         look_at(other.cell(9)),
+        put(other.status(6)),
+        fill(other, text),
         Wait(1),
         *look(row, other),
     ]
     yield Block("one row validates", "one validates", [*begun, *tried], True)
-    yield Block("one after the other", "one validates", [*begun, Wait(1), *settle(other), *look(row, other)], True)
+    yield Block("one after the other", "one validates", [*settle(other), *look(row, other)])
 
 
 def emptied(context: Context, row: Row) -> Iterator[Block]:
@@ -99,15 +95,9 @@ def counts(context: Context) -> Iterator[Block]:
 
 
 def settling(context: Context, row: Row) -> Iterator[Block]:
-    text = context.character()
-    at_once: list[Step] = [modify(row), fill(row, text), Wait(0), validate(row), *look(row), Wait(1), *look(row)]
-    yield Block("a row settles at a tick", "settled", at_once, True)
-    yield Block(
-        "nothing settles twice",
-        "settled",
-        [*message(row, BAD_TEXT), *look(row), Wait(1), *look(row), modify(row), *look(row)],
-        True,
-    )
+    begun: list[Step] = [modify(row), fill(row, BAD_TEXT), Wait(0), validate(row), *look(row), Wait(1), *look(row)]
+    yield Block("a row settles at a tick", "settled", begun, True)
+    yield Block("nothing settles twice", "settled", [Wait(1), *look(row), modify(row), *look(row)])
 
 
 def blocks(context: Context) -> Iterator[Block]:

@@ -62,6 +62,10 @@ def blocks(context: Context) -> Iterator[Block]:
     )
     yield Block("two minutes", "silence", [*begun(context, blank, 2), Wait(119), reports(), Wait(120), reports()], True)
     yield Block("no limit", "silence", [*begun(context, blank, 0), Wait(125), *look()], True)
+    yield from at_one_tick(context, blank)
+
+
+def at_one_tick(context: Context, blank: bytes) -> Iterator[Block]:
     ends: list[Step] = [
         put((scalar(6, 15), octets(blank)), (scalar(6, 12), octets(b"\5\0\1\0\0"))),
         Wait(1),

@@ -6,7 +6,7 @@ from ..context import Context
 from ..objects import Row, scalar
 from ..steps import Step
 from ..texts import samples
-from .block import Block, Chapter, fill, look, look_at, message, modify, settle
+from .block import Block, Chapter, fill, look, look_at, modify, settle
 
 VERDICT = (scalar(5, 9), scalar(6, 18), scalar(6, 19))
 
@@ -16,14 +16,13 @@ def judged(row: Row, text: bytes, beacon: int = 0, pixel: int = 0) -> list[Step]
     return [modify(row), fill(row, text, b"", beacon, pixel), *settle(row, rule=""), look_at(row.cell(9), *VERDICT)]
 
 
-def verdicts(context: Context, row: Row) -> Iterator[Block]:
+def verdicts(context: Context, row: Row, last: Row) -> Iterator[Block]:
     bad = b"[zz]"
     for beacon, pixel, text in ((1, 0, b""), (0, 1, b""), (1, 1, b""), (1, 1, bad), (0, 1, bad)):
         name = f"beacon {beacon}, pixel service {pixel}" + (", a fault" if text else "")
         yield Block(name, "verdicts", [*judged(row, text, beacon, pixel), *look(row)])
-    yield Block(
-        "a fault, then none", "no fault", [*judged(row, bad), *judged(row, context.character(), 0, 0), *look(row)]
-    )
+    none: list[Step] = [*judged(row, bad), *judged(last, context.character()), *look(row, last)]
+    yield Block("a fault, then none in another row", "no fault", none)
 
 
 def rule_of(context: Context, text: bytes, rule: str) -> str:
@@ -44,12 +43,10 @@ def blocks(context: Context) -> Iterator[Block]:
     if not context.rows:
         return
     row = context.rows[0]
-    yield from verdicts(context, row)
+    yield from verdicts(context, row, context.rows[-1])
     for sample in samples(context):
         rule = rule_of(context, sample.text, sample.rule)
         yield Block(f"the text {sample.text[:60].decode('latin-1')!r}", rule, judged(row, sample.text))
-    last = context.rows[-1]
-    yield Block("in another row", "verdicts", [*message(last, context.character()), *look(last)])
 
 
 CHAPTER = Chapter("validation", "Validation", blocks)

@@ -32,14 +32,17 @@ def as_json(results: Results, about: About, not_tested: list[str]) -> str:
         "oracle": about.oracle,
         "when": about.when,
         "seed": about.seed,
-        "configuration": [
-            {"object": name, "described": described, "read": read} for name, described, read in results.configuration
-        ],
+        "configuration": objects(results.configuration),
+        "set_back": objects(results.set_back),
         "chapters": chapters,
         "differences": [one(difference, about) for difference in results.differences()],
         "not_tested": not_tested,
     }
     return json.dumps(whole, indent=1) + "\n"
+
+
+def objects(held: list[tuple[str, str, str]]) -> list[dict[str, str]]:
+    return [{"object": name, "described": described, "read": read} for name, described, read in held]
 
 
 def one(difference: Difference, about: About) -> dict[str, Any]:

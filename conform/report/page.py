@@ -66,14 +66,11 @@ def article(number: int, difference: Difference, about: About) -> str:
     return "<article>" + "".join(parts) + "</article>"
 
 
-def configuration(results: Results) -> str:
-    if not results.configuration:
-        return ""
-    rows = "".join(
-        f"<tr><td>{quoted(name)}</td><td>{quoted(described)}</td><td>{quoted(read)}</td></tr>"
-        for name, described, read in results.configuration
-    )
-    return f"<h2>Described otherwise</h2><table><tr><th>object</th><th>described</th><th>read</th></tr>{rows}</table>"
+def objects(title: str, held: list[tuple[str, str, str]]) -> str:
+    """A table of objects as described and as read."""
+    rows = "".join(f"<tr>{''.join(f'<td>{quoted(word)}</td>' for word in words)}</tr>" for words in held)
+    heads = "<tr><th>object</th><th>described</th><th>read</th></tr>"
+    return f"<h2>{title}</h2><table>{heads}{rows}</table>" if held else ""
 
 
 def as_html(results: Results, about: About, not_tested: list[str]) -> str:
@@ -81,13 +78,14 @@ def as_html(results: Results, about: About, not_tested: list[str]) -> str:
     kind = "good" if results.is_clean() else "bad"
     rows = "".join(map(chapter_row, results.chapters))
     articles = "".join(article(number, held, about) for number, held in enumerate(results.differences(), 1))
+    before = objects("Described otherwise", results.configuration) + objects("Changed, and set back", results.set_back)
     left_out = "".join(f"<li>{quoted(line)}</li>" for line in not_tested)
     facts = f"sign at {about.to}, described by {about.sign}; oracle {about.oracle}; seed {about.seed}; {about.when}"
     heads = "<tr><th>chapter</th><th>cases</th><th>requests</th><th>time</th><th></th></tr>"
     parts = [
         f'<!doctype html><html lang="en"><meta charset="utf-8"><title>conform: {quoted(about.to)}</title>',
         f'<style>{STYLE}</style><main><h1>A sign beside the profile</h1><p class="facts">{quoted(facts)}</p>',
-        f'<p><span class="verdict {kind}">{quoted(verdict(results))}</span></p>{configuration(results)}',
+        f'<p><span class="verdict {kind}">{quoted(verdict(results))}</span></p>{before}',
         f"<h2>Chapters</h2><table>{heads}{rows}</table><h2>Differences</h2>{articles or '<p>None.</p>'}",
         f"<h2>Not tested</h2><ul>{left_out}</ul></main></html>\n",
     ]

@@ -63,11 +63,14 @@ def test_each_habit_is_seen() -> None:
         ([none, none], None, Habit.AFTER),
         ([put(ROW.status(6)), bad, put(ROW.status(7))], None, Habit.IGNORED),
         ([activate(CONTEXT.blank_code(256)), height], None, Habit.IGNORED),
+        ([put((scalar(4, 8), integer(256))), height, activate(CONTEXT.blank_code(1))], None, Habit.IGNORED),
     ]
     for steps, numbers, habit in table:
         assert habits(watched(steps, numbers)) == [habit], (habit, steps)
     assert habits(watched([height, height], apart=0.5)) == [Habit.FAST]
     assert habits(watched([activate(CONTEXT.blank_code(256)), get(scalar(6, 17))])) == []
+    right: list[Ask | None] = [put((scalar(4, 8), integer(value))) for value in (256, 255)]
+    assert habits(watched([*right, activate(CONTEXT.blank_code(1))])) == []
     again = watched([height, height], [5, 5], apart=0.5)
     assert habits(again) == [] and again.again == 1
 
