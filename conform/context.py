@@ -37,12 +37,14 @@ class Context:
 
     @functools.cached_property
     def characters(self) -> list[bytes]:
-        """Texts of one character that fit under the defaults, the narrowest first."""
+        """Texts of one character that fit under the defaults, those that are seen first, and the narrowest."""
         font = self.described.face.font(self.defaults[4])
         found = sorted(
-            (glyph[0], number) for number, glyph in font.glyphs.items() if number < 256 and number not in b"[]"
+            (not any(map(any, rows)), width, number)
+            for number, (width, rows) in font.glyphs.items()
+            if number < 256 and number not in b"[]"
         )
-        texts = [bytes([number]) for _, number in found]
+        texts = [bytes([number]) for _, _, number in found]
         return [text for text in texts if self.fault(text) is None]
 
     def character(self, at: int = 0) -> bytes:

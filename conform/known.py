@@ -13,7 +13,8 @@ from .steps import Ask, get, looks, put
 from .wanted import VERDICTS, Unreachable, Unreached, Wanted
 
 ROUNDS = 4
-POLL, SURE = 0.004, 0.04
+POLL, SURE, MOST_SURE = 0.004, 0.04, 0.2  # seconds between two looks at a row; within which its end is seen
+MOST_MISSED = 5  # times that the end of a validation is seen too late, until no more is looked for
 LONGEST_SETTLING = 3.5
 MOST_KEPT = 400  # datagrams after which ours is begun anew
 Read = dict[Name, Value | None]
@@ -25,6 +26,7 @@ class Known:
     context: Context
     last: dict[Name, tuple[Ask, bytes | None]] = field(default_factory=dict)
     is_settling_seen: bool = True
+    missed: int = 0  # how often the end of a validation was seen, and between two looks that were far apart
     is_together: bool = False  # whether ours is handed what brings the sign under test there
 
     def __post_init__(self) -> None:
@@ -136,8 +138,10 @@ class Known:
             due = min(ticks.upcoming() - ticks.margin, until) if ticks.is_learnt() else begun
             clock.sleep_until(max(begun + POLL, due))
         if before is not None and clock.now() < until:
-            if clock.now() - before < SURE:
+            if clock.now() - before < min(MOST_SURE, SURE * (1 + self.missed)):
                 ticks.learn(before, clock.now())
+            elif not ticks.is_learnt():
+                self.missed += 1
             return True
         return False
 
@@ -157,7 +161,7 @@ class Known:
         Where both are alike they may go there together, and keep the verdict of their last validation: no tick has
         to be waited for.
         """
-        observe |= not self.pair.ticks.is_learnt() and self.is_settling_seen and bool(self.context.rows)
+        observe |= self.is_unlearnt() and self.missed < MOST_MISSED
         if not observe and not self.pair.is_dirty:
             return []
         unreached: list[Unreached] = []
@@ -171,6 +175,10 @@ class Known:
         if not unreached:
             self.pair.touched.clear()
         return unreached
+
+    def is_unlearnt(self) -> bool:
+        """Whether rows settle at moments that are not known yet."""
+        return not self.pair.ticks.is_learnt() and self.is_settling_seen and bool(self.context.rows)
 
     def go_together(self) -> bool:
         """Whether the same requests brought both there, and both read the same."""

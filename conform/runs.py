@@ -38,6 +38,8 @@ class Runner:
 
     def steps(self, steps: Sequence[Step]) -> Run | None:
         """The steps, from the state of now, up to the first difference."""
+        if is_timed(steps) and self.known.is_unlearnt():
+            raise Inconclusive("the moment of the sign's ticks is not known")
         sent: list[bytes | None] = []
         for at, step in enumerate(steps):
             exchange = self.pair.do(step)

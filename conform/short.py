@@ -1,8 +1,8 @@
 """The short form of the tests, for the gate: python3 -m conform.short [--jobs 4]
 
 It needs no pytest and no network but loopback, and leaves no process. The tests of conform/tests and every wrong sign,
-in so many processes at a time. A line for each that fails or is skipped; last `N passed, N failed`, and `, N skipped`
-where there are any.
+each beginning with the chapter of its rule, in so many processes at a time. A line for each that fails or is skipped;
+last `N passed, N failed`, and `, N skipped` where there are any.
 """
 
 import argparse
@@ -15,7 +15,7 @@ import traceback
 from .mutants.__main__ import BENCH, tried
 from .mutants.table import MUTANTS
 
-MODULES = ("conform.tests.test_signs", "conform.tests.test_parts", "conform.tests.test_watch")
+MODULES = tuple(f"conform.tests.test_{part}" for part in ("signs", "udp", "parts", "reports", "ways", "watch"))
 
 
 def names() -> list[tuple[str, str]]:
@@ -43,7 +43,7 @@ def mutant(at: int, until: float) -> tuple[str, str, str]:
     """A wrong sign; on a machine that is too busy the last ones are left out."""
     if time.monotonic() > until:
         return f"the wrong sign {MUTANTS[at].name}", "skipped", "the time was over"
-    outcome = tried(MUTANTS[at], BENCH, "model")
+    outcome = tried(MUTANTS[at], BENCH, "model", is_short=True)
     return f"the wrong sign {outcome.name}", "passed" if outcome.is_found else "failed", outcome.words
 
 

@@ -26,6 +26,7 @@ class Ticks:
         self.seen_at = high
         if self.first is None:
             self.first, self.next = (low, high), (low + high) / 2
+            self.margin = max(self.margin, min(0.02 + (high - low) / 2, MOST_MARGIN))
             return
         ticks_away = round(((low + high) / 2 - self.next) / self.period)
         number = self.count + ticks_away

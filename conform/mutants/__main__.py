@@ -12,6 +12,7 @@ from dataclasses import dataclass
 from model import text
 
 from .. import bench
+from ..chapters import ALL
 from ..oracle import made
 from ..rules import RULES
 from .load import Mutant, sign_of, unload
@@ -29,18 +30,19 @@ class Outcome:
     words: str
 
 
-def tried(mutant: Mutant, description: bytes, program: str, most: int = 1) -> Outcome:
-    """The whole test of a wrong sign, up to its first difference."""
+def tried(mutant: Mutant, description: bytes, program: str, is_short: bool = False) -> Outcome:
+    """The whole test of a wrong sign, up to its first difference; the short form begins with its rule's chapter."""
+    wanted = RULES[mutant.rule].chapter
     description = description.replace(b"\nhas 1 0\n", b"\nhas " + mutant.has + b"\n")
     oracle = made(program, description)
     sign = sign_of([mutant], description)
     try:
-        session = bench.session(description, sign, oracle, requests=400, is_slow=True, most_differences=most)
-        found = bench.run(session).differences()
+        session = bench.session(description, sign, oracle, requests=400, is_slow=True, most_differences=1)
+        chapters = sorted(ALL, key=lambda chapter: chapter.name != wanted) if is_short else ALL
+        found = session.run(chapters).differences()
     finally:
         oracle.end()
         unload([mutant])
-    wanted = RULES[mutant.rule].chapter
     if not found:
         return Outcome(mutant.name, False, f"{wanted}: nothing differs")
     first = found[0]

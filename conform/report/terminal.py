@@ -128,7 +128,8 @@ def ending(results: Results, about: About, not_tested: list[str]) -> list[str]:
     for name, described, read in results.configuration:
         lines.append(f"described otherwise: {name} is {described} in the description, {read} on the sign")
     for name, described, read in results.set_back:
-        lines.append(f"changed since: {name} is {described} in the description, was {read} on the sign, and is set back")
+        said = f"{name} is {described} in the description, was {read} on the sign, and is set back"
+        lines.append(f"changed since: {said}")
     for number, difference in enumerate(results.differences(), 1):
         lines += ["", *difference_lines(number, difference, about)]
     lines += ["", "not tested:", *[f"  {line}" for line in not_tested], "", verdict(results)]

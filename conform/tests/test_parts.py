@@ -1,8 +1,6 @@
-"""The parts by themselves: rules, comparison, ticks, steps, reports."""
+"""The parts by themselves: rules, comparison, ticks, steps."""
 
-import json
 import random
-import xml.etree.ElementTree as ET
 
 from model import text, wire
 
@@ -11,10 +9,9 @@ from conform.chapters import ALL
 from conform.clock import SimulatedClock
 from conform.compare import Kind, fields, mismatch
 from conform.context import Context
-from conform.mutants.load import edited, sign_of
+from conform.mutants.load import edited
 from conform.mutants.table import MUTANTS
 from conform.objects import integer, scalar
-from conform.report import files, page, terminal, words
 from conform.repeat import steps_of
 from conform.rules import CHAPTERS, RULES, is_in_profile
 from conform.steps import Wait, get, put
@@ -114,22 +111,6 @@ def test_each_mutant_is_one_edit_of_a_rule() -> None:
     assert len(MUTANTS) >= 80 and len({mutant.name for mutant in MUTANTS}) == len(MUTANTS)
     for mutant in MUTANTS:
         assert mutant.rule in RULES and edited(mutant)
-
-
-def test_reports_say_the_same() -> None:
-    mutant = next(mutant for mutant in MUTANTS if mutant.name == "minutes_are_rounded_down")
-    session = bench.session(text.BENCH, sign_of([mutant], text.BENCH), requests=0)
-    results = bench.run(session, ["durations"])
-    about = words.About("127.0.0.1:1", "bench.sign", "tools/model", None, 1, 0, False, "today")
-    left_out = words.not_tested(session.context, results, ALL)
-    held = json.loads(files.as_json(results, about, left_out))
-    suite = ET.fromstring(files.as_junit(results, about))
-    whole = page.as_html(results, about, left_out)
-    shown = "\n".join(terminal.ending(results, about, left_out))
-    first = held["differences"][0]
-    assert first["chapter"] == "durations" and first["rule"]["own"] and first["datagrams"] <= 10 and not held["clean"]
-    assert suite.get("failures") == "1" and first["rule"]["sentence"] in shown and first["command"] in shown
-    assert "dmsMessageTimeRemaining" in whole and words.NOT_SEEN[0] in whole
 
 
 def test_random_requests_are_the_same_for_a_seed() -> None:

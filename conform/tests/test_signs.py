@@ -1,10 +1,4 @@
-"""Right signs show nothing; wrong ones are found, over a simulated clock and over UDP."""
-
-import pathlib
-import socket
-import subprocess
-import sys
-import tempfile
+"""Right signs show nothing; wrong ones are found, over a simulated clock."""
 
 from model import text
 
@@ -52,51 +46,6 @@ def test_wrong_signs_are_found() -> None:
         if mutant.name in FEW:
             outcome = tried(mutant, BENCH, "model")
             assert outcome.is_found, outcome
-
-
-def test_over_udp() -> None:
-    """The command line, beside the model on a port of its own."""
-    with tempfile.TemporaryDirectory() as folder:
-        described = pathlib.Path(folder) / "bench.sign"
-        described.write_bytes(text.BENCH)
-        with socket.socket(socket.AF_INET, socket.SOCK_DGRAM) as free:
-            free.bind(("127.0.0.1", 0))
-            port = free.getsockname()[1]
-        door = [
-            sys.executable,
-            str(TOP / "tools/udp_sign.py"),
-            "--port",
-            str(port),
-            "--signtool",
-            str(TOP / "tools/coprocess_model.py"),
-            "--sign",
-            str(described),
-        ]
-        with subprocess.Popen(door, stdout=subprocess.PIPE) as sign:
-            try:
-                assert sign.stdout is not None and sign.stdout.readline()
-                call = [
-                    sys.executable,
-                    "-m",
-                    "conform",
-                    "--to",
-                    f"127.0.0.1:{port}",
-                    "--sign",
-                    str(described),
-                    "--signtool",
-                    "model",
-                    "--only",
-                    "communities",
-                    "--only",
-                    "priorities",
-                    "--json",
-                    f"{folder}/report.json",
-                ]
-                ended = subprocess.run(call, cwd=TOP, capture_output=True, timeout=120, check=False)
-                assert ended.returncode == 0 and b"nothing differs" in ended.stdout, ended
-            finally:
-                sign.terminate()
-                sign.wait(10)
 
 
 class Skipped(Exception):
