@@ -3,8 +3,8 @@
 import json
 import xml.etree.ElementTree as ET
 
-from model import text
-from model.sign import Sign
+from model import text, wire
+from model.sign import Refused, Sign
 
 from conform import bench
 from conform.chapters import ALL
@@ -12,6 +12,7 @@ from conform.compare import Kind
 from conform.found import Difference
 from conform.mutants.load import sign_of
 from conform.mutants.table import MUTANTS
+from conform.objects import Name, Value, scalar
 from conform.report import files, page, terminal, words
 from conform.report.picture import pictures
 from conform.context import Context
@@ -63,9 +64,22 @@ def test_another_spelling_and_no_answer_are_classes_of_their_own() -> None:
     assert 'type="no answer"' in files.as_junit(results, ABOUT)
 
 
+class Stubborn(Sign):
+    """A sign whose pages' time cannot be written."""
+
+    def change(self, name: Name, value: Value, is_writer: bool) -> object:
+        if name == scalar(4, 8):
+            raise Refused(wire.GENERAL)
+        return super().change(name, value, is_writer)
+
+
 def test_what_cannot_be_brought_to_the_known_state_is_told() -> None:
-    difference = first("a_success_clears_the_refused_code")
-    assert "dmsActivateErrorMsgCode.0 cannot be brought to" in difference.note and difference.rule.own
+    sign = Stubborn(text.bench())
+    sign.defaults[7] = 99
+    results = bench.run(bench.session(text.BENCH, sign, requests=0, most_differences=1), ["communities"])
+    difference = results.before[0]
+    assert difference.note == "defaultPageOnTime.0 cannot be brought to 30: it reads 99"
+    assert difference.mismatch.kind is Kind.STATUS and not results.is_clean()
 
 
 def test_what_was_changed_since_the_description_is_told_and_set_back() -> None:
