@@ -58,7 +58,16 @@ class Pages:
         self.is_up.set()
         self.loop.run_forever()
         self.loop.run_until_complete(self.runner.cleanup())
+        self.loop.run_until_complete(self.ended())
         self.loop.close()
+
+    async def ended(self) -> None:
+        """What still answers ends."""
+        left = asyncio.all_tasks() - {asyncio.current_task()}
+        for task in left:
+            task.cancel()
+        await asyncio.gather(*left, return_exceptions=True)
+        await self.loop.shutdown_default_executor()
 
     def stop(self) -> None:
         """Ends what is under way, and waits for it."""

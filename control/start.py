@@ -14,7 +14,7 @@ import sys
 from door.refusal import Refusal
 
 PACKAGES = {"psycopg": "python3-psycopg", "aiohttp": "python3-aiohttp", "jinja2": "python3-jinja2",
-            "pytest": "python3-pytest"}
+            "pytest": "python3-pytest", "selenium": "python3-selenium"}
 SEEN = "CONTROL_PYTHON"  # set for the Python that was looked for, so that it does not look again
 PLACES = ("/usr/bin", "/usr/local/bin")
 

@@ -38,11 +38,12 @@ def test_what_has_changed_is_told(tmp_path: pathlib.Path, where: str) -> None:
         one, two = [await bench.logged_in(visitor, name) for name in ("reader", "operator")]
         streams = [await listened(one, "wall"), await listened(two, "wall")]
         for stream in streams:
-            assert set(await told(stream)) == {f"sign-{row}" for row in bench.rows.values()}, "all at first"
+            all_parts = {"counts"} | {f"sign-{row}" for row in bench.rows.values()}
+            assert set(await told(stream)) == all_parts, "all at first"
         bench.read(bench.two, text=b"NEW".hex())
         for stream in streams:
             parts = await told(stream)
-            assert set(parts) == {f"sign-{bench.two}"} and "shows NEW" in parts[f"sign-{bench.two}"]
+            assert set(parts) == {"counts", f"sign-{bench.two}"} and "shows NEW" in parts[f"sign-{bench.two}"]
         sign = await listened(one, f"sign/{bench.one}")
         assert set(await told(sign)) == {"shown", "commands"}
         bench.store.ask(bench.one, "operator", "blank 1 65535 255 127.0.0.1")

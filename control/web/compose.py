@@ -79,7 +79,7 @@ async def look(request: web.Request) -> web.Response:
 
 
 def choice(room: Room) -> list[tuple[str, int]]:
-    return sorted((sign.name, row) for row, sign in room.signs.items())
+    return [(sign.name, row) for row, sign in room.signs.items()]
 
 
 async def answer(request: web.Request, draft: Draft, status: int = 200) -> web.Response:

@@ -38,7 +38,8 @@ class Room:
         self.settings = settings
         self.connections = Connections(settings.database, settings.threads)
         held = self.connections.held()
-        self.signs = Store(held).enter(signs)
+        rows = {sign.name: row for row, sign in Store(held).enter(signs).items()}
+        self.signs = {rows[sign.name]: sign for sign in signs}  # in the fleet's order
         self.faces = {row: face_of(sign) for row, sign in self.signs.items()}
         self.by_key = {face.key: face for face in self.faces.values()}
         self.seal = Seal(key_of(held), settings.is_behind_tls)

@@ -27,6 +27,11 @@ class Card:
     is_wide: bool
 
     @property
+    def is_lit(self) -> bool:
+        """Whether it shows a text, as far as it was heard lately."""
+        return self.state in ("lit", "busy") and self.sign.shown is not None and bool(self.sign.shown.text)
+
+    @property
     def state(self) -> str:
         """In a word, for the filter."""
         if self.sign.fault or self.is_stale:
@@ -38,7 +43,8 @@ def card(room: Room, sign: SignView, now: float, open_: list[CommandView]) -> Ca
     picture = room.picture(sign.id, sign.shown.text) if sign.shown else None
     command = next((one for one in open_ if one.number is not None), open_[0] if open_ else None)
     step = next((one for one in states(command) if one.state == "now"), None) if command else None
-    return Card(sign, picture, sign.is_stale(now), command, step, len(open_), room.faces[sign.id].width > WIDE)
+    return Card(sign, picture, sign.is_stale(now), command, step, len(open_),
+                room.faces[sign.id].width > WIDE)
 
 
 def cards(room: Room, held: Database) -> tuple[list[Card], float]:
@@ -47,7 +53,8 @@ def cards(room: Room, held: Database) -> tuple[list[Card], float]:
     of: dict[int, list[CommandView]] = {}
     for command in open_:
         of.setdefault(command.sign, []).append(command)
-    found = [sign for sign in views.signs(held) if sign.id in room.signs]
+    known = {sign.id: sign for sign in views.signs(held)}
+    found = [known[row] for row in room.signs if row in known]
     return [card(room, sign, now, of.get(sign.id, [])) for sign in found], now
 
 
@@ -60,4 +67,5 @@ async def wall(request: web.Request) -> web.Response:
 def parts(room: Room, held: Database) -> dict[str, str]:
     """What an event may replace: each card."""
     found, _ = cards(room, held)
-    return {f"sign-{one.sign.id}": room.part("parts.html", "card", one) for one in found}
+    return {f"sign-{one.sign.id}": room.part("parts.html", "card", one) for one in found} | {
+        "counts": room.part("parts.html", "counts", found)}
