@@ -123,6 +123,7 @@ class CoProcess:
             self.process.kill()
             raise Refusal(f"{name}: {refused}") from refused
         if answer.startswith(b"line ") or answer in REFUSED:
+            self.end()  # what it says of the line comes first
             raise Refusal(f"{name}: {answer.decode()}: no description of a sign")
         if answer.split(b" ")[0] not in FIRST_WORDS:
             self.process.kill()
