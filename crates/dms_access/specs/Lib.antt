@@ -1,10 +1,14 @@
--- what a reader must believe: what can be set, what a value writes there, what writes give to an object, and which names a SET has given
+-- what a reader must believe: what can be set, what a value writes there, what writes give to an object, which names a SET
+-- has given, what a sign reports of its verdicts and decisions, and what a column of dmsMessageTable reads
 pub mod Access
 pub mod Assignment
 pub mod MetNames
 pub mod Ranges
--- what the changes and the settings of the code are in these words
+pub mod Reports
+pub mod Cells
+-- what the changes, the settings and the reports of the code are in these words
 pub mod ChangeView
 pub mod SettingsView
+pub mod ReportsView
 -- what only proofs go through
 pub mod Slots

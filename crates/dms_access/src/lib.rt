@@ -1,11 +1,16 @@
 //! Which objects of a sign can be set (NTCIP 1203, each object's ACCESS and SYNTAX), what a value writes to one, the settings that
-//! writes leave, and which names a SET has given.
+//! writes leave, which names a SET has given, what a sign reports of its verdicts and decisions, and what a column of
+//! dmsMessageTable reads.
 #![tactic(auto)]
 
 pub mod access;
+pub mod cells;
 pub mod met_names;
+pub mod reports;
 pub mod settings;
 
 pub use access::{Change, is_settable, write_of};
+pub use cells::{cell_value, number_value, shown_value};
 pub use met_names::{Slots, mark_name, was_given};
+pub use reports::Reports;
 pub use settings::{Fallbacks, Settings};

@@ -2,22 +2,20 @@
 
 ghost use Rattle.std.specs.Prelude.{◌<◌};
 
-use crate::fields::write_message;
-use crate::item_lines::write_items;
-use dms_calls::{Call, CodeWords, Drawing, SignWanted};
-use dms_codes::{Activation, MAX_TEXT, MessageId, Order, crc};
+use crate::codes::{activation, code};
+use crate::lacking::what_lacks;
+use crate::reading::{decode, list_items, tell_hex_fault};
+use dms_calls::{Call, Drawing, Form, SignWanted};
 use dms_description::Setup;
 use dms_face::{Face, MultiFault, check};
-use dms_live::{ConversationFault, Input, Party, converse};
 use dms_pages::{Page, PagesFault, pages};
 use dms_parties::{LiveCentre, LiveSign};
 use dms_picture::{picture, still};
 use dms_refusal::{Refusal, described_before, described_whole, replayed};
-use dms_replay::{ReplayFault, address, bench};
+use dms_replay::{ReplayFault, bench};
 use dms_sign::Receipt;
-use dms_streams::{Counted, Source};
+use dms_streams::{ConversationFault, Counted, Input, Party, Source, converse};
 use dms_wire::{Out, read};
-use hex::FromHexError;
 use std::alloc::{AllocError, Global};
 use std::io;
 use std::io::{Read, Write};
@@ -46,7 +44,9 @@ pub fn act_saying<R: Read, W: Write, E: Write>(
 ) -> u8 {
     match *call {
         Call::Answer { hex, sign } => answer(alloc, hex, sign, reader, writer, errors),
-        Call::Check { text, sign } => check_text(alloc, text, sign, reader, writer, errors),
+        Call::Check { text, sign, form } => {
+            check_text(alloc, (text, sign, form), reader, writer, errors)
+        }
         Call::Pages {
             text,
             sign,
@@ -55,10 +55,11 @@ pub fn act_saying<R: Read, W: Write, E: Write>(
             Ok(setup) => print_pages(alloc, text, setup.sign.face(), drawing, writer, errors),
             Err(refusal) => tell_refusal(writer, errors, refusal),
         },
-        Call::Decode { hex, spaced } => decode(alloc, hex, spaced, writer),
-        Call::Items { text } => list_items(text, writer, errors),
+        Call::Decode { hex, spaced, form } => decode(alloc, hex, spaced, form, writer),
+        Call::Items { text, form } => list_items(alloc, text, form, writer, errors),
         Call::Version => tell(writer, VERSION, 0),
         Call::Code(words) => code(alloc, &words, writer),
+        Call::Activation(words) => activation(alloc, &words, writer),
         Call::Replay => print_report(alloc, reader, writer, errors),
         Call::Sign { sign } => be_sign(alloc, sign, reader, writer, errors),
         Call::Centre { sign } => be_centre(alloc, sign, reader, writer, errors),
@@ -167,7 +168,7 @@ fn answer<R: Read, W: Write, E: Write>(
 ) -> u8 {
     let datagram = match hex::decode(alloc, digits.as_bytes()) {
         Ok(datagram) => datagram,
-        Err(fault) => return tell_hex_fault(writer, fault),
+        Err(fault) => return tell_hex_fault(Form::Lines, writer, fault),
     };
     let mut setup = match setup(alloc, sign, reader) {
         Ok(setup) => setup,
@@ -189,56 +190,50 @@ fn answer<R: Read, W: Write, E: Write>(
 /// Prints the number of a text's pages on the sign, or its fault.
 fn check_text<R: Read, W: Write, E: Write>(
     alloc: Global,
-    text: &str,
-    sign: SignWanted,
+    words: (&str, SignWanted, Form),
     reader: &mut R,
     writer: &mut W,
     errors: &mut E,
 ) -> u8 {
-    let setup = match setup(alloc, sign, reader) {
-        Ok(setup) => setup,
-        Err(refusal) => return tell_refusal(writer, errors, refusal),
-    };
-    match check(setup.sign.face(), text.as_bytes()) {
-        Ok(pages) => tell_done(writer, pages),
-        Err(fault) => tell_fault(writer, errors, fault),
+    let (text, sign, form) = words;
+    match setup(alloc, sign, reader) {
+        Ok(setup) => print_count(alloc, text, setup.sign.face(), form, writer, errors),
+        Err(refusal) => match form {
+            Form::Lines => tell_refusal(writer, errors, refusal),
+            Form::Json => {
+                refusal.tell(&mut Vec::new(alloc), errors);
+                status_after(1, writeln!(writer, "{{\"refused\":\"{}\"}}", refusal.fault))
+            }
+        },
     }
 }
 
-/// Prints the checksum of a message, and the code that puts it up.
-fn code<W: Write>(alloc: Global, words: &CodeWords<'_>, writer: &mut W) -> u8 {
-    let Some(address) = address(words.address.as_bytes()) else {
-        return tell(writer, "bad address", 2);
-    };
-    if words.text.len() > MAX_TEXT {
-        return tell(writer, "text too long", 1);
-    }
-    let crc = crc(
-        words.text.as_bytes(),
-        u8::from(words.beacon),
-        u8::from(words.pixel),
-    );
-    let activation = Activation {
-        minutes: words.duration,
-        priority: words.priority,
-        id: MessageId {
-            memory: words.row.memory,
-            number: words.row.number,
-            crc,
-        },
-        address,
-    };
-    let order = if words.swapped {
-        Order::Swapped
-    } else {
-        Order::High
-    };
-    match hex::encode(alloc, activation.to_bytes(order).as_slice()) {
-        Ok(octets) => match writeln!(writer, "crc {crc:04x}\ncode {octets}") {
-            Ok(()) => 0,
-            Err(_) => 1,
-        },
-        Err(_) => tell(writer, "memory", 1),
+/// Prints the number of a text's pages on a face, or its fault.
+fn print_count<W: Write, E: Write>(
+    alloc: Global,
+    text: &str,
+    face: &Face,
+    form: Form,
+    writer: &mut W,
+    errors: &mut E,
+) -> u8 {
+    match check(face, text.as_bytes()) {
+        Ok(pages) => status(match form {
+            Form::Lines => writeln!(writer, "ok pages {pages}"),
+            Form::Json => writeln!(writer, "{{\"pages\":{pages}}}"),
+        }),
+        Err(fault) => {
+            say_fault(alloc, text, face, fault, errors);
+            let number = fault.code.number();
+            let place = fault.place;
+            status_after(
+                1,
+                match form {
+                    Form::Lines => writeln!(writer, "fault {number} at {place}"),
+                    Form::Json => writeln!(writer, "{{\"fault\":{number},\"at\":{place}}}"),
+                },
+            )
+        }
     }
 }
 
@@ -253,7 +248,9 @@ fn print_pages<W: Write, E: Write>(
 ) -> u8 {
     let pages = match pages(alloc, face, text.as_bytes()) {
         Ok(pages) => pages,
-        Err(PagesFault::Multi(fault)) => return tell_fault(writer, errors, fault),
+        Err(PagesFault::Multi(fault)) => {
+            return tell_fault(alloc, text, face, fault, writer, errors);
+        }
         Err(PagesFault::Memory) => return tell(writer, "memory", 1),
     };
     match drawing.page {
@@ -278,59 +275,6 @@ fn print_document<W: Write>(document: Result<Vec<u8>, AllocError>, writer: &mut 
     }
 }
 
-/// Prints the fields of a datagram, or its fault.
-fn decode<W: Write>(alloc: Global, digits: &str, spaced: bool, writer: &mut W) -> u8 {
-    let octets = if spaced {
-        spaced_octets(alloc, digits)
-    } else {
-        hex::decode(alloc, digits.as_bytes())
-    };
-    let datagram = match octets {
-        Ok(datagram) => datagram,
-        Err(fault) => return tell_hex_fault(writer, fault),
-    };
-    match read(datagram.as_slice()) {
-        Ok(message) => status(write_message(alloc, message, writer)),
-        Err(fault) => {
-            let _ = writeln!(writer, "fault {fault}");
-            1
-        }
-    }
-}
-
-/// Prints the items of a text before its fault, and its fault, if it has one.
-fn list_items<W: Write, E: Write>(text: &str, writer: &mut W, errors: &mut E) -> u8 {
-    match write_items(text.as_bytes(), writer) {
-        Ok(None) => 0,
-        Ok(Some(fault)) => {
-            let _ = writeln!(errors, "{fault}");
-            let _ = writeln!(writer, "fault {} at {}", fault.code.number(), fault.place);
-            1
-        }
-        Err(_) => 1,
-    }
-}
-
-/// The octets that pairs of digits are, with spaces and colons between them, before the first and after the last.
-fn spaced_octets(alloc: Global, digits: &str) -> Result<Vec<u8>, FromHexError> {
-    let mut pairs = Vec::new(alloc);
-    for digit in digits.as_bytes() {
-        let is_between = (*digit == b' ' || *digit == b':') && pairs.len() % 2 == 0;
-        if !is_between && pairs.push(*digit).is_err() {
-            return Err(FromHexError::OutOfMemory);
-        }
-    }
-    hex::decode(alloc, pairs.as_slice())
-}
-
-/// Prints that digits are no octets, or that there is no memory.
-fn tell_hex_fault<W: Write>(writer: &mut W, fault: FromHexError) -> u8 {
-    match fault {
-        FromHexError::OutOfMemory => tell(writer, "memory", 1),
-        _ => tell(writer, "not hex", 2),
-    }
-}
-
 /// Says why a sign does not answer a datagram.
 fn say_why_dropped<E: Write>(datagram: &[u8], errors: &mut E) {
     let _ = match read(datagram) {
@@ -342,8 +286,16 @@ fn say_why_dropped<E: Write>(datagram: &[u8], errors: &mut E) {
     };
 }
 
+/// The status of a refusal that was written, or 1 where it was not.
+pub(crate) fn status_after(refused: u8, written: io::Result<()>) -> u8 {
+    match written {
+        Ok(()) => refused,
+        Err(_) => 1,
+    }
+}
+
 /// The status of a call of which all was written, or not.
-fn status(written: io::Result<()>) -> u8 {
+pub(crate) fn status(written: io::Result<()>) -> u8 {
     match written {
         Ok(()) => 0,
         Err(_) => 1,
@@ -388,18 +340,26 @@ fn write_row<W: Write>(page: &Page, y: u16, writer: &mut W) -> io::Result<()>
     writeln!(writer)
 }
 
-fn tell_done<W: Write>(writer: &mut W, pages: usize) -> u8 {
-    match writeln!(writer, "ok pages {pages}") {
-        Ok(()) => 0,
-        Err(_) => 1,
-    }
-}
-
 /// Prints the fault of a text, which is refused, and says it in words.
-fn tell_fault<W: Write, E: Write>(writer: &mut W, errors: &mut E, fault: MultiFault) -> u8 {
-    let _ = writeln!(errors, "{fault}");
+fn tell_fault<W: Write, E: Write>(
+    alloc: Global,
+    text: &str,
+    face: &Face,
+    fault: MultiFault,
+    writer: &mut W,
+    errors: &mut E,
+) -> u8 {
+    say_fault(alloc, text, face, fault, errors);
     let _ = writeln!(writer, "fault {} at {}", fault.code.number(), fault.place);
     1
+}
+
+/// Says the fault of a text on a face, and what the face lacks for it.
+fn say_fault<E: Write>(alloc: Global, text: &str, face: &Face, fault: MultiFault, errors: &mut E) {
+    let _ = match what_lacks(alloc, face, text.as_bytes(), fault) {
+        Some(lack) => writeln!(errors, "{fault}: {lack}"),
+        None => writeln!(errors, "{fault}"),
+    };
 }
 
 /// Prints what is wrong with a script or a description on the standard input, or that there is no memory.
@@ -409,7 +369,7 @@ fn tell_refusal<W: Write, E: Write>(writer: &mut W, errors: &mut E, refusal: Ref
 }
 
 /// Prints a line, and gives the status, or 1 where the line was not written.
-fn tell<W: Write>(writer: &mut W, line: &str, status: u8) -> u8 {
+pub(crate) fn tell<W: Write>(writer: &mut W, line: &str, status: u8) -> u8 {
     match writeln!(writer, "{line}") {
         Ok(()) => status,
         Err(_) => 1,

@@ -26,7 +26,7 @@ pub fn write_message<W: Write>(
     Ok(())
 }
 
-fn kind_name(kind: Kind) -> &'static str {
+pub(crate) fn kind_name(kind: Kind) -> &'static str {
     match kind {
         Kind::Get => "Get",
         Kind::GetNext => "GetNext",
@@ -73,10 +73,15 @@ fn write_octets<W: Write>(alloc: Global, octets: &[u8], writer: &mut W) -> io::R
         return write!(writer, " -");
     }
     write!(writer, " {}", hex::encode(alloc, octets)?)?;
-    if !octets.iter().all(|octet| (b' '..=b'~').contains(octet)) {
+    if !is_printable(octets) {
         return Ok(());
     }
     write!(writer, " \"")?;
     writer.write_all(octets)?;
     write!(writer, "\"")
+}
+
+/// Whether octets are a text: there are some, and all of them are printable.
+pub(crate) fn is_printable(octets: &[u8]) -> bool {
+    !octets.is_empty() && octets.iter().all(|octet| (b' '..=b'~').contains(octet))
 }

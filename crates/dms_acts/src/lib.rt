@@ -2,8 +2,12 @@
 #![tactic(auto)]
 
 pub mod act;
+mod codes;
 mod fields;
 mod item_lines;
+mod json;
+mod lacking;
 mod names;
+mod reading;
 
 pub use act::act_saying;

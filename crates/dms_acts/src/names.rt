@@ -13,6 +13,16 @@ const MOST: usize = 16;
 /// Writes an object identifier in dotted numbers, and in parentheses the object and the instance that it names, if it is one.
 pub fn write_name<W: Write>(name: &Oid<'_>, writer: &mut W) -> io::Result<()> {
     write!(writer, "{name}")?;
+    write_object(name, " (", ")", writer)
+}
+
+/// Writes the object and the instance that an object identifier names, if it is one, with a text before it and one after it.
+pub fn write_object<W: Write>(
+    name: &Oid<'_>,
+    before: &str,
+    after: &str,
+    writer: &mut W,
+) -> io::Result<()> {
     let mut numbers = [0; MOST];
     let mut count = 0;
     for number in name.numbers() {
@@ -27,11 +37,11 @@ pub fn write_name<W: Write>(name: &Oid<'_>, writer: &mut W) -> io::Result<()> {
     };
     match numbers.strip_prefix(&DMS) {
         Some([5, 8, 1, column, memory, row]) => match column_name(*column) {
-            Some(column) => write!(writer, " ({column}.{memory}.{row})"),
+            Some(column) => write!(writer, "{before}{column}.{memory}.{row}{after}"),
             None => Ok(()),
         },
         Some([group, number, 0]) => match scalar_name(*group, *number) {
-            Some(object) => write!(writer, " ({object}.0)"),
+            Some(object) => write!(writer, "{before}{object}.0{after}"),
             None => Ok(()),
         },
         _ => Ok(()),

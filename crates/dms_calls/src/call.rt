@@ -1,5 +1,6 @@
 //! What the program can be asked to do.
 
+use crate::message_name::MessageName;
 use crate::table_row::TableRow;
 
 /// What the program is asked to do.
@@ -14,6 +15,7 @@ pub enum Call<'a> {
     Check {
         text: &'a str,
         sign: SignWanted,
+        form: Form,
     },
     /// The pages of a text, or its fault.
     Pages {
@@ -26,15 +28,19 @@ pub enum Call<'a> {
         hex: &'a str,
         /// Whether spaces and colons may stand between octets.
         spaced: bool,
+        form: Form,
     },
     /// The items of a text, or its fault.
     Items {
         text: &'a str,
+        form: Form,
     },
     /// The program's name and version.
     Version,
     /// The checksum of a message, and the code that activates it.
     Code(CodeWords<'a>),
+    /// The code that activates a message of this checksum.
+    Activation(ActivationWords<'a>),
     /// The report of the script on the standard input.
     Replay,
     /// The answers of a sign to the lines on the standard input, each before the next line is read.
@@ -56,6 +62,15 @@ pub enum SignWanted {
     Described,
 }
 
+/// In which form an answer is printed.
+#[derive(Clone, Copy, Debug, PartialEq, Eq)]
+pub enum Form {
+    /// As lines of words.
+    Lines,
+    /// As one object of JSON.
+    Json,
+}
+
 /// How pages are drawn, and which.
 #[derive(Clone, Copy, Debug, PartialEq, Eq)]
 pub struct Drawing {
@@ -72,6 +87,21 @@ pub struct CodeWords<'a> {
     pub text: &'a str,
     pub beacon: bool,
     pub pixel: bool,
+    pub terms: TermWords<'a>,
+}
+
+/// A message by its checksum, and how it is to be activated.
+#[derive(Clone, Copy, Debug)]
+pub struct ActivationWords<'a> {
+    pub message: MessageName,
+    /// As it was written: four hexadecimal digits.
+    pub checksum: &'a str,
+    pub terms: TermWords<'a>,
+}
+
+/// How a message is to be activated.
+#[derive(Clone, Copy, Debug)]
+pub struct TermWords<'a> {
     /// Whether a checksum has its low octet first.
     pub swapped: bool,
     /// The minutes that it is shown; 65535 is without end.

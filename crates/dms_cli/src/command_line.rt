@@ -2,7 +2,10 @@
 
 use crate::subcommands::command;
 use clap::ArgMatches;
-use dms_calls::{Call, CodeWords, Drawing, SignWanted, TableRow};
+use clap::error::ErrorKind;
+use dms_calls::{
+    ActivationWords, Call, CodeWords, Drawing, Form, MessageName, SignWanted, TableRow, TermWords,
+};
 use std::alloc::{AllocError, Global};
 use std::convert::AsStr;
 use std::fmt;
@@ -12,6 +15,8 @@ use std::fmt;
 pub enum Usage {
     /// It is at fault, or asks for help: the lines that say so.
     Line(String),
+    /// The same, and `--sign` is followed by a word, as if that were the file of a description.
+    NamesFile(String),
     /// It has no subcommand, or one without its words.
     NoCall,
     /// No memory.
@@ -22,6 +27,10 @@ impl fmt::Display for Usage {
     fn fmt<W: fmt::Write>(&self, f: &mut fmt::Formatter<W>) -> fmt::Result {
         match self {
             Usage::Line(lines) => f.write_str(lines.as_str()),
+            Usage::NamesFile(lines) => writeln!(
+                f,
+                "{lines}\nhint: --sign takes no file: the description is read from the standard input, as in --sign < FILE"
+            ),
             Usage::NoCall => writeln!(f, "a subcommand and its words are wanted"),
             Usage::Memory => writeln!(f, "error: out of memory"),
         }
@@ -34,12 +43,30 @@ impl From<AllocError> for Usage {
     }
 }
 
-/// The lines that say what is wrong, or the help.
-fn lines_of(alloc: Global, error: clap::Error) -> Usage {
+/// The lines that say what is wrong with these words, or the help.
+fn lines_of<S: AsStr>(alloc: Global, words: &[S], error: clap::Error) -> Usage {
+    let is_word_too_many = matches!(
+        error.kind(),
+        ErrorKind::UnknownArgument | ErrorKind::TooManyValues
+    );
     match format!(in alloc; "{error}") {
+        Ok(lines) if is_word_too_many && names_file(words) => Usage::NamesFile(lines),
         Ok(lines) => Usage::Line(lines),
         Err(_) => Usage::Memory,
     }
+}
+
+/// Whether a word follows `--sign`, in the same word after `=` or as the next one.
+fn names_file<S: AsStr>(words: &[S]) -> bool {
+    let mut is_after_sign = false;
+    for word in words {
+        let word = word.as_str();
+        if word.starts_with("--sign=") || is_after_sign && !word.starts_with("-") {
+            return true;
+        }
+        is_after_sign = word == "--sign";
+    }
+    false
 }
 
 /// Reads the command line, of which the first word is the program's name.
@@ -51,8 +78,11 @@ pub fn asked<S: AsStr>(alloc: Global, words: &[S]) -> Result<Call<'_>, Usage> {
     }
     let matches = match command(alloc)?.try_get_matches_from(words) {
         Ok(matches) => matches,
-        Err(error) => return Err(lines_of(alloc, error)),
+        Err(error) => return Err(lines_of(alloc, words, error)),
     };
+    if matches.get_flag("version") {
+        return Ok(Call::Version);
+    }
     match matches.subcommand() {
         Some(("answer", answer)) => {
             let hex = answer.get_str("HEX").ok_or(Usage::NoCall)?;
@@ -62,7 +92,8 @@ pub fn asked<S: AsStr>(alloc: Global, words: &[S]) -> Result<Call<'_>, Usage> {
         Some(("check", check)) => {
             let text = check.get_str("TEXT").ok_or(Usage::NoCall)?;
             let sign = sign_wanted(check);
-            Ok(Call::Check { text, sign })
+            let form = wanted_form(check);
+            Ok(Call::Check { text, sign, form })
         }
         Some(("pages", pages)) => {
             let text = pages.get_str("TEXT").ok_or(Usage::NoCall)?;
@@ -75,14 +106,19 @@ pub fn asked<S: AsStr>(alloc: Global, words: &[S]) -> Result<Call<'_>, Usage> {
             })
         }
         Some(("code", code)) => code_words(code).map(Call::Code).ok_or(Usage::NoCall),
+        Some(("activation", words)) => activation_words(words)
+            .map(Call::Activation)
+            .ok_or(Usage::NoCall),
         Some(("decode", words)) => {
             let hex = words.get_str("HEX").ok_or(Usage::NoCall)?;
             let spaced = words.get_flag("spaced");
-            Ok(Call::Decode { hex, spaced })
+            let form = wanted_form(words);
+            Ok(Call::Decode { hex, spaced, form })
         }
         Some(("items", words)) => {
             let text = words.get_str("TEXT").ok_or(Usage::NoCall)?;
-            Ok(Call::Items { text })
+            let form = wanted_form(words);
+            Ok(Call::Items { text, form })
         }
         Some(("replay", _)) => Ok(Call::Replay),
         Some(("sign", words)) => Ok(Call::Sign {
@@ -104,6 +140,15 @@ fn sign_wanted(words: &ArgMatches<'_>) -> SignWanted {
     }
 }
 
+/// In which form the words of a subcommand want its answer.
+fn wanted_form(words: &ArgMatches<'_>) -> Form {
+    if words.get_flag("json") {
+        Form::Json
+    } else {
+        Form::Lines
+    }
+}
+
 /// How the words of `pages` want them drawn.
 fn wanted_drawing(words: &ArgMatches<'_>) -> Drawing {
     Drawing {
@@ -121,9 +166,27 @@ fn code_words<'a>(code: &ArgMatches<'a>) -> Option<CodeWords<'a>> {
         text: code.get_str("TEXT")?,
         beacon: code.get_flag("beacon"),
         pixel: code.get_flag("pixel"),
-        swapped: code.get_flag("swapped"),
-        duration: code.get_one::<u16>("duration")?,
-        priority: code.get_one::<u8>("priority")?,
-        address: code.get_str("address")?,
+        terms: term_words(code)?,
+    })
+}
+
+/// The words of `activation`, which clap has read by their ranges.
+fn activation_words<'a>(words: &ArgMatches<'a>) -> Option<ActivationWords<'a>> {
+    let memory = words.get_one::<u8>("MEMORY")?;
+    let number = words.get_one::<u16>("NUMBER")?;
+    Some(ActivationWords {
+        message: MessageName::of(memory, number)?,
+        checksum: words.get_str("CHECKSUM")?,
+        terms: term_words(words)?,
+    })
+}
+
+/// How the words of a subcommand want a message activated.
+fn term_words<'a>(words: &ArgMatches<'a>) -> Option<TermWords<'a>> {
+    Some(TermWords {
+        swapped: words.get_flag("swapped"),
+        duration: words.get_one::<u16>("duration")?,
+        priority: words.get_one::<u8>("priority")?,
+        address: words.get_str("address")?,
     })
 }

@@ -3,15 +3,25 @@
 use clap::{Arg, ArgAction, Command, value_parser};
 use std::alloc::{AllocError, Global};
 
+/// Which sign answers.
+const WHICH_SIGN: &str =
+    "Where --sign is not given the bench sign answers: 23 columns and 14 rows, with the characters 1 A B [ ] and the permanent message B.\nWith --sign the standard input describes the sign: signtool check --sign TEXT < FILE";
+
+/// The types of memory that a code can name.
+const MEMORIES: [&str; 5] = ["2", "3", "4", "5", "7"];
+
 /// The program's subcommands.
 pub(crate) fn command<'a>(alloc: Global) -> Result<Command<'a>, AllocError> {
     Command::new(alloc, "signtool")
         .about("A dynamic message sign's controller on the command line")
+        .after_help(WHICH_SIGN)
         .subcommand_required(true)
+        .arg(version(alloc))?
         .subcommand(answer_command(alloc)?)?
         .subcommand(check_command(alloc)?)?
         .subcommand(pages_command(alloc)?)?
         .subcommand(code_command(alloc)?)?
+        .subcommand(activation_command(alloc)?)?
         .subcommand(decode_command(alloc)?)?
         .subcommand(items_command(alloc)?)?
         .subcommand(replay_command(alloc))?
@@ -37,6 +47,7 @@ fn check_command<'a>(alloc: Global) -> Result<Command<'a>, AllocError> {
     Command::new(alloc, "check")
         .about("Prints the number of a text's pages on the sign, or the text's fault")
         .arg(sign(alloc))?
+        .arg(json(alloc))?
         .arg(text(alloc))
 }
 
@@ -70,12 +81,14 @@ fn decode_command<'a>(alloc: Global) -> Result<Command<'a>, AllocError> {
             "spaced",
             "spaces and colons may stand between octets, as in Wireshark's copies",
         ))?
+        .arg(json(alloc))?
         .arg(datagram(alloc))
 }
 
 fn items_command<'a>(alloc: Global) -> Result<Command<'a>, AllocError> {
     Command::new(alloc, "items")
         .about("Prints the items of a text with their offsets in octets, or the text's fault")
+        .arg(json(alloc))?
         .arg(text(alloc))
 }
 
@@ -108,6 +121,11 @@ fn sign<'a>(alloc: Global) -> Arg<'a> {
     )
 }
 
+/// The option that asks for an object of JSON.
+fn json<'a>(alloc: Global) -> Arg<'a> {
+    flag(alloc, "json", "one object of JSON in place of lines")
+}
+
 /// A message's text, as a word.
 fn text<'a>(alloc: Global) -> Arg<'a> {
     Arg::new(alloc, "TEXT")
@@ -120,8 +138,19 @@ fn code_command<'a>(alloc: Global) -> Result<Command<'a>, AllocError> {
         .about("Prints a message's checksum and the code that activates it")
         .arg(memory(alloc))?
         .arg(number(alloc))?
-        .arg(text(alloc))?;
-    code_options(alloc, command)
+        .arg(text(alloc))?
+        .arg(flag(alloc, "beacon", "the beacon is on"))?
+        .arg(flag(alloc, "pixel", "the pixel service is on"))?;
+    with_terms(alloc, command)
+}
+
+fn activation_command<'a>(alloc: Global) -> Result<Command<'a>, AllocError> {
+    let command = Command::new(alloc, "activation")
+        .about("Prints the code that activates the message of a checksum")
+        .arg(named_memory(alloc))?
+        .arg(number(alloc))?
+        .arg(checksum(alloc))?;
+    with_terms(alloc, command)
 }
 
 /// A message's memory type, as a word.
@@ -140,11 +169,24 @@ fn number<'a>(alloc: Global) -> Arg<'a> {
         .help("the message's number, 1 to 65535")
 }
 
-/// The options of `code`.
-fn code_options<'a>(alloc: Global, command: Command<'a>) -> Result<Command<'a>, AllocError> {
+/// The type of memory that a code names, as a word.
+fn named_memory<'a>(alloc: Global) -> Arg<'a> {
+    Arg::new(alloc, "MEMORY")
+        .required(true)
+        .value_parser(MEMORIES.as_slice())
+        .help("the memory type: 2 permanent, 3 changeable, 4 volatile, 5 what is shown, 7 blank")
+}
+
+/// A message's checksum, as a word.
+fn checksum<'a>(alloc: Global) -> Arg<'a> {
+    Arg::new(alloc, "CHECKSUM").required(true).help(
+        "the message's checksum, four hexadecimal digits; 0000 for a blank message",
+    )
+}
+
+/// With the options that say how a message is to be activated.
+fn with_terms<'a>(alloc: Global, command: Command<'a>) -> Result<Command<'a>, AllocError> {
     command
-        .arg(flag(alloc, "beacon", "the beacon is on"))?
-        .arg(flag(alloc, "pixel", "the pixel service is on"))?
         .arg(flag(alloc, "swapped", "a checksum has its low octet first"))?
         .arg(duration(alloc))?
         .arg(priority(alloc))?
@@ -175,6 +217,11 @@ fn address<'a>(alloc: Global) -> Arg<'a> {
         .value_name("A.B.C.D")
         .default_value("0.0.0.0")
         .help("the source address")
+}
+
+/// The option that asks for the program's version.
+fn version<'a>(alloc: Global) -> Arg<'a> {
+    flag(alloc, "version", "Print the program's name and version")
 }
 
 fn flag<'a>(alloc: Global, name: &'a str, help: &'a str) -> Arg<'a> {

@@ -1,7 +1,7 @@
 //! Calls of the program by their words and their input, each with what it prints.
 
 use dms_acts::act::{act, act_saying};
-use dms_calls::{Call, Drawing, SignWanted};
+use dms_calls::{Call, Drawing, Form, SignWanted};
 use dms_cli::asked;
 use std::alloc::Global;
 use std::io;
@@ -124,7 +124,7 @@ fn answers(rt: HostRuntime) {
 }
 
 /// Command lines, and what they print with which exit status.
-const CALLS: [(&[&str], &str, u8); 16] = [
+const CALLS: [(&[&str], &str, u8); 27] = [
     (&["signtool", "check", "AAAA"], "ok pages 1\n", 0),
     (&["signtool", "check", ""], "ok pages 1\n", 0),
     (&["signtool", "check", "A[np]A"], "ok pages 2\n", 0),
@@ -201,6 +201,122 @@ const CALLS: [(&[&str], &str, u8); 16] = [
         "bad address\n",
         2,
     ),
+    (
+        &[
+            "signtool",
+            "activation",
+            "3",
+            "1",
+            "9a66",
+            "--address",
+            "192.0.2.1",
+        ],
+        "code ffffff0300019a66c0000201\n",
+        0,
+    ),
+    (
+        &[
+            "signtool",
+            "activation",
+            "3",
+            "1",
+            "9A66",
+            "--address",
+            "192.0.2.1",
+            "--swapped",
+        ],
+        "code ffffff030001669ac0000201\n",
+        0,
+    ),
+    (
+        &["signtool", "activation", "2", "1", "7502"],
+        "code ffffff020001750200000000\n",
+        0,
+    ),
+    (
+        &[
+            "signtool",
+            "activation",
+            "4",
+            "65535",
+            "83be",
+            "--duration",
+            "5",
+            "--priority",
+            "10",
+        ],
+        "code 00050a04ffff83be00000000\n",
+        0,
+    ),
+    (
+        &[
+            "signtool",
+            "activation",
+            "5",
+            "1",
+            "0000",
+            "--duration",
+            "10",
+        ],
+        "code 000aff050001000000000000\n",
+        0,
+    ),
+    (
+        &[
+            "signtool",
+            "activation",
+            "7",
+            "1",
+            "0000",
+            "--priority",
+            "255",
+            "--duration",
+            "65535",
+        ],
+        "code ffffff070001000000000000\n",
+        0,
+    ),
+    (
+        &["signtool", "activation", "7", "255", "0000"],
+        "code ffffff0700ff000000000000\n",
+        0,
+    ),
+    (
+        &["signtool", "activation", "3", "1", "9a6"],
+        "bad checksum\n",
+        2,
+    ),
+    (
+        &["signtool", "activation", "3", "1", "09a66"],
+        "bad checksum\n",
+        2,
+    ),
+    (
+        &[
+            "signtool",
+            "activation",
+            "3",
+            "1",
+            "9a6g",
+            "--address",
+            "1.2.3",
+        ],
+        "bad checksum\n",
+        2,
+    ),
+    (
+        &[
+            "signtool",
+            "activation",
+            "3",
+            "1",
+            "9a66",
+            "--address",
+            "1.2.3",
+        ],
+        "bad address\n",
+        2,
+    ),
 ];
 
 #[test]
@@ -229,13 +345,13 @@ fn reads_the_command_line(rt: HostRuntime) -> Result<(), Fail> {
         return Err("no answer".into());
     };
     assert!(rt; hex == "30" && sign == SignWanted::Bench);
-    let Some(Call::Check { text, sign }) = call_of(
+    let Some(Call::Check { text, sign, form }) = call_of(
         rt.alloc(),
         &["signtool", "check", "--sign", "A"],
     ) else {
         return Err("no check".into());
     };
-    assert!(rt; text == "A" && sign == SignWanted::Described);
+    assert!(rt; text == "A" && sign == SignWanted::Described && form == Form::Lines);
     let Some(Call::Sign { sign }) = call_of(rt.alloc(), &["signtool", "sign", "--sign"]) else {
         return Err("no sign".into());
     };
@@ -247,7 +363,7 @@ fn reads_the_command_line(rt: HostRuntime) -> Result<(), Fail> {
 }
 
 /// Words that are no call.
-const NO_CALLS: [&[&str]; 15] = [
+const NO_CALLS: [&[&str]; 20] = [
     &["signtool", "replay", "A"],
     &["signtool"],
     &["signtool", "answer"],
@@ -263,6 +379,11 @@ const NO_CALLS: [&[&str]; 15] = [
     &["signtool", "code", "3", "1", "A", "--priority", "256"],
     &["signtool", "help"],
     &["signtool", "sign", "tick"],
+    &["signtool", "activation", "3", "1"],
+    &["signtool", "activation", "1", "1", "9a66"],
+    &["signtool", "activation", "6", "1", "9a66"],
+    &["signtool", "activation", "8", "1", "9a66"],
+    &["signtool", "activation", "7", "0", "0000"],
 ];
 
 #[test]
@@ -270,6 +391,54 @@ fn refuses_other_command_lines(rt: HostRuntime) {
     for words in NO_CALLS {
         assert!(rt; call_of(rt.alloc(), words).is_none(), "for {words:?}");
     }
+}
+
+/// What is said of words that are no call.
+fn usage_of(alloc: Global, words: &[&str]) -> Option<String> {
+    match asked(alloc, words) {
+        Ok(_) => None,
+        Err(usage) => format!(in alloc; "{usage}").ok(),
+    }
+}
+
+/// Where a word follows `--sign` as if it named a file, the last line says how a description is given.
+#[test]
+fn hints_at_the_standard_input(rt: HostRuntime) {
+    let lines: [(&[&str], bool); 6] = [
+        (&["signtool", "check", "--sign", "made.sign", "A"], true),
+        (&["signtool", "check", "--sign=made.sign", "A"], true),
+        (&["signtool", "sign", "--sign", "made.sign"], true),
+        (&["signtool", "check", "A", "B", "--sign"], false),
+        (&["signtool", "check", "A", "B"], false),
+        (&["signtool", "check", "--sign"], false),
+    ];
+    for (words, is_hinted) in lines {
+        let usage = usage_of(rt.alloc(), words);
+        let found = match &usage {
+            Some(said) => Some(said.as_str().ends_with(" as in --sign < FILE\n")),
+            None => None,
+        };
+        assert_eq!(rt; found, Some(is_hinted), "for {words:?}");
+    }
+}
+
+/// The help names the option that stands alone, and says which sign answers.
+#[test]
+fn the_help_names_the_version_and_the_bench_sign(rt: HostRuntime) {
+    let usage = usage_of(rt.alloc(), &["signtool", "--help"]);
+    for wanted in [
+        "--version",
+        "activation",
+        "Where --sign is not given the bench sign answers",
+    ] {
+        let found = match &usage {
+            Some(said) => said.as_str().contains(wanted),
+            None => false,
+        };
+        assert!(rt; found, "no {wanted}");
+    }
+    let words = ["signtool", "--version", "check", "A"];
+    assert!(rt; matches!(call_of(rt.alloc(), &words), Some(Call::Version)));
 }
 
 /// The status of a call whose output takes nothing.
@@ -285,12 +454,13 @@ fn status_where_full(alloc: Global, words: &[&str]) -> Option<u8> {
 /// Where the output takes nothing, the status says so, whatever was to be printed.
 #[test]
 fn full_output(rt: HostRuntime) {
-    let calls: [&[&str]; 5] = [
+    let calls: [&[&str]; 6] = [
         &["signtool", "answer", "30"],
         &["signtool", "answer", "3"],
         &["signtool", "check", "A"],
         &["signtool", "pages", "A"],
         &["signtool", "code", "3", "1", "A"],
+        &["signtool", "activation", "7", "1", "0000"],
     ];
     for words in calls {
         assert_eq!(rt; status_where_full(rt.alloc(), words), Some(1));
@@ -453,7 +623,11 @@ fn filled(
 fn bad_inputs(rt: HostRuntime) {
     let sign = SignWanted::Described;
     for call in [
-        Call::Check { text: "A", sign },
+        Call::Check {
+            text: "A",
+            sign,
+            form: Form::Lines,
+        },
         Call::Pages {
             text: "A",
             sign,
@@ -481,7 +655,11 @@ fn bad_inputs(rt: HostRuntime) {
 fn too_long_before_a_failure(rt: HostRuntime) {
     let sign = SignWanted::Described;
     for call in [
-        Call::Check { text: "A", sign },
+        Call::Check {
+            text: "A",
+            sign,
+            form: Form::Lines,
+        },
         Call::Pages {
             text: "A",
             sign,
@@ -566,7 +744,11 @@ fn printed_or_out_of_memory(rt: HostRuntime) {
     let sign = SignWanted::Described;
     for (call, input, printed, status) in [
         (
-            Call::Check { text: "A", sign },
+            Call::Check {
+                text: "A",
+                sign,
+                form: Form::Lines,
+            },
             SMALL_SIGN,
             "ok pages 1\n",
             0,
@@ -617,7 +799,7 @@ const CELLS: Drawing = Drawing {
 };
 
 /// Words, what they print, the status, and what is said on the standard error.
-const READERS: [(&[&str], &str, u8, &str); 16] = [
+const READERS: [(&[&str], &str, u8, &str); 33] = [
     (&["signtool", "--version"], "signtool 1.0.0\n", 0, ""),
     (
         &[
@@ -689,7 +871,7 @@ const READERS: [(&[&str], &str, u8, &str); 16] = [
         &["signtool", "pages", "--svg", "C"],
         "fault 7 at 0\n",
         1,
-        "character not defined at octet 0\n",
+        "character not defined at octet 0: character 67 is not in font 1\n",
     ),
     (
         &["signtool", "answer", "3000"],
@@ -706,6 +888,123 @@ const READERS: [(&[&str], &str, u8, &str); 16] = [
         "dropped\n",
         1,
         "no request, or not of a community that may ask this\n",
+    ),
+    (
+        &["signtool", "check", "AAAAA"],
+        "fault 5 at 4\n",
+        1,
+        "text too big at octet 4: wider than the matrix by 6 columns\n",
+    ),
+    (
+        &["signtool", "pages", "A[nl]A[nl]A"],
+        "fault 5 at 5\n",
+        1,
+        "text too big at octet 5: higher than the matrix by 9 rows\n",
+    ),
+    (
+        &["signtool", "check", "[fo2]B"],
+        "fault 7 at 5\n",
+        1,
+        "character not defined at octet 5: character 66 is not in font 2\n",
+    ),
+    (
+        &["signtool", "check", "[fo2]A[fo]C"],
+        "fault 7 at 10\n",
+        1,
+        "character not defined at octet 10: character 67 is not in font 1\n",
+    ),
+    (
+        &["signtool", "check", "A[fo7]A"],
+        "fault 6 at 1\n",
+        1,
+        "font not defined at octet 1: the sign has no font 7\n",
+    ),
+    (
+        &["signtool", "check", "--json", "A[np]A"],
+        "{\"pages\":2}\n",
+        0,
+        "",
+    ),
+    (
+        &["signtool", "check", "--json", "[sc1]"],
+        "{\"fault\":3,\"at\":0}\n",
+        1,
+        "unsupported tag at octet 0\n",
+    ),
+    (
+        &["signtool", "check", "--json", "--sign", "A"],
+        "{\"refused\":\"line 1\"}\n",
+        1,
+        "line 1: the text ends before its line `end`\nthe standard input is empty: < FILE gives it one\n",
+    ),
+    (
+        &["signtool", "items", "--json", ""],
+        "{\"items\":[]}\n",
+        0,
+        "",
+    ),
+    (
+        &["signtool", "items", "--json", "[fo2,1a2b]A[pt20o][flo5]"],
+        "{\"items\":[{\"at\":0,\"item\":\"font\",\"values\":[2],\"version\":6699},{\"at\":10,\"item\":\"character\",\"values\":[65]},{\"at\":11,\"item\":\"page time\",\"values\":[20,null]},{\"at\":18,\"item\":\"flash dark\",\"values\":[null,5]}]}\n",
+        0,
+        "",
+    ),
+    (
+        &["signtool", "items", "--json", "[np]]"],
+        "{\"items\":[{\"at\":0,\"item\":\"new page\",\"values\":[]}],\"fault\":3,\"at\":4}\n",
+        1,
+        "unsupported tag at octet 4\n",
+    ),
+    (
+        &["signtool", "decode", "--json", "300a"],
+        "{\"fault\":\"truncated\",\"octet\":2}\n",
+        1,
+        "",
+    ),
+    (
+        &["signtool", "decode", "--json", "3"],
+        "{\"refused\":\"not hex\"}\n",
+        2,
+        "",
+    ),
+    (
+        &[
+            "signtool",
+            "decode",
+            "--json",
+            "302e02010004067075626c6963a0210201010201000201003016301406102b0601040189360402030508010903010500",
+        ],
+        "{\"kind\":\"Get\",\"community\":{\"octets\":\"7075626c6963\",\"text\":\"public\"},\"request-id\":1,\"error-status\":0,\"error-index\":0,\"binding\":[{\"name\":\"1.3.6.1.4.1.1206.4.2.3.5.8.1.9.3.1\",\"object\":\"dmsMessageStatus.3.1\",\"type\":\"NULL\",\"value\":null}]}\n",
+        0,
+        "",
+    ),
+    (
+        &[
+            "signtool",
+            "decode",
+            "--json",
+            "301802010004067075626c6922a20b0201010201000201003000",
+        ],
+        "{\"kind\":\"Response\",\"community\":{\"octets\":\"7075626c6922\",\"text\":\"publi\\\"\"},\"request-id\":1,\"error-status\":0,\"error-index\":0,\"binding\":[]}\n",
+        0,
+        "",
+    ),
+    (
+        &["signtool", "pages", "A[np]AAAAA[nl]A"],
+        "fault 5 at 9\n",
+        1,
+        "text too big at octet 9: wider than the matrix by 6 columns\n",
+    ),
+    (
+        &[
+            "signtool",
+            "decode",
+            "--json",
+            "3081900201000400a28188020101020102020103307d3012060d2b060104018936040203040500020101300806022907040241313008060229070402ff0030060602290704003006060229070500301306022907060d2b060104018936040203040500300a0602290740040a000001300706022907410105300706022907420106300706022907430107300706022907440100",
+        ],
+        "{\"kind\":\"Response\",\"community\":{\"octets\":\"\"},\"request-id\":1,\"error-status\":2,\"error-index\":3,\"binding\":[{\"name\":\"1.3.6.1.4.1.1206.4.2.3.4.5.0\",\"object\":\"defaultFont.0\",\"type\":\"INTEGER\",\"value\":1},{\"name\":\"1.1.7\",\"type\":\"OCTET STRING\",\"value\":{\"octets\":\"4131\",\"text\":\"A1\"}},{\"name\":\"1.1.7\",\"type\":\"OCTET STRING\",\"value\":{\"octets\":\"ff00\"}},{\"name\":\"1.1.7\",\"type\":\"OCTET STRING\",\"value\":{\"octets\":\"\"}},{\"name\":\"1.1.7\",\"type\":\"NULL\",\"value\":null},{\"name\":\"1.1.7\",\"type\":\"OBJECT IDENTIFIER\",\"value\":{\"name\":\"1.3.6.1.4.1.1206.4.2.3.4.5.0\",\"object\":\"defaultFont.0\"}},{\"name\":\"1.1.7\",\"type\":\"IpAddress\",\"value\":\"10.0.0.1\"},{\"name\":\"1.1.7\",\"type\":\"Counter\",\"value\":5},{\"name\":\"1.1.7\",\"type\":\"Gauge\",\"value\":6},{\"name\":\"1.1.7\",\"type\":\"TimeTicks\",\"value\":7},{\"name\":\"1.1.7\",\"type\":\"Opaque\",\"value\":{\"octets\":\"00\"}}]}\n",
+        0,
+        "",
     ),
 ];
 

@@ -9,7 +9,7 @@ ghost use Rattle.dms_face.specs.OnePass.{walked};
 
 use crate::defaults::Defaults;
 use crate::face::Face;
-use crate::multi_fault::{MultiFault, MultiFaultCode};
+use crate::multi_fault::MultiFault;
 use crate::totals::Totals;
 use dms_codes::MAX_TEXT;
 use dms_multi::{Spots, items};
@@ -29,10 +29,7 @@ pub fn check_with(face: &Face, defaults: &Defaults, text: &[u8]) -> Result<usize
     ensures good { IsTrue (is_ok result) ↔ IsGood (under face.now defaults.now) text.now }
 {
     if text.len() > MAX_TEXT {
-        return Err(MultiFault {
-            code: MultiFaultCode::TextTooBig,
-            place: MAX_TEXT,
-        });
+        return Err(MultiFault::TOO_LONG);
     }
     walk(face, defaults, items(text), text.len())
 }

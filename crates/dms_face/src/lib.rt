@@ -21,7 +21,7 @@ pub mod justification;
 pub mod laws;
 pub mod multi_fault;
 pub mod room;
-mod totals;
+pub mod totals;
 
 pub use cell::{Cell, Flash};
 pub use checking::{check, check_with};
@@ -31,3 +31,4 @@ pub use face::Face;
 pub use fault::FaceFault;
 pub use justification::{Part, Place, Side};
 pub use multi_fault::{MultiFault, MultiFaultCode};
+pub use totals::Totals;

@@ -1,5 +1,6 @@
 //! Why a text can not be shown.
 
+use dms_codes::MAX_TEXT;
 use dms_multi::{FaultCode, SyntaxFault};
 use std::error::Error;
 use std::fmt;
@@ -82,6 +83,14 @@ pub struct MultiFault {
     pub code: MultiFaultCode,
     /// The offset in octets, from 0, of what is wrong: the text's length where its end is.
     pub place: usize,
+}
+
+impl MultiFault {
+    /// The fault of a text of more than `MAX_TEXT` octets.
+    pub const TOO_LONG: MultiFault = MultiFault {
+        code: MultiFaultCode::TextTooBig,
+        place: MAX_TEXT,
+    };
 }
 
 impl fmt::Display for MultiFault {

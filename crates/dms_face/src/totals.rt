@@ -23,16 +23,16 @@ pub const MAX_PAGES: usize = 6;
 /// The pages that are closed, the lines of the open page, the characters of the open line with the greatest height and
 /// spacing of their fonts, the gap above that line, and what holds for the next character: its side, its part and its font.
 #[derive(Clone, Copy)]
-pub(crate) struct Totals<'a> {
-    pub pages: usize,
-    pub lines: Places,
-    pub characters: Places,
-    pub height: u8,
-    pub spacing: u8,
-    pub gap: Option<u8>,
-    pub side: Side,
-    pub part: Part,
-    pub font: &'a Font,
+pub struct Totals<'a> {
+    pub(crate) pages: usize,
+    pub(crate) lines: Places,
+    pub(crate) characters: Places,
+    pub(crate) height: u8,
+    pub(crate) spacing: u8,
+    pub(crate) gap: Option<u8>,
+    pub(crate) side: Side,
+    pub(crate) part: Part,
+    pub(crate) font: &'a Font,
 }
 
 impl<'a> Totals<'a> {
@@ -287,9 +287,9 @@ impl<'a> Totals<'a> {
         }
     }
 
-    /// An item is taken, or it has a fault where it stands.
+    /// An item is taken, after those that were taken before it without a fault; or its fault where it stands.
     #[inline]
-    pub(crate) fn take(
+    pub fn take(
         &mut self,
         face: &'a Face,
         defaults: &Defaults,
@@ -324,8 +324,8 @@ impl<'a> Totals<'a> {
         }
     }
 
-    /// The fault of the text's end, if it has one.
-    pub(crate) fn end_fault(&self, face: &Face) -> Option<MultiFaultCode>
+    /// The fault of a text that ends here, if it has one.
+    pub fn end_fault(&self, face: &Face) -> Option<MultiFaultCode>
         requires small { AreSmall self.now }
         ensures { (layout : Layout) → Tells self.now layout → result ≡ room_fault (lines_fit face.now (closed layout)) }
     {
@@ -338,7 +338,7 @@ impl<'a> Totals<'a> {
 
     /// What is known before the first item.
     #[tactic(auto, using(crate::proofs::RoomLaws::nothing_fits))]
-    pub(crate) fn new(face: &'a Face, defaults: &Defaults) -> Totals<'a>
+    pub fn new(face: &'a Face, defaults: &Defaults) -> Totals<'a>
         requires { IsTrue (fit face.now.fonts defaults.now) }
         ensures holds { Holds (under face.now defaults.now) result (blank_layout (under face.now defaults.now)) }
         ensures small { AreSmall result }

@@ -5,3 +5,5 @@ pub mod ObjectRows
 pub mod Places
 pub mod CellOctets
 pub mod SameOctets
+pub mod Told
+pub mod Inverses

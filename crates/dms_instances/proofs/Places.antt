@@ -1,5 +1,5 @@
 -- The instance at each place of the list of instances is the one that is computed; a name lies where the search by halving says.
-use Rattle.std.proofs.Common.{◌≡◌, ◌⊎◌, inl, inr, ℕ, zero, suc, ◌+◌, ◌-◌, ◌*◌, ◌/◌, ◌%◌, ◌<◌, ◌≤◌, ◌==◌, Bool, true, false, cond, List, [], ◌∷◌, ◌++◌, map, length, flat_map, find, Some, None, slice_get, get_or, refl, sym, ap, subst, ◌∙◌, arith, ltb, lt-ltb, ltb-true, length-append}
+use Rattle.std.proofs.Common.{◌≡◌, ◌⊎◌, inl, inr, ℕ, zero, suc, ◌+◌, ◌-◌, ◌*◌, ◌/◌, ◌%◌, ◌<◌, ◌≤◌, ◌==◌, Bool, true, false, cond, List, [], ◌∷◌, ◌++◌, map, length, flat_map, Some, None, slice_get, get_or, refl, sym, ap, subst, ◌∙◌, arith, ltb, lt-ltb, ltb-true, length-append}
 use Rattle.std.specs.Cmp.Lexicographic.{bytes_decides}
 use Rattle.std.proofs.Math.Nat.{div-lt_iff_lt-mul, mod-lt, mod-eq-sub-mul-div, mul-div-le, mul-add-div_right, div-eq_of_lt, mul-add-mod_self_right, mod-eq_of_lt, mul-le-mul_right}
 use Rattle.std.proofs.lemmas.Bool.{and_parts, both_ways, cond-true, cond-false, false_from_ne_true, eq-eqb, ne_eqb}
@@ -16,12 +16,12 @@ use Rattle.dms_objects.specs.declared.instance.Instance.TheVariants.{The, Cell}
 use Rattle.dms_objects.specs.Names.{name_of}
 use Rattle.dms_table.specs.Rows.{TableModel}
 use Rattle.dms_instances.specs.declared.counts.Counts.{Counts}
-use Rattle.dms_instances.specs.Objects.{before_table, after_table, columns, rows_in, row_ids, cells, instances, is_before, has_name, comes_after, instance_named, next_instance, IsInstance}
+use Rattle.dms_instances.specs.Objects.{before_table, after_table, columns, rows_in, row_ids, cells, instances, is_before, has_name, comes_after, next_instance}
 use Rattle.dms_instances.specs.Places.{HasCounts, row_total, place_total, row_at, instance_at, listed, IsBetween}
-use Rattle.dms_instances.proofs.InOrder.{rises, before_trans, not_before_itself, instances_rise, named_back}
+use Rattle.dms_instances.proofs.InOrder.{rises, before_trans, not_before_itself, instances_rise}
 
 -- two numbers are in this order or not
-less_or_not : (a b : ℕ) → (a < b) ⊎ (b ≤ a)
+pub less_or_not : (a b : ℕ) → (a < b) ⊎ (b ≤ a)
 less_or_not a b = less_by (ltb a b) refl
   where
     less_by : (t : Bool) → ltb a b ≡ t → (a < b) ⊎ (b ≤ a)
@@ -425,54 +425,6 @@ next_found table n name k has is few =
 pub next_none : (table : TableModel) (n : Counts) (name : List ℕ) (k : ℕ) → HasCounts table n → IsBetween table name k k → place_total n ≤ k
     → None ≡ next_instance table name
 next_none table n name k has is many = sym (next_is table name k is ∙ got_none (instances table) k (omega (arith, total_is table n has)))
-
-pub named_found : (table : TableModel) (n : Counts) (name : List ℕ) (k : ℕ) → HasCounts table n → k < place_total n
-    → has_name name (instance_at n k) ≡ true → Some (instance_at n k) ≡ instance_named table name
-named_found table n name k has few e =
-    let is_name : name_of (instance_at n k) ≡ name = (bytes_decides (name_of (instance_at n k)) name).0 e in
-    let there : IsInstance table (instance_at n k) =
-    (k, got (instances table) k (The SignHeightPixels) (omega (arith, total_is table n has)) ∙ ap Some (place_is table n has k few))
-    in
-    sym (subst (λ name. instance_named table name ≡ Some (instance_at n k)) is_name (named_back table (instance_at n k) there))
-
--- an instance that comes after a name does not have it
-not_both : (name : List ℕ) (i : Instance) → comes_after name i ≡ true → has_name name i ≡ false
-not_both name i e =
-    false_from_ne_true (has_name name i) λ h.
-    both_ways (is_before name name) (not_before_itself name)
-    (subst (λ other. is_before name other ≡ true) ((bytes_decides (name_of i) name).0 h) e)
-
-found_none : (p : Instance → Bool) (xs : List Instance) (d : Instance) → ((k : ℕ) → k < length xs → p (get_or xs k d) ≡ false) → find p xs ≡ None
-found_none p [] d none = refl
-found_none p (x ∷ xs) d none =
-    cond-false (p x) (Some x) (find p xs) (none 0 (omega arith)) ∙ found_none p xs d (λ k h. none (suc k) (omega arith))
-
--- an instance before the last that does not come after a name does not have it
-not_before_last : (table : TableModel) (name : List ℕ) (j k : ℕ) → j < k → k < length (instances table) → comes_after name (listed table k) ≡ false
-    → has_name name (listed table j) ≡ false
-not_before_last table name j k l h e =
-    false_from_ne_true (has_name name (listed table j)) λ t.
-    both_ways (comes_after name (listed table k)) e
-    (subst (λ name. comes_after name (listed table k) ≡ true) ((bytes_decides (name_of (listed table j)) name).0 t) (listed_rise table j k l h))
-
-pub last_none : (table : TableModel) (n : Counts) (name : List ℕ) (k : ℕ) → HasCounts table n → k < place_total n
-    → IsBetween table name (k + 1) (k + 1) → has_name name (instance_at n k) ≡ false → None ≡ instance_named table name
-last_none table n name k has few is e =
-    let total = total_is table n has in
-    let here : has_name name (listed table k) ≡ false = ap (has_name name) (place_is table n has k few) ∙ e in
-    sym (found_none (has_name name) (instances table) (The SignHeightPixels) λ j h.
-    elim (less_or_not j k) [
-      | inl less ↦ not_before_last table name j k less (omega arith) (is.below k (omega arith))
-      | inr more ↦
-          elim (less_or_not k j) [
-            | inl past ↦ not_both name (listed table j) (is.above j (omega arith) h)
-            | inr same ↦ let is_j : k ≡ j = omega arith in subst (λ j. has_name name (listed table j) ≡ false) is_j here
-          ]
-    ])
-
-pub none_before_all : (table : TableModel) (name : List ℕ) → IsBetween table name 0 0 → None ≡ instance_named table name
-none_before_all table name is =
-    sym (found_none (has_name name) (instances table) (The SignHeightPixels) λ k h. not_both name (listed table k) (is.above k (omega arith) h))
 
 -- the instance after a cell's name
 pub after_cell_found : (table : TableModel) (n : Counts) (name : List ℕ) (c r : ℕ) → HasCounts table n → c < 9 → r < row_total n

@@ -301,3 +301,61 @@ counted_there table n column row has from to =
     held_by (row.memory == 2) (row.memory == 3) (row.memory == 4) (row.memory == 5) (row.memory == 7) table n row has refl refl refl refl refl from to
     in
     cell_there table column row (in_flat rows_in (memories table) held.1.0 held.0 row held.1.1 (rows_in_in held.0 row held.2))
+
+-- the row is of a type of memory that there is, and its number is one of its rows'
+pub record Counted (n : Counts) (row : RowId) : Type 0 where
+  pub memory : row.memory < 128
+  pub from_1 : 1 ≤ row.number
+  pub to : row.number ≤ last_number n row.memory
+
+counted_as : (n : Counts) (row : RowId) (memory : ℕ × ℕ) (kind last : ℕ) → Holds memory row → (kind, last) ≡ memory → kind < 128
+    → last ≤ last_number n kind → Counted n row
+counted_as n row memory kind last holds is few to =
+    let as_kind : row.memory ≡ kind = holds.type_is ∙ sym (ap (λ (m : ℕ × ℕ). m.0) is) in
+    let as_last : last ≡ memory.1 = ap (λ (m : ℕ × ℕ). m.1) is in
+    record {
+      memory = omega (arith, as_kind, few);
+      from_1 = holds.from_1;
+      to = subst (λ m. row.number ≤ last_number n m) (sym as_kind) (omega (arith, holds.to, as_last, to));
+    }
+
+counted_at : (table : TableModel) (n : Counts) (row : RowId) → HasCounts table n → (k : ℕ) (memory : ℕ × ℕ)
+    → slice_get (memories table) k ≡ Some memory → Holds memory row → Counted n row
+counted_at table n row has zero memory h holds =
+    counted_as n row memory 2 (length table.permanent) holds (some_is (2, length table.permanent) memory h) (omega arith)
+    (omega (arith, has.permanent))
+counted_at table n row has (suc zero) memory h holds =
+    counted_as n row memory 3 (length table.changeable) holds (some_is (3, length table.changeable) memory h) (omega arith)
+    (omega (arith, has.changeable))
+counted_at table n row has (suc (suc zero)) memory h holds =
+    counted_as n row memory 4 (length table.volatile) holds (some_is (4, length table.volatile) memory h) (omega arith)
+    (omega (arith, has.volatile))
+counted_at table n row has (suc (suc (suc zero))) memory h holds =
+    counted_as n row memory 5 1 holds (some_is (5, 1) memory h) (omega arith) (omega arith)
+counted_at table n row has (suc (suc (suc (suc zero)))) memory h holds =
+    counted_as n row memory 7 255 holds (some_is (7, 255) memory h) (omega arith) (omega arith)
+counted_at table n row has (suc (suc (suc (suc (suc k))))) memory h holds = absurd (cc)
+
+-- a row that has an instance is counted
+pub there_counted : (table : TableModel) (n : Counts) (column : Column) (row : RowId) → HasCounts table n → IsInstance table (Cell column row)
+    → Counted n row
+there_counted table n column row has there =
+    let i = of_cell table column row there in
+    let o = of_flat rows_in (memories table) i.0 row i.1 in
+    counted_at table n row has o.1.0 o.0 o.1.1 (of_rows_in o.0 row o.2)
+
+-- the numbers of rows are those of octets
+abbrev pub AreOctets : Counts → Type 0
+AreOctets n = (n.permanent < 256) × (n.changeable < 256) × (n.volatile < 256)
+
+-- what holds of both branches of an if holds of it
+of_both : {A : Type 0} (P : A → Type 0) (b : Bool) (x y : A) → P x → P y → P (cond b x y)
+of_both P true x y p q = p
+of_both P false x y p q = q
+
+pub last_few : (n : Counts) → AreOctets n → (memory : ℕ) → last_number n memory < 256
+last_few n few memory =
+    let few_of = λ (b : Bool) (x y : ℕ) (p : x < 256) (q : y < 256). of_both (λ k. k < 256) b x y p q in
+    few_of (memory == 2) n.permanent _ few.0
+    (few_of (memory == 3) n.changeable _ few.1
+    (few_of (memory == 4) n.volatile _ few.2 (few_of (memory == 5) 1 _ (omega arith) (few_of (memory == 7) 255 0 (omega arith) (omega arith)))))

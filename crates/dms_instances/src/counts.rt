@@ -97,38 +97,11 @@ impl Counts {
         }
     }
 
-    /// The instance of this name, where a table of as many rows has it.
+    /// The instance of this name, where a table of as many rows has it: its octets tell it.
     pub fn named(&self, name: &Oid<'_>) -> Option<Instance>
         ensures { (table : TableModel) → HasCounts table self.now → result ≡ instance_named table name.now }
     {
-        match self.spelled(name) {
-            Some(instance) => Some(instance),
-            None => self.searched(name),
-        }
-    }
-
-    /// The instance of this name, found by halving.
-    #[inline(never)]
-    fn searched(&self, name: &Oid<'_>) -> Option<Instance>
-        ensures { (table : TableModel) → HasCounts table self.now → result ≡ instance_named table name.now }
-    {
-        let place = self.place_after(name);
-        if place == 0 {
-            return None;
-        }
-        let last = self.instance_at(place - 1);
-        if has_name(name, last) {
-            Some(last)
-        } else {
-            None
-        }
-    }
-
-    /// The instance of this name, where its octets tell it at once.
-    fn spelled(&self, name: &Oid<'_>) -> Option<Instance>
-        ensures there { IfSome result (λ i. (table : TableModel) → HasCounts table self.now → IsInstance table i) }
-        ensures named { IfSome result (λ i. has_name name.now i ≡ true) }
-    {
+        are_octets(self.permanent, self.changeable, self.volatile);
         let instance = guess::instance(name.content())?;
         known_by_octets(name, instance);
         if self.has(instance) {
@@ -140,7 +113,8 @@ impl Counts {
 
     /// Whether a table of as many rows has the instance.
     fn has(&self, instance: Instance) -> bool
-        ensures { result ≡ true → (table : TableModel) → HasCounts table self.now → IsInstance table instance }
+        ensures is { result ≡ true → (table : TableModel) → HasCounts table self.now → IsInstance table instance }
+        ensures each { (table : TableModel) → HasCounts table self.now → IsInstance table instance → result ≡ true }
     {
         match instance {
             Instance::The(_) => true,
@@ -314,6 +288,14 @@ impl Counts {
         }
     }
 }
+
+/// The numbers of rows are below 256: for the proof alone, nothing runs.
+#[inline]
+fn are_octets(permanent: u8, changeable: u8, volatile: u8)
+    ensures permanent { permanent < 256 }
+    ensures changeable { changeable < 256 }
+    ensures volatile { volatile < 256 }
+{}
 
 /// The place of a column.
 fn column_place(column: Column) -> usize

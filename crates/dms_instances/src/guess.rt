@@ -1,9 +1,13 @@
 //! The instance of a name by its octets, and the place of a cell. The other places that are found are guesses, which who asks verifies.
 
-ghost use Rattle.std.specs.Prelude.{◌≡◌, ◌≤◌, ◌<◌, ◌∷◌, [], IfSome};
+ghost use Rattle.std.specs.Prelude.{◌≡◌, ◌≤◌, ◌<◌, ◌+◌, ◌∷◌, [], ℕ, List, Some, IfSome, IfNone};
+ghost use Rattle.dms_objects.specs.declared.column.Column.{Column};
+ghost use Rattle.dms_objects.specs.declared.scalar.Scalar.{Scalar};
+ghost use Rattle.dms_objects.specs.declared.instance.Instance.TheVariants.{The, Cell};
 ghost use Rattle.dms_objects.specs.Names.{column_number, scalar_number};
 ghost use Rattle.dms_objects.specs.NameOctets.{IsNamed};
 ghost use Rattle.dms_instances.specs.Places.{row_total, row_at};
+ghost use Rattle.dms_instances.specs.Told.{column_at, scalar_at, IsTold};
 
 use crate::counts::Counts;
 use dms_codes::{RowId, memory};
@@ -39,7 +43,8 @@ fn place_of(counts: &Counts, guess: Guess) -> usize {
 /// The instance whose name has these content octets, where it is an object's, or a cell's of a row of at most 255.
 #[inline(always)]
 pub(crate) fn instance(content: &[u8]) -> Option<Instance>
-    ensures { IfSome result (λ i. IsNamed i content.now) }
+    ensures named { IfSome result (λ i. IsNamed i content.now) }
+    ensures told { IsTold content.now result }
 {
     match below_dms(content)? {
         [5, 8, 1, column, memory, number] => cell_named(*column, *memory, *number),
@@ -52,8 +57,10 @@ pub(crate) fn instance(content: &[u8]) -> Option<Instance>
 /// The cell whose name ends in these octets: one each of its column, its row's type of memory and its row's number.
 #[inline]
 fn cell_named(column: u8, memory: u8, number: u8) -> Option<Instance>
-    ensures { IfSome result (λ i. IsNamed i
+    ensures named { IfSome result (λ i. IsNamed i
         (43 ∷ 6 ∷ 1 ∷ 4 ∷ 1 ∷ 137 ∷ 54 ∷ 4 ∷ 2 ∷ 3 ∷ 5 ∷ 8 ∷ 1 ∷ column ∷ memory ∷ number ∷ [])) }
+    ensures told { (c : Column) → column_number c ≡ column → memory < 128 → number < 128
+        → result ≡ Some (Cell c (record { memory = memory; number = number })) }
 {
     if memory < 128 && number < 128 {
         let column = column_of(column)?;
@@ -67,8 +74,10 @@ fn cell_named(column: u8, memory: u8, number: u8) -> Option<Instance>
 /// The cell whose name ends in these octets: one each of its column and its row's type of memory, and two of its row's number.
 #[inline]
 fn long_cell_named(column: u8, memory: u8, low: u8) -> Option<Instance>
-    ensures { IfSome result (λ i. IsNamed i
+    ensures named { IfSome result (λ i. IsNamed i
         (43 ∷ 6 ∷ 1 ∷ 4 ∷ 1 ∷ 137 ∷ 54 ∷ 4 ∷ 2 ∷ 3 ∷ 5 ∷ 8 ∷ 1 ∷ column ∷ memory ∷ 129 ∷ low ∷ [])) }
+    ensures told { (c : Column) → column_number c ≡ column → memory < 128 → low < 128
+        → result ≡ Some (Cell c (record { memory = memory; number = 128 + low })) }
 {
     if memory < 128 && low < 128 {
         let column = column_of(column)?;
@@ -82,7 +91,8 @@ fn long_cell_named(column: u8, memory: u8, low: u8) -> Option<Instance>
 /// The object whose instance's name ends in these octets and 0.
 #[inline]
 fn object_named(group: u8, number: u8) -> Option<Instance>
-    ensures { IfSome result (λ i. IsNamed i (43 ∷ 6 ∷ 1 ∷ 4 ∷ 1 ∷ 137 ∷ 54 ∷ 4 ∷ 2 ∷ 3 ∷ group ∷ number ∷ 0 ∷ [])) }
+    ensures named { IfSome result (λ i. IsNamed i (43 ∷ 6 ∷ 1 ∷ 4 ∷ 1 ∷ 137 ∷ 54 ∷ 4 ∷ 2 ∷ 3 ∷ group ∷ number ∷ 0 ∷ [])) }
+    ensures told { (s : Scalar) → scalar_number s ≡ (group, number) → result ≡ Some (The s) }
 {
     Some(Instance::The(scalar_of(group, number)?))
 }
@@ -90,7 +100,8 @@ fn object_named(group: u8, number: u8) -> Option<Instance>
 /// The column of this number.
 #[inline]
 fn column_of(number: u8) -> Option<Column>
-    ensures { IfSome result (λ c. column_number c ≡ number) }
+    ensures named { IfSome result (λ c. column_number c ≡ number) }
+    ensures told { result ≡ column_at number }
 {
     match number {
         1 => Some(Column::MemoryType),
@@ -109,7 +120,8 @@ fn column_of(number: u8) -> Option<Column>
 /// The object of this number in this group.
 #[inline]
 fn scalar_of(group: u8, number: u8) -> Option<Scalar>
-    ensures { IfSome result (λ s. scalar_number s ≡ (group, number)) }
+    ensures named { IfSome result (λ s. scalar_number s ≡ (group, number)) }
+    ensures told { result ≡ scalar_at group number }
 {
     match group {
         2 => vms_object(number),
@@ -123,7 +135,8 @@ fn scalar_of(group: u8, number: u8) -> Option<Scalar>
 /// The object of this number in vmsCfg, group 2.
 #[inline]
 fn vms_object(number: u8) -> Option<Scalar>
-    ensures { IfSome result (λ s. scalar_number s ≡ (2, number)) }
+    ensures named { IfSome result (λ s. scalar_number s ≡ (2, number)) }
+    ensures told { result ≡ scalar_at 2 number }
 {
     match number {
         3 => Some(Scalar::SignHeightPixels),
@@ -135,7 +148,8 @@ fn vms_object(number: u8) -> Option<Scalar>
 /// That in multiCfg, group 4.
 #[inline]
 fn multi_object(number: u8) -> Option<Scalar>
-    ensures { IfSome result (λ s. scalar_number s ≡ (4, number)) }
+    ensures named { IfSome result (λ s. scalar_number s ≡ (4, number)) }
+    ensures told { result ≡ scalar_at 4 number }
 {
     match number {
         1 => Some(Scalar::DefaultBackgroundColor),
@@ -155,7 +169,8 @@ fn multi_object(number: u8) -> Option<Scalar>
 /// That in dmsMessage, group 5.
 #[inline]
 fn message_object(number: u8) -> Option<Scalar>
-    ensures { IfSome result (λ s. scalar_number s ≡ (5, number)) }
+    ensures named { IfSome result (λ s. scalar_number s ≡ (5, number)) }
+    ensures told { result ≡ scalar_at 5 number }
 {
     match number {
         1 => Some(Scalar::NumPermanentMsg),
@@ -173,7 +188,8 @@ fn message_object(number: u8) -> Option<Scalar>
 /// That in signControl, group 6.
 #[inline]
 fn control_object(number: u8) -> Option<Scalar>
-    ensures { IfSome result (λ s. scalar_number s ≡ (6, number)) }
+    ensures named { IfSome result (λ s. scalar_number s ≡ (6, number)) }
+    ensures told { result ≡ scalar_at 6 number }
 {
     match number {
         3 => Some(Scalar::ActivateMessage),
@@ -216,7 +232,8 @@ pub(crate) fn place_of_next(counts: &Counts, content: &[u8]) -> usize {
 /// The octets after those that all names begin with, those of dms, 1.3.6.1.4.1.1206.4.2.3: eight of the ten are compared as one number.
 #[inline]
 fn below_dms(content: &[u8]) -> Option<&[u8]>
-    ensures { IfSome result (λ rest. content.now ≡ 43 ∷ 6 ∷ 1 ∷ 4 ∷ 1 ∷ 137 ∷ 54 ∷ 4 ∷ 2 ∷ 3 ∷ rest.now) }
+    ensures named { IfSome result (λ rest. content.now ≡ 43 ∷ 6 ∷ 1 ∷ 4 ∷ 1 ∷ 137 ∷ 54 ∷ 4 ∷ 2 ∷ 3 ∷ rest.now) }
+    ensures told { IfNone result ((rest : List ℕ) → content.now ≡ 43 ∷ 6 ∷ 1 ∷ 4 ∷ 1 ∷ 137 ∷ 54 ∷ 4 ∷ 2 ∷ 3 ∷ rest → ⊥) }
 {
     match content {
         [a, b, c, d, e, f, g, h, 2, 3, rest @ ..]

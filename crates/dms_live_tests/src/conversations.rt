@@ -2,8 +2,10 @@
 
 ghost use Rattle.std.specs.Prelude.{ℕ, List, [], ◌∷◌, ◌++◌, slice_index_or};
 
-use dms_live::{ConversationFault, Input, Party, converse, description_text};
-use dms_streams::{Failed, Gathered, ReadFault, Sink, Source};
+use dms_streams::{
+    ConversationFault, Failed, Gathered, Input, InputFault, Party, Sink, Source, converse,
+    description_text,
+};
 use std::alloc::{AllocError, Global};
 use std::test::Fail;
 
@@ -258,7 +260,7 @@ fn a_description_comes_first(rt: HostRuntime) {
 }
 
 /// How many octets a description has that is taken of these.
-fn taken(alloc: Global, octets: &[u8]) -> Result<Result<usize, ReadFault>, AllocError> {
+fn taken(alloc: Global, octets: &[u8]) -> Result<Result<usize, InputFault>, AllocError> {
     let mut input = Input::new(alloc, octets)?;
     match description_text(alloc, &mut input) {
         Ok(text) => Ok(Ok(text.len())),
@@ -267,7 +269,7 @@ fn taken(alloc: Global, octets: &[u8]) -> Result<Result<usize, ReadFault>, Alloc
 }
 
 /// How the taking of a description ends whose reader fails.
-fn fault_within(alloc: Global) -> Result<Option<ReadFault>, AllocError> {
+fn fault_within(alloc: Global) -> Result<Option<InputFault>, AllocError> {
     let source = Narrow {
         octets: b"size",
         fails: true,
@@ -285,11 +287,11 @@ fn long_descriptions(rt: HostRuntime) -> Result<(), Fail> {
     talk.extend_from_slice(b"\nend\n")?;
     for (length, wanted) in [
         (1_048_576, Ok(1_048_576)),
-        (1_048_577, Err(ReadFault::TooLong)),
-        (1_048_578, Err(ReadFault::TooLong)),
+        (1_048_577, Err(InputFault::TooLong)),
+        (1_048_578, Err(InputFault::TooLong)),
     ] {
         assert_eq!(rt; taken(rt.alloc(), &talk[..length])?, wanted, "for {length}");
     }
-    assert_eq!(rt; fault_within(rt.alloc())?, Some(ReadFault::Read));
+    assert_eq!(rt; fault_within(rt.alloc())?, Some(InputFault::Read));
     Ok(())
 }

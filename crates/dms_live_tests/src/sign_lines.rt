@@ -99,6 +99,56 @@ page 1 on 30 off 0 back 0
 ok
 ";
 
+/// Seconds by one line: a message for two minutes, and a silence of one minute, which `heard` begins anew.
+const SECONDS: &str =
+    "> datagram 3036020100040561646d696ea32a020109020100020100301f301d060d2b060104018936040203060300040c000264020001750200000000
+accepted 000264020001750200000000 3036020100040561646d696ea22a020109020100020100301f301d060d2b060104018936040203060300040c000264020001750200000000
+> state
+shown 2 1 7502 mode 8 priority 100 remaining 2 text 42
+ok
+> ticks 0
+ok
+> state
+shown 2 1 7502 mode 8 priority 100 remaining 2 text 42
+ok
+> ticks 60
+ok
+> state
+shown 2 1 7502 mode 8 priority 100 remaining 1 text 42
+ok
+> ticks 59
+ok
+> state
+shown 2 1 7502 mode 8 priority 100 remaining 1 text 42
+ok
+> ticks 0000000001
+ok
+> state
+shown 7 1 0000 mode 14 priority 1 remaining 65535 text -
+ok
+> datagram 302b020100040561646d696ea31f02010a02010002010030143012060d2b060104018936040203060d00020101
+reply 302b020100040561646d696ea21f02010a02010002010030143012060d2b060104018936040203060d00020101
+> ticks 59
+ok
+> heard
+ok
+> ticks 59
+ok
+> state
+shown 7 1 0000 mode 14 priority 1 remaining 65535 text -
+ok
+> ticks 1
+ok
+> state
+shown 7 1 0000 mode 12 priority 1 remaining 65535 text -
+ok
+> heard
+ok
+> state
+shown 7 1 0000 mode 12 priority 1 remaining 65535 text -
+ok
+";
+
 /// The pages of `[cb3][pt5o2]1[np][fo2][cf1]A`.
 const TWO_PAGES: &str = "page 1 on 5 off 2 back 3
 ...........9...........
@@ -145,11 +195,11 @@ const STATE_WITHOUT_POWER: &str = "shown 7 1 0000 mode 13 priority 1 remaining 6
 ok
 ";
 
-/// Each line that asks the bench sign, with its answer under it.
-fn talk(alloc: Global) -> Result<Vec<u8>, Fail> {
+/// Each line of a talk that asks the bench sign, with its answer under it.
+fn answered(alloc: Global, talk: &str) -> Result<Vec<u8>, Fail> {
     let mut setup = bench(alloc)?;
     let mut found = Vec::new(alloc);
-    for line in TALK.lines() {
+    for line in talk.lines() {
         if let Some(asked) = line.strip_prefix("> ") {
             put_answer(alloc, &mut setup, asked, &mut found)?;
         }
@@ -173,8 +223,10 @@ fn put_answer(
 /// Each line has the answer that stands under it.
 #[test]
 fn answers(rt: HostRuntime) -> Result<(), Fail> {
-    let found = talk(rt.alloc())?;
-    assert!(rt; found.as_slice() == TALK.as_bytes());
+    for talk in [TALK, SECONDS] {
+        let found = answered(rt.alloc(), talk)?;
+        assert!(rt; found.as_slice() == talk.as_bytes());
+    }
     Ok(())
 }
 
@@ -200,6 +252,11 @@ fn bad_lines(rt: HostRuntime) -> Result<(), Fail> {
         "datagram - ",
         "datagrams -",
         "tick 1",
+        "ticks",
+        "ticks -1",
+        "ticks 4294967296",
+        "ticks 1 1",
+        "heard 1",
         "tick ",
         "tick\r",
         " tick",

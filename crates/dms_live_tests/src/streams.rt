@@ -1,6 +1,6 @@
 //! Readers and writers by their values.
 
-use dms_streams::{Counted, Failed, Gathered, ReadFault, Sink, Source, read_whole, write_whole};
+use dms_streams::{Counted, Failed, Gathered, InputFault, Sink, Source, read_whole, write_whole};
 use std::alloc::{AllocError, Global};
 use std::io::{Read, Write};
 
@@ -71,7 +71,7 @@ fn a_slice_is_read_and_written_whole(rt: HostRuntime) {
             passed_on(rt.alloc(), b"all of it"),
             read_whole(rt.alloc(), &mut longer, 9).err()
         ),
-        (Some((true, 0, 0)), Some(ReadFault::TooLong))
+        (Some((true, 0, 0)), Some(InputFault::TooLong))
     );
 }
 
@@ -107,10 +107,10 @@ fn a_reader_of_std_is_counted(rt: HostRuntime) {
 #[test]
 fn reading_ends(rt: HostRuntime) {
     for (before_failure, limit, fault, failures) in [
-        (0, 3, ReadFault::Read, 1),
-        (3, 3, ReadFault::Read, 1),
-        (4, 3, ReadFault::TooLong, 0),
-        (u64::MAX, 100, ReadFault::TooLong, 0),
+        (0, 3, InputFault::Read, 1),
+        (3, 3, InputFault::Read, 1),
+        (4, 3, InputFault::TooLong, 0),
+        (u64::MAX, 100, InputFault::TooLong, 0),
     ] {
         let mut endless = Endless {
             before_failure,

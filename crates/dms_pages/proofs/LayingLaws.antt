@@ -4,42 +4,17 @@ use Rattle.std.specs.List.{list_all}
 use Rattle.std.specs.Option.{option_or, option_map}
 use Rattle.std.proofs.lemmas.Bool.{and_parts, cases_Bool}
 use Rattle.std.proofs.lemmas.Grind.{fold-append}
-use Rattle.std.proofs.lemmas.List.{map-append}
 use Rattle.dms_multi.specs.declared.spots.Spot.{Spot}
 use Rattle.dms_multi.specs.declared.fault.SyntaxFault.{SyntaxFault}
 use Rattle.dms_multi.specs.Outcomes.{outcomes_of, items_in, items_of, fault_in}
-use Rattle.dms_face.specs.declared.multi_fault.MultiFault.{MultiFault}
 use Rattle.dms_face.specs.FaultCode.{syntax_fault}
 use Rattle.dms_face.specs.Face.{FaceModel}
-use Rattle.dms_face.specs.Layout.{PageModel, Layout, Turn, blank_layout, with_item, with_turn, with_page, layout_of}
+use Rattle.dms_face.specs.Layout.{PageModel, Layout, Turn, blank_layout, with_turn, with_page, layout_of}
 use Rattle.dms_face.specs.Room.{page_fits}
-use Rattle.dms_face.specs.Fit.{fits, turns_of, PlacedTurn, turns_in, first_fault, code_of, or_fault, fault_of}
+use Rattle.dms_face.specs.Fit.{fits, turns_of, PlacedTurn, turns_in, first_fault, code_of, fault_of}
 use Rattle.dms_face.specs.Cells.{pages_of}
 
--- the layout after what is read so far
-abbrev pub laid : FaceModel → List (Result Spot SyntaxFault) → Layout
-laid face read = fold (with_turn face) (blank_layout face) (map Some (items_in read))
-
-items_more : (read : List (Result Spot SyntaxFault)) (spot : Spot) → items_in (read ++ Ok spot ∷ []) ≡ items_in read ++ spot.item ∷ []
-items_more [] spot = refl
-items_more (Ok s ∷ read) spot = ap (λ items. s.item ∷ items) (items_more read spot)
-items_more (Err f ∷ read) spot = items_more read spot
-
-items_same : (read : List (Result Spot SyntaxFault)) (fault : SyntaxFault) → items_in (read ++ Err fault ∷ []) ≡ items_in read
-items_same [] fault = refl
-items_same (Ok s ∷ read) fault = ap (λ items. s.item ∷ items) (items_same read fault)
-items_same (Err f ∷ read) fault = items_same read fault
-
-pub laid_more : (face : FaceModel) (read : List (Result Spot SyntaxFault)) (spot : Spot) → laid face (read ++ Ok spot ∷ []) ≡ with_item face (laid face read) spot.item
-laid_more face read spot =
-    ap (λ items. fold (with_turn face) (blank_layout face) (map Some items)) (items_more read spot)
-    ∙ ap (fold (with_turn face) (blank_layout face)) (map-append Some (items_in read) (spot.item ∷ []))
-    ∙ fold-append (with_turn face) (blank_layout face) (map Some (items_in read)) (Some spot.item ∷ [])
-
-pub laid_same : (face : FaceModel) (read : List (Result Spot SyntaxFault)) (fault : SyntaxFault) → laid face (read ++ Err fault ∷ []) ≡ laid face read
-laid_same face read fault = ap (λ items. fold (with_turn face) (blank_layout face) (map Some items)) (items_same read fault)
-
-pub laid_all : (face : FaceModel) (text : List ℕ) → (with_page (laid face (outcomes_of text))).pages ≡ pages_of face text
+pub laid_all : (face : FaceModel) (text : List ℕ) → (with_page (fold (with_turn face) (blank_layout face) (map Some (items_of text)))).pages ≡ pages_of face text
 unfolding pages_of
 laid_all face text = ap (λ (layout : Layout). layout.pages) (sym (fold-append (with_turn face) (blank_layout face) (map Some (items_of text)) (None ∷ [])))
 
@@ -92,8 +67,3 @@ pages_fit face text none =
     let parts = neither (first_fault face [] (turns_in (length text) read)) (option_map syntax_fault (fault_in read)) (otherwise _ _ _ none) in
     let fit = reading_fits face (length text) read (unmapped syntax_fault (fault_in read) parts.1) parts.0 in
     (and_parts _ _ (and_parts _ _ fit).1).0
-
--- where no fault is told, there is none
-pub no_fault : {A : Type 0} (value : A) (fault : Option MultiFault) (result : Result A MultiFault) (found : A) → result ≡ or_fault value fault → result ≡ Ok found → fault ≡ None
-no_fault value None result found is ok = refl
-no_fault value (Some first) result found is ok = absurd (let wrong : Err first ≡ Ok found = sym is ∙ ok in cc)

@@ -4,5 +4,6 @@ pub mod DrawnView
 pub mod FaultTexts
 -- what only proofs go through
 pub mod StylingView
+pub mod Laid
 pub mod Drawing
 pub mod Styled

@@ -1,19 +1,23 @@
 //! The pages of a text.
 
-ghost use Rattle.std.specs.Prelude.{◌≡◌, map, true, IsTrue, IfOk};
+ghost use Rattle.std.specs.Prelude.{◌≡◌, ◌≤◌, length, map, true, None, Err, IsTrue, IfOk};
 ghost use Rattle.std.specs.List.{list_all};
 ghost use Rattle.dms_pages.specs.declared.text_pages.PagesFault.TheVariants.{Multi, Memory};
+ghost use Rattle.dms_codes.specs.Limits.{longest_text};
+ghost use Rattle.dms_face.specs.FaultCode.{syntax_fault};
 ghost use Rattle.dms_face.specs.Face.{fit};
 ghost use Rattle.dms_face.specs.Layout.{PageModel, under};
 ghost use Rattle.dms_face.specs.Room.{page_fits};
-ghost use Rattle.dms_face.specs.Cells.{pages_of};
+ghost use Rattle.dms_face.specs.Fit.{fault_of};
 ghost use Rattle.dms_pages.specs.Drawn.{drawn, drawn_text};
 ghost use Rattle.dms_pages.specs.DrawnView.{GivesPages};
+ghost use Rattle.dms_pages.specs.Laid.{GivesLaid};
 
 use crate::page::Page;
 use crate::text_layout::{TextLayout, TextPage};
-use dms_face::{Defaults, Face, MultiFault, check_with};
-use dms_multi::items;
+use dms_codes::MAX_TEXT;
+use dms_face::{Defaults, Face, MultiFault, Totals, check_with};
+use dms_multi::{SyntaxFault, items};
 use std::alloc::{AllocError, Global};
 use std::error::Error;
 use std::fmt;
@@ -32,6 +36,14 @@ impl From<MultiFault> for PagesFault {
 
     fn from(multi_fault: MultiFault) -> PagesFault {
         PagesFault::Multi(multi_fault)
+    }
+}
+
+impl From<SyntaxFault> for PagesFault {
+    ghost from_gives = { λ fault made. made ≡ Multi (syntax_fault fault) };
+
+    fn from(fault: SyntaxFault) -> PagesFault {
+        PagesFault::Multi(MultiFault::from(fault))
     }
 }
 
@@ -59,25 +71,58 @@ impl fmt::Display for PagesFault {
 
 impl Error for PagesFault {}
 
-/// The pages of a text's items, as lines of characters.
+/// The pages of a text, as lines of characters, or its fault, by one walk: each item is judged, and then laid out.
 fn laid_out<'a>(
     alloc: Global,
     face: &'a Face,
     defaults: &Defaults,
     text: &[u8],
-) -> Result<Vec<TextPage<'a>>, AllocError>
-    requires { IsTrue (fit face.now.fonts defaults.now) }
-    ensures { IfOk result (λ pages. pages.items ≡ pages_of (under face.now defaults.now) text.now) }
+) -> Result<Vec<TextPage<'a>>, PagesFault>
+    requires short { length text.now ≤ longest_text }
+    requires fit { IsTrue (fit face.now.fonts defaults.now) }
+    ensures { GivesLaid (λ pages. pages.items) result (under face.now defaults.now) text.now }
 {
+    let mut totals = Totals::new(face, defaults);
     let mut layout = TextLayout::blank(alloc, face, defaults);
     for outcome in items(text) {
-        let Ok(spot) = outcome else {
-            continue;
-        };
+        let spot = outcome?;
+        if let Some(code) = totals.take(face, defaults, spot.item) {
+            let place = spot.first;
+            return Err(PagesFault::Multi(MultiFault { code, place }));
+        }
         layout.add(alloc, face, defaults, spot.item)?;
+    }
+    if let Some(code) = totals.end_fault(face) {
+        let place = text.len();
+        return Err(PagesFault::Multi(MultiFault { code, place }));
     }
     layout.close_page(alloc)?;
     Ok(layout.into_pages())
+}
+
+/// The pages of a text of any length, as lines of characters, or its fault. Where memory ends, the walk has not seen the rest
+/// of the text, in which a fault may stand: a fault comes before want of memory.
+fn laid_text<'a>(
+    alloc: Global,
+    face: &'a Face,
+    defaults: &Defaults,
+    text: &[u8],
+) -> Result<Vec<TextPage<'a>>, PagesFault>
+    requires { IsTrue (fit face.now.fonts defaults.now) }
+    ensures laid { GivesLaid (λ pages. pages.items) result (under face.now defaults.now) text.now }
+    ensures memory { result ≡ Err Memory → fault_of (under face.now defaults.now) text.now ≡ None }
+{
+    if text.len() > MAX_TEXT {
+        return Err(PagesFault::Multi(MultiFault::TOO_LONG));
+    }
+    match laid_out(alloc, face, defaults, text) {
+        Ok(pages) => Ok(pages),
+        Err(PagesFault::Multi(fault)) => Err(PagesFault::Multi(fault)),
+        Err(PagesFault::Memory) => {
+            check_with(face, defaults, text)?;
+            Err(PagesFault::Memory)
+        }
+    }
 }
 
 /// Pages of lines that fit, drawn.
@@ -102,8 +147,7 @@ pub fn pages_with(
     requires { IsTrue (fit face.now.fonts defaults.now) }
     ensures { GivesPages (λ pages. pages.items) result (drawn_text (under face.now defaults.now) text.now) }
 {
-    check_with(face, defaults, text)?;
-    let laid = laid_out(alloc, face, defaults, text)?;
+    let laid = laid_text(alloc, face, defaults, text)?;
     let pages = drawn_pages(alloc, face, laid.as_slice())?;
     Ok(pages)
 }

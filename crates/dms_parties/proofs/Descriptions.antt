@@ -5,7 +5,7 @@ use Rattle.dms_text.specs.Lines.{is_skipped, kept_lines}
 use Rattle.dms_description.specs.declared.setup.Setup.{Setup}
 use Rattle.dms_description.specs.Description.{Description, SpellsSign}
 use Rattle.dms_description.specs.Setups.{IsMade}
-use Rattle.dms_live.specs.DescriptionText.{TakesDescription, lines_through_end}
+use Rattle.dms_streams.specs.DescriptionText.{TakesDescription, lines_through_end}
 use Rattle.dms_parties.specs.Before.{Describes, NotDescribed, description_lines}
 
 kept_same : (octets text : List ℕ) → lines text ≡ lines_through_end (lines octets) → kept_lines text ≡ description_lines (lines octets)

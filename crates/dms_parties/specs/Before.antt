@@ -6,7 +6,7 @@ use Rattle.dms_text.specs.Lines.{is_skipped}
 use Rattle.dms_description.specs.declared.setup.Setup.{Setup}
 use Rattle.dms_description.specs.Description.{Description, SpellsSign}
 use Rattle.dms_description.specs.Setups.{IsMade}
-use Rattle.dms_live.specs.DescriptionText.{lines_through_end, lines_after_end}
+use Rattle.dms_streams.specs.DescriptionText.{lines_through_end, lines_after_end}
 
 -- of these lines, those of a description, without those that are skipped
 abbrev pub description_lines : List (List ℕ) → List (List ℕ)

@@ -2,8 +2,8 @@
 
 ghost use Rattle.std.specs.Prelude.{◌≡◌, ◌≢◌, ◌<◌, ℕ, length, Err, IfOk, IfSome};
 ghost use Rattle.dms_streams.specs.Calls.{one_more};
-ghost use Rattle.dms_live.specs.Lines.{left};
-ghost use Rattle.dms_live.specs.DescriptionText.{TakesDescription};
+ghost use Rattle.dms_streams.specs.Lines.{left};
+ghost use Rattle.dms_streams.specs.DescriptionText.{TakesDescription};
 ghost use Rattle.dms_text.specs.Lines.{kept_lines};
 ghost use Rattle.dms_description.specs.Description.{Description, SpellsSign};
 ghost use Rattle.dms_description.specs.Setups.{IsMade};
@@ -11,9 +11,8 @@ ghost use Rattle.dms_parties.specs.Before.{Describes, NotDescribed};
 ghost use Rattle.dms_replay.specs.declared.fault.ReplayFault.TheVariants as faults;
 
 use dms_description::{DescriptionFault, Setup, description};
-use dms_live::{Input, description_text};
 use dms_replay::ReplayFault;
-use dms_streams::{ReadFault, Source};
+use dms_streams::{Input, Source, description_text};
 use std::alloc::Global;
 
 /// Reads the description of a sign up to its line `end`: at most 1,048,576 octets. The lines after it are left.
@@ -42,10 +41,6 @@ fn text<S: Source>(alloc: Global, input: &mut Input<S>) -> Result<Vec<u8>, Repla
     ensures no_write { result ≢ Err faults.Write }
     ensures no_line { (number : ℕ) → result ≢ Err (faults.Line number) }
 {
-    match description_text(alloc, input) {
-        Ok(text) => Ok(text),
-        Err(ReadFault::Read) => Err(ReplayFault::Read),
-        Err(ReadFault::TooLong) => Err(ReplayFault::TooLong),
-        Err(ReadFault::Memory) => Err(ReplayFault::Memory),
-    }
+    let text = description_text(alloc, input)?;
+    Ok(text)
 }

@@ -5,8 +5,8 @@ ghost use Rattle.dms_centre.specs.State.{start};
 
 use dms_centre::{Centre, Settings};
 use dms_description::Setup;
-use dms_live::Party;
 use dms_sign::Sign;
+use dms_streams::Party;
 use std::alloc::{AllocError, Global};
 use std::marker::Model;
 

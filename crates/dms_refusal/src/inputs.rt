@@ -3,11 +3,10 @@
 use crate::kept::Kept;
 use crate::refusal::Refusal;
 use dms_description::Setup;
-use dms_live::{Input, description_text};
 use dms_replay::reasons::ScriptCause;
 use dms_replay::replaying::LONGEST_INPUT;
 use dms_replay::{ReplayFault, described, replay};
-use dms_streams::{ReadFault, Sink, Source};
+use dms_streams::{Input, Sink, Source, description_text};
 use std::alloc::Global;
 
 /// The sign that the whole input describes.
@@ -23,9 +22,7 @@ pub fn described_whole<S: Source + Drop>(alloc: Global, source: S) -> Result<Set
 pub fn described_before<S: Source>(alloc: Global, input: &mut Input<S>) -> Result<Setup, Refusal> {
     let text = match description_text(alloc, input) {
         Ok(text) => text,
-        Err(ReadFault::Read) => return Err(Refusal::from(ReplayFault::Read)),
-        Err(ReadFault::TooLong) => return Err(Refusal::from(ReplayFault::TooLong)),
-        Err(ReadFault::Memory) => return Err(Refusal::from(ReplayFault::Memory)),
+        Err(fault) => return Err(Refusal::from(ReplayFault::from(fault))),
     };
     let octets = text.as_slice();
     let mut source = octets;

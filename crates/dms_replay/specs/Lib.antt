@@ -8,4 +8,5 @@ pub mod Replayed
 pub mod EventReading
 pub mod EventView
 pub mod Faults
+pub mod FaultsOfInputs
 pub mod Reasons

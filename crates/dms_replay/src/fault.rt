@@ -3,6 +3,7 @@
 ghost use Rattle.std.specs.Prelude.{◌≡◌};
 ghost use Rattle.dms_replay.specs.declared.fault.ReplayFault.TheVariants as faults;
 
+use dms_streams::InputFault;
 use std::alloc::AllocError;
 use thiserror::Error;
 
@@ -34,5 +35,20 @@ impl From<AllocError> for ReplayFault {
         ensures { result ≡ faults.Memory }
     {
         ReplayFault::Memory
+    }
+}
+
+impl From<InputFault> for ReplayFault {
+    ghost use Rattle.std.specs.Prelude.{◌≡◌};
+    ghost use Rattle.dms_replay.specs.FaultsOfInputs.{replay_fault};
+
+    ghost from_gives = { λ fault made. made ≡ replay_fault fault };
+
+    fn from(fault: InputFault) -> ReplayFault {
+        match fault {
+            InputFault::Read => ReplayFault::Read,
+            InputFault::TooLong => ReplayFault::TooLong,
+            InputFault::Memory => ReplayFault::Memory,
+        }
     }
 }

@@ -25,7 +25,7 @@ use crate::script::{Script, read_script};
 use crate::script_event::ScriptEvent;
 use dms_centre::{Centre, Settings};
 use dms_description::{DescriptionFault, Setup, description};
-use dms_streams::{ReadFault, Sink, Source, read_whole, write_whole};
+use dms_streams::{Sink, Source, read_whole, write_whole};
 use dms_world::{Event, World, run};
 use std::alloc::Global;
 
@@ -73,12 +73,8 @@ fn input<R: Source>(alloc: Global, reader: &mut R) -> Result<Vec<u8>, ReplayFaul
     ensures no_write { result ≢ Err faults.Write }
     ensures no_line { (number : ℕ) → result ≢ Err (faults.Line number) }
 {
-    match read_whole(alloc, reader, LONGEST_INPUT) {
-        Ok(octets) => Ok(octets),
-        Err(ReadFault::Read) => Err(ReplayFault::Read),
-        Err(ReadFault::TooLong) => Err(ReplayFault::TooLong),
-        Err(ReadFault::Memory) => Err(ReplayFault::Memory),
-    }
+    let octets = read_whole(alloc, reader, LONGEST_INPUT)?;
+    Ok(octets)
 }
 
 /// The report of the script that a text spells.

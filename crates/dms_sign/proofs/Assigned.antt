@@ -22,7 +22,7 @@ use Rattle.dms_table.specs.declared.activation.Cause.{Cause}
 use Rattle.dms_table.specs.Rows.{TableModel, asked}
 use Rattle.dms_table.specs.Activation.{ShownModel, shown_by, refusal, unless_refused, decided}
 use Rattle.dms_access.specs.declared.settings.Settings.{Settings}
-use Rattle.dms_reports.specs.declared.reports.Reports.{Reports}
+use Rattle.dms_access.specs.declared.reports.Reports.{Reports}
 use Rattle.dms_sign.specs.declared.sign.Sign.TheInside.{Inside}
 use Rattle.dms_sign.specs.Communities.{are_communities}
 use Rattle.dms_sign.specs.State.{ConfigModel, FallbacksModel, SignState}
@@ -31,12 +31,12 @@ use Rattle.dms_access.specs.Assignment.{given, number_for, code_for}
 use Rattle.dms_sign.specs.SetRequest.{with_writes, assigned, SetCause, causes, if_settable, settable_instance, write_at}
 use Rattle.dms_sign.specs.Requests.{as_decided, as_asked, commanded, commanded_if, command_index, writes_of, set, set_unless}
 use Rattle.dms_sign.specs.OwnCodes.{showing}
-use Rattle.dms_reports.specs.Reports.{IsCauseInRange}
+use Rattle.dms_access.specs.Reports.{IsCauseInRange}
 use Rattle.dms_sign.specs.InRange.{AreOctets, IsTableInRange, IsShownInRange, AreReportsInRange, IsSignInRange}
 use Rattle.dms_sign.specs.Transitions.{HasFitDefaults}
 use Rattle.dms_sign.specs.Kept.{IsKept}
 use Rattle.dms_sign.specs.FallbacksView.{fallbacks_of}
-use Rattle.dms_reports.specs.ReportsView.{reports_of}
+use Rattle.dms_access.specs.ReportsView.{reports_of}
 use Rattle.dms_sign.specs.SignView.{state_of, IsWhole}
 use Rattle.dms_access.specs.SettingsView.{codes_by, set_by}
 use Rattle.dms_sign.specs.SetView.{AreSettings}

@@ -32,7 +32,7 @@ use Rattle.dms_objects.specs.declared.scalar.Scalar.TheVariants.{SignHeightPixel
 use Rattle.dms_objects.specs.declared.instance.Instance.{Instance}
 use Rattle.dms_objects.specs.declared.instance.Instance.TheVariants.{The, Cell}
 use Rattle.dms_objects.specs.Names.{scalar_number}
-use Rattle.dms_reports.specs.Reports.{ReportsModel}
+use Rattle.dms_access.specs.Reports.{ReportsModel}
 use Rattle.dms_sign.specs.State.{SignState, end_duration_mode}
 use Rattle.dms_sign.specs.OwnCodes.{showing, put_up_code}
 use Rattle.dms_access.specs.Access.{Write, SetNumber, SetCode, SetField, AskRow, Activate, SetRemaining, is_command, number_in, octets_in, font_in, ask_of, object_write, cell_write, write_of}

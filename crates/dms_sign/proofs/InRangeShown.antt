@@ -20,12 +20,12 @@ use Rattle.dms_codes.specs.Memory.{current_buffer}
 use Rattle.dms_codes.specs.Limits.{longest_text}
 use Rattle.dms_codes.specs.Codes.{number_at, id_of, activation_of, octets_of_id, octets_of_activation, IsMessageId}
 use Rattle.dms_table.specs.Activation.{ShownModel, is_memory, named, row_id, has_checksum, text_error, activation_error, cause_number, seconds_of, put_up, unless_refused, decided_on, decided}
-use Rattle.dms_reports.specs.Reports.{ReportsModel}
+use Rattle.dms_access.specs.Reports.{ReportsModel}
 use Rattle.dms_table.specs.Activation.{no_address, blank_shown}
 use Rattle.dms_sign.specs.State.{SignState}
-use Rattle.dms_reports.specs.Reports.{with_fault, with_cause, refused_reports}
+use Rattle.dms_access.specs.Reports.{with_fault, with_cause, refused_reports}
 use Rattle.dms_sign.specs.OwnCodes.{showing, with_refused_code, own_activation, put_up_as_decided, staying, put_up_code}
-use Rattle.dms_reports.specs.Reports.{IsCauseInRange}
+use Rattle.dms_access.specs.Reports.{IsCauseInRange}
 use Rattle.dms_access.specs.Ranges.{AreDefaultsInRange}
 use Rattle.dms_sign.specs.InRange.{AreOctets, IsTableInRange, IsTimeInRange, IsShownInRange, AreReportsInRange, IsSignInRange}
 use Rattle.dms_sign.proofs.InRangeLists.{either, if_either, if_mapped, all_append}

@@ -22,7 +22,7 @@ use Rattle.dms_table.specs.declared.table.Place.TheVariants.{Changeable, Volatil
 use Rattle.dms_table.specs.PlaceView.{IsPlaced}
 use Rattle.dms_table.specs.Validation.{settled, verdict}
 use Rattle.dms_table.specs.Activation.{ShownModel, shown_by, refusal, unless_refused, decided}
-use Rattle.dms_reports.specs.declared.reports.Reports.{Reports}
+use Rattle.dms_access.specs.declared.reports.Reports.{Reports}
 use Rattle.dms_sign.specs.declared.sign.Sign.TheInside.{Inside}
 use Rattle.dms_sign.specs.Communities.{are_communities}
 use Rattle.dms_table.specs.Activation.{blank_id, blank_shown}
@@ -32,13 +32,13 @@ use Rattle.dms_sign.specs.Kept.{IsKept}
 use Rattle.dms_access.specs.declared.settings.Settings.{Settings}
 use Rattle.dms_access.specs.SettingsView.{first_settings}
 use Rattle.dms_sign.specs.FallbacksView.{fallbacks_of}
-use Rattle.dms_reports.specs.Reports.{ReportsModel, first_reports, refused_reports}
+use Rattle.dms_access.specs.Reports.{ReportsModel, first_reports, refused_reports}
 use Rattle.dms_sign.specs.OwnCodes.{showing, with_refused_code, own_activation, put_up_as_decided, staying, put_up_code}
-use Rattle.dms_reports.specs.Reports.{settled_reports}
-use Rattle.dms_reports.specs.Reports.{IsCauseInRange}
+use Rattle.dms_access.specs.Reports.{settled_reports}
+use Rattle.dms_access.specs.Reports.{IsCauseInRange}
 use Rattle.dms_access.specs.Ranges.{AreDefaultsInRange}
 use Rattle.dms_sign.specs.InRange.{IsStocked, AreOctets, IsTableInRange, IsShownInRange, IsTimeInRange, AreReportsInRange, IsSignInRange, most_minutes}
-use Rattle.dms_reports.specs.ReportsView.{reports_of}
+use Rattle.dms_access.specs.ReportsView.{reports_of}
 use Rattle.dms_sign.specs.declared.known_texts.KnownTexts.{KnownTexts}
 use Rattle.dms_sign.specs.KnownTexts.{HasRoom, noted, AreKnown}
 use Rattle.dms_sign.specs.SignView.{state_of, IsWhole}

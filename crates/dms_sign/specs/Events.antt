@@ -4,7 +4,7 @@ use Rattle.dms_face.specs.Layout.{under}
 use Rattle.dms_table.specs.Rows.{after_power}
 use Rattle.dms_table.specs.Validation.{settled, verdict}
 use Rattle.dms_sign.specs.State.{SignState, power_recovery_mode, communications_loss_mode, power_loss_mode, end_duration_mode}
-use Rattle.dms_reports.specs.Reports.{settled_reports}
+use Rattle.dms_access.specs.Reports.{settled_reports}
 use Rattle.dms_sign.specs.OwnCodes.{showing, put_up_code}
 
 -- ---- a second

@@ -16,7 +16,7 @@ use Rattle.dms_codes.specs.Limits.{longest_text, longest_owner}
 use Rattle.dms_table.specs.Stock.{has_ranges}
 use Rattle.dms_table.specs.Activation.{ShownModel, shown_row}
 use Rattle.dms_access.specs.Ranges.{AreDefaultsInRange}
-use Rattle.dms_reports.specs.Reports.{ReportsModel}
+use Rattle.dms_access.specs.Reports.{ReportsModel}
 use Rattle.dms_sign.specs.State.{ConfigModel, FallbacksModel, SignState}
 use Rattle.dms_sign.specs.Reply.{too_big}
 use Rattle.dms_sign.specs.Requests.{Answer, primary}

@@ -12,7 +12,7 @@ use Rattle.dms_table.specs.declared.activation.Cause.{Cause}
 use Rattle.dms_table.specs.Rows.{TableModel, asked}
 use Rattle.dms_codes.specs.Codes.{activation_of}
 use Rattle.dms_table.specs.Activation.{ShownModel, decided, seconds_of}
-use Rattle.dms_reports.specs.Reports.{accepted_reports}
+use Rattle.dms_access.specs.Reports.{accepted_reports}
 use Rattle.dms_sign.specs.State.{SignState, end_duration_mode}
 use Rattle.dms_sign.specs.Values.{value_of, value_after}
 use Rattle.dms_sign.specs.OwnCodes.{showing, with_refused_code, put_up_code}

@@ -5,7 +5,7 @@ use Rattle.dms_sign.specs.declared.sign.Sign.TheInside.{Inside}
 use Rattle.dms_sign.specs.Kept.{IsKept}
 use Rattle.dms_sign.specs.KnownTexts.{AreKnown}
 use Rattle.dms_sign.specs.FallbacksView.{fallbacks_of}
-use Rattle.dms_reports.specs.ReportsView.{reports_of}
+use Rattle.dms_access.specs.ReportsView.{reports_of}
 use Rattle.dms_sign.specs.State.{SignState}
 
 abbrev pub state_of : Inside → SignState

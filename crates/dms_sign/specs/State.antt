@@ -4,7 +4,7 @@ use Rattle.dms_face.specs.declared.defaults.Defaults.{Defaults}
 use Rattle.dms_face.specs.Face.{FaceModel}
 use Rattle.dms_table.specs.Rows.{TableModel}
 use Rattle.dms_table.specs.Activation.{ShownModel, blank_code, blank_shown}
-use Rattle.dms_reports.specs.Reports.{ReportsModel, first_reports}
+use Rattle.dms_access.specs.Reports.{ReportsModel, first_reports}
 
 -- ---- states
 

@@ -12,7 +12,7 @@ use Rattle.dms_objects.specs.declared.instance.Instance.{Instance}
 use Rattle.dms_objects.specs.declared.instance.Instance.TheVariants.{The, Cell}
 use Rattle.dms_objects.specs.Names.{name_of}
 use Rattle.dms_instances.specs.Objects.{instance_named, next_instance}
-use Rattle.dms_reports.specs.Cells.{number_value, cell_value}
+use Rattle.dms_access.specs.Cells.{number_value, cell_value}
 use Rattle.dms_sign.specs.State.{SignState}
 
 -- ---- objects with one instance

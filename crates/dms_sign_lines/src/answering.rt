@@ -197,7 +197,7 @@ fn show(alloc: Global, sign: &Sign) -> Result<Vec<u8>, AllocError>
 }
 
 /// The pages of what is shown, under the copy of the defaults that belongs to it.
-fn shown_pages(alloc: Global, sign: &Sign) -> Result<Vec<Page>, AllocError>
+pub fn shown_pages(alloc: Global, sign: &Sign) -> Result<Vec<Page>, AllocError>
     ensures { IfOk result (λ pages. pages.items ≡ shown_pages sign.now) }
 {
     let shown = sign.shown();

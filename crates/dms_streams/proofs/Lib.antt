@@ -1,1 +1,7 @@
 mod Written
+mod Parts
+mod Taken
+mod LineCuts
+mod Turns
+mod Journals
+mod Descriptions

@@ -1,5 +1,6 @@
-//! Readers and writers that count the calls that failed, and the two loops over them: all that a reader gives, and all of some octets
-//! written. What was read and what was written is exact wherever the reader or the writer tells its octets.
+//! Readers and writers that count the calls that failed, and what is done over them: all that a reader gives, all of some
+//! octets written, and a conversation by lines, in which each line of an input is answered before the next is asked for.
+//! What was read and what was written is exact wherever the reader or the writer tells its octets.
 //!
 //! ```
 //! let mut text: &[u8] = b"all of it";
@@ -11,18 +12,30 @@
 //! ```
 #![tactic(auto)]
 
+pub mod conversation;
 pub mod counted;
+pub mod describing;
 pub mod failed;
+pub mod fault;
 pub mod gathered;
+pub mod input;
+pub mod laws;
+pub mod party;
 pub mod reading;
 pub mod sink;
 pub mod source;
+pub mod taking;
 pub mod writing;
 
+pub use conversation::{LONGEST_LINE, converse};
 pub use counted::Counted;
+pub use describing::{LONGEST_DESCRIPTION, description_text};
 pub use failed::Failed;
+pub use fault::{ConversationFault, InputFault};
 pub use gathered::Gathered;
-pub use reading::{ReadFault, read_whole};
+pub use input::Input;
+pub use party::Party;
+pub use reading::read_whole;
 pub use sink::Sink;
 pub use source::Source;
 pub use writing::write_whole;

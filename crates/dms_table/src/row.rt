@@ -146,12 +146,6 @@ impl Row {
         self.status == Status::NotUsed
     }
 
-    pub(crate) fn is_validating(&self) -> bool
-        ensures { result ≡ row_is_validating self.now }
-    {
-        self.status == Status::Validating
-    }
-
     /// The row as it is read.
     pub(crate) fn view(&self) -> RowView<'_>
         ensures read { reading_of result ≡ reading self.now }

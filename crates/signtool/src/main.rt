@@ -75,6 +75,8 @@
 //! `--page K` prints the K-th page alone. `--svg` prints a picture in place of the digits, which a browser plays: its pages take turns
 //! and what flashes does.
 //!
+//! `decode`, `items` and `check` print one object of JSON with `--json`: `signtool check --json "A[np]B"` prints `{"pages":2}`.
+//!
 //! # Codes
 //!
 //! `code TYPE NUMBER TEXT` prints a message's checksum and the code that activates it. The options `--beacon`, `--pixel`, `--swapped`,
@@ -84,6 +86,9 @@
 //! crc 9a66
 //! code ffffff0300019a66c0000201
 //! ```
+//!
+//! `activation MEMORY NUMBER CHECKSUM` prints the code alone, of a message that is known by its checksum: also of a blank message, whose
+//! checksum is `0000`, and of what is shown. `signtool activation 7 1 0000` prints `code ffffff070001000000000000`.
 //!
 //! # Runs of both ends
 //!

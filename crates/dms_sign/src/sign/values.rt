@@ -8,14 +8,14 @@ ghost use Rattle.dms_wire.specs.View.{object_value};
 ghost use Rattle.dms_instances.specs.Objects.{instance_named};
 ghost use Rattle.dms_instances.specs.Places.{HasCounts};
 ghost use Rattle.dms_sign.specs.InRange.{IsTimeInRange};
-ghost use Rattle.dms_reports.specs.Cells.{number_value, cell_value};
+ghost use Rattle.dms_access.specs.Cells.{number_value, cell_value};
 ghost use Rattle.dms_sign.specs.Values.{minutes_left, free_octets, scalar_value, value_at, value_of};
 
 use crate::sign::Sign;
+use dms_access::{cell_value, number_value, shown_value};
 use dms_codes::{MAX_TEXT, RowId, memory};
 use dms_instances::Counts;
 use dms_objects::{Column, Instance, Scalar};
-use dms_reports::{cell_value, number_value, shown_value};
 use dms_wire::{Oid, Value};
 
 impl Sign {

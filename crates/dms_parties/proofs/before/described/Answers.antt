@@ -1,6 +1,6 @@
 use Rattle.std.proofs.Common.{inl, inr, sym, subst}
-use Rattle.dms_live.specs.Lines.{left}
-use Rattle.dms_live.specs.DescriptionText.{TakesDescription}
+use Rattle.dms_streams.specs.Lines.{left}
+use Rattle.dms_streams.specs.DescriptionText.{TakesDescription}
 use Rattle.dms_parties.proofs.Descriptions.{describes_not}
 use Rattle.dms_parties.proofs.before.described.Goals as goal
 

@@ -1,11 +1,36 @@
-use Rattle.std.proofs.Common.{ap, ◌∙◌, sym}
+use Rattle.std.proofs.Common.{◌≡◌, Some, None, ap, sym, subst, ◌∙◌, List, ℕ}
 use Rattle.std.specs.Cmp.Lexicographic.{bytes_decides}
+use Rattle.std.proofs.lemmas.Bool.{both_ways}
 use Rattle.dms_objects.specs.Names.{name_of}
-use Rattle.dms_instances.specs.Objects.{instance_named}
+use Rattle.dms_instances.specs.Objects.{instance_named, IsInstance}
+use Rattle.dms_instances.specs.Told.{IsTold}
 use Rattle.dms_instances.proofs.InOrder.{named_back}
+use Rattle.dms_instances.proofs.Members.{some_is}
+use Rattle.dms_instances.proofs.Told.{there_told, none_named}
+use Rattle.dms_instances.proofs.WhichInstances.{AreOctets}
 use Rattle.dms_instances.proofs.counts.Counts.named.Goals as goal
 
-pub returns-in-Some : goal.returns-in-Some
-returns-in-Some c = λ table has.
-    sym (ap (instance_named table) (sym ((bytes_decides (name_of c.in-Some.instance) c.args.name.now).0 c.in-Some.ensures.named))
-    ∙ named_back table c.in-Some.instance (c.in-Some.ensures.there table has))
+pub returns-in_err-instance : goal.returns-in_err-instance
+returns-in_err-instance c = λ table has.
+    let few : AreOctets c.args.self.now = (c.are_octets.ensures.permanent, c.are_octets.ensures.changeable, c.are_octets.ensures.volatile) in
+    let told = subst (λ (octets : List ℕ). IsTold octets None) c.content.ensures c.in_err-instance.ensures.told in
+    c.from_residual.ensures ∙ none_named table c.args.name.now λ i there e.
+    let none : None ≡ Some i =
+    there_told table c.args.self.now c.args.name.now None has few told i there e in
+    absurd (cc)
+
+pub returns-then-has : goal.returns-then-has
+returns-then-has c = λ table has.
+    sym (ap (instance_named table) (sym ((bytes_decides (name_of c.in_ok-instance.instance) c.args.name.now).0 c.known_by_octets.ensures))
+    ∙ named_back table c.in_ok-instance.instance (c.has.ensures.is c.if-has.true table has))
+
+pub returns-else-has : goal.returns-else-has
+returns-else-has c = λ table has.
+    let few : AreOctets c.args.self.now = (c.are_octets.ensures.permanent, c.are_octets.ensures.changeable, c.are_octets.ensures.volatile) in
+    let told = subst (λ (octets : List ℕ). IsTold octets (Some c.in_ok-instance.instance)) c.content.ensures c.in_ok-instance.ensures.told in
+    none_named table c.args.name.now λ i there e.
+    let same =
+    some_is c.in_ok-instance.instance i
+    (there_told table c.args.self.now c.args.name.now (Some c.in_ok-instance.instance) has few told i there e)
+    in
+    both_ways c.has.result c.if-has.false (c.has.ensures.each table has (subst (IsInstance table) (sym same) there))

@@ -1,0 +1,70 @@
+//! What a column of dmsMessageTable reads of a row.
+
+ghost use Rattle.std.specs.Prelude.{◌≡◌};
+ghost use Rattle.dms_wire.specs.View.{object_value};
+ghost use Rattle.dms_codes.specs.Codes.{in_order};
+ghost use Rattle.dms_table.specs.RowsView.{reading_of};
+ghost use Rattle.dms_table.specs.Activation.{shown_reading};
+ghost use Rattle.dms_access.specs.Cells.{number_value, cell_value};
+
+use dms_codes::{Order, RowId, Status};
+use dms_objects::Column;
+use dms_table::{RowView, Shown};
+use dms_wire::Value;
+
+/// A number as the value of an object.
+pub fn number_value<'a>(number: u16) -> Value<'a>
+    ensures { object_value result ≡ number_value number }
+{
+    Value::Integer(i64::from(number))
+}
+
+/// What a column reads of a row; the checksum is in the sign's order.
+pub fn cell_value<'a>(order: Order, column: Column, id: RowId, message: &RowView<'a>) -> Value<'a>
+    ensures { object_value result ≡ cell_value order column id (reading_of message.now) }
+{
+    match column {
+        Column::MemoryType => small(id.memory),
+        Column::Number => number_value(id.number),
+        Column::MultiString => Value::Octets(message.text),
+        Column::Owner => Value::Octets(message.owner),
+        Column::Crc => number_value(in_order(order, message.checksum)),
+        Column::Beacon => small(message.beacon),
+        Column::PixelService => small(message.pixel),
+        Column::RunTimePriority => small(message.priority),
+        Column::Status => small(message.status.number()),
+    }
+}
+
+/// What a column reads of what is shown, as the row of the current buffer.
+pub fn shown_value<'a>(order: Order, column: Column, id: RowId, shown: &'a Shown) -> Value<'a>
+    ensures { object_value result ≡ cell_value order column id (shown_reading shown.now) }
+{
+    match column {
+        Column::MemoryType => small(id.memory),
+        Column::Number => number_value(id.number),
+        Column::MultiString => Value::Octets(shown.text.as_slice()),
+        Column::Owner => Value::Octets(shown.owner.as_slice()),
+        Column::Crc => number_value(in_order(order, shown.checksum())),
+        Column::Beacon => small(shown.beacon),
+        Column::PixelService => small(shown.pixel),
+        Column::RunTimePriority => small(shown.priority),
+        Column::Status => small(Status::Valid.number()),
+    }
+}
+
+fn small<'a>(number: u8) -> Value<'a>
+    ensures { object_value result ≡ number_value number }
+{
+    number_value(u16::from(number))
+}
+
+/// A checksum as the number that its two octets are in an order.
+fn in_order(order: Order, checksum: u16) -> u16
+    ensures { result ≡ in_order order checksum }
+{
+    match order {
+        Order::High => checksum,
+        Order::Swapped => checksum.swap_bytes(),
+    }
+}

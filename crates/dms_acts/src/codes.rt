@@ -1,0 +1,108 @@
+//! The codes that activate messages.
+
+ghost use Rattle.std.specs.Prelude.{◌≡◌, ◌++◌, if◌then◌else◌, OnOk};
+ghost use Rattle.dms_codes.specs.declared.codes.Order.{Order};
+ghost use Rattle.dms_codes.specs.declared.codes.Order.TheVariants.{High, Swapped};
+ghost use Rattle.dms_codes.specs.declared.codes.Activation.{Activation};
+ghost use Rattle.dms_acts.specs.CodeLine.{code_line};
+
+use crate::act::{status, tell};
+use dms_calls::{ActivationWords, CodeWords, TermWords};
+use dms_codes::{Activation, MAX_TEXT, MessageId, Order, crc};
+use dms_replay::address;
+use dms_text::version;
+use std::alloc::{AllocError, Global};
+use std::io::Write;
+
+/// Prints the checksum of a message, and the code that puts it up.
+pub fn code<W: Write>(alloc: Global, words: &CodeWords<'_>, writer: &mut W) -> u8 {
+    let Some(address) = address(words.terms.address.as_bytes()) else {
+        return tell(writer, "bad address", 2);
+    };
+    if words.text.len() > MAX_TEXT {
+        return tell(writer, "text too long", 1);
+    }
+    let crc = crc(
+        words.text.as_bytes(),
+        u8::from(words.beacon),
+        u8::from(words.pixel),
+    );
+    let id = MessageId {
+        memory: words.row.memory,
+        number: words.row.number,
+        crc,
+    };
+    let mut lines = Vec::new(alloc);
+    if writeln!(lines, "crc {crc:04x}").is_err() {
+        return tell(writer, "memory", 1);
+    }
+    print_code(alloc, lines, id, &words.terms, address, writer)
+}
+
+/// Prints the code that puts up the message of a checksum.
+pub fn activation<W: Write>(alloc: Global, words: &ActivationWords<'_>, writer: &mut W) -> u8 {
+    let Some(crc) = version(words.checksum.as_bytes()) else {
+        return tell(writer, "bad checksum", 2);
+    };
+    let Some(address) = address(words.terms.address.as_bytes()) else {
+        return tell(writer, "bad address", 2);
+    };
+    let id = MessageId {
+        memory: words.message.memory,
+        number: words.message.number,
+        crc,
+    };
+    print_code(alloc, Vec::new(alloc), id, &words.terms, address, writer)
+}
+
+/// Prints these lines, and after them the code that puts up a message on these terms.
+fn print_code<W: Write>(
+    alloc: Global,
+    mut lines: Vec<u8>,
+    id: MessageId,
+    terms: &TermWords<'_>,
+    address: [u8; 4],
+    writer: &mut W,
+) -> u8 {
+    let code = on_terms(id, terms, address);
+    match put_code(alloc, &mut lines, order_of(terms), &code) {
+        Ok(()) => status(writer.write_all(lines.as_slice())),
+        Err(_) => tell(writer, "memory", 1),
+    }
+}
+
+/// The activation of a message on these terms, from this address.
+fn on_terms(id: MessageId, terms: &TermWords<'_>, address: [u8; 4]) -> Activation
+    ensures { result ≡ record { minutes = terms.now.duration; priority = terms.now.priority; id = id; address = address } }
+{
+    Activation {
+        minutes: terms.duration,
+        priority: terms.priority,
+        id,
+        address,
+    }
+}
+
+/// In which order a checksum has its octets.
+fn order_of(terms: &TermWords<'_>) -> Order
+    ensures { result ≡ if terms.now.swapped then Swapped else High }
+{
+    if terms.swapped {
+        Order::Swapped
+    } else {
+        Order::High
+    }
+}
+
+/// Appends the line that says a code.
+fn put_code(
+    alloc: Global,
+    lines: &mut Vec<u8>,
+    order: Order,
+    code: &Activation,
+) -> Result<(), AllocError>
+    ensures { OnOk result (lines.new.items ≡ lines.old.items ++ code_line order code.now) }
+{
+    let code = hex::encode(alloc, code.to_bytes(order).as_slice())?;
+    writeln!(lines, "code {code}").or(Err(AllocError))
+}

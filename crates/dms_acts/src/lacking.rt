@@ -1,0 +1,204 @@
+//! What a sign lacks for a text, in words.
+
+use dms_codes::MAX_TEXT;
+use dms_face::{Face, Font, MultiFault, MultiFaultCode, check};
+use dms_multi::{Item, items};
+use std::alloc::{AllocError, Global};
+use std::fmt;
+use std::io::Write;
+
+/// The most columns and rows of a matrix.
+const WIDEST: u16 = 256;
+
+const HIGHEST: u16 = 64;
+
+/// The powers of two that make up each number below 256.
+const STEPS: [u16; 8] = [128, 64, 32, 16, 8, 4, 2, 1];
+
+/// What a sign lacks for a text that it refuses.
+#[derive(Clone, Copy, Debug, PartialEq, Eq)]
+pub(crate) enum Lack {
+    /// A picture of a character.
+    Character { character: u16, font: u8 },
+    /// A font of this number.
+    Font(u8),
+    /// So many columns, for the line that does not fit.
+    Columns(u16),
+    /// So many rows, for the page that does not fit.
+    Rows(u16),
+    /// Room for so many octets.
+    Octets(usize),
+}
+
+impl fmt::Display for Lack {
+    fn fmt<W: fmt::Write>(&self, f: &mut fmt::Formatter<W>) -> fmt::Result {
+        match self {
+            Lack::Character { character, font } => {
+                write!(f, "character {character} is not in font {font}")
+            }
+            Lack::Font(font) => write!(f, "the sign has no font {font}"),
+            Lack::Columns(1) => f.write_str("wider than the matrix by 1 column"),
+            Lack::Columns(count) => write!(f, "wider than the matrix by {count} columns"),
+            Lack::Rows(1) => f.write_str("higher than the matrix by 1 row"),
+            Lack::Rows(count) => write!(f, "higher than the matrix by {count} rows"),
+            Lack::Octets(1) => f.write_str("longer than a text may be by 1 octet"),
+            Lack::Octets(count) => write!(f, "longer than a text may be by {count} octets"),
+        }
+    }
+}
+
+/// What a face lacks for a text with this fault, where that is a character, a font or room. Nothing is told where no matrix has the room,
+/// or where there is no memory to look.
+pub(crate) fn what_lacks(
+    alloc: Global,
+    face: &Face,
+    text: &[u8],
+    fault: MultiFault,
+) -> Option<Lack> {
+    match fault.code {
+        MultiFaultCode::CharacterNotDefined | MultiFaultCode::FontNotDefined => {
+            missing_item(face, text, fault.place)
+        }
+        MultiFaultCode::TextTooBig => match text.len().saturating_sub(MAX_TEXT) {
+            0 => missing_room(alloc, face, text, fault.place),
+            count => Some(Lack::Octets(count)),
+        },
+        _ => None,
+    }
+}
+
+/// The character that begins at this octet and the font that it is looked for in, or the font that is asked for there.
+fn missing_item(face: &Face, text: &[u8], place: usize) -> Option<Lack> {
+    let mut font = face.defaults().font;
+    for spot in items(text) {
+        let spot = spot.ok()?;
+        let is_there = spot.first == place;
+        match spot.item {
+            Item::Char(character) if is_there => return Some(Lack::Character { character, font }),
+            Item::Font(Some((number, _))) if is_there => return Some(Lack::Font(number)),
+            Item::Font(Some((number, _))) => font = number,
+            Item::Font(None) => font = face.defaults().font,
+            _ => {}
+        }
+    }
+    None
+}
+
+/// The columns or the rows that a matrix has to have more, for the item at this octet and those after it on its line or its page.
+fn missing_room(alloc: Global, face: &Face, text: &[u8], place: usize) -> Option<Lack> {
+    let past = place.saturating_add(1);
+    if takes(alloc, face, (face.width(), HIGHEST), text, past).ok()? {
+        let count = more_rows(alloc, face, text, end_of_page(text, place)).ok()?;
+        let is_of_a_matrix = face.height().saturating_add(count) <= HIGHEST;
+        is_of_a_matrix.then_some(Lack::Rows(count))
+    } else {
+        let count = more_columns(alloc, face, text, end_of_line(text, place)).ok()?;
+        let is_of_a_matrix = face.width().saturating_add(count) <= WIDEST;
+        is_of_a_matrix.then_some(Lack::Columns(count))
+    }
+}
+
+/// How many columns more a matrix has to have, to take the items before an octet.
+fn more_columns(alloc: Global, face: &Face, text: &[u8], end: usize) -> Result<u16, AllocError> {
+    let mut too_few = 0_u16;
+    for step in STEPS {
+        let tried = too_few.saturating_add(step);
+        let width = face.width().saturating_add(tried);
+        if !takes(alloc, face, (width, HIGHEST), text, end)? {
+            too_few = tried;
+        }
+    }
+    Ok(too_few.saturating_add(1))
+}
+
+/// How many rows more a matrix has to have, to take the items before an octet.
+fn more_rows(alloc: Global, face: &Face, text: &[u8], end: usize) -> Result<u16, AllocError> {
+    let mut too_few = 0_u16;
+    for step in STEPS {
+        let tried = too_few.saturating_add(step);
+        let height = face.height().saturating_add(tried);
+        if !takes(alloc, face, (WIDEST, height), text, end)? {
+            too_few = tried;
+        }
+    }
+    Ok(too_few.saturating_add(1))
+}
+
+/// Whether a matrix of this size has room for the items of a text that begin before an octet. One that is larger than any has.
+fn takes(
+    alloc: Global,
+    face: &Face,
+    size: (u16, u16),
+    text: &[u8],
+    end: usize,
+) -> Result<bool, AllocError> {
+    let (width, height) = size;
+    if width > WIDEST || height > HIGHEST {
+        return Ok(true);
+    }
+    let mut fonts = Vec::new(alloc);
+    for font in face.fonts() {
+        fonts.push(unlit(alloc, font)?)?;
+    }
+    match Face::new(width, height, fonts, face.defaults()) {
+        Ok(larger) => match check(&larger, text) {
+            Ok(_) => Ok(true),
+            Err(fault) => Ok(fault.place >= end),
+        },
+        Err(_) => Ok(true),
+    }
+}
+
+/// A font of the same sizes, of which no picture has a lit lamp.
+fn unlit(alloc: Global, font: &Font) -> Result<Font, AllocError> {
+    let mut text = Vec::new(alloc);
+    writeln!(
+        text,
+        "font {} height {} space {} line {} version {:04x}",
+        font.number(),
+        font.height(),
+        font.character_spacing(),
+        font.line_spacing(),
+        font.version()
+    )
+    .or(Err(AllocError))?;
+    for glyph in font.glyphs() {
+        let lamps = u32::from(glyph.width()) * u32::from(glyph.height());
+        write!(text, "glyph {} {} ", glyph.character(), glyph.width()).or(Err(AllocError))?;
+        for _ in 0..lamps.div_ceil(8) {
+            text.extend_from_slice(b"00")?;
+        }
+        text.push(b'\n')?;
+    }
+    Font::from_text(alloc, text.as_slice()).or(Err(AllocError))
+}
+
+/// Where the line of an octet ends: the first octet of the next item that closes a line, or the octet after the text's end.
+fn end_of_line(text: &[u8], place: usize) -> usize {
+    for spot in items(text) {
+        match spot {
+            Ok(spot) if spot.first > place && closes_line(spot.item) => return spot.first,
+            Ok(_) => {}
+            Err(_) => break,
+        }
+    }
+    text.len().saturating_add(1)
+}
+
+fn closes_line(item: Item) -> bool {
+    matches!(item, Item::NewLine(_) | Item::NewPage | Item::JustPage(_))
+}
+
+/// Where the page of an octet ends: the octet after the first one of the next item that closes a page, or that after the text's end.
+fn end_of_page(text: &[u8], place: usize) -> usize {
+    for spot in items(text) {
+        match spot {
+            Ok(spot) if spot.first >= place && matches!(spot.item, Item::NewPage) => {
+                return spot.first.saturating_add(1);
+            }
+            Ok(_) => {}
+            Err(_) => break,
+        }
+    }
+    text.len().saturating_add(1)
+}

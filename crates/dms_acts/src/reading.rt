@@ -1,0 +1,109 @@
+//! Datagrams and texts, read and printed.
+
+use crate::act::{status, status_after, tell};
+use crate::fields::write_message;
+use crate::item_lines::write_items;
+use crate::json::{put_items, put_message};
+use dms_calls::Form;
+use dms_wire::{WireFault, read};
+use hex::FromHexError;
+use std::alloc::Global;
+use std::io::Write;
+
+/// Prints the fields of a datagram, or its fault.
+pub(crate) fn decode<W: Write>(
+    alloc: Global,
+    digits: &str,
+    spaced: bool,
+    form: Form,
+    writer: &mut W,
+) -> u8 {
+    let octets = if spaced {
+        spaced_octets(alloc, digits)
+    } else {
+        hex::decode(alloc, digits.as_bytes())
+    };
+    let datagram = match octets {
+        Ok(datagram) => datagram,
+        Err(fault) => return tell_hex_fault(form, writer, fault),
+    };
+    let message = match read(datagram.as_slice()) {
+        Ok(message) => message,
+        Err(fault) => return tell_wire_fault(form, writer, fault),
+    };
+    let mut fields = Vec::new(alloc);
+    let made = match form {
+        Form::Lines => write_message(alloc, message, &mut fields),
+        Form::Json => put_message(alloc, message, &mut fields),
+    };
+    match made {
+        Ok(()) => status(writer.write_all(fields.as_slice())),
+        Err(_) => tell_refused(form, writer, "memory", 1),
+    }
+}
+
+/// Prints the items of a text before its fault, and its fault, if it has one.
+pub(crate) fn list_items<W: Write, E: Write>(
+    alloc: Global,
+    text: &str,
+    form: Form,
+    writer: &mut W,
+    errors: &mut E,
+) -> u8 {
+    let mut lines = Vec::new(alloc);
+    let made = match form {
+        Form::Lines => write_items(text.as_bytes(), &mut lines),
+        Form::Json => put_items(text.as_bytes(), &mut lines),
+    };
+    match made {
+        Ok(None) => status(writer.write_all(lines.as_slice())),
+        Ok(Some(fault)) => {
+            let _ = writeln!(errors, "{fault}");
+            status_after(1, writer.write_all(lines.as_slice()))
+        }
+        Err(_) => tell_refused(form, writer, "memory", 1),
+    }
+}
+
+/// The octets that pairs of digits are, with spaces and colons between them, before the first and after the last.
+fn spaced_octets(alloc: Global, digits: &str) -> Result<Vec<u8>, FromHexError> {
+    let mut pairs = Vec::new(alloc);
+    for digit in digits.as_bytes() {
+        let is_between = (*digit == b' ' || *digit == b':') && pairs.len() % 2 == 0;
+        if !is_between && pairs.push(*digit).is_err() {
+            return Err(FromHexError::OutOfMemory);
+        }
+    }
+    hex::decode(alloc, pairs.as_slice())
+}
+
+/// Prints that digits are no octets, or that there is no memory.
+pub(crate) fn tell_hex_fault<W: Write>(form: Form, writer: &mut W, fault: FromHexError) -> u8 {
+    match fault {
+        FromHexError::OutOfMemory => tell_refused(form, writer, "memory", 1),
+        _ => tell_refused(form, writer, "not hex", 2),
+    }
+}
+
+/// Prints why octets spell no message, and where.
+fn tell_wire_fault<W: Write>(form: Form, writer: &mut W, fault: WireFault) -> u8 {
+    status_after(
+        1,
+        match form {
+            Form::Lines => writeln!(writer, "fault {fault}"),
+            Form::Json => writeln!(
+                writer,
+                "{{\"fault\":\"{}\",\"octet\":{}}}",
+                fault.kind, fault.place
+            ),
+        },
+    )
+}
+
+/// Prints a refusal, and gives the status, or 1 where it was not written.
+fn tell_refused<W: Write>(form: Form, writer: &mut W, words: &str, status: u8) -> u8 {
+    match form {
+        Form::Lines => tell(writer, words, status),
+        Form::Json => { status_after(status, writeln!(writer, "{{\"refused\":\"{words}\"}}")) }
+    }
+}

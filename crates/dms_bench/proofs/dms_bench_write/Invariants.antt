@@ -1,5 +1,0 @@
-use Rattle.std.proofs.Common.{◌≤◌}
-use Rattle.dms_bench.proofs.dms_bench_write.Given as goal
-
-abbrev pub invariant-loop-bind : goal.invariant-loop-bind
-invariant-loop-bind l = l.count ≤ 210

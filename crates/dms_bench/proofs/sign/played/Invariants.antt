@@ -1,5 +1,0 @@
-use Rattle.std.proofs.Common.{length}
-use Rattle.dms_bench.proofs.sign.played.Given as goal
-
-abbrev pub decreases-steps : goal.decreases-steps
-decreases-steps l = length l.left

@@ -1,0 +1,62 @@
+-- An instance that a table has is the one that its name's octets tell.
+use Rattle.std.proofs.Common.{◌≡◌, inl, inr, ℕ, ◌+◌, ◌-◌, ◌<◌, true, List, Option, Some, None, refl, sym, ap, subst, ◌∙◌, arith}
+use Rattle.std.specs.Cmp.Lexicographic.{bytes_decides}
+use Rattle.dms_ber.specs.ObjectIdentifier.{name_octets}
+use Rattle.dms_ber.proofs.Unique.{name_is}
+use Rattle.dms_codes.specs.declared.row_id.RowId.{RowId}
+use Rattle.dms_objects.specs.declared.column.Column.{Column}
+use Rattle.dms_objects.specs.declared.instance.Instance.{Instance}
+use Rattle.dms_objects.specs.declared.instance.Instance.TheVariants.{The, Cell}
+use Rattle.dms_objects.specs.NameOctets.{IsNamed}
+use Rattle.dms_objects.specs.Names.{name_of, column_number}
+use Rattle.dms_objects.proofs.NameLaws.{object_named}
+use Rattle.dms_table.specs.Rows.{TableModel}
+use Rattle.dms_instances.specs.declared.counts.Counts.{Counts}
+use Rattle.dms_instances.specs.Objects.{has_name, instance_named, IsInstance}
+use Rattle.dms_instances.specs.Places.{HasCounts}
+use Rattle.dms_instances.specs.Told.{IsTold}
+use Rattle.dms_instances.proofs.CellOctets.{short_named, long_named_low}
+use Rattle.dms_instances.proofs.InOrder.{named_is}
+use Rattle.dms_instances.proofs.Places.{less_or_not}
+use Rattle.dms_instances.proofs.WhichInstances.{AreOctets, Counted, there_counted, last_few}
+
+-- a name that is an instance's has its octets
+octets_of : (name : List ℕ) (i : Instance) (octets : List ℕ) → has_name name i ≡ true → IsNamed i octets → name_octets name ≡ octets
+octets_of name i octets e named =
+    ap name_octets (sym ((bytes_decides (name_of i) name).0 e)) ∙ sym (name_is (name_of i) octets named.is)
+
+cell_told : (name : List ℕ) (told : Option Instance) (column : Column) (row : RowId) → IsTold (name_octets name) told
+    → row.memory < 128 → row.number < 256 → has_name name (Cell column row) ≡ true → told ≡ Some (Cell column row)
+cell_told name told column row is memory number e =
+    elim (less_or_not row.number 128) [
+      | inl few ↦
+          is.short column row.memory row.number memory few
+          (octets_of name (Cell column row) _ e (short_named column (column_number column) row.memory row.number refl memory few))
+      | inr many ↦
+          let low = row.number - 128 in
+          let few : low < 128 = omega arith in
+          let same : 128 + low ≡ row.number = omega arith in
+          let as_row : record { memory = row.memory; number = 128 + low } ≡ row = ap (λ n. record { memory = row.memory; number = n }) same in
+          let named = long_named_low column (column_number column) row.memory low refl memory few in
+          is.long column row.memory low memory few
+          (octets_of name (Cell column (record { memory = row.memory; number = 128 + low })) _
+          (subst (λ r. has_name name (Cell column r) ≡ true) (sym as_row) e) named)
+          ∙ ap (λ r. Some (Cell column r)) as_row
+    ]
+
+pub there_told : (table : TableModel) (n : Counts) (name : List ℕ) (told : Option Instance) → HasCounts table n → AreOctets n
+    → IsTold (name_octets name) told → (i : Instance) → IsInstance table i → has_name name i ≡ true → told ≡ Some i
+there_told table n name told has few is (The object) there e =
+    is.object object (octets_of name (The object) _ e (object_named object _ _ refl refl))
+there_told table n name told has few is (Cell column row) there e =
+    let counted : Counted n row = there_counted table n column row has there in
+    cell_told name told column row is counted.memory (omega (arith, counted.to, last_few n few row.memory)) e
+
+-- a name that none has is not found
+pub none_named : (table : TableModel) (name : List ℕ) → ((i : Instance) → IsInstance table i → has_name name i ≡ true → ⊥)
+    → None ≡ instance_named table name
+none_named table name none = by (instance_named table name) refl
+  where
+    by : (o : Option Instance) → instance_named table name ≡ o → None ≡ o
+    by None h = refl
+    by (Some i) h = let is = named_is table name i h in absurd (none i is.1 ((bytes_decides (name_of i) name).1 is.0))

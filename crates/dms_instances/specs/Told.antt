@@ -1,0 +1,42 @@
+-- What the octets of a name tell of the instance whose name they are (X.690, 8.19; this profile).
+use Rattle.std.specs.Prelude.{◌≡◌, ◌<◌, ◌+◌, ◌==◌, ◌&&◌, ◌++◌, ℕ, List, [], ◌∷◌, Option, Some}
+use Rattle.std.specs.List.{find}
+use Rattle.dms_objects.specs.Names.{column_number, scalar_number}
+use Rattle.dms_objects.specs.declared.column.Column.{Column}
+use Rattle.dms_objects.specs.declared.scalar.Scalar.{Scalar}
+use Rattle.dms_objects.specs.declared.instance.Instance.{Instance}
+use Rattle.dms_objects.specs.declared.instance.Instance.TheVariants.{The, Cell}
+use Rattle.dms_instances.specs.Objects.{before_table, after_table, columns}
+
+-- the column of this number
+abbrev pub column_at : ℕ → Option Column
+column_at number = find (λ column. column_number column == number) columns
+
+-- the object of this number in this group
+abbrev pub scalar_at : (group number : ℕ) → Option Scalar
+scalar_at group number =
+    find (λ object. ((scalar_number object).0 == group) && ((scalar_number object).1 == number)) (before_table ++ after_table)
+
+-- the content octets of a name below dms, 1.3.6.1.4.1.1206.4.2.3
+abbrev pub under_dms : List ℕ → List ℕ
+under_dms rest = 43 ∷ 6 ∷ 1 ∷ 4 ∷ 1 ∷ 137 ∷ 54 ∷ 4 ∷ 2 ∷ 3 ∷ rest
+
+-- those of the name of an object's instance
+abbrev pub object_content : Scalar → List ℕ
+object_content object = under_dms ((scalar_number object).0 ∷ (scalar_number object).1 ∷ 0 ∷ [])
+
+-- those of a cell's name, whose row's type of memory and number have one octet each
+abbrev pub cell_content : Column → (memory number : ℕ) → List ℕ
+cell_content column memory number = under_dms (5 ∷ 8 ∷ 1 ∷ column_number column ∷ memory ∷ number ∷ [])
+
+-- those where the row's number, 128 and these, has two octets
+abbrev pub long_cell_content : Column → (memory low : ℕ) → List ℕ
+long_cell_content column memory low = under_dms (5 ∷ 8 ∷ 1 ∷ column_number column ∷ memory ∷ 129 ∷ low ∷ [])
+
+-- whichever object, or cell of a row of a type of memory below 128 and a number below 256, has these octets as its name: it is told
+pub record IsTold (octets : List ℕ) (told : Option Instance) : Type 0 where
+  pub object : (object : Scalar) → octets ≡ object_content object → told ≡ Some (The object)
+  pub short : (column : Column) (memory number : ℕ) → memory < 128 → number < 128 → octets ≡ cell_content column memory number
+      → told ≡ Some (Cell column (record { memory = memory; number = number }))
+  pub long : (column : Column) (memory low : ℕ) → memory < 128 → low < 128 → octets ≡ long_cell_content column memory low
+      → told ≡ Some (Cell column (record { memory = memory; number = 128 + low }))

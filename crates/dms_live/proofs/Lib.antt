@@ -1,6 +1,0 @@
-mod Parts
-mod Taken
-mod LineCuts
-mod Turns
-mod Journals
-mod Descriptions

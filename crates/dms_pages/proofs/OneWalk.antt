@@ -1,0 +1,125 @@
+-- One walk judges the items of a text and lays them out.
+use Rattle.std.proofs.Common.{◌≡◌, ℕ, ◌≤◌, ◌<◌, ◌+◌, List, [], ◌∷◌, length, map, fold, Option, Some, None, IfNone, Result, Ok, Err, refl, sym, ap, subst, ◌∙◌}
+use Rattle.std.specs.Prelude.{is_ok}
+use Rattle.dms_codes.specs.Limits.{longest_text}
+use Rattle.dms_multi.specs.declared.spots.Spot.{Spot}
+use Rattle.dms_multi.specs.declared.fault.SyntaxFault.{SyntaxFault}
+use Rattle.dms_multi.specs.Outcomes.{outcomes_of, items_in}
+use Rattle.dms_face.specs.declared.multi_fault.MultiFault.{MultiFault}
+use Rattle.dms_face.specs.declared.multi_fault.MultiFaultCode.{MultiFaultCode}
+use Rattle.dms_face.specs.declared.multi_fault.MultiFaultCode.TheVariants.{TextTooBig}
+use Rattle.dms_face.specs.declared.totals.Totals.{Totals}
+use Rattle.dms_face.specs.FaultCode.{syntax_fault}
+use Rattle.dms_face.specs.Face.{FaceModel}
+use Rattle.dms_face.specs.Layout.{PageModel, Layout, blank_layout, closed, with_item, with_turn, with_page}
+use Rattle.dms_face.specs.Room.{lines_fit}
+use Rattle.dms_face.specs.Fit.{fault_of, or_fault, page_count, checked_text}
+use Rattle.dms_face.specs.Cells.{pages_of}
+use Rattle.dms_face.specs.OnePass.{room_fault, local_fault, or_else, walked}
+use Rattle.dms_face.specs.Totals.{Tells, Holds, AreSmall, Takes}
+use Rattle.dms_face.proofs.WalkLaws.{checked_long, checked_walk}
+use Rattle.dms_pages.specs.declared.text_pages.PagesFault.{PagesFault}
+use Rattle.dms_pages.specs.declared.text_pages.PagesFault.TheVariants.{Multi, Memory}
+use Rattle.dms_pages.specs.Drawn.{DrawnPage, drawn, drawn_text}
+use Rattle.dms_pages.specs.DrawnView.{GivesPages}
+use Rattle.dms_pages.specs.Laid.{GivesLaid}
+use Rattle.dms_pages.proofs.LayingLaws.{laid_all}
+
+-- the fault of an answer, if it is one
+abbrev pub told : {A : Type 0} → Result A MultiFault → Option MultiFault
+told (Ok value) = None
+told (Err fault) = Some fault
+
+told_fault : {A : Type 0} (value : A) (fault : Option MultiFault) → told (or_fault value fault) ≡ fault
+told_fault value None = refl
+told_fault value (Some fault) = refl
+
+-- what an answer of the whole text tells of its fault
+pub fault_told : (face : FaceModel) (text : List ℕ) (answer : Result ℕ MultiFault) → answer ≡ checked_text face text → fault_of face text ≡ told answer
+fault_told face text answer is = sym (ap (λ (a : Result ℕ MultiFault). told a) is ∙ told_fault (page_count text) (fault_of face text))
+
+-- the pages that a layout and the rest of a text give
+abbrev pub pages_after : FaceModel → Layout → List (Result Spot SyntaxFault) → List PageModel
+pages_after face layout rest = (with_page (fold (with_turn face) layout (map Some (items_in rest)))).pages
+
+-- The sums tell of this layout, and it and this rest give the fault and the pages of the text.
+pub record IsLaidTo (face : FaceModel) (text : List ℕ) (totals : Totals) (layout : Layout) (rest : List (Result Spot SyntaxFault)) : Type 0 where
+  pub holds : Holds face totals layout
+  pub small : AreSmall totals
+  pub fault : fault_of face text ≡ told (walked face (length text) layout rest)
+  pub pages : pages_of face text ≡ pages_after face layout rest
+
+-- Nothing was taken so far.
+pub laid_starts : (face : FaceModel) (text : List ℕ) (totals : Totals) (layout : Layout) (rest : List (Result Spot SyntaxFault)) → length text ≤ longest_text
+    → Holds face totals (blank_layout face) → AreSmall totals → layout ≡ blank_layout face → rest ≡ outcomes_of text → IsLaidTo face text totals layout rest
+laid_starts face text totals layout rest short holds small blank whole =
+    let P : Layout → Type 0 = λ l. IsLaidTo face text totals l rest in
+    let walk : walked face (length text) (blank_layout face) rest ≡ checked_text face text = ap (walked face (length text) (blank_layout face)) whole ∙ checked_walk face text short in
+    subst P (sym blank) (record {
+      holds = holds;
+      small = small;
+      fault = fault_told face text (walked face (length text) (blank_layout face) rest) walk;
+      pages = sym (ap (pages_after face (blank_layout face)) whole ∙ laid_all face text);
+    })
+
+-- An item was taken that has no fault, and was laid out.
+pub laid_more : (face : FaceModel) (text : List ℕ) (totals next : Totals) (layout after : Layout) (rest : List (Result Spot SyntaxFault)) (spot : Spot) (more : List (Result Spot SyntaxFault))
+    (fault : Option MultiFaultCode) → IsLaidTo face text totals layout rest → rest ≡ Ok spot ∷ more → fault ≡ None
+    → Takes face totals next fault (λ (layout : Layout). local_fault face layout (Some spot.item)) (λ (layout : Layout). with_item face layout spot.item)
+    → after ≡ with_item face layout spot.item → IsLaidTo face text next after more
+laid_more face text totals next layout after rest spot more fault state is none takes added =
+    let P : Layout → Type 0 = λ l. IsLaidTo face text next l more in
+    let Q : Option MultiFaultCode → Type 0 = λ o. IfNone o (Holds face next (with_item face layout spot.item)) in
+    let R : Option MultiFaultCode → Type 0 = λ o. IfNone o (AreSmall next) in
+    let fine : local_fault face layout (Some spot.item) ≡ None = sym (takes.fault layout state.holds) ∙ none in
+    let walk : walked face (length text) layout rest ≡ walked face (length text) (with_item face layout spot.item) more =
+    ap (walked face (length text) layout) is ∙ ap (λ o. or_else spot.first o (walked face (length text) (with_item face layout spot.item) more)) fine in
+    subst P (sym added) (record {
+      holds = subst Q none (takes.holds layout state.holds);
+      small = subst R none takes.small;
+      fault = state.fault ∙ ap (λ (a : Result ℕ MultiFault). told a) walk;
+      pages = state.pages ∙ ap (pages_after face layout) is;
+    })
+
+-- An item has a fault.
+pub item_fault : (face : FaceModel) (text : List ℕ) (totals next : Totals) (layout : Layout) (rest : List (Result Spot SyntaxFault)) (spot : Spot) (more : List (Result Spot SyntaxFault))
+    (fault : Option MultiFaultCode) (code : MultiFaultCode) → IsLaidTo face text totals layout rest → rest ≡ Ok spot ∷ more → fault ≡ Some code
+    → Takes face totals next fault (λ (layout : Layout). local_fault face layout (Some spot.item)) (λ (layout : Layout). with_item face layout spot.item)
+    → fault_of face text ≡ Some (record { code = code; place = spot.first })
+item_fault face text totals next layout rest spot more fault code state is found takes =
+    let wrong : local_fault face layout (Some spot.item) ≡ Some code = sym (takes.fault layout state.holds) ∙ found in
+    let walk : walked face (length text) layout rest ≡ Err (record { code = code; place = spot.first }) =
+    ap (walked face (length text) layout) is ∙ ap (λ o. or_else spot.first o (walked face (length text) (with_item face layout spot.item) more)) wrong in
+    state.fault ∙ ap (λ (a : Result ℕ MultiFault). told a) walk
+
+-- The text has a fault of its grammar.
+pub grammar_fault : (face : FaceModel) (text : List ℕ) (totals : Totals) (layout : Layout) (rest : List (Result Spot SyntaxFault)) (fault : SyntaxFault) (more : List (Result Spot SyntaxFault))
+    → IsLaidTo face text totals layout rest → rest ≡ Err fault ∷ more → fault_of face text ≡ Some (syntax_fault fault)
+grammar_fault face text totals layout rest fault more state is = state.fault ∙ ap (λ r. told (walked face (length text) layout r)) is
+
+-- The text's end has this fault, or none.
+pub end_fault : (face : FaceModel) (text : List ℕ) (totals : Totals) (layout : Layout) (rest : List (Result Spot SyntaxFault)) (fault : Option MultiFaultCode)
+    → IsLaidTo face text totals layout rest → rest ≡ [] → ((l : Layout) → Tells totals l → fault ≡ room_fault (lines_fit face (closed l)))
+    → fault_of face text ≡ told (or_else (length text) fault (Ok (length layout.pages + 1)))
+end_fault face text totals layout rest fault state is found =
+    state.fault ∙ ap (λ r. told (walked face (length text) layout r)) is
+    ∙ sym (ap (λ o. told (or_else (length text) o (Ok (length layout.pages + 1)))) (found layout state.holds.tells))
+
+-- A text without a fault is laid out.
+pub good_laid : (face : FaceModel) (text : List ℕ) (totals : Totals) (layout last : Layout) (rest : List (Result Spot SyntaxFault)) (fault : Option MultiFaultCode) (pages : List PageModel)
+    → IsLaidTo face text totals layout rest → rest ≡ [] → ((l : Layout) → Tells totals l → fault ≡ room_fault (lines_fit face (closed l))) → fault ≡ None
+    → last ≡ with_page layout → pages ≡ last.pages → (pages ≡ pages_of face text) × (fault_of face text ≡ None)
+good_laid face text totals layout last rest fault pages state is found none closing are = (
+  are ∙ ap (λ (l : Layout). l.pages) closing ∙ sym (state.pages ∙ ap (pages_after face layout) is),
+  end_fault face text totals layout rest fault state is found ∙ ap (λ o. told (or_else (length text) o (Ok (length layout.pages + 1)))) none,
+)
+
+-- a text that is too long
+pub long_fault : (face : FaceModel) (text : List ℕ) → longest_text < length text → fault_of face text ≡ Some (record { code = TextTooBig; place = longest_text })
+long_fault face text long = fault_told face text (Err (record { code = TextTooBig; place = longest_text })) (checked_long face text long)
+
+-- Where no text is laid out, no page is drawn.
+pub none_drawn : {A B : Type 0} (laid : A → List PageModel) (made : B → List DrawnPage) (face : FaceModel) (text : List ℕ) (fault : PagesFault)
+    → GivesLaid laid (Err fault) face text → (fault ≡ Memory → fault_of face text ≡ None) → GivesPages made (Err fault) (drawn_text face text)
+none_drawn laid made face text (Multi fault) gives memory = ap (or_fault (map (drawn face) (pages_of face text))) gives
+none_drawn laid made face text Memory gives memory = ap (λ o. is_ok (or_fault (map (drawn face) (pages_of face text)) o)) (memory refl)

@@ -1,0 +1,70 @@
+-- What the library answers to C, and what it leaves in a buffer (this profile).
+use Rattle.std.specs.Prelude.{ℕ, ◌==◌, if◌then◌else◌, List, ◌++◌, drop, length, nat_lt, Option, Some, None}
+use Rattle.dms_ber.specs.Limits.{longest_datagram}
+use Rattle.dms_sign.specs.State.{SignState}
+use Rattle.dms_sign.specs.Reply.{received}
+
+-- it is done
+abbrev pub done : ℕ
+done = 0
+
+-- it is done, and nothing is sent
+abbrev pub nothing_sent : ℕ
+nothing_sent = 1
+
+-- a buffer is too small, and nothing is done
+abbrev pub too_small : ℕ
+too_small = 2
+
+-- there is no memory, and nothing is done
+abbrev pub no_memory : ℕ
+no_memory = 3
+
+-- what was given is at fault, and nothing is done
+abbrev pub at_fault : ℕ
+at_fault = 4
+
+-- the octets stand first in the buffer, and what was behind them stays
+abbrev pub put_first : List ℕ → List ℕ → List ℕ
+put_first octets buffer = octets ++ drop (length octets) buffer
+
+-- ---- octets that a buffer has room for or not; where it has none the buffer stays as it is, and the size that is needed is told
+
+abbrev pub given_answer : List ℕ → ℕ → ℕ
+given_answer octets room = if nat_lt room (length octets) then too_small else done
+
+abbrev pub given_buffer : List ℕ → List ℕ → List ℕ
+given_buffer octets buffer = if nat_lt (length buffer) (length octets) then buffer else put_first octets buffer
+
+-- what is old stays where memory is wanting
+abbrev pub unless_memory : {A : Type 0} → ℕ → A → A → A
+unless_memory answer old new = if answer == no_memory then old else new
+
+-- ---- what is sent, if anything is
+
+abbrev pub answer_of : Option (List ℕ) → ℕ
+answer_of None = nothing_sent
+answer_of (Some octets) = done
+
+abbrev pub size_of : Option (List ℕ) → ℕ
+size_of None = 0
+size_of (Some octets) = length octets
+
+abbrev pub buffer_with : Option (List ℕ) → List ℕ → List ℕ
+buffer_with None buffer = buffer
+buffer_with (Some octets) buffer = put_first octets buffer
+
+-- ---- a datagram to a sign: one that comes with a buffer which could not take every reply is not heard
+
+abbrev pub after_datagram : SignState → List ℕ → ℕ → SignState
+after_datagram s datagram room = if nat_lt room longest_datagram then s else (received s datagram).after
+
+abbrev pub datagram_answer : SignState → List ℕ → ℕ → ℕ
+datagram_answer s datagram room = if nat_lt room longest_datagram then too_small else answer_of (received s datagram).reply
+
+abbrev pub datagram_size : SignState → List ℕ → ℕ → ℕ
+datagram_size s datagram room = if nat_lt room longest_datagram then longest_datagram else size_of (received s datagram).reply
+
+abbrev pub datagram_buffer : SignState → List ℕ → List ℕ → List ℕ
+datagram_buffer s datagram buffer =
+    if nat_lt (length buffer) longest_datagram then buffer else buffer_with (received s datagram).reply buffer

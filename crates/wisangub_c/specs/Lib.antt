@@ -1,0 +1,5 @@
+pub mod Answers
+pub mod Codes
+pub mod Shown
+pub mod Pages
+pub mod Centre

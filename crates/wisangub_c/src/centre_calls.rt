@@ -1,0 +1,456 @@
+//! A central system's calls from C.
+
+ghost use Rattle.std.specs.Prelude.{◌≡◌, ◌≤◌, ◌<◌, ◌==◌, false, length, slice_get, IfOk};
+ghost use Rattle.dms_ber.specs.Limits.{longest_datagram};
+ghost use Rattle.dms_centre.specs.State.{start};
+ghost use Rattle.dms_centre.specs.Inputs.{received, ticked, restarted};
+ghost use Rattle.dms_centre.specs.Commands.{commanded, refusal_of};
+ghost use Rattle.dms_centre.specs.CodeView.{command_model, entry_model, sent_in};
+ghost use Rattle.wisangub_c.specs.Answers.{done, no_memory, too_small, at_fault, unless_memory, answer_of, size_of, buffer_with};
+ghost use Rattle.wisangub_c.specs.Codes.{order_of};
+ghost use Rattle.wisangub_c.specs.Centre.{command_in, refusal_answer, given_command_answer, given_command_size, given_command_buffer};
+ghost use Rattle.wisangub_c.specs.Centre.{command_answer, command_size, command_buffer, after_command, code_parts};
+ghost use Rattle.wisangub_c.specs.Centre.{outcome_number, outcome_status, ledger_entry, entry_answer, entry_after};
+ghost use Rattle.wisangub_c.specs.Centre.{ended_number, ended_step, ended_why, ended_value, why_number, why_value, busy_number, centre_status};
+
+use crate::answers::{AT_FAULT, DONE, NO_MEMORY, NOTHING_SENT, TOO_SMALL, put_first};
+use crate::centre_handle::CentreHandle;
+use crate::code_calls::{CodeParts, order_of};
+use dms_centre::{
+    Centre, CentreFault, Command, CommandFault, Ended, Entry, Outcome, Settings, Why,
+};
+use dms_codes::Activation;
+use dms_replay::event_line::read_event;
+use dms_wire::{MAX_DATAGRAM, Out};
+use dms_world::Event;
+use std::alloc::Global;
+
+/// A code that was sent, the number of its request, and what became of it.
+#[repr(C)]
+#[derive(Clone, Copy)]
+pub struct LedgerEntry {
+    /// The error-status of a refusal (RFC 1157, 4.1.1), else 0.
+    pub status: i64,
+    /// The number of the request.
+    pub number: u32,
+    /// 0 it waits, 1 the sign accepted it, 2 the sign refused it, 3 no reply came, 4 the centre was restarted while it waited.
+    pub outcome: u8,
+    /// The code, as the request carried it.
+    pub code: CodeParts,
+}
+
+/// How a central system stands.
+#[repr(C)]
+#[derive(Clone, Copy)]
+pub struct CentreStatus {
+    /// The error-status, the status of the row, or the cause of a job that failed for one, else 0.
+    pub value: i64,
+    /// How many codes it sent.
+    pub entries: usize,
+    /// 1 while a job is on, else 0.
+    pub busy: u8,
+    /// How the last job ended: 0 none did, 1 it was accepted, 2 it failed.
+    pub last: u8,
+    /// The step at which it failed, 1 to 8, else 0.
+    pub step: u8,
+    /// Why it failed, 1 to 9, else 0.
+    pub why: u8,
+}
+
+/// Why no central system was made.
+enum MakeFault {
+    Community,
+    Memory,
+}
+
+/// A central system on the heap.
+fn made(alloc: Global, settings: Settings<'_>, first: u32) -> Result<Box<Centre>, MakeFault>
+    ensures made { IfOk result (λ centre. centre.value.state ≡ start (record { community = settings.entry.community.now; order = settings.entry.order }) first) }
+{
+    let centre = match Centre::new(alloc, settings, first) {
+        Ok(centre) => centre,
+        Err(CentreFault::Community) => return Err(MakeFault::Community),
+    };
+    match Box::new(alloc, centre) {
+        Ok(centre) => Ok(centre),
+        Err(_) => Err(MakeFault::Memory),
+    }
+}
+
+/// Makes a central system, whose requests have this community and begin with the number `first`: `centre` is its pointer.
+#[unsafe(no_mangle)]
+pub extern "C" fn wisangub_centre_new_at(
+    alloc: Global,
+    community: &[u8],
+    order: u8,
+    first: u32,
+    centre: &mut *mut u8,
+) -> u32 {
+    let settings = Settings {
+        community,
+        order: order_of(order),
+    };
+    match made(alloc, settings, first) {
+        Ok(made) => {
+            *centre = Box::into_raw(made) as *mut u8;
+            DONE
+        }
+        Err(MakeFault::Community) => AT_FAULT,
+        Err(MakeFault::Memory) => NO_MEMORY,
+    }
+}
+
+/// Gives what is sent into a buffer that has room for every datagram.
+fn give_sent(out: &Out, request: &mut [u8], size: &mut usize) -> u32
+    requires { longest_datagram ≤ length request.old }
+    ensures answer { result ≡ answer_of (sent_in out.now.items) }
+    ensures some_memory { (result == no_memory) ≡ false }
+    ensures size { size.new ≡ size_of (sent_in out.now.items) }
+    ensures request { request.new ≡ buffer_with (sent_in out.now.items) request.old }
+{
+    *size = out.len();
+    if out.is_empty() {
+        return NOTHING_SENT;
+    }
+    put_first(out.as_slice(), request);
+    DONE
+}
+
+fn refusal_answer(fault: CommandFault) -> u32
+    ensures { result ≡ refusal_answer fault }
+{
+    match fault {
+        CommandFault::Busy => 6,
+        CommandFault::NumbersUsedUp => 7,
+        CommandFault::BadCommand => 8,
+        CommandFault::Memory => NO_MEMORY,
+    }
+}
+
+/// Gives it a command.
+#[tactic(auto, unfolding(dms_centre::specs::Commands::commanded))]
+fn give_command(
+    centre: &mut Centre,
+    asked: Command<'_>,
+    request: &mut [u8],
+    size: &mut usize,
+) -> u32
+    requires { longest_datagram ≤ length request.old }
+    ensures state { centre.new.state ≡ unless_memory result centre.old.state (commanded centre.old.state (command_model asked.entry)).state }
+    ensures answer { result ≡ unless_memory result no_memory (given_command_answer centre.old.state (command_model asked.entry) (refusal_of centre.old.state (command_model asked.entry))) }
+    ensures size { size.new ≡ unless_memory result size.old (given_command_size centre.old.state (command_model asked.entry) (refusal_of centre.old.state (command_model asked.entry)) size.old) }
+    ensures request { request.new ≡ unless_memory result request.old (given_command_buffer centre.old.state (command_model asked.entry) (refusal_of centre.old.state (command_model asked.entry)) request.old) }
+{
+    if let Some(fault) = centre.refusal(&asked) {
+        return refusal_answer(fault);
+    }
+    let mut out = Out::new();
+    match centre.command(asked, &mut out) {
+        Ok(()) => give_sent(&out, request, size),
+        Err(_) => NO_MEMORY,
+    }
+}
+
+/// Gives it the command that a line spells.
+fn command(
+    alloc: Global,
+    centre: &mut Centre,
+    line: &[u8],
+    request: &mut [u8],
+    size: &mut usize,
+) -> u32
+    requires { longest_datagram ≤ length request.old }
+    ensures state { centre.new.state ≡ unless_memory result centre.old.state (after_command centre.old.state (command_in centre.old.state line.now)) }
+    ensures answer { result ≡ unless_memory result no_memory (command_answer centre.old.state (command_in centre.old.state line.now)) }
+    ensures size { size.new ≡ unless_memory result size.old (command_size centre.old.state (command_in centre.old.state line.now) size.old) }
+    ensures request { request.new ≡ unless_memory result request.old (command_buffer centre.old.state (command_in centre.old.state line.now) request.old) }
+{
+    let event = match read_event(alloc, centre.order(), line) {
+        Ok(Some(event)) => event,
+        Ok(None) => return AT_FAULT,
+        Err(_) => return NO_MEMORY,
+    };
+    match event.lent() {
+        Event::Command(asked) => give_command(centre, asked, request, size),
+        _ => AT_FAULT,
+    }
+}
+
+/// Gives the central system the command that a line of a script spells. The request stands first in `request`, `size` octets; with fewer
+/// than 1472 octets of room nothing is done.
+#[unsafe(no_mangle)]
+pub extern "C" fn wisangub_centre_command_at(
+    alloc: Global,
+    centre: &mut CentreHandle,
+    line: &[u8],
+    request: &mut [u8],
+    size: &mut usize,
+) -> u32
+    ensures short { length request.old < longest_datagram → (result ≡ too_small) × (centre.new.value ≡ centre.old.value) × (size.new ≡ longest_datagram) × (request.new ≡ request.old) }
+    ensures state { longest_datagram ≤ length request.old
+        → centre.new.value.state ≡ unless_memory result centre.old.value.state (after_command centre.old.value.state (command_in centre.old.value.state line.now)) }
+    ensures answer { longest_datagram ≤ length request.old
+        → result ≡ unless_memory result no_memory (command_answer centre.old.value.state (command_in centre.old.value.state line.now)) }
+    ensures size { longest_datagram ≤ length request.old
+        → size.new ≡ unless_memory result size.old (command_size centre.old.value.state (command_in centre.old.value.state line.now) size.old) }
+    ensures request { longest_datagram ≤ length request.old
+        → request.new ≡ unless_memory result request.old (command_buffer centre.old.value.state (command_in centre.old.value.state line.now) request.old) }
+{
+    if request.len() < MAX_DATAGRAM {
+        *size = MAX_DATAGRAM;
+        return TOO_SMALL;
+    }
+    command(alloc, centre.as_mut(), line, request, size)
+}
+
+/// Hands it a datagram.
+fn hear(centre: &mut Centre, datagram: &[u8], request: &mut [u8], size: &mut usize) -> u32
+    requires { longest_datagram ≤ length request.old }
+    ensures state { centre.new.state ≡ (received centre.old.state datagram.now).state }
+    ensures answer { result ≡ answer_of (received centre.old.state datagram.now).sent }
+    ensures size { size.new ≡ size_of (received centre.old.state datagram.now).sent }
+    ensures request { request.new ≡ buffer_with (received centre.old.state datagram.now).sent request.old }
+{
+    let mut out = Out::new();
+    centre.receive(datagram, &mut out);
+    give_sent(&out, request, size)
+}
+
+/// Hands the central system a datagram. The request that it sends next stands first in `request`, `size` octets; with fewer than 1472
+/// octets of room nothing is done.
+#[unsafe(no_mangle)]
+pub extern "C" fn wisangub_centre_receive_at(
+    centre: &mut CentreHandle,
+    datagram: &[u8],
+    request: &mut [u8],
+    size: &mut usize,
+) -> u32
+    ensures short { length request.old < longest_datagram → (result ≡ too_small) × (centre.new.value ≡ centre.old.value) × (size.new ≡ longest_datagram) × (request.new ≡ request.old) }
+    ensures state { longest_datagram ≤ length request.old → centre.new.value.state ≡ (received centre.old.value.state datagram.now).state }
+    ensures answer { longest_datagram ≤ length request.old → result ≡ answer_of (received centre.old.value.state datagram.now).sent }
+    ensures size { longest_datagram ≤ length request.old → size.new ≡ size_of (received centre.old.value.state datagram.now).sent }
+    ensures request { longest_datagram ≤ length request.old → request.new ≡ buffer_with (received centre.old.value.state datagram.now).sent request.old }
+{
+    if request.len() < MAX_DATAGRAM {
+        *size = MAX_DATAGRAM;
+        return TOO_SMALL;
+    }
+    hear(centre.as_mut(), datagram, request, size)
+}
+
+/// Its clock ticks.
+fn tick(centre: &mut Centre, request: &mut [u8], size: &mut usize) -> u32
+    requires { longest_datagram ≤ length request.old }
+    ensures state { centre.new.state ≡ unless_memory result centre.old.state (ticked centre.old.state).state }
+    ensures answer { result ≡ unless_memory result no_memory (answer_of (ticked centre.old.state).sent) }
+    ensures size { size.new ≡ unless_memory result size.old (size_of (ticked centre.old.state).sent) }
+    ensures request { request.new ≡ unless_memory result request.old (buffer_with (ticked centre.old.state).sent request.old) }
+{
+    let mut out = Out::new();
+    match centre.tick(&mut out) {
+        Ok(()) => give_sent(&out, request, size),
+        Err(_) => NO_MEMORY,
+    }
+}
+
+/// The central system's clock ticks. What it sends stands first in `request`, `size` octets; with fewer than 1472 octets of room nothing is
+/// done.
+#[unsafe(no_mangle)]
+pub extern "C" fn wisangub_centre_tick_at(
+    centre: &mut CentreHandle,
+    request: &mut [u8],
+    size: &mut usize,
+) -> u32
+    ensures short { length request.old < longest_datagram → (result ≡ too_small) × (centre.new.value ≡ centre.old.value) × (size.new ≡ longest_datagram) × (request.new ≡ request.old) }
+    ensures state { longest_datagram ≤ length request.old → centre.new.value.state ≡ unless_memory result centre.old.value.state (ticked centre.old.value.state).state }
+    ensures answer { longest_datagram ≤ length request.old → result ≡ unless_memory result no_memory (answer_of (ticked centre.old.value.state).sent) }
+    ensures size { longest_datagram ≤ length request.old → size.new ≡ unless_memory result size.old (size_of (ticked centre.old.value.state).sent) }
+    ensures request { longest_datagram ≤ length request.old → request.new ≡ unless_memory result request.old (buffer_with (ticked centre.old.value.state).sent request.old) }
+{
+    if request.len() < MAX_DATAGRAM {
+        *size = MAX_DATAGRAM;
+        return TOO_SMALL;
+    }
+    tick(centre.as_mut(), request, size)
+}
+
+/// The central system begins anew, as after a loss of power.
+#[unsafe(no_mangle)]
+pub extern "C" fn wisangub_centre_restart_at(centre: &mut CentreHandle)
+    ensures state { centre.new.value.state ≡ restarted centre.old.value.state }
+    ensures room { centre.new.value.spare ≡ centre.old.value.spare }
+{
+    centre.as_mut().restart();
+}
+
+fn ended_number(ended: Ended) -> u8
+    ensures { result ≡ ended_number ended }
+{
+    match ended {
+        Ended::Never => 0,
+        Ended::Accepted => 1,
+        Ended::Failed(..) => 2,
+    }
+}
+
+fn ended_step(ended: Ended) -> u8
+    ensures { result ≡ ended_step ended }
+{
+    match ended {
+        Ended::Failed(step, _) => step,
+        Ended::Never | Ended::Accepted => 0,
+    }
+}
+
+fn ended_why(ended: Ended) -> u8
+    ensures { result ≡ ended_why ended }
+{
+    match ended {
+        Ended::Failed(_, why) => why_number(why),
+        Ended::Never | Ended::Accepted => 0,
+    }
+}
+
+fn ended_value(ended: Ended) -> i64
+    ensures { result ≡ ended_value ended }
+{
+    match ended {
+        Ended::Failed(_, why) => why_value(why),
+        Ended::Never | Ended::Accepted => 0,
+    }
+}
+
+fn why_number(why: Why) -> u8
+    ensures { result ≡ why_number why }
+{
+    match why {
+        Why::Status(_) => 1,
+        Why::WrongStatus(_) => 2,
+        Why::StillValidating => 3,
+        Why::OtherChecksum => 4,
+        Why::NoReply => 5,
+        Why::NumbersUsedUp => 6,
+        Why::OddReply => 7,
+        Why::Cause(_) => 8,
+        Why::Restarted => 9,
+    }
+}
+
+fn why_value(why: Why) -> i64
+    ensures { result ≡ why_value why }
+{
+    match why {
+        Why::Status(value) => value,
+        Why::WrongStatus(value) => value,
+        Why::Cause(value) => value,
+        _ => 0,
+    }
+}
+
+fn busy_number(busy: bool) -> u8
+    ensures { result ≡ busy_number busy }
+{
+    if busy { 1 } else { 0 }
+}
+
+fn centre_status(centre: &Centre) -> CentreStatus
+    ensures { result ≡ centre_status centre.now.state }
+{
+    let last = centre.last();
+    CentreStatus {
+        value: ended_value(last),
+        entries: centre.ledger().len(),
+        busy: busy_number(centre.busy()),
+        last: ended_number(last),
+        step: ended_step(last),
+        why: ended_why(last),
+    }
+}
+
+/// How the central system stands.
+#[unsafe(no_mangle)]
+pub extern "C" fn wisangub_centre_status_at(centre: &mut CentreHandle, status: &mut CentreStatus)
+    ensures same { centre.new.value ≡ centre.old.value }
+    ensures status { status.new ≡ centre_status centre.old.value.state }
+{
+    *status = centre_status(centre.as_mut());
+}
+
+fn code_parts(code: Activation) -> CodeParts
+    ensures { result ≡ code_parts code }
+{
+    let address = code.address;
+    CodeParts {
+        minutes: code.minutes,
+        number: code.id.number,
+        checksum: code.id.crc,
+        priority: code.priority,
+        memory: code.id.memory,
+        address,
+    }
+}
+
+fn outcome_number(outcome: Outcome) -> u8
+    ensures { result ≡ outcome_number outcome }
+{
+    match outcome {
+        Outcome::Waiting => 0,
+        Outcome::Accepted => 1,
+        Outcome::Refused(_) => 2,
+        Outcome::NoReply => 3,
+        Outcome::Unknown => 4,
+    }
+}
+
+fn outcome_status(outcome: Outcome) -> i64
+    ensures { result ≡ outcome_status outcome }
+{
+    match outcome {
+        Outcome::Refused(status) => status,
+        _ => 0,
+    }
+}
+
+fn ledger_entry(number: u32, entry: &Entry) -> LedgerEntry
+    ensures { result ≡ ledger_entry (entry_model (number, entry.now)) }
+{
+    LedgerEntry {
+        status: outcome_status(entry.outcome),
+        number,
+        outcome: outcome_number(entry.outcome),
+        code: code_parts(entry.code),
+    }
+}
+
+fn tell_entry(centre: &Centre, index: usize, entry: &mut LedgerEntry) -> u32
+    ensures answer { result ≡ entry_answer (slice_get centre.now.state.ledger index) }
+    ensures entry { entry.new ≡ entry_after (slice_get centre.now.state.ledger index) entry.old }
+{
+    match centre.ledger().get_index(index) {
+        Some((number, found)) => {
+            *entry = ledger_entry(*number, found);
+            DONE
+        }
+        None => AT_FAULT,
+    }
+}
+
+/// The entry of this index, from 0, of the codes that the central system sent.
+#[unsafe(no_mangle)]
+pub extern "C" fn wisangub_centre_entry_at(
+    centre: &mut CentreHandle,
+    index: usize,
+    entry: &mut LedgerEntry,
+) -> u32
+    ensures same { centre.new.value ≡ centre.old.value }
+    ensures answer { result ≡ entry_answer (slice_get centre.old.value.state.ledger index) }
+    ensures entry { entry.new ≡ entry_after (slice_get centre.old.value.state.ledger index) entry.old }
+{
+    tell_entry(centre.as_mut(), index, entry)
+}
+
+/// Gives the central system's memory back: its pointer is of no use after it.
+#[unsafe(no_mangle)]
+pub extern "C" fn wisangub_centre_free_at(centre: CentreHandle) {
+    drop(centre.parts().into_box());
+}

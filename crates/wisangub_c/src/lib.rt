@@ -1,0 +1,15 @@
+//! The sign and the central system for C: a static library. `include/wisangub.h` declares what it exports.
+#![tactic(auto)]
+
+mod answers;
+pub mod centre_calls;
+pub mod centre_handle;
+pub mod code_calls;
+mod lent_centre;
+mod lent_sign;
+mod loose;
+pub mod page_calls;
+mod page_octets;
+pub mod shown_calls;
+pub mod sign_calls;
+pub mod sign_handle;

@@ -1,0 +1,121 @@
+//! Pages of what a sign shows and of any text, from C.
+
+ghost use Rattle.std.specs.Prelude.{◌≡◌, length};
+ghost use Rattle.dms_pages.specs.Drawn.{drawn_text};
+ghost use Rattle.dms_sign_lines.specs.Answer.{shown_pages};
+ghost use Rattle.wisangub_c.specs.Answers.{no_memory, given_answer, given_buffer, unless_memory};
+ghost use Rattle.wisangub_c.specs.Shown.{fault_after};
+ghost use Rattle.wisangub_c.specs.Pages.{pages_octets, shown_octets, drawn_answer, drawn_size, drawn_buffer, row_bits};
+
+use crate::answers::{AT_FAULT, NO_MEMORY, give};
+use crate::page_octets::{pages_octets, row_bits};
+use crate::shown_calls::{TextFault, text_fault};
+use crate::sign_handle::SignHandle;
+use dms_pages::{Page, PagesFault, pages};
+use dms_sign::Sign;
+use dms_sign_lines::answering::shown_pages;
+use std::alloc::Global;
+
+/// Gives the octets of pages.
+fn give_pages(alloc: Global, layer: u8, pages: &[Page], octets: &mut [u8], size: &mut usize) -> u32
+    ensures answer { result ≡ unless_memory result no_memory (given_answer (pages_octets layer pages.now) (length octets.old)) }
+    ensures size { size.new ≡ unless_memory result size.old (length (pages_octets layer pages.now)) }
+    ensures octets { octets.new ≡ unless_memory result octets.old (given_buffer (pages_octets layer pages.now) octets.old) }
+{
+    match pages_octets(alloc, layer, pages) {
+        Ok(made) => give(made.as_slice(), octets, size),
+        Err(_) => NO_MEMORY,
+    }
+}
+
+/// Gives the pages of what is shown.
+fn give_shown(alloc: Global, sign: &Sign, layer: u8, octets: &mut [u8], size: &mut usize) -> u32
+    ensures answer { result ≡ unless_memory result no_memory (given_answer (shown_octets layer sign.now) (length octets.old)) }
+    ensures size { size.new ≡ unless_memory result size.old (length (shown_octets layer sign.now)) }
+    ensures octets { octets.new ≡ unless_memory result octets.old (given_buffer (shown_octets layer sign.now) octets.old) }
+{
+    match shown_pages(alloc, sign) {
+        Ok(pages) => give_pages(alloc, layer, pages.as_slice(), octets, size),
+        Err(_) => NO_MEMORY,
+    }
+}
+
+/// The pages of what the sign shows, as octets.
+#[unsafe(no_mangle)]
+pub extern "C" fn wisangub_sign_pages_at(
+    alloc: Global,
+    sign: &mut SignHandle,
+    layer: u8,
+    octets: &mut [u8],
+    size: &mut usize,
+) -> u32
+    ensures same { sign.new.value ≡ sign.old.value }
+    ensures answer { result ≡ unless_memory result no_memory (given_answer (shown_octets layer sign.old.value) (length octets.old)) }
+    ensures size { size.new ≡ unless_memory result size.old (length (shown_octets layer sign.old.value)) }
+    ensures octets { octets.new ≡ unless_memory result octets.old (given_buffer (shown_octets layer sign.old.value) octets.old) }
+{
+    give_shown(alloc, sign.as_mut(), layer, octets, size)
+}
+
+/// Gives the pages of a text under the face's own defaults.
+fn give_drawn(
+    alloc: Global,
+    sign: &Sign,
+    text: &[u8],
+    layer: u8,
+    octets: &mut [u8],
+    size: &mut usize,
+    fault: &mut TextFault,
+) -> u32
+    ensures answer { result ≡ unless_memory result no_memory (drawn_answer layer (drawn_text sign.now.config.face text.now) (length octets.old)) }
+    ensures size { size.new ≡ unless_memory result size.old (drawn_size layer (drawn_text sign.now.config.face text.now) size.old) }
+    ensures octets { octets.new ≡ unless_memory result octets.old (drawn_buffer layer (drawn_text sign.now.config.face text.now) octets.old) }
+    ensures fault { fault.new ≡ unless_memory result fault.old (fault_after (drawn_text sign.now.config.face text.now) fault.old) }
+{
+    match pages(alloc, sign.face(), text) {
+        Ok(pages) => give_pages(alloc, layer, pages.as_slice(), octets, size),
+        Err(PagesFault::Multi(found)) => {
+            *fault = text_fault(found);
+            AT_FAULT
+        }
+        Err(PagesFault::Memory) => NO_MEMORY,
+    }
+}
+
+/// The pages of a text on the sign's face under the face's own defaults, as octets, or the text's fault.
+#[unsafe(no_mangle)]
+pub extern "C" fn wisangub_sign_text_pages_at(
+    alloc: Global,
+    sign: &mut SignHandle,
+    text: &[u8],
+    layer: u8,
+    octets: &mut [u8],
+    size: &mut usize,
+    fault: &mut TextFault,
+) -> u32
+    ensures same { sign.new.value ≡ sign.old.value }
+    ensures answer { result ≡ unless_memory result no_memory (drawn_answer layer (drawn_text sign.old.value.config.face text.now) (length octets.old)) }
+    ensures size { size.new ≡ unless_memory result size.old (drawn_size layer (drawn_text sign.old.value.config.face text.now) size.old) }
+    ensures octets { octets.new ≡ unless_memory result octets.old (drawn_buffer layer (drawn_text sign.old.value.config.face text.now) octets.old) }
+    ensures fault { fault.new ≡ unless_memory result fault.old (fault_after (drawn_text sign.old.value.config.face text.now) fault.old) }
+{
+    give_drawn(alloc, sign.as_mut(), text, layer, octets, size, fault)
+}
+
+/// Which cells of a row are lit, of the looks of its cells: eight an octet from the left, the first in the highest bit.
+#[unsafe(no_mangle)]
+pub extern "C" fn wisangub_row_bits_at(
+    alloc: Global,
+    looks: &[u8],
+    bits: &mut [u8],
+    size: &mut usize,
+) -> u32
+    ensures answer { result ≡ unless_memory result no_memory (given_answer (row_bits looks.now) (length bits.old)) }
+    ensures size { size.new ≡ unless_memory result size.old (length (row_bits looks.now)) }
+    ensures bits { bits.new ≡ unless_memory result bits.old (given_buffer (row_bits looks.now) bits.old) }
+{
+    match row_bits(alloc, looks) {
+        Ok(made) => give(made.as_slice(), bits, size),
+        Err(_) => NO_MEMORY,
+    }
+}

@@ -1,0 +1,179 @@
+//! Pages as octets: of each page its times, its background, and an octet for each cell.
+
+ghost use Rattle.std.specs.Prelude.{◌≡◌, ◌++◌, ◌∷◌, [], ◌<◌, ◌≤◌, ◌+◌, ◌*◌, length, flat_map, IfOk, OnOk};
+ghost use Rattle.wisangub_c.specs.Pages.{first_mark, lit_mark, look, lit_time, dark_time, cell_octet, row_octets, rows_octets};
+ghost use Rattle.wisangub_c.specs.Pages.{page_octets, pages_octets, lit_in, eight_bits, row_bits};
+
+use dms_face::{Cell, Flash};
+use dms_multi::Lead;
+use dms_pages::Page;
+use std::alloc::{AllocError, Global};
+
+/// Pages as octets. Of each cell they say, by `layer`, its look (0), or how long it is lit (1) or dark (2) while it flashes.
+pub(crate) fn pages_octets(alloc: Global, layer: u8, pages: &[Page]) -> Result<Vec<u8>, AllocError>
+    ensures { IfOk result (λ octets. octets.items ≡ pages_octets layer pages.now) }
+{
+    let mut octets = Vec::new(alloc);
+    put_pages(&mut octets, layer, pages)?;
+    Ok(octets)
+}
+
+fn put_pages(octets: &mut Vec<u8>, layer: u8, pages: &[Page]) -> Result<(), AllocError>
+    ensures { OnOk result (octets.new.items ≡ octets.old.items ++ pages_octets layer pages.now) }
+{
+    for page in pages {
+        put_page(octets, layer, page)?;
+    }
+    Ok(())
+}
+
+fn put_page(octets: &mut Vec<u8>, layer: u8, page: &Page) -> Result<(), AllocError>
+    ensures { OnOk result (octets.new.items ≡ octets.old.items ++ page_octets layer page.now) }
+{
+    put_times(octets, page)?;
+    put_rows(octets, layer, page)
+}
+
+/// The times of a page and its background.
+fn put_times(octets: &mut Vec<u8>, page: &Page) -> Result<(), AllocError>
+    ensures { OnOk result (octets.new.items ≡ octets.old.items ++ (page.now.on ∷ page.now.off ∷ page.now.background ∷ [])) }
+{
+    octets.extend_from_slice(&[page.on(), page.off(), page.back()])
+}
+
+fn put_rows(octets: &mut Vec<u8>, layer: u8, page: &Page) -> Result<(), AllocError>
+    ensures { OnOk result (octets.new.items ≡ octets.old.items ++ rows_octets layer page.now) }
+{
+    for y in 0..page.height() {
+        put_row(octets, layer, page, y)?;
+    }
+    Ok(())
+}
+
+fn put_row(octets: &mut Vec<u8>, layer: u8, page: &Page, y: u16) -> Result<(), AllocError>
+    requires { y < page.now.height }
+    ensures { OnOk result (octets.new.items ≡ octets.old.items ++ row_octets layer page.now y) }
+{
+    for x in 0..page.width() {
+        put_cell(octets, layer, page.cell(x, y))?;
+    }
+    Ok(())
+}
+
+fn put_cell(octets: &mut Vec<u8>, layer: u8, cell: Cell) -> Result<(), AllocError>
+    ensures { OnOk result (octets.new.items ≡ octets.old.items ++ cell_octet layer cell ∷ []) }
+{
+    octets.push(cell_octet(layer, cell))?;
+    Ok(())
+}
+
+fn cell_octet(layer: u8, cell: Cell) -> u8
+    ensures { result ≡ cell_octet layer cell }
+{
+    if layer == 0 {
+        look(cell)
+    } else if layer == 1 {
+        lit_time(cell.flash)
+    } else {
+        dark_time(cell.flash)
+    }
+}
+
+/// A cell's colour, and how it is lit.
+fn look(cell: Cell) -> u8
+    ensures { result ≡ look cell }
+{
+    if cell.lit {
+        cell.colour % 16 + lit_mark(cell.flash)
+    } else {
+        cell.colour % 16
+    }
+}
+
+fn lit_mark(flash: Option<Flash>) -> u8
+    ensures mark { result ≡ lit_mark flash }
+    ensures small { result ≤ 112 }
+{
+    match flash {
+        None => 16,
+        Some(flash) => first_mark(flash.first),
+    }
+}
+
+fn first_mark(first: Lead) -> u8
+    ensures mark { result ≡ first_mark first }
+    ensures small { result ≤ 112 }
+{
+    match first {
+        Lead::Lit => 48,
+        Lead::Dark => 112,
+    }
+}
+
+fn lit_time(flash: Option<Flash>) -> u8
+    ensures { result ≡ lit_time flash }
+{
+    match flash {
+        None => 0,
+        Some(flash) => flash.lit,
+    }
+}
+
+fn dark_time(flash: Option<Flash>) -> u8
+    ensures { result ≡ dark_time flash }
+{
+    match flash {
+        None => 0,
+        Some(flash) => flash.dark,
+    }
+}
+
+/// Which cells of a row are lit, eight an octet from the left, the first in the highest bit.
+pub(crate) fn row_bits(alloc: Global, looks: &[u8]) -> Result<Vec<u8>, AllocError>
+    ensures { IfOk result (λ bits. bits.items ≡ row_bits looks.now) }
+{
+    let mut bits = Vec::new(alloc);
+    put_bits(&mut bits, looks)?;
+    Ok(bits)
+}
+
+fn put_bits(bits: &mut Vec<u8>, looks: &[u8]) -> Result<(), AllocError>
+    ensures { OnOk result (bits.new.items ≡ bits.old.items ++ row_bits looks.now) }
+{
+    for k in 0..looks.len().div_ceil(8) {
+        put_eight(bits, looks, k)?;
+    }
+    Ok(())
+}
+
+fn put_eight(bits: &mut Vec<u8>, looks: &[u8], k: usize) -> Result<(), AllocError>
+    requires { 8 * k ≤ length looks.now + 7 }
+    ensures { OnOk result (bits.new.items ≡ bits.old.items ++ eight_bits looks.now (8 * k) ∷ []) }
+{
+    bits.push(eight_bits(looks, 8 * k))?;
+    Ok(())
+}
+
+fn eight_bits(looks: &[u8], x: usize) -> u8
+    requires { x ≤ length looks.now + 7 }
+    ensures { result ≡ eight_bits looks.now x }
+{
+    128 * lit_in(looks, x)
+        + 64 * lit_in(looks, x + 1)
+        + 32 * lit_in(looks, x + 2)
+        + 16 * lit_in(looks, x + 3)
+        + 8 * lit_in(looks, x + 4)
+        + 4 * lit_in(looks, x + 5)
+        + 2 * lit_in(looks, x + 6)
+        + lit_in(looks, x + 7)
+}
+
+fn lit_in(looks: &[u8], x: usize) -> u8
+    ensures lit { result ≡ lit_in looks.now x }
+    ensures bit { result ≤ 1 }
+{
+    match looks.get(x) {
+        Some(look) => *look / 16 % 2,
+        None => 0,
+    }
+}

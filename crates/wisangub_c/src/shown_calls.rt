@@ -1,0 +1,180 @@
+//! What a sign shows, and texts on it, from C.
+
+ghost use Rattle.std.specs.Prelude.{◌≡◌, length};
+ghost use Rattle.dms_face.specs.Fit.{checked_text};
+ghost use Rattle.dms_sign.specs.Values.{minutes_left};
+ghost use Rattle.wisangub_c.specs.Answers.{given_answer, given_buffer};
+ghost use Rattle.wisangub_c.specs.Shown.{shown_now, text_fault, fault_after, check_answer, count_after};
+
+use crate::answers::{AT_FAULT, DONE, give};
+use crate::sign_handle::SignHandle;
+use dms_face::{MultiFault, check};
+use dms_sign::Sign;
+
+/// What a sign shows, but for its text.
+#[repr(C)]
+#[derive(Clone, Copy)]
+pub struct ShownNow {
+    /// The minutes that are left, rounded up; 65535 is without an end.
+    pub minutes: u32,
+    /// The number of the row that the code named.
+    pub number: u16,
+    /// The checksum that the code named.
+    pub checksum: u16,
+    /// The type of memory that the code named.
+    pub memory: u8,
+    /// How it came up (dmsMsgSourceMode).
+    pub mode: u8,
+    /// Its priority.
+    pub priority: u8,
+    /// 1 where the beacons are on, else 0.
+    pub beacon: u8,
+    /// 1 where the pixel service is on, else 0.
+    pub pixel: u8,
+}
+
+/// Why a text cannot be shown.
+#[repr(C)]
+#[derive(Clone, Copy)]
+pub struct TextFault {
+    /// The offset in octets of what is wrong.
+    pub place: usize,
+    /// What is wrong (dmsMultiSyntaxError).
+    pub code: u8,
+}
+
+/// Seconds as minutes, rounded up; 65535 is without an end.
+fn minutes_left(remaining: Option<u32>) -> u32
+    ensures { result ≡ minutes_left remaining }
+{
+    match remaining {
+        None => 65535,
+        Some(seconds) => seconds.div_ceil(60),
+    }
+}
+
+fn shown_now(sign: &Sign) -> ShownNow
+    ensures { result ≡ shown_now sign.now.shown }
+{
+    let shown = sign.shown();
+    ShownNow {
+        minutes: minutes_left(shown.remaining),
+        number: shown.source.number,
+        checksum: shown.source.crc,
+        memory: shown.source.memory,
+        mode: shown.mode,
+        priority: shown.priority,
+        beacon: shown.beacon,
+        pixel: shown.pixel,
+    }
+}
+
+pub(crate) fn text_fault(fault: MultiFault) -> TextFault
+    ensures { result ≡ text_fault fault }
+{
+    TextFault {
+        place: fault.place,
+        code: fault.code.number(),
+    }
+}
+
+/// What the sign shows: the row's name, how it came up, its priority and the minutes that are left.
+#[unsafe(no_mangle)]
+pub extern "C" fn wisangub_sign_shown_at(sign: &mut SignHandle, shown: &mut ShownNow)
+    ensures same { sign.new.value ≡ sign.old.value }
+    ensures shown { shown.new ≡ shown_now sign.old.value.shown }
+{
+    *shown = shown_now(sign.as_mut());
+}
+
+/// The columns and the rows of the sign's matrix.
+#[unsafe(no_mangle)]
+pub extern "C" fn wisangub_sign_matrix_at(sign: &mut SignHandle, width: &mut u16, height: &mut u16)
+    ensures same { sign.new.value ≡ sign.old.value }
+    ensures width { width.new ≡ sign.old.value.config.face.width }
+    ensures height { height.new ≡ sign.old.value.config.face.height }
+{
+    let face = sign.as_mut().face();
+    *width = face.width();
+    *height = face.height();
+}
+
+fn give_text(sign: &Sign, text: &mut [u8], size: &mut usize) -> u32
+    ensures answer { result ≡ given_answer sign.now.shown.text (length text.old) }
+    ensures size { size.new ≡ length sign.now.shown.text }
+    ensures text { text.new ≡ given_buffer sign.now.shown.text text.old }
+{
+    give(sign.shown().text.as_slice(), text, size)
+}
+
+/// The text that the sign shows.
+#[unsafe(no_mangle)]
+pub extern "C" fn wisangub_sign_text_at(
+    sign: &mut SignHandle,
+    text: &mut [u8],
+    size: &mut usize,
+) -> u32
+    ensures same { sign.new.value ≡ sign.old.value }
+    ensures answer { result ≡ given_answer sign.old.value.shown.text (length text.old) }
+    ensures size { size.new ≡ length sign.old.value.shown.text }
+    ensures text { text.new ≡ given_buffer sign.old.value.shown.text text.old }
+{
+    give_text(sign.as_mut(), text, size)
+}
+
+fn give_writer(sign: &Sign, community: &mut [u8], size: &mut usize) -> u32
+    ensures answer { result ≡ given_answer sign.now.config.writer (length community.old) }
+    ensures size { size.new ≡ length sign.now.config.writer }
+    ensures community { community.new ≡ given_buffer sign.now.config.writer community.old }
+{
+    give(sign.writer(), community, size)
+}
+
+/// The community that may write.
+#[unsafe(no_mangle)]
+pub extern "C" fn wisangub_sign_writer_at(
+    sign: &mut SignHandle,
+    community: &mut [u8],
+    size: &mut usize,
+) -> u32
+    ensures same { sign.new.value ≡ sign.old.value }
+    ensures answer { result ≡ given_answer sign.old.value.config.writer (length community.old) }
+    ensures size { size.new ≡ length sign.old.value.config.writer }
+    ensures community { community.new ≡ given_buffer sign.old.value.config.writer community.old }
+{
+    give_writer(sign.as_mut(), community, size)
+}
+
+/// Whether a text can be shown on the sign's face under the face's own defaults: the number of its pages, or its fault.
+fn check_text(sign: &Sign, text: &[u8], count: &mut usize, fault: &mut TextFault) -> u32
+    ensures answer { result ≡ check_answer (checked_text sign.now.config.face text.now) }
+    ensures count { count.new ≡ count_after (checked_text sign.now.config.face text.now) count.old }
+    ensures fault { fault.new ≡ fault_after (checked_text sign.now.config.face text.now) fault.old }
+{
+    match check(sign.face(), text) {
+        Ok(found) => {
+            *count = found;
+            DONE
+        }
+        Err(found) => {
+            *fault = text_fault(found);
+            AT_FAULT
+        }
+    }
+}
+
+/// Whether a text can be shown on the sign's face under the face's own defaults: the number of its pages, or its fault.
+#[unsafe(no_mangle)]
+pub extern "C" fn wisangub_sign_check_at(
+    sign: &mut SignHandle,
+    text: &[u8],
+    count: &mut usize,
+    fault: &mut TextFault,
+) -> u32
+    ensures same { sign.new.value ≡ sign.old.value }
+    ensures answer { result ≡ check_answer (checked_text sign.old.value.config.face text.now) }
+    ensures count { count.new ≡ count_after (checked_text sign.old.value.config.face text.now) count.old }
+    ensures fault { fault.new ≡ fault_after (checked_text sign.old.value.config.face text.now) fault.old }
+{
+    check_text(sign.as_mut(), text, count, fault)
+}

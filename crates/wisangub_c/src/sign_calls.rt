@@ -1,0 +1,149 @@
+//! A sign's calls from C.
+
+ghost use Rattle.std.specs.Prelude.{◌≡◌, ◌⊎◌, ◌≤◌, length, IfOk, IfErr};
+ghost use Rattle.dms_ber.specs.Limits.{longest_datagram};
+ghost use Rattle.dms_text.specs.Lines.{kept_lines};
+ghost use Rattle.dms_description.specs.Description.{Description, SpellsSign};
+ghost use Rattle.dms_sign.specs.State.{start};
+ghost use Rattle.dms_sign.specs.Reply.{received, after_get};
+ghost use Rattle.dms_sign.specs.Events.{after_tick, after_power_loss, after_power_return};
+ghost use Rattle.wisangub_c.specs.Answers.{done, at_fault, answer_of, size_of, buffer_with};
+ghost use Rattle.wisangub_c.specs.Answers.{after_datagram, datagram_answer, datagram_size, datagram_buffer};
+
+use crate::answers::{AT_FAULT, DONE, NO_MEMORY, NOTHING_SENT, TOO_SMALL, put_first};
+use crate::sign_handle::SignHandle;
+use dms_description::{DescriptionFault, Setup, description};
+use dms_sign::{Receipt, Sign};
+use dms_wire::{MAX_DATAGRAM, Out};
+use std::alloc::Global;
+
+/// A sign on the heap, and the number of the first request of its centre.
+#[derive(Drop)]
+struct NewSign {
+    sign: Box<Sign>,
+    first: u32,
+}
+
+/// The sign of a description, on the heap.
+fn made(alloc: Global, text: &[u8]) -> Result<NewSign, DescriptionFault>
+    ensures made { IfOk result (λ made. (it : Description) × SpellsSign (kept_lines text.now) it
+        × (made.sign.value ≡ start it.config it.table) × (made.first ≡ it.first)) }
+    ensures fault { IfErr result (λ fault. (fault ≡ DescriptionFault.Memory)
+        ⊎ ((it : Description) → SpellsSign (kept_lines text.now) it → ⊥)) }
+{
+    let Setup { sign, first } = match description(alloc, text) {
+        Ok(setup) => setup,
+        Err(fault) => return Err(fault),
+    };
+    match Box::new(alloc, sign) {
+        Ok(sign) => Ok(NewSign { sign, first }),
+        Err(_) => Err(DescriptionFault::Memory),
+    }
+}
+
+/// Makes the sign of a description: `sign` is its pointer, and `first` the number of the first request of its centre. Where the
+/// description is at fault, `line` is the number of the line for which it is refused, from 1.
+#[unsafe(no_mangle)]
+pub extern "C" fn wisangub_sign_new_at(
+    alloc: Global,
+    text: &[u8],
+    sign: &mut *mut u8,
+    first: &mut u32,
+    line: &mut usize,
+) -> u32
+    ensures made { result ≡ done → (it : Description) × SpellsSign (kept_lines text.now) it × (first.new ≡ it.first) }
+    ensures fault { result ≡ at_fault → (it : Description) → SpellsSign (kept_lines text.now) it → ⊥ }
+{
+    match made(alloc, text) {
+        Ok(made) => {
+            *first = made.first;
+            *sign = Box::into_raw(made.sign) as *mut u8;
+            DONE
+        }
+        Err(DescriptionFault::Line(number)) => {
+            *line = number;
+            AT_FAULT
+        }
+        Err(DescriptionFault::Memory) => NO_MEMORY,
+    }
+}
+
+/// Hands the sign a datagram, where there is room for every reply.
+fn hear(sign: &mut Sign, datagram: &[u8], reply: &mut [u8], size: &mut usize) -> u32
+    requires { longest_datagram ≤ length reply.old }
+    ensures after { sign.new ≡ (received sign.old datagram.now).after }
+    ensures answer { result ≡ answer_of (received sign.old datagram.now).reply }
+    ensures size { size.new ≡ size_of (received sign.old datagram.now).reply }
+    ensures reply { reply.new ≡ buffer_with (received sign.old datagram.now).reply reply.old }
+{
+    let mut out = Out::new();
+    match sign.receive(datagram, &mut out) {
+        Receipt::Dropped => {
+            *size = 0;
+            NOTHING_SENT
+        }
+        Receipt::Replied | Receipt::Accepted(_) => {
+            *size = out.len();
+            put_first(out.as_slice(), reply);
+            DONE
+        }
+    }
+}
+
+/// Hands the sign a datagram. The reply stands first in `reply`, `size` octets; with fewer than 1472 octets of room the sign hears nothing.
+#[unsafe(no_mangle)]
+pub extern "C" fn wisangub_sign_receive_at(
+    sign: &mut SignHandle,
+    datagram: &[u8],
+    reply: &mut [u8],
+    size: &mut usize,
+) -> u32
+    ensures after { sign.new.value ≡ after_datagram sign.old.value datagram.now (length reply.old) }
+    ensures answer { result ≡ datagram_answer sign.old.value datagram.now (length reply.old) }
+    ensures size { size.new ≡ datagram_size sign.old.value datagram.now (length reply.old) }
+    ensures reply { reply.new ≡ datagram_buffer sign.old.value datagram.now reply.old }
+{
+    if reply.len() < MAX_DATAGRAM {
+        *size = MAX_DATAGRAM;
+        return TOO_SMALL;
+    }
+    hear(sign.as_mut(), datagram, reply, size)
+}
+
+/// A second passes.
+#[unsafe(no_mangle)]
+pub extern "C" fn wisangub_sign_tick_at(sign: &mut SignHandle)
+    ensures { sign.new.value ≡ after_tick sign.old.value }
+{
+    sign.as_mut().tick();
+}
+
+/// The silence is over, as after a Get that was answered: of a Get that was recorded so (docs/JOURNAL.md).
+#[unsafe(no_mangle)]
+pub extern "C" fn wisangub_sign_heard_at(sign: &mut SignHandle)
+    ensures { sign.new.value ≡ after_get sign.old.value }
+{
+    sign.as_mut().heard();
+}
+
+/// The power is lost.
+#[unsafe(no_mangle)]
+pub extern "C" fn wisangub_sign_power_lost_at(sign: &mut SignHandle)
+    ensures { sign.new.value ≡ after_power_loss sign.old.value }
+{
+    sign.as_mut().power_lost();
+}
+
+/// The power is back after so many seconds.
+#[unsafe(no_mangle)]
+pub extern "C" fn wisangub_sign_power_back_at(sign: &mut SignHandle, seconds: u32)
+    ensures { sign.new.value ≡ after_power_return sign.old.value seconds }
+{
+    sign.as_mut().power_back(seconds);
+}
+
+/// Gives the sign's memory back: its pointer is of no use after it.
+#[unsafe(no_mangle)]
+pub extern "C" fn wisangub_sign_free_at(sign: SignHandle) {
+    drop(sign.parts().into_box());
+}
