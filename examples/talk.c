@@ -1,0 +1,392 @@
+/*
+ * A sign and a central system that are spoken to in lines, as `signtool sign --sign` and `signtool centre --sign` are: a description
+ * up to its line `end`, and then a line for each call. What begins with `centre ` goes to the central system, whose community is the
+ * one that may write. Beside the lines of docs/PROFILE.md there are `check OCTETS` and `pages OCTETS` of a text, `bits`, which is
+ * `show` with each row as bits, and `code ORDER MEMORY NUMBER TEXT BEACON PIXEL MINUTES PRIORITY ADDRESS`. An activation that is
+ * accepted is answered `reply OCTETS`, too.
+ */
+#include <inttypes.h>
+#include <stdio.h>
+#include <stdlib.h>
+#include <string.h>
+
+#include "wisangub.h"
+
+enum { TEXT_MOST = 1 << 20, LINE_MOST = 140000, PAGES_MOST = 6 * (WISANGUB_PAGE_HEAD + 256 * 64) };
+
+static char text[TEXT_MOST], line[LINE_MOST];
+static uint8_t octets[LINE_MOST / 2], pages[PAGES_MOST], sent[WISANGUB_DATAGRAM];
+static uint16_t width, height;
+static enum wisangub_order order;
+static struct wisangub_sign sign = {NULL};
+static struct wisangub_centre centre = {NULL};
+
+/* The octets that pairs of digits are, or -1. */
+static long read_octets(const char *digits)
+{
+    size_t size = strlen(digits);
+    if (strcmp(digits, "-") == 0) {
+        return 0;
+    }
+    if (size == 0 || size % 2 != 0 || strspn(digits, "0123456789abcdefABCDEF") != size) {
+        return -1;
+    }
+    for (size_t at = 0; at < size / 2; at++) {
+        char pair[3] = {digits[2 * at], digits[2 * at + 1], '\0'};
+        octets[at] = (uint8_t)strtoul(pair, NULL, 16);
+    }
+    return (long)(size / 2);
+}
+
+static void print_octets(const char *word, const uint8_t *found, size_t size, const char *after)
+{
+    fputs(word, stdout);
+    for (size_t at = 0; at < size; at++) {
+        printf("%02x", found[at]);
+    }
+    fputs(size == 0 ? "-" : "", stdout);
+    fputs(after, stdout);
+}
+
+/* The number that is the whole word, at most `most`, or -1. */
+static int64_t read_number(const char *word, uint64_t most)
+{
+    size_t size = strlen(word);
+    if (size == 0 || size > 10 || strspn(word, "0123456789") != size || (size > 1 && *word == '0') || strtoull(word, NULL, 10) > most) {
+        return -1;
+    }
+    return (int64_t)strtoull(word, NULL, 10);
+}
+
+static void print_answer(enum wisangub_answer answer, const char *word, size_t size, const char *none)
+{
+    if (answer == WISANGUB_DONE) {
+        print_octets(word, sent, size, "\n");
+    } else {
+        puts(answer == WISANGUB_MEMORY ? "memory" : none);
+    }
+}
+
+/* ---- pages */
+
+static void print_row(const uint8_t *looks)
+{
+    for (unsigned x = 0; x < width; x++) {
+        putchar(looks[x] & WISANGUB_LIT ? '0' + (looks[x] & WISANGUB_COLOUR) : '.');
+    }
+    putchar('\n');
+}
+
+static void print_bits(const uint8_t *looks)
+{
+    uint8_t bits[32];
+    size_t size = 0;
+    while (wisangub_row_bits(looks, width, bits, sizeof bits, &size) == WISANGUB_MEMORY) {
+        /* Nothing is changed, and it may be called again. */
+    }
+    for (unsigned x = 0; x < width; x++) {
+        putchar(bits[x / 8] >> (7 - x % 8) & 1 ? '*' : '.');
+    }
+    putchar('\n');
+}
+
+static void print_pages(size_t size, void (*print)(const uint8_t *))
+{
+    unsigned number = 1;
+    for (const uint8_t *page = pages; page < pages + size; page += WISANGUB_PAGE_HEAD + (size_t)width * height) {
+        printf("page %u on %u off %u back %u\n", number++, page[0], page[1], page[2]);
+        for (unsigned y = 0; y < height; y++) {
+            print(page + WISANGUB_PAGE_HEAD + (size_t)y * width);
+        }
+    }
+}
+
+static void show(void (*print)(const uint8_t *))
+{
+    size_t size = 0, needed = 0;
+    enum wisangub_answer answer = wisangub_sign_pages(&sign, WISANGUB_LOOK, NULL, 0, &needed);
+    if (answer != WISANGUB_MEMORY) {
+        answer = wisangub_sign_pages(&sign, WISANGUB_LOOK, pages, sizeof pages, &size);
+    }
+    if (answer != WISANGUB_DONE || size != needed) {
+        puts(answer == WISANGUB_MEMORY ? "memory" : "another size");
+        return;
+    }
+    print_pages(size, print);
+    puts("ok");
+}
+
+static void print_fault(const struct wisangub_text_fault *fault) { printf("fault %u at %zu\n", fault->code, fault->place); }
+
+static void draw(const char *digits)
+{
+    struct wisangub_text_fault fault = {0, 0};
+    long count = read_octets(digits);
+    size_t size = 0;
+    if (count < 0) {
+        puts("bad line");
+        return;
+    }
+    enum wisangub_answer answer = wisangub_sign_text_pages(&sign, octets, (size_t)count, WISANGUB_LOOK, pages, sizeof pages, &size, &fault);
+    if (answer == WISANGUB_FAULT) {
+        print_fault(&fault);
+    } else if (answer == WISANGUB_DONE) {
+        print_pages(size, print_row);
+        puts("ok");
+    } else {
+        puts("memory");
+    }
+}
+
+static void check(const char *digits)
+{
+    struct wisangub_text_fault fault = {0, 0};
+    long count = read_octets(digits);
+    size_t found = 0;
+    if (count < 0) {
+        puts("bad line");
+    } else if (wisangub_sign_check(&sign, octets, (size_t)count, &found, &fault) == WISANGUB_DONE) {
+        printf("ok pages %zu\n", found);
+    } else {
+        print_fault(&fault);
+    }
+}
+
+/* ---- the sign */
+
+static void state(void)
+{
+    struct wisangub_shown shown;
+    size_t size = 0;
+    wisangub_sign_shown(&sign, &shown);
+    wisangub_sign_text(&sign, octets, sizeof octets, &size);
+    printf("shown %u %u %04x mode %u priority %u remaining %" PRIu32, shown.memory, shown.number, shown.checksum, shown.mode, shown.priority,
+           shown.minutes);
+    print_octets(" text ", octets, size, "\nok\n");
+}
+
+static void receive(const char *digits)
+{
+    size_t size = 0;
+    long count = read_octets(digits);
+    if (count < 0) {
+        puts("bad line");
+        return;
+    }
+    enum wisangub_answer answer = wisangub_sign_receive(&sign, octets, (size_t)count, sent, sizeof sent, &size);
+    print_answer(answer, "reply ", size, "dropped");
+}
+
+static void ticks(const char *word)
+{
+    int64_t seconds = read_number(word, UINT32_MAX);
+    for (int64_t second = 0; second < seconds; second++) {
+        wisangub_sign_tick(&sign);
+    }
+    puts(seconds < 0 ? "bad line" : "ok");
+}
+
+static void power_back(const char *word)
+{
+    int64_t seconds = read_number(word, UINT32_MAX);
+    if (seconds >= 0) {
+        wisangub_sign_power_back(&sign, (uint32_t)seconds);
+    }
+    puts(seconds < 0 ? "bad line" : "ok");
+}
+
+static void print_code(const char *words)
+{
+    struct wisangub_code code = {0};
+    unsigned swapped, memory, number, beacon, pixel, minutes, priority, address[4];
+    static char digits[LINE_MOST];
+    size_t size = 0;
+    if (sscanf(words, "%u %u %u %139999s %u %u %u %u %u.%u.%u.%u", &swapped, &memory, &number, digits, &beacon, &pixel, &minutes, &priority,
+               &address[0], &address[1], &address[2], &address[3]) != 12 || read_octets(digits) < 0) {
+        puts("bad line");
+        return;
+    }
+    code = (struct wisangub_code){.minutes = (uint16_t)minutes, .number = (uint16_t)number, .priority = (uint8_t)priority, .memory = (uint8_t)memory,
+                                  .address = {(uint8_t)address[0], (uint8_t)address[1], (uint8_t)address[2], (uint8_t)address[3]}};
+    wisangub_crc(octets, (size_t)read_octets(digits), (uint8_t)beacon, (uint8_t)pixel, &code.checksum);
+    printf("crc %04x ", code.checksum);
+    wisangub_message_code(swapped ? WISANGUB_SWAPPED : WISANGUB_HIGH, &code, sent, sizeof sent, &size);
+    print_octets("id ", sent, size, " ");
+    wisangub_activation_code(swapped ? WISANGUB_SWAPPED : WISANGUB_HIGH, &code, sent, sizeof sent, &size);
+    print_octets("code ", sent, size, "\n");
+}
+
+static void answer(void)
+{
+    if (strncmp(line, "datagram ", 9) == 0) {
+        receive(line + 9);
+    } else if (strcmp(line, "tick") == 0) {
+        ticks("1");
+    } else if (strncmp(line, "ticks ", 6) == 0) {
+        ticks(line + 6);
+    } else if (strcmp(line, "heard") == 0) {
+        wisangub_sign_heard(&sign);
+        puts("ok");
+    } else if (strcmp(line, "power-lost") == 0) {
+        wisangub_sign_power_lost(&sign);
+        puts("ok");
+    } else if (strncmp(line, "power-back ", 11) == 0) {
+        power_back(line + 11);
+    } else if (strcmp(line, "state") == 0) {
+        state();
+    } else if (strcmp(line, "show") == 0) {
+        show(print_row);
+    } else if (strcmp(line, "bits") == 0) {
+        show(print_bits);
+    } else if (strncmp(line, "check ", 6) == 0) {
+        check(line + 6);
+    } else if (strncmp(line, "pages ", 6) == 0) {
+        draw(line + 6);
+    } else if (strncmp(line, "code ", 5) == 0) {
+        print_code(line + 5);
+    } else {
+        puts("bad line");
+    }
+}
+
+/* ---- the central system */
+
+static void print_ended(const struct wisangub_status *status)
+{
+    static const char *const reasons[] = {"", "error-status %" PRId64, "the row has status %" PRId64, "the row is still being validated",
+                                          "the row has another checksum", "no reply", "no request number is left",
+                                          "the reply does not answer what was asked", "the sign refused the activation for cause %" PRId64,
+                                          "the central system was restarted"};
+    if (status->last != WISANGUB_FAILED) {
+        puts(status->last == WISANGUB_DID ? "last accepted" : "last none");
+        return;
+    }
+    printf("last failed at step %u: ", status->step);
+    printf(reasons[status->why], status->value);
+    putchar('\n');
+}
+
+static void print_entry(size_t index)
+{
+    static const char *const outcomes[] = {"waiting\n", "accepted\n", "refused %" PRId64 "\n", "noreply\n", "unknown\n"};
+    struct wisangub_entry entry;
+    uint8_t code[12];
+    size_t size = 0;
+    wisangub_centre_entry(&centre, index, &entry);
+    wisangub_activation_code(order, &entry.code, code, sizeof code, &size);
+    printf("ledger %" PRIu32 " ", entry.number);
+    print_octets("", code, size, " ");
+    printf(outcomes[entry.outcome], entry.status);
+}
+
+static void print_status(void)
+{
+    struct wisangub_status status;
+    wisangub_centre_status(&centre, &status);
+    puts(status.busy ? "busy" : "idle");
+    print_ended(&status);
+    for (size_t index = 0; index < status.entries; index++) {
+        print_entry(index);
+    }
+    puts("ok");
+}
+
+static void give(const char *words)
+{
+    size_t size = 0;
+    switch (wisangub_centre_command(&centre, words, strlen(words), sent, sizeof sent, &size)) {
+    case WISANGUB_DONE:
+        print_octets("send ", sent, size, "\n");
+        return;
+    case WISANGUB_NOTHING:
+        puts("ok");
+        return;
+    case WISANGUB_BUSY:
+        puts("refused a job is not done yet");
+        return;
+    case WISANGUB_USED_UP:
+        puts("refused no request number is left");
+        return;
+    case WISANGUB_RANGE:
+        puts("refused a value is out of its range");
+        return;
+    case WISANGUB_MEMORY:
+        puts("memory");
+        return;
+    default:
+        puts("bad line");
+    }
+}
+
+static void answer_centre(const char *words)
+{
+    size_t size = 0;
+    if (strncmp(words, "datagram ", 9) == 0 && read_octets(words + 9) >= 0) {
+        enum wisangub_answer answer = wisangub_centre_receive(&centre, octets, (size_t)read_octets(words + 9), sent, sizeof sent, &size);
+        print_answer(answer, "send ", size, "ok");
+    } else if (strcmp(words, "tick") == 0) {
+        enum wisangub_answer answer = wisangub_centre_tick(&centre, sent, sizeof sent, &size);
+        print_answer(answer, "send ", size, "ok");
+    } else if (strcmp(words, "restart") == 0) {
+        wisangub_centre_restart(&centre);
+        puts("ok");
+    } else if (strcmp(words, "status") == 0) {
+        print_status();
+    } else {
+        give(words);
+    }
+}
+
+/* ---- the description */
+
+/* The size of the description, which ends with its line `end`; its line `order` says the order of codes. */
+static size_t read_description(void)
+{
+    size_t size = 0;
+    while (size + LINE_MOST < TEXT_MOST && fgets(text + size, LINE_MOST, stdin) != NULL) {
+        const char *last = text + size;
+        size += strlen(last);
+        order = strncmp(last, "order swapped", 13) == 0 ? WISANGUB_SWAPPED : order;
+        if (strcmp(last, "end\n") == 0) {
+            break;
+        }
+    }
+    return size;
+}
+
+static enum wisangub_answer make(void)
+{
+    uint8_t community[32];
+    uint32_t first = 0;
+    size_t fault = 0, size = read_description(), written = 0;
+    enum wisangub_answer made = wisangub_sign_new(&sign, text, size, &first, &fault);
+    if (made == WISANGUB_FAULT) {
+        printf("line %zu\n", fault);
+    }
+    if (made != WISANGUB_DONE) {
+        return made;
+    }
+    wisangub_sign_writer(&sign, community, sizeof community, &written);
+    wisangub_sign_matrix(&sign, &width, &height);
+    return wisangub_centre_new(&centre, community, written, order, first);
+}
+
+int main(void)
+{
+    enum wisangub_answer made = make();
+    if (made != WISANGUB_DONE) {
+        puts(made == WISANGUB_MEMORY ? "memory" : "fault");
+    }
+    while (made == WISANGUB_DONE && fgets(line, LINE_MOST, stdin) != NULL) {
+        line[strcspn(line, "\n")] = '\0';
+        if (strncmp(line, "centre ", 7) == 0) {
+            answer_centre(line + 7);
+        } else {
+            answer();
+        }
+        fflush(stdout);
+    }
+    wisangub_centre_free(&centre);
+    wisangub_sign_free(&sign);
+    return made == WISANGUB_DONE ? 0 : 1;
+}

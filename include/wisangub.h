@@ -1,0 +1,509 @@
+/*
+ * The proved sign and the proved central system of Wisangub for C (C11) and C++.
+ *
+ * What each function does is proved of the library, as the contract of the function that it calls. What this header and
+ * its callers have to keep is not proved:
+ *   - A sign is used only between wisangub_sign_new, which answered WISANGUB_DONE, and wisangub_sign_free, and is not
+ *     copied: two copies of a struct wisangub_sign are one sign.
+ *   - One sign is used by one thread at a time; two signs may be used by two threads at once. No function is called from a
+ *     signal handler.
+ *   - A pointer that comes with a size points to at least so many octets, and no two pointers of one call overlap.
+ *   - malloc, realloc and free are those of the C library, or others that keep its promises and align to 16 octets.
+ *
+ * There is no global state, no thread, no exit and no abort. wisangub_sign_new takes memory (by malloc), and
+ * wisangub_sign_free gives it back; calls that draw pages take memory and give it back before they answer; no other call
+ * takes any. Sizes are octets and times are seconds. The functions answer one of enum wisangub_answer.
+ *
+ * A call that fills a buffer tells the size that it needs in *size. Where the room is smaller it answers TOO_SMALL and
+ * does nothing else, and may be called again; null with a room of 0 asks for the size alone.
+ */
+#ifndef WISANGUB_H
+#define WISANGUB_H
+
+#include <stddef.h>
+#include <stdint.h>
+
+#ifdef __cplusplus
+extern "C" {
+#endif
+
+/* The most octets of a datagram, and the least room for a reply. */
+#define WISANGUB_DATAGRAM 1472
+
+enum wisangub_answer {
+    WISANGUB_DONE = 0,      /* it is done */
+    WISANGUB_NOTHING = 1,   /* it is done, and there is nothing to send */
+    WISANGUB_TOO_SMALL = 2, /* a buffer is too small; nothing is done, and the size that is needed is told */
+    WISANGUB_MEMORY = 3,    /* no memory; nothing is done */
+    WISANGUB_FAULT = 4,     /* what was given is at fault; nothing is done */
+    WISANGUB_NULL = 5,      /* a pointer is null; nothing is done */
+    WISANGUB_BUSY = 6,      /* a job is not done yet; the command is not taken */
+    WISANGUB_USED_UP = 7,   /* no request number is left; the command is not taken */
+    WISANGUB_RANGE = 8      /* a value of the command is out of its range; it is not taken */
+};
+
+/* A sign. Set `at` to null before the first use: `struct wisangub_sign sign = {NULL};` */
+struct wisangub_sign {
+    void *at;
+};
+
+/* What a sign shows, but for its text. The row is named as the code that activated it named it (dmsMsgTableSource). */
+struct wisangub_shown {
+    uint32_t minutes;  /* that are left, rounded up; 65535 is without an end (dmsMessageTimeRemaining) */
+    uint16_t number;   /* of the row */
+    uint16_t checksum; /* of the message */
+    uint8_t memory;    /* 1 other, 2 permanent, 3 changeable, 4 volatile, 5 current buffer, 6 schedule, 7 blank */
+    uint8_t mode;      /* how it came up (dmsMsgSourceMode) */
+    uint8_t priority;  /* 1 to 255 */
+    uint8_t beacon;    /* 1 where the beacons are on, else 0 */
+    uint8_t pixel;     /* 1 where the pixel service is on, else 0 */
+};
+
+/* Why a text cannot be shown, and where. */
+struct wisangub_text_fault {
+    size_t place; /* the offset in octets, from 0 */
+    uint8_t code; /* dmsMultiSyntaxError, 3 to 13 */
+};
+
+/* What a code says. A message is named by its memory, its number and its checksum alone. */
+struct wisangub_code {
+    uint16_t minutes;   /* how long it is shown; 65535 is without an end */
+    uint16_t number;    /* of the row in its memory */
+    uint16_t checksum;  /* of the message: wisangub_crc; 0 of a blank one */
+    uint8_t priority;   /* with which it is activated */
+    uint8_t memory;     /* 2 permanent, 3 changeable, 4 volatile, 5 current buffer, 7 blank */
+    uint8_t address[4]; /* the IPv4 address of the one who activates it */
+};
+
+/* Which octet of a checksum is first in a code: the description's line `order`. */
+enum wisangub_order { WISANGUB_HIGH = 0, WISANGUB_SWAPPED = 1 };
+
+/* What an octet of a page says of its cell. */
+enum wisangub_layer {
+    WISANGUB_LOOK = 0,      /* its colour, 0 to 9, and the bits below */
+    WISANGUB_FLASH_LIT = 1, /* how long it is lit while it flashes, in tenths of a second; 0 where it does not flash */
+    WISANGUB_FLASH_DARK = 2 /* how long it is dark while it flashes, in tenths of a second; 0 where it does not flash */
+};
+
+/* Of a look: the colour that is lit or, without WISANGUB_LIT, the page's background, and how. */
+#define WISANGUB_COLOUR 15
+#define WISANGUB_LIT 16
+#define WISANGUB_FLASHES 32
+#define WISANGUB_DARK_FIRST 64
+
+/* The octets of a page before those of its cells: how long it is shown and how long nothing is shown after it, both in
+ * tenths of a second, and its background. */
+#define WISANGUB_PAGE_HEAD 3
+
+/* A central system of one sign. Set `at` to null before the first use. What is said of a sign above goes for it, too. */
+struct wisangub_centre {
+    void *at;
+};
+
+/* What became of a code that a central system sent. */
+enum wisangub_outcome {
+    WISANGUB_WAITS = 0,
+    WISANGUB_ACCEPTED = 1,
+    WISANGUB_REFUSED = 2,
+    WISANGUB_NO_REPLY = 3,
+    WISANGUB_UNKNOWN = 4 /* the central system was restarted while it waited */
+};
+
+/* An entry of the ledger. */
+struct wisangub_entry {
+    int64_t status;             /* the error-status of a refusal, else 0 */
+    uint32_t number;            /* of the request */
+    uint8_t outcome;            /* enum wisangub_outcome */
+    struct wisangub_code code;  /* as the request carried it */
+};
+
+/* How the last job ended. */
+enum wisangub_ended { WISANGUB_NEVER = 0, WISANGUB_DID = 1, WISANGUB_FAILED = 2 };
+
+/* Why it failed; of those with a value it is in `value`. */
+enum wisangub_why {
+    WISANGUB_WHY_STATUS = 1,       /* the reply has this error-status */
+    WISANGUB_WHY_ROW = 2,          /* the row has this status, which is not the one that was to come */
+    WISANGUB_WHY_VALIDATING = 3,   /* the row was still being validated at the tenth poll */
+    WISANGUB_WHY_CHECKSUM = 4,     /* the sign's message has another checksum */
+    WISANGUB_WHY_NO_REPLY = 5,     /* to any of three sends */
+    WISANGUB_WHY_USED_UP = 6,      /* no request number is left */
+    WISANGUB_WHY_ODD_REPLY = 7,    /* the reply does not answer what was asked */
+    WISANGUB_WHY_CAUSE = 8,        /* the sign refused the activation for this cause (dmsActivateMsgError) */
+    WISANGUB_WHY_RESTARTED = 9
+};
+
+/* How a central system stands. */
+struct wisangub_status {
+    int64_t value;  /* of why the last job failed, else 0 */
+    size_t entries; /* of the ledger */
+    uint8_t busy;   /* 1 while a job is on, else 0 */
+    uint8_t last;   /* enum wisangub_ended */
+    uint8_t step;   /* at which the last job failed, 1 to 8, else 0 */
+    uint8_t why;    /* enum wisangub_why, else 0 */
+};
+
+/* What the library exports, as the compiler of the library lays it out. Use the functions below, which refuse null. */
+uint32_t wisangub_sign_new_at(const uint8_t *text, size_t text_size, void **sign, uint32_t *first, size_t *line);
+uint32_t wisangub_sign_receive_at(struct wisangub_sign *sign, const uint8_t *datagram, size_t datagram_size,
+                                  uint8_t *reply, size_t reply_room, size_t *reply_size);
+void wisangub_sign_tick_at(struct wisangub_sign *sign);
+void wisangub_sign_power_lost_at(struct wisangub_sign *sign);
+void wisangub_sign_power_back_at(struct wisangub_sign *sign, uint32_t seconds);
+void wisangub_sign_heard_at(struct wisangub_sign *sign);
+void wisangub_sign_free_at(struct wisangub_sign sign);
+void wisangub_sign_shown_at(struct wisangub_sign *sign, struct wisangub_shown *shown);
+void wisangub_sign_matrix_at(struct wisangub_sign *sign, uint16_t *width, uint16_t *height);
+uint32_t wisangub_sign_text_at(struct wisangub_sign *sign, uint8_t *text, size_t room, size_t *size);
+uint32_t wisangub_sign_writer_at(struct wisangub_sign *sign, uint8_t *community, size_t room, size_t *size);
+uint32_t wisangub_sign_check_at(struct wisangub_sign *sign, const uint8_t *text, size_t text_size, size_t *pages,
+                                struct wisangub_text_fault *fault);
+uint32_t wisangub_sign_pages_at(struct wisangub_sign *sign, uint8_t layer, uint8_t *pages, size_t room, size_t *size);
+uint32_t wisangub_sign_text_pages_at(struct wisangub_sign *sign, const uint8_t *text, size_t text_size, uint8_t layer,
+                                     uint8_t *pages, size_t room, size_t *size, struct wisangub_text_fault *fault);
+uint32_t wisangub_row_bits_at(const uint8_t *looks, size_t count, uint8_t *bits, size_t room, size_t *size);
+uint16_t wisangub_crc_at(const uint8_t *text, size_t text_size, uint8_t beacon, uint8_t pixel);
+uint32_t wisangub_message_code_at(uint8_t order, const struct wisangub_code *parts, uint8_t *code, size_t room,
+                                  size_t *size);
+uint32_t wisangub_activation_code_at(uint8_t order, const struct wisangub_code *parts, uint8_t *code, size_t room,
+                                     size_t *size);
+
+uint32_t wisangub_centre_new_at(const uint8_t *community, size_t community_size, uint8_t order, uint32_t first,
+                                void **centre);
+uint32_t wisangub_centre_command_at(struct wisangub_centre *centre, const uint8_t *line, size_t line_size,
+                                    uint8_t *request, size_t request_room, size_t *request_size);
+uint32_t wisangub_centre_receive_at(struct wisangub_centre *centre, const uint8_t *datagram, size_t datagram_size,
+                                    uint8_t *request, size_t request_room, size_t *request_size);
+uint32_t wisangub_centre_tick_at(struct wisangub_centre *centre, uint8_t *request, size_t request_room,
+                                 size_t *request_size);
+void wisangub_centre_restart_at(struct wisangub_centre *centre);
+void wisangub_centre_status_at(struct wisangub_centre *centre, struct wisangub_status *status);
+uint32_t wisangub_centre_entry_at(struct wisangub_centre *centre, size_t index, struct wisangub_entry *entry);
+void wisangub_centre_free_at(struct wisangub_centre centre);
+
+/* A buffer, or a place for none where its room is 0. */
+static inline uint8_t *wisangub_buffer(void *buffer, size_t room, uint8_t *none)
+{
+    return buffer == NULL && room == 0 ? none : (uint8_t *)buffer;
+}
+
+/*
+ * Makes the sign of a description (docs/PROFILE.md has its lines). It shows a blank message and has power.
+ * Answers DONE, with the number of the first request of its central system in *first; FAULT, with the line for which the
+ * description is refused in *line, counted from 1; MEMORY; or NULL, also where the sign is made already.
+ */
+static inline enum wisangub_answer wisangub_sign_new(struct wisangub_sign *sign, const void *text, size_t text_size,
+                                                     uint32_t *first, size_t *line)
+{
+    if (sign == NULL || sign->at != NULL || text == NULL || first == NULL || line == NULL) {
+        return WISANGUB_NULL;
+    }
+    return (enum wisangub_answer)wisangub_sign_new_at((const uint8_t *)text, text_size, &sign->at, first, line);
+}
+
+/*
+ * Hands the sign a datagram. Answers DONE, with the reply in `reply` and its size in *reply_size; NOTHING, where the sign
+ * drops the datagram (*reply_size is 0); TOO_SMALL, where reply_room is below WISANGUB_DATAGRAM: the sign has not heard the
+ * datagram, the buffer is as it was, and *reply_size is WISANGUB_DATAGRAM; or NULL. No memory is taken.
+ */
+static inline enum wisangub_answer wisangub_sign_receive(struct wisangub_sign *sign, const void *datagram,
+                                                         size_t datagram_size, void *reply, size_t reply_room,
+                                                         size_t *reply_size)
+{
+    if (sign == NULL || sign->at == NULL || datagram == NULL || reply == NULL || reply_size == NULL) {
+        return WISANGUB_NULL;
+    }
+    return (enum wisangub_answer)wisangub_sign_receive_at(sign, (const uint8_t *)datagram, datagram_size,
+                                                          (uint8_t *)reply, reply_room, reply_size);
+}
+
+/* A second passes: call it once in each second, also while the power is off. Answers DONE or NULL. */
+static inline enum wisangub_answer wisangub_sign_tick(struct wisangub_sign *sign)
+{
+    if (sign == NULL || sign->at == NULL) {
+        return WISANGUB_NULL;
+    }
+    wisangub_sign_tick_at(sign);
+    return WISANGUB_DONE;
+}
+
+/* The power is lost; the sign drops every datagram until it is back. Without power nothing changes. Answers DONE or NULL. */
+static inline enum wisangub_answer wisangub_sign_power_lost(struct wisangub_sign *sign)
+{
+    if (sign == NULL || sign->at == NULL) {
+        return WISANGUB_NULL;
+    }
+    wisangub_sign_power_lost_at(sign);
+    return WISANGUB_DONE;
+}
+
+/* The power is back after so many seconds. With power nothing changes. Answers DONE or NULL. */
+static inline enum wisangub_answer wisangub_sign_power_back(struct wisangub_sign *sign, uint32_t seconds)
+{
+    if (sign == NULL || sign->at == NULL) {
+        return WISANGUB_NULL;
+    }
+    wisangub_sign_power_back_at(sign, seconds);
+    return WISANGUB_DONE;
+}
+
+/*
+ * The silence is over, as after a Get that was answered. It is for one who goes on from a journal, where Gets are recorded
+ * by this alone (docs/JOURNAL.md). Answers DONE or NULL.
+ */
+static inline enum wisangub_answer wisangub_sign_heard(struct wisangub_sign *sign)
+{
+    if (sign == NULL || sign->at == NULL) {
+        return WISANGUB_NULL;
+    }
+    wisangub_sign_heard_at(sign);
+    return WISANGUB_DONE;
+}
+
+/* What the sign shows, but for its text. Answers DONE or NULL. */
+static inline enum wisangub_answer wisangub_sign_shown(struct wisangub_sign *sign, struct wisangub_shown *shown)
+{
+    if (sign == NULL || sign->at == NULL || shown == NULL) {
+        return WISANGUB_NULL;
+    }
+    wisangub_sign_shown_at(sign, shown);
+    return WISANGUB_DONE;
+}
+
+/* The columns, 1 to 256, and the rows, 1 to 64, of the sign's matrix. Answers DONE or NULL. */
+static inline enum wisangub_answer wisangub_sign_matrix(struct wisangub_sign *sign, uint16_t *width, uint16_t *height)
+{
+    if (sign == NULL || sign->at == NULL || width == NULL || height == NULL) {
+        return WISANGUB_NULL;
+    }
+    wisangub_sign_matrix_at(sign, width, height);
+    return WISANGUB_DONE;
+}
+
+/* The MULTI text that the sign shows, at most 512 octets. Answers DONE, TOO_SMALL or NULL. */
+static inline enum wisangub_answer wisangub_sign_text(struct wisangub_sign *sign, void *text, size_t room, size_t *size)
+{
+    uint8_t none = 0, *buffer = wisangub_buffer(text, room, &none);
+    if (sign == NULL || sign->at == NULL || buffer == NULL || size == NULL) {
+        return WISANGUB_NULL;
+    }
+    return (enum wisangub_answer)wisangub_sign_text_at(sign, buffer, room, size);
+}
+
+/* The community that may write, 1 to 32 octets. Answers DONE, TOO_SMALL or NULL. */
+static inline enum wisangub_answer wisangub_sign_writer(struct wisangub_sign *sign, void *community, size_t room,
+                                                        size_t *size)
+{
+    uint8_t none = 0, *buffer = wisangub_buffer(community, room, &none);
+    if (sign == NULL || sign->at == NULL || buffer == NULL || size == NULL) {
+        return WISANGUB_NULL;
+    }
+    return (enum wisangub_answer)wisangub_sign_writer_at(sign, buffer, room, size);
+}
+
+/*
+ * Whether a MULTI text can be shown on the sign under the defaults of its description. Answers DONE, with the number of
+ * its pages, 1 to 6, in *pages; FAULT, with what is wrong in *fault; or NULL.
+ */
+static inline enum wisangub_answer wisangub_sign_check(struct wisangub_sign *sign, const void *text, size_t text_size,
+                                                       size_t *pages, struct wisangub_text_fault *fault)
+{
+    if (sign == NULL || sign->at == NULL || text == NULL || pages == NULL || fault == NULL) {
+        return WISANGUB_NULL;
+    }
+    return (enum wisangub_answer)wisangub_sign_check_at(sign, (const uint8_t *)text, text_size, pages, fault);
+}
+
+/*
+ * The pages of what the sign shows, one after the other: of each its head of WISANGUB_PAGE_HEAD octets, and then an octet
+ * for each cell, row by row from the top, each row from the left; `layer` says what of a cell. So a page has 3 + width *
+ * height octets. Answers DONE, TOO_SMALL, MEMORY or NULL.
+ */
+static inline enum wisangub_answer wisangub_sign_pages(struct wisangub_sign *sign, enum wisangub_layer layer, void *pages,
+                                                       size_t room, size_t *size)
+{
+    uint8_t none = 0, *buffer = wisangub_buffer(pages, room, &none);
+    if (sign == NULL || sign->at == NULL || buffer == NULL || size == NULL) {
+        return WISANGUB_NULL;
+    }
+    return (enum wisangub_answer)wisangub_sign_pages_at(sign, (uint8_t)layer, buffer, room, size);
+}
+
+/*
+ * The pages of a MULTI text on the sign under the defaults of its description, as wisangub_sign_pages gives them. Answers
+ * DONE, TOO_SMALL, MEMORY or NULL; or FAULT, with what is wrong with the text in *fault.
+ */
+static inline enum wisangub_answer wisangub_sign_text_pages(struct wisangub_sign *sign, const void *text, size_t text_size,
+                                                            enum wisangub_layer layer, void *pages, size_t room,
+                                                            size_t *size, struct wisangub_text_fault *fault)
+{
+    uint8_t none = 0, *buffer = wisangub_buffer(pages, room, &none);
+    if (sign == NULL || sign->at == NULL || text == NULL || buffer == NULL || size == NULL || fault == NULL) {
+        return WISANGUB_NULL;
+    }
+    return (enum wisangub_answer)wisangub_sign_text_pages_at(sign, (const uint8_t *)text, text_size, (uint8_t)layer, buffer,
+                                                             room, size, fault);
+}
+
+/*
+ * Which of so many cells are lit, of their looks, for a driver of lamps: eight cells an octet from the left, the first in
+ * the highest bit. Answers DONE, TOO_SMALL, MEMORY or NULL.
+ */
+static inline enum wisangub_answer wisangub_row_bits(const uint8_t *looks, size_t count, void *bits, size_t room,
+                                                     size_t *size)
+{
+    uint8_t none = 0, *buffer = wisangub_buffer(bits, room, &none);
+    if (looks == NULL || buffer == NULL || size == NULL) {
+        return WISANGUB_NULL;
+    }
+    return (enum wisangub_answer)wisangub_row_bits_at(looks, count, buffer, room, size);
+}
+
+/* The checksum of a message (dmsMessageCRC) in *crc: of its text and its two bits, each 0 or 1. Answers DONE or NULL. */
+static inline enum wisangub_answer wisangub_crc(const void *text, size_t text_size, uint8_t beacon, uint8_t pixel,
+                                                uint16_t *crc)
+{
+    if (text == NULL || crc == NULL) {
+        return WISANGUB_NULL;
+    }
+    *crc = wisangub_crc_at((const uint8_t *)text, text_size, beacon, pixel);
+    return WISANGUB_DONE;
+}
+
+/* The five octets of a message's name (MessageIDCode). Answers DONE, TOO_SMALL or NULL. */
+static inline enum wisangub_answer wisangub_message_code(enum wisangub_order order, const struct wisangub_code *parts,
+                                                         void *code, size_t room, size_t *size)
+{
+    uint8_t none = 0, *buffer = wisangub_buffer(code, room, &none);
+    if (parts == NULL || buffer == NULL || size == NULL) {
+        return WISANGUB_NULL;
+    }
+    return (enum wisangub_answer)wisangub_message_code_at((uint8_t)order, parts, buffer, room, size);
+}
+
+/* The twelve octets that activate a message (MessageActivationCode). Answers DONE, TOO_SMALL or NULL. */
+static inline enum wisangub_answer wisangub_activation_code(enum wisangub_order order, const struct wisangub_code *parts,
+                                                            void *code, size_t room, size_t *size)
+{
+    uint8_t none = 0, *buffer = wisangub_buffer(code, room, &none);
+    if (parts == NULL || buffer == NULL || size == NULL) {
+        return WISANGUB_NULL;
+    }
+    return (enum wisangub_answer)wisangub_activation_code_at((uint8_t)order, parts, buffer, room, size);
+}
+
+/* Gives the sign's memory back and sets `at` to null. A sign that is not made stays as it is. */
+static inline void wisangub_sign_free(struct wisangub_sign *sign)
+{
+    if (sign != NULL && sign->at != NULL) {
+        wisangub_sign_free_at(*sign);
+        sign->at = NULL;
+    }
+}
+
+/*
+ * Makes a central system, which sends requests with this community of 1 to 32 octets; `first` is the number of the first
+ * one. One that is made again must begin above all numbers that it ever used: the caller keeps them (docs/JOURNAL.md).
+ * Answers DONE; FAULT, where the community has another size; MEMORY; or NULL, also where it is made already.
+ */
+static inline enum wisangub_answer wisangub_centre_new(struct wisangub_centre *centre, const void *community,
+                                                       size_t community_size, enum wisangub_order order, uint32_t first)
+{
+    if (centre == NULL || centre->at != NULL || community == NULL) {
+        return WISANGUB_NULL;
+    }
+    return (enum wisangub_answer)wisangub_centre_new_at((const uint8_t *)community, community_size, (uint8_t)order, first,
+                                                        &centre->at);
+}
+
+/*
+ * Gives the central system the command that a line spells, without its newline: `publish ..`, `blank ..` or `activate ..`,
+ * as in a script (docs/PROFILE.md). Answers DONE, with the request that is to be sent to the sign in `request` and its size
+ * in *request_size; FAULT, where the line spells no command; BUSY, USED_UP or RANGE, where it is not taken; TOO_SMALL, where
+ * request_room is below WISANGUB_DATAGRAM; MEMORY, which an entry of the ledger takes; or NULL. In all but DONE the central
+ * system is as before.
+ */
+static inline enum wisangub_answer wisangub_centre_command(struct wisangub_centre *centre, const void *line,
+                                                           size_t line_size, void *request, size_t request_room,
+                                                           size_t *request_size)
+{
+    if (centre == NULL || centre->at == NULL || line == NULL || request == NULL || request_size == NULL) {
+        return WISANGUB_NULL;
+    }
+    return (enum wisangub_answer)wisangub_centre_command_at(centre, (const uint8_t *)line, line_size, (uint8_t *)request,
+                                                            request_room, request_size);
+}
+
+/*
+ * Hands the central system a datagram. Answers DONE, with the request that it sends next; NOTHING, where it sends none;
+ * TOO_SMALL, where request_room is below WISANGUB_DATAGRAM: it has not heard the datagram; or NULL. No memory is taken.
+ */
+static inline enum wisangub_answer wisangub_centre_receive(struct wisangub_centre *centre, const void *datagram,
+                                                           size_t datagram_size, void *request, size_t request_room,
+                                                           size_t *request_size)
+{
+    if (centre == NULL || centre->at == NULL || datagram == NULL || request == NULL || request_size == NULL) {
+        return WISANGUB_NULL;
+    }
+    return (enum wisangub_answer)wisangub_centre_receive_at(centre, (const uint8_t *)datagram, datagram_size,
+                                                            (uint8_t *)request, request_room, request_size);
+}
+
+/*
+ * A tick of the central system's clock: call it once in each second. Answers DONE, with what it sends (again); NOTHING;
+ * TOO_SMALL, as above; MEMORY, which an entry of the ledger takes: nothing has changed, and the next tick tries again; or
+ * NULL.
+ */
+static inline enum wisangub_answer wisangub_centre_tick(struct wisangub_centre *centre, void *request, size_t request_room,
+                                                        size_t *request_size)
+{
+    if (centre == NULL || centre->at == NULL || request == NULL || request_size == NULL) {
+        return WISANGUB_NULL;
+    }
+    return (enum wisangub_answer)wisangub_centre_tick_at(centre, (uint8_t *)request, request_room, request_size);
+}
+
+/* Begins anew, as after a loss of power: the next number and the ledger stay, and a job ends. Answers DONE or NULL. */
+static inline enum wisangub_answer wisangub_centre_restart(struct wisangub_centre *centre)
+{
+    if (centre == NULL || centre->at == NULL) {
+        return WISANGUB_NULL;
+    }
+    wisangub_centre_restart_at(centre);
+    return WISANGUB_DONE;
+}
+
+/* How the central system stands. Answers DONE or NULL. */
+static inline enum wisangub_answer wisangub_centre_status(struct wisangub_centre *centre, struct wisangub_status *status)
+{
+    if (centre == NULL || centre->at == NULL || status == NULL) {
+        return WISANGUB_NULL;
+    }
+    wisangub_centre_status_at(centre, status);
+    return WISANGUB_DONE;
+}
+
+/* The entry of this index, from 0, of the ledger: the codes that were sent. Answers DONE, FAULT where there is none, or NULL. */
+static inline enum wisangub_answer wisangub_centre_entry(struct wisangub_centre *centre, size_t index,
+                                                         struct wisangub_entry *entry)
+{
+    if (centre == NULL || centre->at == NULL || entry == NULL) {
+        return WISANGUB_NULL;
+    }
+    return (enum wisangub_answer)wisangub_centre_entry_at(centre, index, entry);
+}
+
+/* Gives the central system's memory back and sets `at` to null. */
+static inline void wisangub_centre_free(struct wisangub_centre *centre)
+{
+    if (centre != NULL && centre->at != NULL) {
+        wisangub_centre_free_at(*centre);
+        centre->at = NULL;
+    }
+}
+
+#ifdef __cplusplus
+}
+#endif
+
+#endif

@@ -1,0 +1,1 @@
+"""Trials of the library for C, of tools/c_library.py."""
