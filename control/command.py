@@ -7,6 +7,7 @@ ended accepted.
 """
 
 import argparse
+import contextlib
 import getpass
 import sys
 import time
@@ -16,6 +17,7 @@ from door.refusal import Refusal, status_of, tell
 from door.texts import published
 
 from . import database, start
+from .database import Failed
 from .session import is_command
 from .store import Store, whole
 from .worker import seconds
@@ -40,11 +42,15 @@ def row_of(store: Store, name: str) -> int:
 
 
 def waited(store: Store, command: int, wait: float) -> str | None:
-    """How the command ended; None where it did not in time."""
+    """How the command ended; None where it did not in time, or the database did not say so."""
     ends = time.monotonic() + wait
-    while (how := store.how(command)) is None and time.monotonic() < ends:
+    while True:
+        with contextlib.suppress(Failed):  # it goes on while the database's server starts again
+            if (how := store.how(command)) is not None:
+                return how
+        if time.monotonic() >= ends:
+            return None
         time.sleep(LOOK)
-    return how
 
 
 def main() -> int:
@@ -60,7 +66,10 @@ def main() -> int:
         start.needed("control.command", "psycopg")
     line = line_of(asked.line)
     store = Store(database.opened(asked.database))
-    command = store.ask(row_of(store, asked.sign), asked.who, line)
+    try:
+        command = store.ask(row_of(store, asked.sign), asked.who, line)
+    except Failed as fault:
+        raise Refusal(f"the database: {fault}: whether it was asked for is not known", 1) from fault
     how = waited(store, command, asked.wait)
     tell(how if how is not None else f"command {command} has not ended after {asked.wait:g} seconds; it goes on")
     return 0 if how == "accepted" else 1

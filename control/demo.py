@@ -1,7 +1,8 @@
 """The whole on one machine: three signs and the control room: python3 -m control.demo [--listen 127.0.0.1:8080]
 
-It starts the signs of signs/fleet.toml by tools/udp_sign.py, and the control room over a database in a folder that is
-made for it, with a user of each role, whose password is printed. An interrupt ends all of it, and the folder goes.
+It starts the signs of signs/fleet.toml, or of another fleet of this machine's, by tools/udp_sign.py, and the control
+room over a database in a folder that is made for it, with a user of each role, whose password is printed. An interrupt
+ends all of it, and the folder goes.
 """
 
 import argparse
@@ -19,7 +20,7 @@ from door.places import called, in_words_of_command
 from door.refusal import Refusal, status_of, tell
 from door.sockets import host_and_port
 
-from . import SIGNTOOL, TOP, database, start, users
+from . import SIGNTOOL, TOP, database, fleet, start, users
 from .__main__ import LISTEN
 from .users import Role
 
@@ -27,10 +28,11 @@ FLEET = TOP / "signs/fleet.toml"
 SILENCE = 2.0  # seconds in which a sign that cannot begin ends
 
 
-def entries() -> list[tuple[str, int, pathlib.Path]]:
-    """The name, the port and the description of each sign of the fleet."""
-    held = tomllib.loads(FLEET.read_text(encoding="utf-8"))["sign"]
-    return [(one["name"], host_and_port(one["address"])[1], FLEET.parent / one["description"]) for one in held]
+def entries(path: pathlib.Path) -> list[tuple[str, int, pathlib.Path]]:
+    """The name, the port and the description of each sign of a fleet."""
+    fleet.read(path)  # which says what is not in order
+    held = tomllib.loads(path.read_text(encoding="utf-8"))["sign"]
+    return [(one["name"], host_and_port(one["address"])[1], path.parent / one["description"]) for one in held]
 
 
 @contextlib.contextmanager
@@ -54,19 +56,17 @@ def begun(words: list[str]) -> subprocess.Popen[bytes]:
     return subprocess.Popen([sys.executable, *words], cwd=TOP, stdin=subprocess.DEVNULL, process_group=0)
 
 
-def signs(program: str) -> list[subprocess.Popen[bytes]]:
-    """The signs; refused where one does not stand."""
-    made: list[subprocess.Popen[bytes]] = []
-    for name, port, description in entries():
-        made.append(begun(["tools/udp_sign.py", "--signtool", program, "--sign", str(description), "--port", str(port),
-                           "--quiet"]))
+def begin_signs(path: pathlib.Path, program: str, running: list[subprocess.Popen[bytes]]) -> None:
+    """The signs are among what runs; refused where one does not stand."""
+    found = entries(path)
+    for _, port, description in found:
+        running.append(begun(["tools/udp_sign.py", "--signtool", program, "--sign", str(description), "--port",
+                              str(port), "--quiet"]))
     with contextlib.suppress(subprocess.TimeoutExpired):
-        made[-1].wait(SILENCE)
-    dead = [entry[0] for entry, process in zip(entries(), made) if process.poll() is not None]
+        running[-1].wait(SILENCE)
+    dead = [entry[0] for entry, process in zip(found, running) if process.poll() is not None]
     if dead:
-        with ended(made):
-            raise Refusal(f"no sign stands for {', '.join(dead)}: is its port in use?", 1)
-    return made
+        raise Refusal(f"no sign stands for {', '.join(dead)}: is its port in use?", 1)
 
 
 def enter(where: str) -> None:
@@ -83,17 +83,19 @@ def main() -> int:
     words = argparse.ArgumentParser(prog=called("control.demo"), description=in_words_of_command(__doc__),
                                     formatter_class=argparse.RawDescriptionHelpFormatter)
     words.add_argument("--listen", default=LISTEN, metavar="HOST:PORT")
+    words.add_argument("--fleet", type=pathlib.Path, default=FLEET, metavar="FILE")
     words.add_argument("--signtool", default=str(SIGNTOOL), metavar="PATH")
     asked = words.parse_args()
     start.needed("control.demo", "aiohttp", "jinja2")
     signal.signal(signal.SIGTERM, signal.default_int_handler)
+    path, running = asked.fleet.resolve(), list[subprocess.Popen[bytes]]()
     with tempfile.TemporaryDirectory(prefix="control-") as folder:
         where = str(pathlib.Path(folder) / "room.sqlite")
-        running = signs(asked.signtool)
-        with ended(running), contextlib.suppress(KeyboardInterrupt):
+        with contextlib.suppress(KeyboardInterrupt), ended(running):
+            begin_signs(path, asked.signtool, running)
             enter(where)
-            running.append(begun(["-m", "control", "--fleet", str(FLEET), "--database", where, "--listen",
-                                  asked.listen, "--signtool", asked.signtool]))
+            running.append(begun(["-m", "control", "--fleet", str(path), "--database", where, "--listen", asked.listen,
+                                  "--signtool", asked.signtool]))
             running[-1].wait()
             raise Refusal("the control room ended by itself", 1)
     return 0

@@ -6,7 +6,7 @@ from typing import Callable
 
 from door.datagrams import status_word
 from door.refusal import Refusal, reason
-from door.sockets import connected, received
+from door.sockets import connected, received, sent
 from model import wire
 
 from .fleet import Sign
@@ -49,10 +49,7 @@ class Get:
     def send(self, now: float) -> None:
         """The same octets each time; one that is lost is sent again later."""
         self.sends, self.due = self.sends + 1, now + PATIENCE
-        try:
-            self.door.send(self.octets)
-        except OSError:
-            pass
+        sent(self.door, self.octets)
 
     def heard(self) -> Values | str | None:
         """What the Response says, where one waits."""

@@ -2,7 +2,7 @@
 
 Proved signs on loopback without trouble; workers, each a process, over a database of their own; and publications, all
 asked for at once or so many a second. It prints how many ended a second, how long each took from the asking to its end,
-and the processor's time and the memory of the workers and their co-processes, without the database's server and the
+and the processor's time and the memory of the workers with their co-processes and of the database's server, without the
 signs.
 """
 
@@ -19,14 +19,14 @@ from dataclasses import dataclass
 from door.refusal import status_of, tell
 
 from . import SIGNTOOL, TOP, database, fleet, start
-from .chaos_place import KINDS, placed
+from .chaos_place import KINDS, Place, placed
 from .chaos_workers import Workers
 from .loopback import Fates, Loopback
 from .store import Store, whole
-from .usage import Usage
+from .usage import Group, children, pinned
 
 DESCRIPTION = TOP / "signs/roadside.sign"
-LOOK = 0.1
+LOOK, LOOK_AT_MEMORY = 0.1, 0.5
 START = 300.0  # seconds that the first readings of all signs may take
 
 
@@ -68,10 +68,10 @@ def begun_once(store: Store, rows: list[int]) -> None:
         time.sleep(LOOK)
 
 
-def carried(asked: Asked, store: Store, rows: list[int], usage: Usage) -> float:
+def carried(asked: Asked, store: Store, rows: list[int], groups: list[Group]) -> float:
     """Asks for the commands, and waits for their ends: the seconds that it took."""
     begun = time.monotonic()
-    ends, sent = begun + asked.seconds, 0
+    ends, sent, next_look = begun + asked.seconds, 0, 0.0
     while time.monotonic() < ends:
         now = time.monotonic() - begun
         to_send = asked.commands if not asked.rate else min(asked.commands, 1 + int(now * asked.rate))
@@ -81,14 +81,17 @@ def carried(asked: Asked, store: Store, rows: list[int], usage: Usage) -> float:
                     "INSERT INTO commands (sign, who, at, line) VALUES (?, 'measure', {clock}, ?)",
                     [(rows[at % len(rows)], publication(at)) for at in range(sent, to_send)])
             sent = to_send
-        usage.look()
+        if now >= next_look:
+            next_look, of = now + LOOK_AT_MEMORY, children()
+            for group in groups:
+                group.look(of)
         if sent == asked.commands and not count(store, "commands WHERE how IS NULL"):
             break
         time.sleep(LOOK)
     return time.monotonic() - begun
 
 
-def told(asked: Asked, store: Store, seconds: float, usage: Usage) -> None:
+def told(asked: Asked, store: Store, seconds: float, groups: list[Group]) -> None:
     """The numbers."""
     took = sorted(float(row[0] or 0) for row in store.run(
         "SELECT ended - at FROM commands WHERE who = 'measure' AND how = 'accepted'"))
@@ -101,30 +104,41 @@ def told(asked: Asked, store: Store, seconds: float, usage: Usage) -> None:
         tell(f"time to accepted: median {statistics.median(took):.2f} s, 95 of 100 within {at[1]:.2f} s, all within"
              f" {took[-1]:.2f} s")
     tell(f"{readings} signs read; {count(store, 'lines')} lines")
-    tell(usage.told(seconds, asked.signs))
+    for group in groups:
+        tell(group.told(seconds))
+    memory = sum(group.most_memory for group in groups)
+    tell(f"together {memory:.0f} MB, {1000 * memory / asked.signs:.0f} kB a sign of the fleet")
     tell(f"load {os.getloadavg()[0]:.1f}, {os.cpu_count()} processors")
 
 
-def run(asked: Asked, folder: pathlib.Path, where: str) -> bool:
+def grouped(workers: Workers, place: Place) -> list[Group]:
+    """What is measured from now on."""
+    made = [Group("workers and co-processes", [worker.pid for worker in workers.going])]
+    if place.server is not None and place.server.process is not None:
+        made.append(Group("the database's server", [place.server.process.pid]))
+    return made
+
+
+def run(asked: Asked, folder: pathlib.Path, place: Place) -> bool:
     """A measure; whether all commands were accepted."""
     names = [f"sign {at}" for at in range(asked.signs)]
     loopback = Loopback(asked.signtool, {name: DESCRIPTION.read_bytes() for name in names}, Fates(1, 0.0), 1.0)
     (folder / "fleet.toml").write_text("".join(
         f'[[sign]]\nname = "{live.name}"\naddress = "127.0.0.1:{live.port}"\ndescription = "{DESCRIPTION}"\n'
         f"poll = {asked.poll}\n" for live in loopback.signs))
-    store = Store(database.opened(where))
+    store = Store(database.opened(place.where))
     rows = sorted(store.enter(fleet.read(folder / "fleet.toml")))
-    workers = Workers(asked.workers, folder, where, asked.signtool, asked.tick, 10.0)
+    workers = Workers(asked.workers, folder, place.where, asked.signtool, asked.tick, 10.0)
     loopback.start()
     try:
         workers.fill()
+        groups = grouped(workers, place)
         if asked.is_pinned:
-            for worker in workers.going:
-                os.sched_setaffinity(worker.pid, {0})
+            pinned([process for group in groups for process in group.processes])
         begun_once(store, rows)
-        usage = Usage([worker.pid for worker in workers.going])
-        seconds = carried(asked, store, rows, usage)
-        told(asked, store, seconds, usage)
+        groups = grouped(workers, place)
+        seconds = carried(asked, store, rows, groups)
+        told(asked, store, seconds, groups)
         return count(store, "commands WHERE who = 'measure' AND how = 'accepted'") == asked.commands
     finally:
         workers.end()
@@ -142,7 +156,8 @@ def arguments() -> argparse.ArgumentParser:
     words.add_argument("--poll", type=float, default=10.0, metavar="SECONDS", help="from reading to reading of a sign")
     words.add_argument("--seconds", type=float, default=300, metavar="N", help="that the commands have to end")
     words.add_argument("--tick", type=float, default=1.0, metavar="SECONDS")
-    words.add_argument("--one-processor", action="store_true", dest="is_pinned", help="workers and co-processes on one")
+    words.add_argument("--one-processor", action="store_true", dest="is_pinned",
+                       help="workers, co-processes and server on one")
     words.add_argument("--database", choices=KINDS, default=KINDS[0])
     words.add_argument("--signtool", default=str(SIGNTOOL), metavar="PATH")
     return words
@@ -155,7 +170,7 @@ def main() -> int:
     signal.signal(signal.SIGTERM, lambda *_: sys.exit(143))
     with tempfile.TemporaryDirectory(prefix="measure-") as folder, \
             placed(asked.database, pathlib.Path(folder)) as place:
-        return 0 if run(asked, pathlib.Path(folder), place.where) else 1
+        return 0 if run(asked, pathlib.Path(folder), place) else 1
 
 
 if __name__ == "__main__":

@@ -11,7 +11,7 @@ from door.mib import Mib
 from door.process import CoProcess
 from door.records import Head
 from door.refusal import Refusal, reason, say
-from door.sockets import connected, received
+from door.sockets import connected, received, sent
 from door.texts import ended
 
 from .fleet import Sign
@@ -187,17 +187,11 @@ class Session:
         return None if step is None or self.command is None else (step, self.command.id)
 
     def send(self) -> None:
-        """What goes out for the last line, to the sign; the fault of an earlier datagram is no fault of this one."""
+        """What goes out for the last line, to the sign."""
         octets, self.out = self.out, None
-        for _ in range(2 if octets is not None else 0):
-            try:
-                self.door.send(octets or b"")
-                break
-            except ConnectionError:
-                continue
-            except OSError as fault:
-                say(f"{self.sign.name}: a request is lost: {reason(fault)}")
-                break
+        fault = None if octets is None else sent(self.door, octets)
+        if fault is not None:
+            say(f"{self.sign.name}: a request is lost: {reason(fault)}")
 
     def close(self) -> None:
         """Ends the co-process. The lines stay."""

@@ -19,8 +19,8 @@ from . import SIGNTOOL, TOP, start
 MODULES = ("pytest", "aiohttp", "jinja2", "psycopg")
 CHAOS = ("--signs", "6", "--commands", "16", "--workers", "2", "--troubles", "6", "--tick", "0.5", "--lease", "5",
          "--seconds", "400")
-BROWSER = "control/tests/test_browser.py"  # some minutes by itself: run by hand
-TESTS = ("-q", "-rs", "-p", "no:cacheprovider", "control/tests", "--ignore", BROWSER)
+BROWSER = "control/tests/test_browser*.py"  # some minutes by themselves: run by hand
+TESTS = ("-q", "-rs", "-p", "no:cacheprovider", "control/tests", "--ignore-glob", BROWSER)
 WORDS = re.compile(r"(\d+) (passed|failed|error|errors)\b")
 SKIPPED = re.compile(r"^SKIPPED \[\d+\] (\S+?)(?::\d+)?: (.*)$", re.MULTILINE)
 LIMIT = 560  # seconds, on a machine that is busy

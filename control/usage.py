@@ -29,39 +29,47 @@ def own_memory(pid: int) -> float:
     return 0.0
 
 
-def children(pids: list[int]) -> list[int]:
-    """The processes whose parent is one of these."""
-    found = []
+def children() -> dict[int, list[int]]:
+    """All processes by their parents."""
+    found: dict[int, list[int]] = {}
     for place in pathlib.Path("/proc").glob("[0-9]*"):
         held = fields(int(place.name))
-        if held and int(held[1]) in pids:
-            found.append(int(place.name))
+        if held:
+            found.setdefault(int(held[1]), []).append(int(place.name))
     return found
 
 
-class Usage:
-    """What workers take from now on, and the most memory that they and their co-processes have at a time."""
+class Group:
+    """What processes and their children take from now on, and the most memory that they have at a time."""
 
-    def __init__(self, workers: list[int]) -> None:
-        self.workers = workers
-        self.begun = self.time()
+    def __init__(self, name: str, processes: list[int]) -> None:
+        self.name, self.processes = name, processes
+        self.begun = self.time(children())
         self.most_memory = 0.0
         self.most_children = 0
 
-    def time(self) -> float:
-        """The processor's time so far, of co-processes that stand too."""
-        return sum(map(seconds, self.workers)) + sum(map(seconds, children(self.workers)))
+    def below(self, of: dict[int, list[int]]) -> list[int]:
+        return [child for process in self.processes for child in of.get(process, [])]
 
-    def look(self) -> None:
+    def time(self, of: dict[int, list[int]]) -> float:
+        """The processor's time so far, of children that stand too."""
+        return sum(map(seconds, [*self.processes, *self.below(of)]))
+
+    def look(self, of: dict[int, list[int]]) -> None:
         """Takes the memory of this moment into account."""
-        found = children(self.workers)
-        memory = sum(map(own_memory, self.workers)) + sum(map(own_memory, found))
-        self.most_memory = max(self.most_memory, memory)
-        self.most_children = max(self.most_children, len(found))
+        below = self.below(of)
+        self.most_memory = max(self.most_memory, sum(map(own_memory, [*self.processes, *below])))
+        self.most_children = max(self.most_children, len(below))
 
-    def told(self, span: float, signs: int) -> str:
+    def told(self, span: float) -> str:
         """In words."""
-        took = self.time() - self.begun
-        return (f"workers and co-processes: {took:.1f} s of processor in {span:.1f} s ({100 * took / span:.0f} of 100),"
-                f" at most {self.most_memory:.0f} MB and {self.most_children} co-processes at a time,"
-                f" {1000 * self.most_memory / signs:.0f} kB a sign of the fleet")
+        took = self.time(children()) - self.begun
+        return (f"{self.name}: {took:.1f} s of processor in {span:.1f} s ({100 * took / span:.0f} of 100), at most"
+                f" {self.most_memory:.0f} MB and {self.most_children} children at a time")
+
+
+def pinned(processes: list[int]) -> None:
+    """They and their children have one processor together, and whom they begin from now on."""
+    of = children()
+    for process in [*processes, *(child for one in processes for child in of.get(one, []))]:
+        os.sched_setaffinity(process, {0})

@@ -1,4 +1,4 @@
-"""Who may do what: python3 -m control.users --database FILE | postgresql://..  add NAME ROLE | role NAME ROLE | ..
+"""Who may do what: python3 -m control.users --database WHERE  add NAME ROLE | role NAME ROLE | ..
 
     add NAME ROLE       a user: reader, operator or administrator; the password is asked for, or a line of the input
     password NAME       another password
@@ -19,8 +19,8 @@ from dataclasses import dataclass
 from door.places import called, in_words_of_command
 from door.refusal import Refusal, status_of, tell
 
-from . import database, passwords
-from .database import Database, Taken
+from . import database, passwords, start
+from .database import Database, Failed, Taken
 
 NAME = re.compile(r"[a-z][a-z0-9._-]{0,31}")
 NAMES = "a name has 1 to 32 small letters, digits, dots, lines and underlines, and begins with a letter"
@@ -125,7 +125,7 @@ def asked_password() -> str:
 def arguments() -> argparse.ArgumentParser:
     words = argparse.ArgumentParser(prog=called("control.users"), description=in_words_of_command(__doc__),
                                     formatter_class=argparse.RawDescriptionHelpFormatter)
-    words.add_argument("--database", required=True, metavar="FILE", help="a file of SQLite, or postgresql://..")
+    words.add_argument("--database", required=True, metavar="WHERE", help=database.WHERE)
     calls = words.add_subparsers(dest="call", required=True, metavar="CALL")
     for name, wanted in (("add", 2), ("password", 1), ("role", 2), ("disable", 1), ("enable", 1), ("list", 0)):
         call = calls.add_parser(name)
@@ -136,9 +136,9 @@ def arguments() -> argparse.ArgumentParser:
     return words
 
 
-def main() -> int:
-    asked = arguments().parse_args()
-    held, who = database.opened(asked.database), f"{getpass.getuser()} at the machine"
+def done(asked: argparse.Namespace, held: Database) -> None:
+    """Does what was asked for."""
+    who = f"{getpass.getuser()} at the machine"
     if asked.call == "list":
         for user in users(held):
             tell(f"{user.name} {user.role.word}{' disabled' if user.is_disabled else ''}")
@@ -150,7 +150,19 @@ def main() -> int:
         change_role(held, asked.name, Role.of(asked.role), who)
     else:
         disable(held, asked.name, asked.call == "disable", who)
-    held.close()
+
+
+def main() -> int:
+    asked = arguments().parse_args()
+    if database.is_url(asked.database):
+        start.needed("control.users", "psycopg")
+    held = database.opened(asked.database)
+    try:
+        done(asked, held)
+    except Failed as fault:
+        raise Refusal(f"the database: {fault}", 1) from fault
+    finally:
+        held.close()
     return 0
 
 

@@ -1,5 +1,6 @@
 """What the pages ask the database for: signs and commands. control/past.py has what was before."""
 
+import functools
 import json
 from dataclasses import dataclass
 
@@ -65,6 +66,7 @@ class Shown:
     priority: int | None
 
     @staticmethod
+    @functools.lru_cache(8192)
     def of(words: str) -> "Shown":
         held = json.loads(words)
         return Shown(number_of(held, "mode"), octets_of(held, "source"), octets_of(held, "requester"),

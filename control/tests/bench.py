@@ -27,10 +27,10 @@ HELLO = f"publish 3 1 {b'HELLO'.hex()} {b'me'.hex()} 0 0 100 65535 255 {ADDRESS}
 class Bench:
     """One sign named `one`."""
 
-    def __init__(self, folder: pathlib.Path, where: str, loopback: Loopback) -> None:
+    def __init__(self, folder: pathlib.Path, where: str, loopback: Loopback, text: bytes) -> None:
         self.folder, self.where, self.loopback = folder, where, loopback
         self.live = loopback.signs[0]
-        (folder / "a.sign").write_bytes(TEXT)
+        (folder / "a.sign").write_bytes(text)
         self.fleet = folder / "fleet.toml"
         self.fleet.write_text(f'[[sign]]\nname = "one"\naddress = "127.0.0.1:{self.live.port}"\n'
                               'description = "a.sign"\npoll = 1\n')
@@ -72,11 +72,11 @@ def carried(session: Session, line: Line | None) -> None:
 
 
 @contextlib.contextmanager
-def bench(folder: pathlib.Path, where: str, trouble: float = 0.0, seed: int = 1) -> Iterator[Bench]:
+def bench(folder: pathlib.Path, where: str, trouble: float = 0.0, text: bytes = TEXT) -> Iterator[Bench]:
     """The sign's thread stands as long as the test."""
-    loopback = Loopback(PROGRAM, {"one": TEXT}, Fates(seed, trouble), TICK)
+    loopback = Loopback(PROGRAM, {"one": text}, Fates(1, trouble), TICK)
     loopback.start()
     try:
-        yield Bench(folder, where, loopback)
+        yield Bench(folder, where, loopback, text)
     finally:
         loopback.end()

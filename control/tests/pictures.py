@@ -12,6 +12,10 @@ from control import TOP, start
 from door.refusal import status_of, tell
 
 MOST = 200_000  # octets of a picture
+# whether all that is seen is drawn
+DRAWN = """
+return [...document.images].every((one) => one.getBoundingClientRect().top > innerHeight || one.naturalWidth > 0);
+"""
 
 
 def taken(folder: pathlib.Path) -> list[pathlib.Path]:
@@ -23,26 +27,19 @@ def taken(folder: pathlib.Path) -> list[pathlib.Path]:
     def keep(one: Browser, name: str, width: int = 1180) -> None:
         height = int(one.driver.execute_script("return document.body.scrollHeight"))
         one.driver.set_window_size(width, min(height, 1000))
-        one.driver.execute_script("document.activeElement.blur(); scrollTo(0, 0)")
+        one.script("document.activeElement.blur(); scrollTo(0, 0)")
+        until(lambda: one.script(DRAWN), "the pictures of the page")
         made.append(folder / f"{name}.png")
         one.driver.save_screenshot(str(made[-1]))
-
-    def publish(one: Browser, text: str, signs: list[int]) -> None:
-        one.write(text, signs)
-        until(lambda: len(one.all("#looks img")) > 0, "the live picture")
-        one.find("#check").click()
-        until(lambda: one.find("#send"), "the confirmation")
-        one.find("#send").click()
-        until(lambda: one.find("#summary"), "it was asked for")
 
     with tempfile.TemporaryDirectory() as held, place(pathlib.Path(held)) as at:
         gantry, east, west = (at.rows[name] for name in ("A9 gantry", "B300 east", "B300 west"))
         with at.browser("operator", 1180, 700) as one:
-            publish(one, "[fo3][cf9]RIGHT LANE[nl][fo2]CLOSED 800 m[nl3][fo1][cf7]MERGE LEFT", [gantry])
-            publish(one, "[fo2]ROAD WORK[nl]1 KM AHEAD", [east, west])
+            one.publish("[fo3][cf9]RIGHT LANE[nl][fo2]CLOSED 800 m[nl3][fo1][cf7]MERGE LEFT", [gantry])
+            one.publish("[fo2]ROAD WORK[nl]1 KM AHEAD", [east, west])
             until(lambda: len(one.all(".steps li.done")) >= 5, "steps")
             keep(one, "room-progress", 820)
-            until(lambda: "2 of 2 accepted" in one.text("#summary"), "accepted")
+            one.says("2 of 2 accepted", "#summary")
             one.get("/")
             until(lambda: len(one.all(".tag.lit")) == 3, "three signs are lit")
             keep(one, "room-wall", 820)

@@ -5,8 +5,9 @@ import re
 
 import pytest
 
-pytest.importorskip("aiohttp", reason="this Python does not see aiohttp: apt-get install python3-aiohttp")
-pytest.importorskip("jinja2", reason="this Python does not see jinja2: apt-get install python3-jinja2")
+from control.tests import needs
+
+needs.modules("aiohttp", "jinja2")
 
 from control import past, views
 from control.tests.visits import Bench, Visitor, run

@@ -7,13 +7,14 @@ from typing import Any
 
 import pytest
 
-pytest.importorskip("aiohttp", reason="this Python does not see aiohttp: apt-get install python3-aiohttp")
-pytest.importorskip("jinja2", reason="this Python does not see jinja2: apt-get install python3-jinja2")
+from control.tests import needs
+
+needs.modules("aiohttp", "jinja2")
 
 from control import users
 from control.tests.visits import Bench, Visitor, run
 from control.users import Role
-from control.web import events
+from control.web import events, wall
 
 
 async def listened(one: Visitor, view: str) -> Any:
@@ -55,8 +56,27 @@ def test_what_has_changed_is_told(tmp_path: pathlib.Path, where: str) -> None:
     run(tmp_path, where, act)
 
 
-def test_a_stream_ends_with_its_log_in(tmp_path: pathlib.Path, monkeypatch: pytest.MonkeyPatch) -> None:
-    monkeypatch.setattr(events, "SILENCE", 0.2)
+def test_a_card_is_made_anew_where_its_sign_says_something_new(tmp_path: pathlib.Path, where: str) -> None:
+    async def act(bench: Bench, visitor) -> None:
+        room, held = bench.room, bench.store.database
+
+        def made() -> int:
+            before = room.card.cache_info().misses
+            wall.parts(room, held)
+            return room.card.cache_info().misses - before
+
+        assert [made(), made()] == [len(bench.rows), 0]
+        bench.read(bench.two, text=b"NEW".hex())
+        assert [made(), made()] == [1, 0] and "shows NEW" in wall.parts(room, held)[f"sign-{bench.two}"]
+        bench.store.ask(bench.one, "operator", "blank 1 65535 255 127.0.0.1")
+        assert [made(), made()] == [1, 0] and "1 waiting" in wall.parts(room, held)[f"sign-{bench.one}"]
+
+    run(tmp_path, where, act)
+
+
+@pytest.mark.parametrize("is_busy", (False, True), ids=("a silent view", "a view that tells all the time"))
+def test_a_stream_ends_with_its_log_in(tmp_path: pathlib.Path, monkeypatch: pytest.MonkeyPatch, is_busy: bool) -> None:
+    monkeypatch.setattr(events, "SILENCE", 0.5)
     monkeypatch.setattr(events, "AGES", 60.0)
 
     async def act(bench: Bench, visitor) -> None:
@@ -64,7 +84,13 @@ def test_a_stream_ends_with_its_log_in(tmp_path: pathlib.Path, monkeypatch: pyte
         stream = await listened(one, f"sign/{bench.one}")
         await told(stream)
         users.change_role(bench.store.database, "operator", Role.READER, "a test")
-        await asyncio.wait_for(stream.content.read(), 20)
+        end = asyncio.ensure_future(stream.content.read())
+        for number in range(100):
+            if is_busy:
+                bench.read(bench.one, -2 - number, text=f"{number}".encode().hex())
+            if (await asyncio.wait([end], timeout=0.2))[0]:
+                break
+        assert end.done(), "the stream has ended"
 
     run(tmp_path, str(tmp_path / "database"), act)
 
@@ -78,7 +104,13 @@ def test_streams_are_counted(tmp_path: pathlib.Path, monkeypatch: pytest.MonkeyP
         assert (await one.answered("/events?view=wall")).status == 503
         for wrong in ("", "walls", "sign/999", "sign/x"):
             assert (await one.answered(f"/events?view={wrong}")).status == 404
-        for stream in streams:
+        streams.pop().close()
+        ends = asyncio.get_running_loop().time() + 20
+        while (found := await one.client.get("/events?view=wall")).status == 503:
+            found.close()
+            assert asyncio.get_running_loop().time() < ends, "one that was let go makes room for another"
+            await asyncio.sleep(0.05)
+        for stream in (*streams, found):
             stream.close()
 
     run(tmp_path, str(tmp_path / "database"), act)

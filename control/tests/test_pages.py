@@ -3,10 +3,9 @@
 import pathlib
 import re
 
-import pytest
+from control.tests import needs
 
-pytest.importorskip("aiohttp", reason="this Python does not see aiohttp: apt-get install python3-aiohttp")
-pytest.importorskip("jinja2", reason="this Python does not see jinja2: apt-get install python3-jinja2")
+needs.modules("aiohttp", "jinja2")
 
 from control import past
 from control.store import Line

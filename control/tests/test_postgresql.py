@@ -1,6 +1,7 @@
 """PostgreSQL: what an insert means whose outcome is unknown, a process that is stopped within a transaction, a restart
 of the server, and a server that may lose what it said was written."""
 
+import importlib
 import os
 import pathlib
 import signal
@@ -8,11 +9,12 @@ import subprocess
 import sys
 import threading
 import time
+import types
 from typing import Iterator
 
 import pytest
 
-from control import TOP, backup, database, start
+from control import TOP, backup, command, database, start
 from control.cluster import Cluster, cluster
 from control.database import Failed
 from control.session import Lost
@@ -182,6 +184,37 @@ def test_a_python_that_sees_the_packages_is_looked_for(monkeypatch: pytest.Monke
     assert called == [[sys.executable, sys.executable, "-m", "control.worker", "--fleet", "a"]]
     with pytest.raises(Refusal, match="apt-get install python3-psycopg"):
         start.needed("control.worker", "psycopg")
+
+
+CALLS = {"control.worker": ["--fleet", "f"], "control.__main__": ["--fleet", "f"], "control.command": ["sign", "line"],
+         "control.users": ["list"], "control.backup": ["advance"]}
+
+
+@pytest.mark.parametrize("module", CALLS)
+def test_each_program_looks_for_psycopg_first(monkeypatch: pytest.MonkeyPatch, module: str) -> None:
+    def needed(program: str, *modules: str) -> None:
+        raise Refusal(f"{program} wants {' '.join(modules)}")
+
+    monkeypatch.setattr(start, "needed", needed)
+    monkeypatch.setattr(sys, "argv", [module, "--database", "postgresql://me@127.0.0.1:1/room", *CALLS[module]])
+    with pytest.raises(Refusal, match=f"^{module.removesuffix('.__main__')} wants .*psycopg$"):
+        importlib.import_module(module).main()
+
+
+def test_a_command_is_waited_for_while_the_server_starts(monkeypatch: pytest.MonkeyPatch) -> None:
+    said: list[str | Exception | None] = [None, Failed("starting"), None, "accepted"]
+
+    def how(_: int) -> str | None:
+        found = said.pop(0)
+        if isinstance(found, Exception):
+            raise found
+        return found
+
+    monkeypatch.setattr(command, "LOOK", 0.01)
+    store = types.SimpleNamespace(how=how)
+    assert command.waited(store, 1, 20.0) == "accepted" and not said
+    said += [None]
+    assert command.waited(store, 1, 0.0) is None
 
 
 def test_a_connection_of_a_process_with_many_files(url: str) -> None:

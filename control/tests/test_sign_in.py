@@ -4,8 +4,9 @@ import pathlib
 
 import pytest
 
-pytest.importorskip("aiohttp", reason="this Python does not see aiohttp: apt-get install python3-aiohttp")
-pytest.importorskip("jinja2", reason="this Python does not see jinja2: apt-get install python3-jinja2")
+from control.tests import needs
+
+needs.modules("aiohttp", "jinja2")
 
 from control import passwords, users
 from control.tests.visits import PASSWORD, Bench, run

@@ -2,6 +2,7 @@
 
 import json
 import pathlib
+import re
 import select
 import time
 
@@ -67,6 +68,9 @@ def test_a_reading_says_what_is_shown(tmp_path: pathlib.Path, where: str) -> Non
         sent = [message for message in map(wire.spelled, at.live.requests) if message is not None]
         below = [message for message in sent if message.number < 0]
         assert below and all(message.kind == wire.GET and message.community == b"public" for message in below)
+        lines = [str(line).split(" ") for (line,) in at.store.run("SELECT line FROM lines")]
+        replies = [wire.spelled(bytes.fromhex(line[1])) for line in lines if line[0] == "datagram"]
+        assert replies and all(reply is not None and reply.number >= 0 for reply in replies), "its answer is no line"
 
 
 def test_a_table_is_read_where_it_is_in_use(tmp_path: pathlib.Path, where: str) -> None:
@@ -204,3 +208,27 @@ def test_what_cannot_be_begun_waits_for_its_lease(tmp_path: pathlib.Path, where:
         worker.lease()
         assert not worker.sessions and at.store.with_work() == []
         assert at.store.run("SELECT holder FROM signs") == [(worker.name,)]
+
+
+def test_no_community_is_said_or_kept_beside_the_lines(tmp_path: pathlib.Path, where: str,
+                                                       capfd: pytest.CaptureFixture[str]) -> None:
+    words = "r3ad-c0mmun1ty", "wr1te-c0mmun1ty"
+    text = re.sub(rb"(?m)^communities .*$", " ".join(("communities", *words)).encode(), TEXT)
+    with bench(tmp_path, where, text=text) as at:
+        worker = at.worker()
+        for command in [at.ask(line) for _, line, _ in ROWS]:
+            assert at.ended(worker, command)
+        at.ask(HELLO)
+        at.worker(program="/bin/false").lease()
+        at.store.run("UPDATE signs SET until = 0")
+        (tmp_path / "a.sign").write_bytes(text.replace(words[1].encode(), words[1].encode() * 3))  # which is too long
+        at.worker().lease()
+        tables = ("signs", "commands", "ledger", "readings", "messages", "audit")
+        kept = "".join(str(at.store.run(f"SELECT * FROM {table}")) for table in tables)
+        held = str(at.store.run("SELECT line FROM lines"))
+    said = "".join(capfd.readouterr())
+    assert said.count("one: ") == 2, "both workers said why they do not begin"
+    for word in words:
+        for spelled in (word, word.encode().hex()):
+            assert spelled not in said and spelled not in kept
+    assert words[1].encode().hex() in held, "lines do hold it"

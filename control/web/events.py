@@ -25,9 +25,15 @@ OF = {"sign": sign_pages.parts, "table": sign_pages.table_parts, "batch": send.p
 class Stream:
     """A browser that listens to a view."""
 
-    def __init__(self, view: str, login: str) -> None:
-        self.view, self.login = view, login
+    def __init__(self, view: str, request: web.Request) -> None:
+        self.view, self.request, self.login = view, request, visitor_of(request).login
+        self.looked = time.monotonic()  # when the log-in was found to stand
         self.queue: asyncio.Queue[Parts | None] = asyncio.Queue(MOST_WAITING)
+
+    @property
+    def is_gone(self) -> bool:
+        """Whether the browser has let go; what waits for an event does not know it yet."""
+        return self.request.transport is None
 
     def put(self, parts: Parts | None) -> None:
         """Hands an event over; a browser that takes none is let go."""
@@ -85,15 +91,15 @@ class Hub:
                     stream.put(changed)
         self.mark, self.looked = mark, now if is_new else self.looked
 
-    def enter(self, view: str, login: str) -> Stream:
+    def enter(self, stream: Stream) -> None:
         """A new stream; it is told all that is known of its view first."""
-        if len(self.streams) >= MOST_STREAMS or sum(one.login == login for one in self.streams) >= MOST_OF_ONE:
+        self.streams = {one for one in self.streams if not one.is_gone}
+        of_one = sum(one.login == stream.login for one in self.streams)
+        if len(self.streams) >= MOST_STREAMS or of_one >= MOST_OF_ONE:
             raise web.HTTPServiceUnavailable(text="Too many pages listen.")
-        stream = Stream(view, login)
-        if view in self.last:
-            stream.put(self.last[view])
+        if stream.view in self.last:
+            stream.put(self.last[stream.view])
         self.streams.add(stream)
-        return stream
 
     def end_streams(self) -> None:
         for stream in self.streams:
@@ -111,32 +117,36 @@ def hub_of(request: web.Request) -> Hub:
 
 async def events(request: web.Request) -> web.StreamResponse:
     """A stream of a view, as long as the log-in stands."""
-    room, visitor, view = room_of(request), visitor_of(request), request.query.get("view", "")
+    room, view = room_of(request), request.query.get("view", "")
     found = VIEW.fullmatch(view)
     if found is None or found[1] in ("sign", "table") and int(found[2]) not in room.signs:
         raise web.HTTPNotFound(text="There is no such view.")
-    stream = hub_of(request).enter(view, visitor.login)
+    stream = Stream(view, request)
+    hub_of(request).enter(stream)
     answer = web.StreamResponse(headers={"Content-Type": "text/event-stream", "X-Accel-Buffering": "no"})
     try:
         await answer.prepare(request)
         await answer.write(b"retry: 3000\n\n")
-        while await told(room, stream, answer, visitor.login):
-            pass
-    except ConnectionError:
-        pass
+        while (words := await told(room, stream)) is not None:
+            await answer.write(words)
+    except (ConnectionError, Failed, Taken):
+        pass  # where the database does not answer the stream ends: the browser asks for another one
     finally:
         hub_of(request).streams.discard(stream)
     return answer
 
 
-async def told(room: Room, stream: Stream, answer: web.StreamResponse, login: str) -> bool:
-    """Tells the next event; False where the stream ends."""
+async def told(room: Room, stream: Stream) -> bytes | None:
+    """The next event, or after a silence a line that says nothing; None where the stream ends. Whatever happens on the
+    view, the log-in is looked at again before it was taken for granted for longer than a silence."""
     try:
         parts = await asyncio.wait_for(stream.queue.get(), SILENCE)
+        words = None if parts is None else f"data: {json.dumps(parts)}\n\n".encode()
     except asyncio.TimeoutError:
-        await answer.write(b": here\n\n")
-        return await room.connections.run(lambda held: logins.find(held, login)) is not None
-    if parts is None:
-        return False
-    await answer.write(f"data: {json.dumps(parts)}\n\n".encode())
-    return True
+        words = b": here\n\n"
+    now = time.monotonic()
+    if words is not None and now - stream.looked >= SILENCE:
+        if await room.connections.run(lambda held: logins.find(held, stream.login)) is None:
+            return None
+        stream.looked = now
+    return words

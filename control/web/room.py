@@ -1,10 +1,12 @@
 """What all pages share: the fleet, the database's connections, pictures, clock, templates, and who asks."""
 
+import functools
 import pathlib
-from typing import Any
+from typing import Any, Hashable
 
 import jinja2
 from aiohttp import web
+from markupsafe import Markup
 
 from door.mib import Mib
 from model import multi
@@ -21,6 +23,7 @@ from .security import Seal, key_of
 from .settings import Settings
 
 HERE = pathlib.Path(__file__).resolve().parent
+MOST_CARDS = 8192  # that are kept as HTML, of 800 octets each
 
 
 def plain_of(text: bytes) -> str:
@@ -48,6 +51,7 @@ class Room:
         self.mib = Mib.read()
         self.clock = words.Clock(settings.zone)
         self.templates = self.environment()
+        self.card = functools.lru_cache(MOST_CARDS)(self.made_card)
 
     def environment(self) -> jinja2.Environment:
         """Templates, which escape all that is put into them."""
@@ -66,6 +70,10 @@ class Room:
         """A part of a page, as an event sends it."""
         made: str = str(getattr(self.templates.get_template(name).module, macro)(*values)).strip()
         return made
+
+    def made_card(self, card: Hashable, age: str = "") -> Markup:
+        """A card of the wall, with its age in words or else the time. `card` keeps it: few change within a second."""
+        return Markup(self.part("parts.html", "card", card, age))
 
     def page(self, request: web.Request, template: str, /, status: int = 200, **values: Any) -> web.Response:
         """A whole page for who asks."""

@@ -64,7 +64,9 @@ class Seal:
         return value if is_signed else None
 
     def drop(self, response: web.StreamResponse, name: str) -> None:
-        response.del_cookie(self.prefix + name, path="/")
+        """Has the browser forget a cookie, in the words that it was set with: else it is not taken for that one."""
+        response.set_cookie(self.prefix + name, "", max_age=0, path="/", httponly=True, samesite="Strict",
+                            secure=self.is_secure)
 
     def token(self, of: str) -> str:
         """The token of the forms of a cookie."""

@@ -67,5 +67,5 @@ async def wall(request: web.Request) -> web.Response:
 def parts(room: Room, held: Database) -> dict[str, str]:
     """What an event may replace: each card."""
     found, _ = cards(room, held)
-    return {f"sign-{one.sign.id}": room.part("parts.html", "card", one) for one in found} | {
+    return {f"sign-{one.sign.id}": room.card(one) for one in found} | {
         "counts": room.part("parts.html", "counts", found)}

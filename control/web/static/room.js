@@ -62,17 +62,33 @@ function replace(name, html) {
 
 // ---- events
 
+const AGAIN = 5000; // milliseconds until a stream that was refused is asked for again
+
 function listen(view) {
   const link = document.getElementById("link");
   const source = new EventSource("/events?view=" + encodeURIComponent(view));
   source.onopen = () => { link.textContent = "The page follows what happens."; };
-  source.onerror = () => { link.textContent = "The page has lost the service, and tries again."; };
+  source.onerror = () => {
+    link.textContent = "The page has lost the service, and tries again.";
+    if (source.readyState === EventSource.CLOSED) listenAgain(view, link); // a browser gives up where an answer refuses
+  };
   source.onmessage = (event) => {
     const parts = JSON.parse(event.data);
     for (const name of Object.keys(parts)) replace(name, parts[name]);
     tellAges();
     choose();
   };
+}
+
+async function listenAgain(view, link) {
+  try {
+    const answer = await fetch("/account", {redirect: "manual"}); // who is not logged in is sent elsewhere
+    if (answer.type === "opaqueredirect") {
+      link.textContent = "Your log-in has ended. Load the page again to log in.";
+      return;
+    }
+  } catch (fault) { /* the service is away */ }
+  setTimeout(() => listen(view), AGAIN);
 }
 
 // ---- the wall
