@@ -9,13 +9,11 @@ from .lost import ours_reads
 from .messages import spelled
 from .objects import Name, Row, Value, scalar
 from .pair import Pair
+from .settling import Settling
 from .steps import Ask, get, looks, put
 from .wanted import VERDICTS, Unreachable, Unreached, Wanted
 
 ROUNDS = 4
-POLL, SURE, MOST_SURE = 0.004, 0.04, 0.2  # seconds between two looks at a row; within which its end is seen
-MOST_MISSED = 5  # times that the end of a validation is seen too late, until no more is looked for
-LONGEST_SETTLING = 3.5
 MOST_KEPT = 400  # datagrams after which ours is begun anew
 Read = dict[Name, Value | None]
 
@@ -25,12 +23,11 @@ class Known:
     pair: Pair
     context: Context
     last: dict[Name, tuple[Ask, bytes | None]] = field(default_factory=dict)
-    is_settling_seen: bool = True
-    missed: int = 0  # how often the end of a validation was seen, and between two looks that were far apart
     is_together: bool = False  # whether ours is handed what brings the sign under test there
 
     def __post_init__(self) -> None:
         self.objects = Wanted(self.context)
+        self.settling = Settling(self.pair)
 
     def wanted(self) -> dict[Name, Value]:
         """What is to be read. Of a validation's verdict that stays which both have, where they go there together."""
@@ -82,7 +79,7 @@ class Known:
             if not wrong and is_watched:
                 return []
             self.repair(wrong, observe and not is_watched)
-            is_watched |= self.pair.ticks.is_learnt() and not self.pair.ticks.is_old() or not self.is_settling_seen
+            is_watched |= self.pair.ticks.is_learnt() and not self.pair.ticks.is_old() or self.settling.is_at_once()
         have = self.read(list(wanted := self.wanted()))
         unreached = [
             self.unreached(name, value, have.get(name)) for name, value in wanted.items() if have.get(name) != value
@@ -118,38 +115,15 @@ class Known:
 
     def empty(self, row: Row) -> None:
         """A row becomes not used, at the end of its validation where it has one."""
-        self.settled(row)
+        self.settling.watch(row)
         self.put(put(row.status(8)), row.cell(9))
-
-    def status(self, row: Row) -> int | None:
-        value = self.read([row.cell(9)])[row.cell(9)]
-        return value[1] if value is not None and isinstance(value[1], int) else None
-
-    def settled(self, row: Row) -> bool:
-        """Waits while a row is validating; whether the end of it was seen, and its moment is learnt."""
-        clock, ticks = self.pair.clock, self.pair.ticks
-        until = clock.now() + LONGEST_SETTLING
-        before: float | None = None
-        while clock.now() < until:
-            begun = clock.now()
-            if self.status(row) != 3:
-                break
-            before = begun
-            due = min(ticks.upcoming() - ticks.margin, until) if ticks.is_learnt() else begun
-            clock.sleep_until(max(begun + POLL, due))
-        if before is not None and clock.now() < until:
-            if clock.now() - before < min(MOST_SURE, SURE * (1 + self.missed)):
-                ticks.learn(before, clock.now())
-            elif not ticks.is_learnt():
-                self.missed += 1
-            return True
-        return False
 
     def validate(self, row: Row) -> None:
         """An empty row is validated, for its verdict and to see when the sign's tick comes."""
-        for asked in (6, 7):
-            self.put(put(row.status(asked)), *self.objects.verdicts())
-        self.is_settling_seen = self.settled(row)
+        self.put(put(row.status(6)), *self.objects.verdicts())
+        asked = self.pair.clock.now()
+        self.put(put(row.status(7)), *self.objects.verdicts())
+        self.settling.watch_asked(row, asked)
         self.put(put(row.status(8)), row.cell(9))
         self.pair.touched.add(row)
 
@@ -161,7 +135,7 @@ class Known:
         Where both are alike they may go there together, and keep the verdict of their last validation: no tick has
         to be waited for.
         """
-        observe |= self.is_unlearnt() and self.missed < MOST_MISSED
+        observe |= self.settling.is_to_be_learnt() and bool(self.context.rows)
         if not observe and not self.pair.is_dirty:
             return []
         unreached: list[Unreached] = []
@@ -178,7 +152,13 @@ class Known:
 
     def is_unlearnt(self) -> bool:
         """Whether rows settle at moments that are not known yet."""
-        return not self.pair.ticks.is_learnt() and self.is_settling_seen and bool(self.context.rows)
+        return self.settling.is_unlearnt() and bool(self.context.rows)
+
+    def learn_anew(self) -> None:
+        """The known state, and a tick that is seen, whatever was known of them."""
+        self.settling.begin_anew()
+        self.pair.is_dirty = True
+        self.reach_or_end()
 
     def go_together(self) -> bool:
         """Whether the same requests brought both there, and both read the same."""

@@ -117,5 +117,5 @@ def made(program: str, description: bytes) -> Oracle:
     if program == "model":
         return ModelOracle(description)
     if not os.access(program, os.X_OK):
-        raise FileNotFoundError(f"no program at {program}: (cd crates/signtool && rt run -- --help) builds it")
+        raise FileNotFoundError(f"no program at {program}: tools/build.py builds it; --signtool model does without")
     return CoProcessOracle(str(pathlib.Path(program)), description)

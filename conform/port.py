@@ -11,6 +11,7 @@ from .steps import FIRST_NUMBER, LAST_NUMBER
 
 TRIES = 3
 MOST_KEPT = 8  # datagrams of one request number that are remembered
+LEAST_LOOK = 0.05  # seconds that a look waits at least
 
 
 @dataclass
@@ -35,6 +36,8 @@ class Port:
     sent: int = 0
     passed_over: int = 0
     asked_again: int = 0
+    usual: float = 0.0  # seconds that replies take of late
+    given_up: set[int] = field(default_factory=set)  # numbers of looks whose replies were not waited for
 
     def new_number(self) -> int:
         self.number = self.number + 1 if self.number < LAST_NUMBER else FIRST_NUMBER
@@ -63,9 +66,8 @@ class Port:
             return False
         return any(may_answer(reply, earlier) for earlier in self.odd.get(number, []) if earlier != octets)
 
-    def await_reply(self, number: int, octets: bytes, expected: bytes | None) -> bytes | None:
+    def await_reply(self, number: int, octets: bytes, expected: bytes | None, until: float) -> bytes | None:
         """The reply to these octets with this number, or one that belongs to no request at all."""
-        until = self.clock.now() + self.wait
         while True:
             reply = self.link.receive(until)
             if reply is None or reply == expected:
@@ -73,15 +75,28 @@ class Port:
             message = spelled(reply)
             if message is None or not self.is_of_another(message, number, octets):
                 return reply
-            self.passed_over += 1
+            self.passed_over += message.number not in self.given_up
 
-    def ask_once(self, octets: bytes, number: int, expected: bytes | None = None) -> Heard:
+    def ask_once(
+        self, octets: bytes, number: int, expected: bytes | None = None, wait: float | None = None
+    ) -> Heard:
         """A request that is sent once. The octets of the reply that is expected need not be looked into."""
         if number != self.number:
             self.note(number, octets)
         begun = self.clock.now()
         self.send(octets)
-        return Heard(self.await_reply(number, octets, expected), 1, begun, self.clock.now())
+        reply = self.await_reply(number, octets, expected, begun + (self.wait if wait is None else wait))
+        ended = self.clock.now()
+        if reply is not None:
+            self.usual += (ended - begun - self.usual) / 8
+        return Heard(reply, 1, begun, ended)
+
+    def look(self, octets: bytes, number: int) -> Heard:
+        """A read whose reply counts only where it comes about as fast as replies do."""
+        heard = self.ask_once(octets, number, wait=min(self.wait, max(LEAST_LOOK, 4 * self.usual)))
+        if heard.reply is None:
+            self.given_up.add(number)
+        return heard
 
     def ask(self, octets: bytes, number: int, expected: bytes | None = None) -> Heard:
         """A request that may be asked again, three times in all."""

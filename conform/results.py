@@ -14,6 +14,7 @@ class ChapterResult:
     requests: int = 0
     seconds: float = 0.0
     differences: list[Difference] = field(default_factory=list)
+    once: list[Difference] = field(default_factory=list)  # seen once, and not again from the known state
     untold: int = 0  # blocks of which it could not be told whether they differ
 
 
@@ -44,6 +45,10 @@ class Results:
 
     def differences(self) -> list[Difference]:
         return self.before + [difference for result in self.chapters for difference in result.differences]
+
+    def once(self) -> list[Difference]:
+        """What was seen once, and did not come again: no differences."""
+        return [held for result in self.chapters for held in result.once]
 
     def is_clean(self) -> bool:
         return not self.is_silent and not self.configuration and not self.differences()

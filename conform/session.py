@@ -106,9 +106,11 @@ class Session:
         named = RULES[key] if key else None
         return classify.better(named, exchange.octets, exchange.ours, exchange.theirs, exchange.mismatch)
 
-    def made_small(self, run: Run, steps: list[Step]) -> tuple[Run, bool]:
+    def made_small(self, run: Run, steps: list[Step], is_shrunk: bool) -> tuple[Run, bool]:
+        """The difference in few datagrams, and whether it was seen again, with ticks that were learnt anew."""
         try:
-            return shrunk(self.runner, run, steps)
+            self.known.learn_anew()
+            return shrunk(self.runner, run, steps, is_shrunk)
         except Unreachable as fault:
             self.beginning.tell_unreached(fault.unreached)
             return run, False
@@ -134,17 +136,25 @@ class Session:
         if self.is_told(result, self.rule_of(block, run), run):
             return
         is_shrunk = sum(held.is_shrunk for held in result.differences) < MOST_SHRUNK
-        is_repeated = True
-        if is_shrunk:
-            run, is_repeated = self.made_small(run, steps)
+        run, is_repeated = self.made_small(run, steps, is_shrunk)
         if not is_repeated and self.is_loss(run):
             result.untold += 1
             return
         found = Difference.of(self.rule_of(block, run), result.chapter.name, run.exchange, run.steps, run.sent)
         found.is_repeated, found.is_shrunk = is_repeated, is_shrunk
+        if not is_repeated:
+            self.seen_once(result, found)
+            return
         self.pair.is_spelling_told |= found.mismatch.kind is Kind.SPELLING
         result.differences.append(found)
         self.watcher.found(found)
+
+    def seen_once(self, result: ChapterResult, found: Difference) -> None:
+        """What did not come again is no difference; it is kept, or counted where enough of a chapter are."""
+        if len(result.once) < MOST_TOLD:
+            result.once.append(found)
+        else:
+            result.once[-1].alike += 1
 
 
 def chapters_of(names: Sequence[str]) -> list[Chapter]:

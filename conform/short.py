@@ -15,7 +15,7 @@ import traceback
 from .mutants.__main__ import BENCH, tried
 from .mutants.table import MUTANTS
 
-MODULES = tuple(f"conform.tests.test_{part}" for part in ("signs", "udp", "parts", "reports", "ways", "watch"))
+MODULES = tuple(f"conform.tests.test_{part}" for part in ("signs", "udp", "parts", "reports", "ways", "seconds", "watch"))
 
 
 def names() -> list[tuple[str, str]]:

@@ -95,23 +95,19 @@ def cost(steps: Sequence[Step]) -> tuple[int, int, int]:
     return datagrams(steps), sum(step.ticks for step in steps if isinstance(step, Wait)), bindings
 
 
-def shrunk(runner: Runner, run: Run, block: Sequence[Step]) -> tuple[Run, bool]:
+def shrunk(runner: Runner, run: Run, block: Sequence[Step], is_made_smaller: bool = True) -> tuple[Run, bool]:
     """The smallest run found that shows the same, and whether the difference was seen again at all.
 
     `block` is what was done last, which often suffices.
     """
     shrinking = Shrinking(runner, run.signature, run, runner.pair.clock.now() + runner.most_seconds)
-    times = (
-        3
-        if run.exchange.mismatch and run.exchange.mismatch.kind is Kind.NO_ANSWER and runner.pair.port.is_lossy()
-        else 1
-    )
+    is_silent = run.exchange.mismatch is not None and run.exchange.mismatch.kind is Kind.NO_ANSWER
+    times = 3 if is_silent and runner.pair.port.is_lossy() else 1
     is_seen = len(block) < len(run.steps) and shrinking.is_seen_again(block, times)
     for _ in range(2):
         is_seen = is_seen or shrinking.is_seen_again(run.steps, times)
-    if not is_seen:
-        return run, False
-    shrinking.waits_alone()
-    shrinking.without_steps()
-    shrinking.without_bindings()
-    return shrinking.best, True
+    if is_seen and is_made_smaller:
+        shrinking.waits_alone()
+        shrinking.without_steps()
+        shrinking.without_bindings()
+    return shrinking.best, is_seen

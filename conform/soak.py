@@ -54,8 +54,9 @@ def commit() -> str:
 def told(results: Results) -> list[str]:
     """What differed."""
     lines = []
-    for found in results.differences():
-        lines.append(f"  {found.rule.chapter} ({found.rule.key}), {found.title}, repeated {found.is_repeated}")
+    for found in [*results.differences(), *results.once()]:
+        again = "" if found.is_repeated else ", and did not come again"
+        lines.append(f"  {found.rule.chapter} ({found.rule.key}), {found.title}{again}")
         lines += [f"    {octets or 'tick'} {'; '.join(words)}" for octets, words in sequence(found)[-12:]]
         lines += [f"    ours {'; '.join(fields(found.ours))}", f"    theirs {'; '.join(fields(found.theirs))}"]
     return lines
@@ -80,6 +81,7 @@ def run(entry: dict[str, Any], description: bytes) -> dict[str, Any]:
         "asked_again": port.asked_again,
         "passed_over": port.passed_over,
         "not_told": sum(held.untold for held in results.chapters),
+        "seen_once": len(results.once()),
         "cases": sum(held.blocks for held in results.chapters),
         "seconds": round(time.monotonic() - begun, 1),
         "told": told(results),
@@ -89,7 +91,7 @@ def run(entry: dict[str, Any], description: bytes) -> dict[str, Any]:
 def line(held: dict[str, Any]) -> str:
     verdict = "nothing differs" if held["clean"] else "differs"
     lost = f"{held['asked_again']} asked again, {held['passed_over']} passed over"
-    untold = f"{held['not_told']} of {held['cases']} sequences not told"
+    untold = f"{held['not_told']} of {held['cases']} sequences not told, {held['seen_once']} seen once"
     return f"seed {held['seed']}: {held['asked']} requests, {verdict}, {lost}, {untold}, {held['seconds']:.0f} s"
 
 

@@ -21,6 +21,10 @@ class Ticks:
     def is_learnt(self) -> bool:
         return self.first is not None
 
+    def forget(self) -> None:
+        """What was learnt is doubted: the next tick that is seen counts as the first. Ours goes on as before."""
+        self.first, self.period, self.count = None, 1.0, 0
+
     def learn(self, low: float, high: float) -> None:
         """A tick was seen between two moments. What is known already is kept as far as they allow it."""
         self.seen_at = high

@@ -20,6 +20,7 @@ def as_json(results: Results, about: About, not_tested: list[str]) -> str:
             "requests": held.requests,
             "seconds": round(held.seconds, 3),
             "not_told": held.untold,
+            "seen_once": len(held.once),
             "differences": len(held.differences),
         }
         for held in results.chapters
@@ -36,6 +37,7 @@ def as_json(results: Results, about: About, not_tested: list[str]) -> str:
         "set_back": objects(results.set_back),
         "chapters": chapters,
         "differences": [one(difference, about) for difference in results.differences()],
+        "seen_once": [one(difference, about) for difference in results.once()],
         "not_tested": not_tested,
     }
     return json.dumps(whole, indent=1) + "\n"

@@ -24,7 +24,8 @@ def chapter_row(result: ChapterResult) -> str:
     numbers = "".join(
         f'<td class="number">{value}</td>' for value in (result.blocks, result.requests, f"{result.seconds:.1f} s")
     )
-    untold = f" ({result.untold} not told)" if result.untold else ""
+    untold = f" ({len(result.once)} seen once)" if result.once else ""
+    untold += f" ({result.untold} not told)" if result.untold else ""
     return f"<tr><td>{quoted(result.chapter.title)}</td>{numbers}<td>{told}{untold}</td></tr>"
 
 
@@ -77,7 +78,10 @@ def as_html(results: Results, about: About, not_tested: list[str]) -> str:
     """The whole page; it needs nothing else."""
     kind = "good" if results.is_clean() else "bad"
     rows = "".join(map(chapter_row, results.chapters))
-    articles = "".join(article(number, held, about) for number, held in enumerate(results.differences(), 1))
+    found = results.differences()
+    articles = "".join(article(number, held, about) for number, held in enumerate(found, 1)) or "<p>None.</p>"
+    seen = "".join(article(number, held, about) for number, held in enumerate(results.once(), len(found) + 1))
+    once = f"<h2>Seen once, and not again</h2>{seen}" if seen else ""
     before = objects("Described otherwise", results.configuration) + objects("Changed, and set back", results.set_back)
     left_out = "".join(f"<li>{quoted(line)}</li>" for line in not_tested)
     facts = f"sign at {about.to}, described by {about.sign}; oracle {about.oracle}; seed {about.seed}; {about.when}"
@@ -86,7 +90,7 @@ def as_html(results: Results, about: About, not_tested: list[str]) -> str:
         f'<!doctype html><html lang="en"><meta charset="utf-8"><title>conform: {quoted(about.to)}</title>',
         f'<style>{STYLE}</style><main><h1>A sign beside the profile</h1><p class="facts">{quoted(facts)}</p>',
         f'<p><span class="verdict {kind}">{quoted(verdict(results))}</span></p>{before}',
-        f"<h2>Chapters</h2><table>{heads}{rows}</table><h2>Differences</h2>{articles or '<p>None.</p>'}",
+        f"<h2>Chapters</h2><table>{heads}{rows}</table><h2>Differences</h2>{articles}{once}",
         f"<h2>Not tested</h2><ul>{left_out}</ul></main></html>\n",
     ]
     return "".join(parts)

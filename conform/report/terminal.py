@@ -54,7 +54,8 @@ def difference_lines(number: int, difference: Difference, about: About) -> list[
 
 def chapter_line(result: ChapterResult) -> str:
     told = f"{len(result.differences)} differ" if result.differences else "nothing differs"
-    untold = f", {result.untold} not told" if result.untold else ""
+    untold = f", {len(result.once)} seen once" if result.once else ""
+    untold += f", {result.untold} not told" if result.untold else ""
     counts = f"{result.blocks:5} cases {result.requests:7} requests {result.seconds:7.1f} s"
     return f"{result.chapter.title:28} {counts}  {told}{untold}"
 
@@ -130,7 +131,7 @@ def ending(results: Results, about: About, not_tested: list[str]) -> list[str]:
     for name, described, read in results.set_back:
         said = f"{name} is {described} in the description, was {read} on the sign, and is set back"
         lines.append(f"changed since: {said}")
-    for number, difference in enumerate(results.differences(), 1):
+    for number, difference in enumerate([*results.differences(), *results.once()], 1):
         lines += ["", *difference_lines(number, difference, about)]
     lines += ["", "not tested:", *[f"  {line}" for line in not_tested], "", verdict(results)]
     return lines

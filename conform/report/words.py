@@ -75,8 +75,9 @@ def not_tested(context: Context, results: Results, chapters: list[Chapter]) -> l
 def verdict(results: Results) -> str:
     if results.is_silent:
         return "the sign does not answer"
-    count = len(results.differences())
-    return "nothing differs" if not count else f"{count} difference{'s' if count > 1 else ''}"
+    count, once = len(results.differences()), len(results.once())
+    told = "nothing differs" if not count else f"{count} difference{'s' if count > 1 else ''}"
+    return told + (f"; {once} seen once, and not again" if once else "")
 
 
 def sequence(difference: Difference) -> list[tuple[str, list[str]]]:
@@ -101,7 +102,7 @@ def how_sure(difference: Difference) -> str:
     if difference.note:
         notes.append(difference.note)
     if not difference.is_repeated:
-        notes.append("seen once, and not again when the sequence was repeated")
+        notes.append("seen once, and not again when the sequence was repeated: it counts as no difference")
     if not difference.is_shrunk:
         notes.append("not made smaller: enough differences of this chapter were")
     if difference.alike:
