@@ -1,8 +1,9 @@
 #!/usr/bin/env python3
 """Runs the program over vectors/*.jsonl: `tools/check_vectors.py [--program PATH] [--count N]` prints `N passed, N failed`.
 
-Datagrams go through `decode`, texts through `items`, `check` and `pages`, codes through `code`, requests through `answer`, scripts
-through `replay`. Names of objects are those of mibs/DMS-PROFILE-MIB. With --count only so many cases of each file are taken.
+Datagrams go through `decode`, texts through `items`, `check` and `pages`, codes through `code` and `activation`, requests through `answer`, scripts
+through `replay`. What `decode`, `items` and `check` print with --json is made into lines again, which have to be those
+that are wanted without. Names of objects are those of mibs/DMS-PROFILE-MIB. With --count only so many cases of each file are taken.
 """
 
 import argparse
@@ -88,6 +89,52 @@ def item_printed(item):
     return " ".join(str("default" if word is None else word) for word in [offset, kind, *values])
 
 
+def octets_of_json(octets):
+    return (octets["octets"] or "-") + (f' "{octets["text"]}"' if "text" in octets else "")
+
+
+def name_of_json(names):
+    return names["name"] + (f" ({names['object']})" if "object" in names else "")
+
+
+def value_of_json(kind, value):
+    if kind in ("OCTET STRING", "Opaque"):
+        return f"{kind} {octets_of_json(value)}"
+    if kind == "OBJECT IDENTIFIER":
+        return f"{kind} {name_of_json(value)}"
+    return kind if value is None else f"{kind} {value}"
+
+
+def lines_of_json(text):
+    """The lines that an object of `decode`, `items` or `check` with --json stands for."""
+    found = json.loads(text)
+    for item in found.get("items", []):
+        values = ["default" if value is None else value for value in item["values"]]
+        version = ["version", item["version"]] if "version" in item else []
+        yield " ".join(map(str, [item["at"], item["item"], *values, *version]))
+    if "kind" in found:
+        yield f"kind {found['kind']}"
+        yield f"community {octets_of_json(found['community'])}"
+        yield from (f"{field} {found[field]}" for field in ("request-id", "error-status", "error-index"))
+        for binding in found["binding"]:
+            yield f"binding {name_of_json(binding)}: {value_of_json(binding['type'], binding['value'])}"
+    if "pages" in found:
+        yield f"ok pages {found['pages']}"
+    if "fault" in found:
+        place = f"octet {found['octet']}" if "octet" in found else found["at"]
+        yield f"fault {found['fault']} at {place}"
+
+
+def as_lines(call, text):
+    """What a call printed, an object of JSON as the lines that it stands for."""
+    return "".join(line + "\n" for line in lines_of_json(text)) if "--json" in call else text
+
+
+def with_json(call):
+    """The same call with --json, where it has this option."""
+    return [[call[0], "--json", *call[1:]]] if call[0] in ("decode", "items", "check") else []
+
+
 def calls(kind, case):
     """The words of each call for a case, its standard input, the output that is wanted and the status."""
     if kind == "texts":
@@ -104,6 +151,8 @@ def calls(kind, case):
         words = ["code", str(case["type"]), str(case["number"]), *flags, f"--duration={case['duration']}", f"--priority={case['priority']}",
                  f"--address={case['address']}", "--", case["text"]]
         yield words, "", f"crc {case['checksum']}\ncode {case['code']}\n", 0
+        terms = [word for word in words[3:-2] if word not in ("--beacon", "--pixel")]
+        yield ["activation", *words[1:3], case["checksum"], *terms], "", f"code {case['code']}\n", 0
     elif kind == "requests":
         reply = case["reply"]
         yield ["answer", case["request"]], "", "dropped\n" if reply is None else reply + "\n", 1 if reply is None else 0
@@ -117,6 +166,15 @@ def calls(kind, case):
         yield ["decode", case["octets"]], "", "\n".join(fields(case["message"])) + "\n", 0
 
 
+def difference(program, call, stdin, wanted):
+    """How what a call prints, and its status, differ from what is wanted; nothing where they do not."""
+    ended = subprocess.run([program, *call], input=stdin.encode(), capture_output=True, timeout=60, check=False)
+    printed = as_lines(call, ended.stdout.decode())
+    if (printed, ended.returncode) == wanted:
+        return ""
+    return f"{call[0]} printed {printed[:200]!r} with {ended.returncode}, wanted {wanted[0][:200]!r} with {wanted[1]}"
+
+
 def main():
     words = argparse.ArgumentParser(description=__doc__, formatter_class=argparse.RawDescriptionHelpFormatter)
     words.add_argument("--program", default=str(TOP / "crates/signtool/out/signtool"))
@@ -128,13 +186,11 @@ def main():
         for line in path.read_text(encoding="ascii").splitlines()[:asked.count]:
             case = json.loads(line)
             for call, stdin, output, status in calls(path.stem, case):
-                ended = subprocess.run([program, *call], input=stdin.encode(), capture_output=True, timeout=60, check=False)
-                if (ended.stdout.decode(), ended.returncode) == (output, status):
-                    passed += 1
-                else:
-                    failed += 1
-                    print(f"{path.stem}, {case['name']}: {call[0]} printed {ended.stdout.decode()[:200]!r} with {ended.returncode}, "
-                          f"wanted {output[:200]!r} with {status}")
+                for words in [call, *with_json(call)]:
+                    fault = difference(program, words, stdin, (output, status))
+                    passed, failed = (passed, failed + 1) if fault else (passed + 1, failed)
+                    if fault:
+                        print(f"{path.stem}, {case['name']}: {fault}")
     print(f"{passed} passed, {failed} failed")
     return 1 if failed else 0
 

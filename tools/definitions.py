@@ -1,5 +1,5 @@
 #!/usr/bin/env python3
-"""Which definitions a reader must believe: the files that each crate's specs/Lib.antt names first, with their lines.
+"""Which definitions a reader must believe: the files that each crate's specs/Lib.antt names first, and their lines.
 
 Without arguments it prints the table of docs/PROVED.md; with --check it fails where that has another."""
 import argparse
@@ -32,16 +32,15 @@ def rows():
         files = believed(crate)
         if not files:
             continue
-        lines = [len((crate / "specs" / f"{file}.antt").read_text().splitlines()) for file in files]
-        told = ", ".join(f"{file} {count}" for file, count in zip(files, lines))
-        yield f"| {name[0]} | {told} | {sum(lines)} |"
+        lines = sum(len((crate / "specs" / f"{file}.antt").read_text().splitlines()) for file in files)
+        yield f"| {name[0]} | {', '.join(files)} | {lines} |"
 
 
 def main():
     words = argparse.ArgumentParser(description=__doc__)
-    words.add_argument("--check", action="store_true", help="prints nothing, and fails where docs/PROVED.md has another table")
+    words.add_argument("--check", action="store_true", help="fails where docs/PROVED.md has another table")
     only_checks = words.parse_args().check
-    table = "\n".join(["| crate | files of specs/ with their lines | lines |", "|---|---|---|", *rows()])
+    table = "\n".join(["| crate | files of specs/ | lines |", "|---|---|---|", *rows()])
     if not only_checks:
         print(table)
     elif table not in (TOP / "docs/PROVED.md").read_text():

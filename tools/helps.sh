@@ -44,7 +44,7 @@ asks() {
 
 shopt -s nullglob
 standing > "$folder/before"
-[ $# != 0 ] || set -- tools/*.py tools/*.sh bench/*.py bench/*.sh measures/*.py measures/*.sh $(modules)
+[ $# != 0 ] || set -- tools/*.py tools/*.sh measures/*.py measures/*.sh $(modules)
 for tool in "$@"; do
     fault=
     if [ ! -f "$tool" ]; then

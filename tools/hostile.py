@@ -381,7 +381,7 @@ def main():
         sys.stdout.write(script(asked.count, Random(maker, asked.count))[0])
         return 0
     if not os.access(asked.program, os.X_OK):
-        print(f"no program at {asked.program}: (cd crates/signtool && rt run -- --help) builds it", file=sys.stderr)
+        print(f"no program at {asked.program}: tools/build.py builds it", file=sys.stderr)
         return 2
     passed = failed = 0
     for text, done, report in itertools.chain(near_scripts(), random_scripts(maker, asked.count)):

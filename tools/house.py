@@ -2,15 +2,17 @@
 """Looks whether the repository keeps its own bars: `tools/house.py --check` prints `N passed, N failed`.
 
     tools/house.py [--check | --all] [--top FOLDER] [BAR ..]
+    tools/house.py --draw                                       draws docs/pictures/houses.svg by crates.txt
 
 A bar is a name of BARS in tools/upkeep/bars.py, such as "links"; without names all are looked at. What is below a bar
-is told with its file and line. With --all what is left for later is told too, and fails.
+is printed with its file and line. With --all what is left for later is printed too, and fails.
 """
 
 import argparse
 import pathlib
 import sys
 
+from upkeep import drawing
 from upkeep.bars import BARS, NOT_YET
 from upkeep.tree import Tree
 
@@ -25,6 +27,7 @@ def main() -> int:
     which = words.add_mutually_exclusive_group()
     which.add_argument("--check", action="store_true", help="what has to hold now; so without an option too")
     which.add_argument("--all", action="store_true", help="what is left for later too")
+    which.add_argument("--draw", action="store_true", help="draws the houses, which wants Graphviz, and looks at nothing")
     words.add_argument("--top", type=pathlib.Path, default=TOP, metavar="FOLDER", help="another repository")
     words.add_argument("bars", nargs="*", metavar="BAR", help=f"one of: {', '.join(bar.name for bar in BARS)}")
     asked = words.parse_args()
@@ -32,6 +35,9 @@ def main() -> int:
     if unknown:
         words.error(f"no bar {', '.join(sorted(unknown))}")
     tree = Tree(asked.top)
+    if asked.draw:
+        drawing.draw(tree)
+        return 0
     failed = 0
     bars = [bar for bar in BARS if not asked.bars or bar.name in asked.bars]
     for bar in bars:

@@ -1,4 +1,4 @@
-/* Counts how often the calls of dms_bench's `still` ask for memory: as often for none of them as for a hundred thousand,
+/* Counts how often the calls of dms_measures's `still` ask for memory: as often for none of them as for a hundred thousand,
    or as many as the first argument says. What a call is given may ask for memory: then as often without the call. */
 #include <stddef.h>
 #include <stdint.h>
@@ -29,12 +29,12 @@ void *__wrap_realloc(void *old, size_t size) {
 
 typedef const uint8_t *octets;
 
-uint64_t dms_bench_read(octets datagram, size_t size, uint32_t times);
-uint64_t dms_bench_walk(octets datagram, size_t size, uint32_t times);
-uint64_t dms_bench_write(octets datagram, size_t size, uint32_t times);
-uint64_t dms_bench_crc(octets text, size_t size, uint32_t times);
-uint64_t dms_bench_check(octets fonts, size_t fonts_size, octets text, size_t size, uint32_t times);
-uint64_t dms_bench_cells(octets fonts, size_t fonts_size, octets text, size_t size, uint32_t times);
+uint64_t dms_measures_read(octets datagram, size_t size, uint32_t times);
+uint64_t dms_measures_walk(octets datagram, size_t size, uint32_t times);
+uint64_t dms_measures_write(octets datagram, size_t size, uint32_t times);
+uint64_t dms_measures_crc(octets text, size_t size, uint32_t times);
+uint64_t dms_measures_check(octets fonts, size_t fonts_size, octets text, size_t size, uint32_t times);
+uint64_t dms_measures_cells(octets fonts, size_t fonts_size, octets text, size_t size, uint32_t times);
 uint64_t dms_still_table(octets fonts, size_t fonts_size, octets text, size_t size, uint32_t times);
 uint64_t dms_still_sign(octets fonts, size_t fonts_size, octets datagram, size_t size, uint32_t times);
 uint64_t dms_still_centre(octets text, size_t size, uint32_t times);
@@ -100,14 +100,14 @@ int main(int count, char **words) {
     octets fonts = (octets)FONT, text = (octets)TEXT;
     size_t fonts_size = strlen(FONT), size = strlen(TEXT);
     uint32_t many = count > 1 ? (uint32_t)strtoul(words[1], NULL, 10) : 100000, some = many / 100 + 1;
-    COUNT("read", many, dms_bench_read(GET, sizeof GET, n));
-    COUNT("walk", many, dms_bench_walk(GET, sizeof GET, n));
-    COUNT("write", many, dms_bench_write(GET, sizeof GET, n));
-    COUNT("crc", many, dms_bench_crc(text, size, n));
+    COUNT("read", many, dms_measures_read(GET, sizeof GET, n));
+    COUNT("walk", many, dms_measures_walk(GET, sizeof GET, n));
+    COUNT("write", many, dms_measures_write(GET, sizeof GET, n));
+    COUNT("crc", many, dms_measures_crc(text, size, n));
     COUNT("items", many, dms_still_items(text, size, n));
-    COUNT("check", many, dms_bench_check(fonts, fonts_size, text, size, n));
+    COUNT("check", many, dms_measures_check(fonts, fonts_size, text, size, n));
     BESIDE("face", some, dms_still_fonts(fonts, fonts_size, n), dms_still_faces(fonts, fonts_size, n));
-    COUNT("cells", many / 10000 + 1, dms_bench_cells(fonts, fonts_size, text, size, n));
+    COUNT("cells", many / 10000 + 1, dms_measures_cells(fonts, fonts_size, text, size, n));
     COUNT("pages", many, dms_still_pages(fonts, fonts_size, text, size, n));
     COUNT("table", many, dms_still_table(fonts, fonts_size, text, size, n));
     COUNT("get", many, dms_still_sign(fonts, fonts_size, GET, sizeof GET, n));

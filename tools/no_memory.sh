@@ -4,11 +4,11 @@
 #
 #     tools/no_memory.sh [--built] [--count 100000]
 #
-# It builds the library of crates/dms_bench first. With --built it takes the one that was built before.
+# It builds the library of crates/dms_measures first. With --built it takes the one that was built before.
 set -eu
 case " $* " in *" --help "*) sed -n '2,/^[^#]/s/^# \{0,1\}//p' "$0"; exit ;; esac
 tools=$(cd "$(dirname "$0")" && pwd)
-crate=$tools/../crates/dms_bench
+crate=$tools/../crates/dms_measures
 build=$crate/out
 built=
 count=100000
@@ -29,5 +29,5 @@ trap 'rm -rf "$folder"' EXIT
 [ -n "$built" ] || (cd "$crate" && "${RT:-rt}" lib > "$folder/log" 2>&1) || { cat "$folder/log" >&2; exit 1; }
 kit=$(dirname "$("${RT:-rt}" doc)")
 wrapped=-Wl,--wrap=malloc,--wrap=calloc,--wrap=realloc
-"${CC:-cc}" -O2 -Wall $wrapped -o "$folder/no_memory" "$tools/no_memory.c" -L "$build" -ldms_bench -L "$kit/c" -llibc_c
+"${CC:-cc}" -O2 -Wall $wrapped -o "$folder/no_memory" "$tools/no_memory.c" -L "$build" -ldms_measures -L "$kit/c" -llibc_c
 "$folder/no_memory" "$count"

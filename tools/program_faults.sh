@@ -78,7 +78,7 @@ call replay < "$folder/refused"; ended "replay: a word too many" 1 "line 2"; sai
 
 # --- output: a failed write has status 1, whatever was to be printed -------------------------------------------------
 printed() { status=$1; : > "$folder/out"; }
-for words in "answer $get" "check A" "check [x]" "pages A" "code 3 1 A" "code 3 1 A --address x" "replay" "answer 30" "answer x"; do
+for words in "answer $get" "check A" "check [x]" "pages A" "code 3 1 A" "code 3 1 A --address x" "activation 7 1 0000" "activation 3 1 x" "items A" "items --json [x]" "decode 30" "decode --json $get" "replay" "answer 30" "answer x"; do
     timeout 60 "$program" $words < "$folder/bench" > /dev/full 2> "$folder/err"; printed $?
     ended "$words: full output" 1 ""
     timeout 60 "$program" $words < "$folder/bench" >&- 2> "$folder/err"; printed $?
@@ -89,7 +89,7 @@ done
 
 # --- words -----------------------------------------------------------------------------------------------------------
 for words in "" "wrong" "answer" "answer --sign" "check" "code 3 1" "code 1 1 A" "code 5 1 A" "code 3 0 A" "code 3 65536 A" "code 3 1 A --duration 65536" \
-    "code 3 1 A --priority 256" "replay now" "pages A B" "answer 30 --sing"; do
+    "code 3 1 A --priority 256" "activation 3 1" "activation 6 1 9a66" "activation 7 0 0000" "pages --json A" "check --sign=made.sign A" "replay now" "pages A B" "answer 30 --sing"; do
     call $words < "$folder/bench"; ended "'$words'" 2 ""
 done
 call answer 3003020100 < /dev/null; ended "answer: octets that spell no message" 1 "dropped"
@@ -100,6 +100,16 @@ call decode 30:00 < /dev/null; ended "decode: a colon between octets" 2 "not hex
 call decode --spaced "30: 0a" < /dev/null; ended "decode --spaced: a message that is cut short" 1 "fault truncated at octet 2"
 call code 3 1 A --address 1.2.3 < /dev/null; ended "code: an address of three numbers" 2 "bad address"
 call code 3 1 "$(head -c 513 /dev/zero | tr '\0' A)" < /dev/null; ended "code: a text of 513 octets" 1 "text too long"
+call activation 3 1 9a6 < /dev/null; ended "activation: three digits" 2 "bad checksum"
+call activation 3 1 9a66 --address 1.2.3 < /dev/null; ended "activation: an address of three numbers" 2 "bad address"
+call decode --json 3 < /dev/null; ended "decode --json: half an octet" 2 '{"refused":"not hex"}'
+call check --json A --sign < /dev/null; ended "check --json: no description" 1 '{"refused":"line 1"}'
+call check --json AAAAA < /dev/null; ended "check --json: a line that is too wide" 1 '{"fault":5,"at":4}'
+said "check --json: a line that is too wide" "text too big at octet 4: wider than the matrix by 6 columns"
+call pages C < /dev/null; ended "pages: a character that is not there" 1 "fault 7 at 0"
+said "pages: a character that is not there" "character not defined at octet 0: character 67 is not in font 1"
+call sign --sign made.sign < /dev/null; ended "sign --sign: a file" 2 ""
+said "sign --sign: a file" "hint: --sign takes no file: the description is read from the standard input, as in --sign < FILE"
 # words that are no text are named on standard error by their number
 call check $'A\xff' < /dev/null; ended "check: a word that is no text" 2 ""
 if grep -qx "word 2 of the command line is no text" "$folder/err"; then passed=$((passed + 1)); else failed=$((failed + 1)); cat "$folder/err"; fi

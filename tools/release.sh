@@ -72,7 +72,7 @@ tree() {
     cp -R "$source"/tools/door "$source"/tools/model "$source"/tools/udp_sign.py "$source"/tools/udp_centre.py \
         "$source"/tools/ask_vectors.py "$source"/tools/hostile.py "$share/tools/"
     cp "$source/tools/release/run.py" "$share/tools/run.py"
-    cp -R "$source"/docs/{PROFILE,COVERAGE,JOURNAL,CONFORMANCE,CONTROL}.md "$source"/docs/pictures "$share/docs/"
+    cp -R "$source"/docs/{PROFILE,COVERAGE,JOURNAL,CONFORMANCE,CONTROL,C}.md "$source"/docs/pictures "$share/docs/"
     rm -rf "$share"/conform/tests "$share"/conform/short.py "$share"/control/tests "$share"/tools/door/tests
     find "$share" -name '*.py' -exec sed -i '1{/^#!/d}' {} + -exec chmod 644 {} +
     command_of wisangub-sign 'from runpy import run_module; run_module("udp_sign", run_name="__main__")'
@@ -103,15 +103,16 @@ completions() {
         $(sed -n 's/^\.It Cm \([a-z]*\)$/\1/p' "$source/tools/release/man/wisangub-control.1")
 }
 
-# library: the library for C and its header, where they are there
+# library: where it is built the library for C, its header, what pkg-config wants, and the examples
 library() {
-    local built header
-    built=$(find crates/*/out -maxdepth 1 -name 'libwisangub.a' 2> /dev/null | head -n 1)
-    header=$(find "$source" -path '*/include/wisangub.h' | head -n 1)
-    if [ -n "$built" ] && [ -n "$header" ]; then
-        install -D -m 644 "$built" "$usr/lib/libwisangub.a"
-        install -D -m 644 "$header" "$usr/include/wisangub.h"
-    fi
+    local built=crates/wisangub_c/out/libwisangub_c.a
+    [ -f "$built" ] || return 0
+    install -D -m 644 "$built" "$usr/lib/libwisangub_c.a"
+    install -D -m 644 "$source/include/wisangub.h" "$usr/include/wisangub.h"
+    mkdir -p "$usr/lib/pkgconfig"
+    sed -e 's#@prefix@#${pcfiledir}/../..#' -e "s/@version@/$version/" "$source/examples/wisangub.pc.in" \
+        > "$usr/lib/pkgconfig/wisangub.pc"
+    cp -R "$source/examples" "$usr/share/doc/wisangub/"
 }
 
 # recommended: what the Python of the release can use, by what it imports

@@ -4,8 +4,9 @@
 The gate tries one a check. Here a check tries as many as change functions of their own, and an edit is refused where a
 goal of the function that it changes stays open. One that leaves none open there, or changes a constant or a table, or
 stands beside one that cannot be read, is tried by itself, and then any goal counts: that of a caller, too. A proof file
-that names what an edit took away says nothing of a contract, nor does a function that the prover does not cover, so an
-edit is not refused by these. What was not refused is printed with the reason, and last `N passed, N failed`.
+that names what an edit took away says nothing of a contract, nor do the goals that stay open beside it, nor does a
+function that the prover does not cover, so an edit is not refused by these. What was not refused is printed with the
+reason, and last `N passed, N failed`.
 """
 
 import argparse
@@ -16,113 +17,12 @@ import re
 import subprocess
 import sys
 
+from upkeep.edits import BadEdit, applied, edits_of
+
 TOP = pathlib.Path(__file__).resolve().parent.parent
 
 # What a proof file says where it names what the edit took away, or cites a proof that does.
 UNREAD = re.compile(r"has no field|is not in scope|has no `|was not admitted|is no name")
-
-FUNCTION = re.compile(r"^(?P<indent> *)(?:pub(?:\([a-z]+\))? )?(?:const )?fn (?P<name>\w+)")
-BLOCK = re.compile(r"^(?:pub(?:\([a-z]+\))? )?(?P<kind>impl|trait|mod)\b(?P<head>[^{]*)\{")
-
-
-class BadEdit(Exception):
-    """An edit that cannot be applied."""
-
-
-@dataclasses.dataclass(frozen=True)
-class Pair:
-    file: pathlib.Path
-    old: str
-    new: str
-
-
-@dataclasses.dataclass
-class Edit:
-    name: str
-    pairs: list[Pair]
-    # the paths of the functions that it changes; None for what stands in no function
-    functions: set[str | None]
-
-
-def read_pairs(crate, path):
-    file = old = None
-    for line in path.read_text(encoding="utf-8").splitlines():
-        if line.startswith("file: "):
-            file = crate / line.removeprefix("file: ").strip()
-        elif line.startswith("old: "):
-            old = line.removeprefix("old: ")
-        elif line.startswith("new:"):
-            yield Pair(file, old, line.removeprefix("new:").removeprefix(" "))
-
-
-def read_edit(crate, path):
-    pairs = list(read_pairs(crate, path))
-    return Edit(f"{path.parent.name}/{path.stem}", pairs, {function_at(crate, pair) for pair in pairs})
-
-
-def edits_of(crate):
-    folders = [crate / "must-fail", crate / "wrong-bodies"]
-    return [read_edit(crate, path) for folder in folders for path in sorted(folder.glob("*.edit"))]
-
-
-def type_word(text):
-    """A type as paths have it: `&[u8]` is `RefSliceU8`, and what it is generic over is left out."""
-    text = re.sub(r"<[^<>]*>", "", re.sub(r"<[^<>]*>", "", text)).replace("&", "Ref ").replace("[", "Slice ")
-    return "".join(word[0].upper() + word[1:] for word in re.findall(r"\w+", text.split("::")[-1]))
-
-
-def module_of(crate, file):
-    parts = file.relative_to(crate / "src").with_suffix("").parts
-    return [] if parts in (("lib",), ("main",)) else [*parts]
-
-
-def module_of_type(crate, word, otherwise):
-    """The module that has a type of this name, in whose path its methods stand."""
-    for file in sorted((crate / "src").rglob("*.rt")):
-        if re.search(rf"(?m)^(?:pub(?:\([a-z]+\))? )?(?:struct|enum) {word}\b", file.read_text(encoding="utf-8")):
-            return module_of(crate, file)
-    return otherwise
-
-
-def block_path(crate, module, kind, head):
-    """The path of a block of functions, as `object_identifier::Oid`, `object_identifier::OidDisplay`, `sign::mode`."""
-    head = head.split(" where ")[0]
-    if kind != "impl":
-        return [*module, re.match(r"\s*(\w+)", head).group(1)]
-    of_trait, is_of_trait, of_type = re.sub(r"^<[^>]*>", "", head).strip().rpartition(" for ")
-    word = type_word(of_type)
-    if not is_of_trait:
-        return [*module_of_type(crate, word, module), word]
-    over = re.search(r"<(.*)>$", of_trait)
-    return [*module, word + type_word(of_trait) + (type_word(over.group(1)) if over else "")]
-
-
-def function_at(crate, pair):
-    """The path of the function in which a text stands, from the crate's name on, or None where it stands in none."""
-    if pair.file.suffix != ".rt":
-        return None
-    text, module = pair.file.read_text(encoding="utf-8"), module_of(crate, pair.file)
-    block, function = module, None
-    for line in [*text[:max(text.find(pair.old), 0)].splitlines(), pair.old]:
-        opened, begun = BLOCK.match(line), FUNCTION.match(line)
-        if line.startswith("}"):
-            block, function = module, None
-        elif opened:
-            block = block_path(crate, module, opened["kind"], opened["head"])
-        elif begun:
-            function = [*(block if begun["indent"] else module), begun["name"]]
-    return "::".join([crate.name, *function]) if function else None
-
-
-def applied(edit, texts):
-    """These texts of files with the edit in place."""
-    texts = dict(texts)
-    for pair in edit.pairs:
-        text = texts.get(pair.file) or pair.file.read_text(encoding="utf-8")
-        if text.count(pair.old) != 1:
-            raise BadEdit(f"`{pair.old}` stands {text.count(pair.old)} times in {pair.file.name}")
-        texts[pair.file] = text.replace(pair.old, pair.new)
-    return texts
 
 
 @dataclasses.dataclass
@@ -130,6 +30,8 @@ class Said:
     """What a check said: the open goals of each function, why nothing is known of others, and whether a text is bad."""
     goals: dict[str, list[str]]
     unknown: list[str]
+    # the functions whose proof files name what is gone: their open goals may only want an answer under another name
+    unread: set[str]
     bad: str | None = None
 
 
@@ -140,7 +42,7 @@ def owner(path):
 
 
 def heard(crate, lines):
-    said = Said(collections.defaultdict(list), [])
+    said = Said(collections.defaultdict(list), [], set())
     for line in lines:
         of_source = re.match(r"(?:\./)?src/\S+: error\S*: (`[^`]*`: )?(.*)", line)
         of_proof = re.match(r"(?:\./)?proofs/(\S+)/\w+\.antt:[\d:]+ error: (.*)", line)
@@ -149,6 +51,7 @@ def heard(crate, lines):
             said.bad = said.bad or line
         elif of_proof and UNREAD.search(of_proof.group(2)):
             said.unknown.append(f"a proof file names what it takes away: {of_proof.group(2)}")
+            said.unread.add("::".join([crate.name, *of_proof.group(1).split("/")]))
         elif of_proof:
             said.goals["::".join([crate.name, *of_proof.group(1).split("/")])].append(of_proof.group(2))
         elif of_function:
@@ -188,8 +91,9 @@ def groups(edits):
 
 
 def goals_of(said, paths):
-    """The open goals of these functions, each after the function's name."""
-    return [f"{path.rpartition('::')[2]}: {goal}" for path in paths for goal in said.goals.get(path, [])]
+    """The open goals of these functions, each after the function's name; none of one whose proof files do not read."""
+    read = [path for path in paths if path not in said.unread]
+    return [f"{path.rpartition('::')[2]}: {goal}" for path in read for goal in said.goals.get(path, [])]
 
 
 def tried(crate, edits):

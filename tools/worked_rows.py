@@ -1,58 +1,83 @@
 #!/usr/bin/env python3
-"""The worked rows that proofs compute, by name: `worked_rows.py` lists them; `worked_rows.py --check` says which names of the
-table "Worked rows" in docs/MAP.md stand in no file of proofs/, and which of the table "From a rule to its code" not in the file that
-it names, and ends with 1 where there are such."""
+"""The worked rows that proofs compute, and the names that docs/MAP.md cites.
+
+`worked_rows.py` lists the worked rows, the equations of proofs that the checker computes. `worked_rows.py --check` says
+which names of the table of docs/MAP.md do not stand where its rows say, and ends with 1 where there are such."""
+
 import argparse
 import pathlib
 import re
 import sys
+from collections.abc import Iterator
 
 TOP = pathlib.Path(__file__).resolve().parent.parent
+MAP = TOP / "docs/MAP.md"
 ROWS = re.compile(r"^(?:pub )?([a-z][a-z0-9_]*) :", re.M)
+CITED = re.compile(r"`([a-z_]+)/([\w/]+)(?:: (\w+))?`")
+COLUMNS = ("definition", "code", "proof", "test")
+PLACES = {
+    "definition": ("specs/{}.antt",),
+    "code": ("src/{}.rt",),
+    "proof": ("proofs/{}.antt", "src/{}.rt"),
+    "test": ("src/{}.rt", "proofs/{}.antt"),
+}
+COMPUTED = re.compile(r"Worked|Silence|Altered|TableRows|ObjectRows|ScriptText|BenchText|Bench\b")
 
 
-def rows(path):
-    return ROWS.findall(path.read_text())
+def rows(path: pathlib.Path) -> list[str]:
+    """The names that a file of proofs defines."""
+    return ROWS.findall(path.read_text(encoding="utf-8"))
 
 
-def listed():
-    text = (TOP / "docs/MAP.md").read_text()
-    part = text[text.index("## Worked rows"):]
-    part = part[: part.index("\n## ", 3)]
-    for line in part.splitlines():
-        cells = [cell.strip() for cell in line.strip("|").split("|")]
-        if len(cells) == 3 and cells[1].startswith("`"):
-            path = cells[1].strip("`")
-            yield from ((path, name) for name in re.findall(r"`([a-z][a-z0-9_]*)`", cells[2]))
+def files(crate: str, file: str, column: str) -> list[pathlib.Path]:
+    """The files that a cell of this column may mean and that are there."""
+    folders = (TOP / "crates" / f"dms_{crate}", TOP / "crates" / crate)
+    places = [folder / place.format(file) for folder in folders for place in PLACES[column]]
+    return [path for path in places if path.is_file()]
 
 
-def places():
-    """The names of the table of rules, each with the file that it is to stand in."""
-    text = (TOP / "docs/MAP.md").read_text()
-    part = text[text.index("## From a rule to its code"):]
-    part = part[: part.index("\n## ", 3)]
-    for path, names in re.findall(r"`([a-z_]+/[\w/]+\.(?:antt|rt))`: ((?:`\w+`(?:, )?)+)", part):
-        yield from ((path, name) for name in re.findall(r"`(\w+)`", names))
+def stands(path: pathlib.Path, name: str) -> bool:
+    """Whether a file defines the name."""
+    kinds = "fn|struct|enum|trait|const|type" if path.suffix == ".rt" else "record|data"
+    said = rf"\b(?:{kinds}) {name}\b" + ("" if path.suffix == ".rt" else rf"|(?m:^(?:[a-z]+ )*{name} :)")
+    return re.search(said, path.read_text(encoding="utf-8")) is not None
 
 
-def stands(path, name):
-    file = TOP / "crates" / path
-    return file.is_file() and re.search(rf"\b{name}\b", file.read_text()) is not None
+def cells() -> Iterator[tuple[int, str, str]]:
+    """The cells of docs/MAP.md's table, each with the number of its line and its column."""
+    for number, line in enumerate(MAP.read_text(encoding="utf-8").splitlines(), 1):
+        row = [cell.strip() for cell in line.strip().strip("|").split("|")]
+        if line.startswith("|") and len(row) == 1 + len(COLUMNS):
+            yield from ((number, column, cell) for column, cell in zip(COLUMNS, row[1:]))
 
 
-def main():
-    words = argparse.ArgumentParser(description=__doc__)
+def missing() -> list[str]:
+    """What docs/MAP.md cites and is not there."""
+    found = []
+    for number, column, cell in cells():
+        if column == cell or not cell.strip("-"):
+            continue
+        if CITED.sub("", cell).strip(", "):
+            found.append(f"docs/MAP.md:{number}: {cell} is no name")
+        for crate, file, name in CITED.findall(cell):
+            there = files(crate, file, column)
+            if not there or name and not any(stands(path, name) for path in there):
+                found.append(f"docs/MAP.md:{number}: no {column} {crate}/{file}{': ' if name else ''}{name}")
+    return found
+
+
+def main() -> int:
+    words = argparse.ArgumentParser(description=__doc__, formatter_class=argparse.RawDescriptionHelpFormatter)
     words.add_argument("--check", action="store_true", help="fails where a name of docs/MAP.md does not stand")
     if words.parse_args().check:
-        missing = [(path, name) for path, name in listed() if name not in rows(TOP / "crates" / path)]
-        missing += [(path, name) for path, name in places() if not stands(path, name)]
-        for path, name in missing:
-            print(f"{path}: {name}")
-        return 1 if missing else 0
+        found = missing()
+        print("\n".join(found), end="\n" if found else "")
+        return 1 if found else 0
     for path in sorted(TOP.glob("crates/*/proofs/*.antt")):
-        if re.search(r"Worked|Silence|Altered|TableRows|ObjectRows|ScriptText|BenchText", path.name):
+        if COMPUTED.search(path.stem):
             print(path.relative_to(TOP / "crates"), " ".join(rows(path)))
     return 0
 
 
-sys.exit(main())
+if __name__ == "__main__":
+    sys.exit(main())

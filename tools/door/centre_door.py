@@ -9,7 +9,7 @@ from .log import Log
 from .mib import Mib
 from .process import CoProcess
 from .refusal import Refusal, reason, say, tell
-from .sockets import Address, Waiting, received
+from .sockets import Address, Waiting, received, sent
 from .texts import ended, published
 
 COMMANDS = ("publish", "blank", "activate")
@@ -45,14 +45,10 @@ class CentreDoor:
         return answer
 
     def send(self, octets: bytes) -> None:
-        """Sends a datagram; the fault of an earlier one, which is told first, is no fault of this one."""
-        for is_again in (False, True):
-            try:
-                self.door.send(octets)
-                break
-            except OSError as fault:
-                if is_again:
-                    say(f"a request is lost: {reason(fault)}")
+        """Sends a datagram."""
+        fault = sent(self.door, octets)
+        if fault is not None:
+            say(f"a request is lost: {reason(fault)}")
         if self.log:
             self.log.datagram("out", self.to, octets)
 

@@ -4,6 +4,8 @@ import pathlib
 import time
 from dataclasses import dataclass
 
+from .refusal import Refusal
+
 BOOT = pathlib.Path("/proc/sys/kernel/random/boot_id")
 MOST_MADE_UP = 86_400  # seconds that are made up by ticks after a process died
 MOST_SECONDS = 2**32 - 1
@@ -50,7 +52,12 @@ class Moment:
     @staticmethod
     def of(start: bytes, clock: bytes) -> "Moment":
         """The moment that a record of the clock says, in the boot of a start's record."""
-        return Moment(start.split(b" ")[1].decode(), *(int(word) for word in clock.split(b" ")[1:3]))
+        try:
+            wall, up = map(int, clock.split(b" ")[1:3])
+            return Moment(start.split(b" ")[1].decode(), wall, up)
+        except ValueError as fault:
+            told = f"{start[:80]!r} and {clock[:80]!r}"
+            raise Refusal(f"{told} tell no moment: they were not written by a door") from fault
 
 
 def down(last: Moment, now: Moment, overruled: str | None = None) -> list[bytes]:

@@ -91,11 +91,9 @@ class Journal:
         if found is None:
             raise Refusal(f"{self.path} is no journal")
         wanted = self.head
-        for name, has, asked in (
-            ("form", found.form, wanted.form),
-            ("end", found.end, wanted.end),
-            ("rules", found.rules, wanted.rules),
-        ):
+        if found.end != wanted.end:
+            raise Refusal(f"{self.path}: its end is {found.end}, and this door's {wanted.end}")
+        for name, has, asked in (("form", found.form, wanted.form), ("rules", found.rules, wanted.rules)):
             if has != asked:
                 raise Refusal(f"{self.path}: its {name} is {has}, and this door's {asked} (--fresh begins anew)")
         if found.digest != wanted.digest:
@@ -104,9 +102,9 @@ class Journal:
 
     def started(self, text: mmap.mmap | bytes, size: int) -> int:
         """The length of the records up to a start that was not finished, and the moment of the last record."""
-        start, clock = text.rfind(b"\nstart ", 0, size) + 1, text.rfind(b"\nclock ", 0, size) + 1
-        if clock < start:
-            return self.started(text, start)
+        start = text.rfind(b"\nstart ", 0, size) + 1
+        while (clock := text.rfind(b"\nclock ", 0, size) + 1) < start:
+            size, start = start, text.rfind(b"\nstart ", 0, start) + 1
         if start:
             line = text[start : text.find(b"\n", start)]
             at = text.find(b"\n", clock) + 1
@@ -187,5 +185,4 @@ def sync(file: int, path: str) -> None:
 def seconds_of(line: bytes) -> int:
     """The seconds that a recorded line counts."""
     word, _, count = line.partition(b" ")
-    return int(count) if word == b"ticks" else int(line == b"tick")
-
+    return int(count) if word == b"ticks" and count.isdigit() else int(line == b"tick")

@@ -12,6 +12,7 @@ PATIENCE = 60_000  # milliseconds that a program may take to its first answer
 ENDS = (b"ok", b"dropped", b"bad line")
 ENDING_WORDS = (b"reply", b"accepted", b"send", b"refused")
 FIRST_WORDS = (b"shown", b"idle", b"busy")  # of what is asked first
+HOW = " (tools/build.py builds the program; --signtool tools/coprocess_model.py is the model in its place)"
 REFUSED = (b"read", b"too long", b"memory")  # what stands in place of a description's answers, with `line N`
 
 
@@ -30,7 +31,8 @@ class CoProcess:
                 call, stdin=subprocess.PIPE, stdout=subprocess.PIPE, bufsize=0, process_group=0
             )
         except OSError as fault:
-            raise Refusal(f"{program}: {reason(fault) if fault.filename != program else fault.strerror}") from fault
+            why = reason(fault) if fault.filename != program else fault.strerror
+            raise Refusal(f"{program}: {why}{HOW if isinstance(fault, FileNotFoundError) else ''}") from fault
         assert self.process.stdin is not None and self.process.stdout is not None
         self.input, self.output = self.process.stdin.fileno(), self.process.stdout.fileno()
         os.set_blocking(self.input, False)

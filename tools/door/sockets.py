@@ -68,11 +68,24 @@ def received(door: socket.socket) -> tuple[bytes, Address] | None:
     for _ in range(MOST_FAULTS):
         try:
             return door.recvfrom(MOST_DATAGRAM + 1, socket.MSG_DONTWAIT)
-        except BlockingIOError:
+        except (BlockingIOError, TimeoutError):
             return None
         except OSError:
             continue
     return None
+
+
+def sent(door: socket.socket, octets: bytes) -> OSError | None:
+    """Sends a datagram to the socket's peer: why it is lost, or None. What an earlier datagram met on its way is told
+    by the first call after it, and is no fault of this one."""
+    fault: OSError | None = None
+    for _ in range(2):
+        try:
+            door.send(octets)
+            return None
+        except OSError as found:
+            fault = found
+    return fault
 
 
 class Waiting:

@@ -130,7 +130,7 @@ def description(lines):
     """The sign that the next lines describe, up to `end`. Lines that no sign follows raise Bad."""
     width, height = lines.next(lambda w: (number(wants(w, b"size", 2)[0]), number(w[2])))
     reader, writer = lines.next(lambda w: wants(w, b"communities", 2))
-    changeable, volatile = lines.next(lambda w: (number(wants(w, b"rows", 2)[0]), number(w[2])))
+    changeable, volatile = lines.next(lambda w: [number(x, 0, 255) for x in wants(w, b"rows", 2)])
 
     def order(words):
         if words not in ([b"order", b"high"], [b"order", b"swapped"]):

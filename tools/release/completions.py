@@ -41,7 +41,9 @@ def subcommands(text: str) -> list[str]:
 
 
 def options(text: str) -> list[str]:
-    """The long options of a help."""
+    """The long options of a help: those listed under `Options:` where it has such a list."""
+    listed = re.search(r"(?m)^Options:\n((?:[ ]{2,}.*\n)+)", text)
+    text = listed[1] if listed else text
     return sorted(set(re.findall(r"(?<![\w-])--[a-z][a-z-]*", text)))
 
 

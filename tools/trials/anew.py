@@ -33,7 +33,7 @@ class Anew:
         self.path.write_bytes(self.written)
         words = ["--port", "0", "--journal", str(self.path), "--fresh", "--no-ticks"]
         doors = [self.trial.door("udp_sign.py", *words) for _ in range(count)]
-        eventually(lambda: all(door.process.poll() is not None or b"a sign at" in door.output for door in doors), 60.0)
+        eventually(lambda: all(door.process.poll() is not None or b"a sign at" in door.output for door in doors))
         on = [door for door in doors if door.process.poll() is None]
         self.trial.holds("of doors that begin anew at once one does", len(on) == 1, [door.errors for door in doors])
         for door in doors:

@@ -15,7 +15,9 @@ from typing import Callable
 
 from door.places import TOP
 
-from .manager import PATIENCE
+from .patience import PACE
+
+MOST_TOLD = 3000  # characters of what was found, the last ones
 
 
 @dataclass
@@ -36,7 +38,8 @@ class Trial:
         """Counts one thing that was looked at."""
         self.passed, self.failed = self.passed + is_well, self.failed + (not is_well)
         if not is_well:
-            print(f"FAILED {name}: {str(found)[:2000]}", flush=True)
+            told = str(found)
+            print(f"FAILED {name}: {told if len(told) <= MOST_TOLD else f'.. {told[-MOST_TOLD:]}'}", flush=True)
         return is_well
 
     def is_late(self) -> bool:
@@ -62,14 +65,24 @@ class Trial:
 
     def sign(self, *words: str, environment: dict[str, str] | None = None) -> "Door":
         """A sign at a port of its own, which it tells."""
+        begun = time.monotonic()
         door = self.door("udp_sign.py", "--port", "0", *words, environment=environment)
-        door.wait_for_port()
+        if door.wait_for_port():
+            PACE.took(time.monotonic() - begun)
         return door
+
+    def measure(self) -> None:
+        """What a start takes on this machine now."""
+        for _ in range(2):
+            door = self.sign("--no-ticks")
+            door.stop()
+            door.forget()
+            self.doors.remove(door)
 
     def end(self) -> None:
         """Nothing that was started goes on."""
         for door in self.doors:
-            door.kill()
+            door.kill("both")
             door.forget()
         self.doors.clear()
 
@@ -93,17 +106,18 @@ class Door:
         while octets := os.read(file.fileno(), 65_536):
             setattr(self, name, getattr(self, name) + octets)
 
-    def wait_for_port(self) -> None:
-        """Until the sign is announced, or the process ended."""
-        ends = time.monotonic() + PATIENCE
+    def wait_for_port(self) -> bool:
+        """Whether the sign is announced before the process ends."""
+        ends = time.monotonic() + PACE.patience()
         while time.monotonic() < ends:
             found = re.search(rb"a sign at .*:(\d+)\n", self.output)
             if found:
                 self.port = int(found[1])
-                return
+                return True
             if self.process.poll() is not None:
-                return
+                return False
             time.sleep(0.002)
+        return False
 
     def inner(self) -> int | None:
         """The co-process, by its number."""
@@ -139,7 +153,7 @@ class Door:
     def ended(self) -> int:
         """The exit status, once it ended by itself; 999 where it does not."""
         try:
-            status = self.process.wait(PATIENCE)
+            status = self.process.wait(PACE.patience())
         except subprocess.TimeoutExpired:
             return 999
         for reader in self.readers:
@@ -160,9 +174,9 @@ class Door:
         return self.ended()
 
 
-def eventually(holds: Callable[[], bool], seconds: float = 5.0) -> bool:
-    """Whether something holds within so many seconds."""
-    ends = time.monotonic() + seconds
+def eventually(holds: Callable[[], bool], seconds: float | None = None) -> bool:
+    """Whether something holds within so many seconds, or within all of the patience."""
+    ends = time.monotonic() + (PACE.patience() if seconds is None else seconds)
     while not holds():
         if time.monotonic() > ends:
             return False

@@ -32,7 +32,8 @@ def fresh_lives(trial: Trial, port: int, count: int) -> int:
 
 def again(trial: Trial, centres: Centres) -> None:
     """A fresh journal of a centre, whose numbers are above all that it used."""
-    used = max(message.number for message in map(wire.spelled, list(centres.relay.requests)) if message is not None)
+    sent = [message.number for message in map(wire.spelled, list(centres.relay.requests)) if message is not None]
+    used = max(sent, default=0)
     before = len(centres.relay.requests)
     door = trial.door(
         "udp_centre.py",

@@ -9,6 +9,7 @@ from model import wire
 from .bench import Door, Trial
 from .follower import Follower
 from .manager import Manager
+from .patience import PACE
 from .requests import Changes
 
 
@@ -21,8 +22,8 @@ class Mounted:
 
     def call(self, *words: str) -> bool:
         try:
-            return subprocess.run(words, capture_output=True, check=False).returncode == 0
-        except OSError:
+            return subprocess.run(words, capture_output=True, check=False, timeout=PACE.patience()).returncode == 0
+        except (OSError, subprocess.TimeoutExpired):
             return False
 
     def remount(self, how: str) -> bool:
@@ -154,10 +155,9 @@ def run(trial: Trial) -> None:
     mounted = Mounted(trial)
     try:
         if mounted.is_there:
-            full(trial, mounted)
-            full_at_start(trial, mounted)
-            log_on_full(trial, mounted)
-            read_only(trial, mounted)
+            for part in (full, full_at_start, log_on_full, read_only):
+                if not trial.is_late():
+                    part(trial, mounted)
         else:
             trial.skip("a full disk, a folder that can only be read", "no file system can be mounted")
     finally:

@@ -1,6 +1,9 @@
 """What the time without a process was: a loss of power by another boot's id, seconds by the same, and what overrules
 them."""
 
+import os
+import time
+
 from door import records
 from door.clock import Moment
 from door.records import Head
@@ -35,17 +38,18 @@ def lines(last: Moment) -> list[bytes]:
 
 
 def life(trial: Trial, name: str, last: Moment, wanted: list[bytes], *words: str) -> None:
-    """A start over such a journal: the lines that it records, the last number within ten seconds, and the walk after
-    it."""
-    path = trial.new_folder() / "journal"
+    """A start over such a journal: the lines that it records, the last number with the seconds that the start took, and
+    the walk after it."""
+    path, begun = trial.new_folder() / "journal", time.monotonic()
     path.write_bytes(records.records(lines(last), 0)[0])
     before = len(lines_of(path.read_bytes()))
     door = trial.sign("--journal", str(path), "--no-ticks", *words)
+    took = int(time.monotonic() - begun) + 2
     if trial.holds(f"{name}: a door starts", door.port != 0, door.errors.decode()):
         new = [line for line in lines_of(path.read_bytes())[before:] if not line.startswith(records.OWN)]
         trial.holds(
             f"{name}: it records what the time was",
-            len(new) == len(wanted) and all(map(is_near, new, wanted)),
+            len(new) == len(wanted) and all(is_near(*pair, took) for pair in zip(new, wanted)),
             (new, wanted),
         )
         follower = Follower(path)
@@ -57,13 +61,25 @@ def life(trial: Trial, name: str, last: Moment, wanted: list[bytes], *words: str
     trial.holds(f"{name}: and ends", door.stop() == 0, door.errors.decode())
 
 
-def is_near(found: bytes, wanted: bytes) -> bool:
-    """Whether two lines are the same, but for a number that may be up to ten seconds more."""
+def of_a_centre(trial: Trial) -> None:
+    """A centre is told nothing of the time without a process: what waits for a reply waits as it did."""
+    path = trial.new_folder() / "journal"
+    octets = records.records([Head("centre", "bench", 1).line(), b"blank 5 65535 255 127.0.0.1", b"tick"], 0)[0]
+    path.write_bytes(octets)
+    os.utime(path, (time.time() - 3600, time.time() - 3600))
+    door = trial.door("udp_centre.py", "--to", "127.0.0.1:9", "--journal", str(path), "--tick", "900", "--wait", "0.1")
+    is_well = door.ended() == 1 and b"given up" in door.output and b"Traceback" not in door.errors
+    trial.holds("a centre goes on with its job after an hour", is_well, (door.output, door.errors))
+    trial.holds("and nothing is recorded of the hour", path.read_bytes() == octets, path.read_bytes())
+
+
+def is_near(found: bytes, wanted: bytes, more: int) -> bool:
+    """Whether two lines are the same, but for a number of seconds that may be so many more, and is not 0."""
     one, _, number = found.partition(b" ")
     other, _, least = wanted.partition(b" ")
     if one != other or not number or not least:
         return found == wanted
-    return int(least) <= int(number) <= int(least) + (10 if int(least) else 0)
+    return int(least) <= int(number) <= int(least) + (more if int(least) else 0)
 
 
 def run(trial: Trial) -> None:
@@ -77,6 +93,7 @@ def run(trial: Trial) -> None:
         ("--down process", False, 40, [b"ticks 40"], ["--down", "process"]),
         ("--down power", True, 40, [b"power-lost", b"power-back 40"], ["--down", "power"]),
     ]
+    of_a_centre(trial)
     for name, is_same_boot, seconds, wanted, words in rows:
         if trial.is_late():
             break

@@ -9,7 +9,7 @@ from model import wire
 
 from .bench import Door, Trial, eventually
 from .follower import Follower
-from .manager import PATIENCE, Manager
+from .manager import Manager
 from .refusals import built, refusing
 from .requests import Changes
 
@@ -55,7 +55,7 @@ class Faults:
             environment=refusing(self.library, self.path, call, at, error, **more),
         )
         answered = self.ask(door) if door.port else []
-        is_over = is_ending(door) or answered[-1:] == [False] and eventually(lambda: is_ending(door), PATIENCE)
+        is_over = is_ending(door) or answered[-1:] == [False] and eventually(lambda: is_ending(door))
         status = door.ended() if is_over else None
         told = os.strerror(error).encode() in door.errors
         if status is not None:

@@ -129,7 +129,8 @@ class Files:
         ):
             octets, _ = records.records([head.line(), b"ticks 5"], 0)
             self.refused(words, octets, words)
-            self.says(words, octets, words)
+            if not self.trial.is_late():
+                self.says(words, octets, words)
         self.path.write_bytes(self.written)
         self.says(
             "another description by --sign",
@@ -172,8 +173,8 @@ class Files:
 def run(trial: Trial) -> None:
     """All of it."""
     files = Files(trial)
-    for part in (files.others, files.changed, files.prefixes):
-        part()
     anew = Anew(trial, files.path.parent, files.written)
-    anew.fresh()
-    anew.fresh_at_once(3 if trial.is_short else 8)
+    at_once = 3 if trial.is_short else 8
+    for part in (files.changed, files.others, files.prefixes, anew.fresh, lambda: anew.fresh_at_once(at_once)):
+        if not trial.is_late():
+            part()

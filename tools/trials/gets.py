@@ -9,7 +9,7 @@ from model.sign import Sign
 
 from .bench import Door, Trial
 from .follower import lines_of
-from .manager import PATIENCE, Manager
+from .manager import Manager
 
 Form = tuple[int, int, int, int]
 SHORTEST, LONGEST = (0, 0, 0, 0), (4, 4, 4, 4)
@@ -80,7 +80,7 @@ class Lives:
     def ask(self, name: str, manager: Manager, made: bytes) -> None:
         """A request, and its reply by the model."""
         wanted, _ = self.sign.receive(made)
-        reply = manager.exchange(made, 0.05 if wanted is None else PATIENCE)
+        reply = manager.exchange(made, 0.05 if wanted is None else None)
         self.trial.holds(f"{name}: the reply", reply == wanted, (made.hex(), reply, wanted))
 
     def compare(self, name: str, manager: Manager) -> None:

@@ -7,9 +7,10 @@ from typing import Callable
 
 from model import wire
 
+from .patience import PACE
+
 Name = tuple[int, ...]
 DMS: Name = (1, 3, 6, 1, 4, 1, 1206, 4, 2, 3)
-PATIENCE = 60.0  # seconds that a reply may take, as a door may to start or to end, on a machine that is busy
 
 
 def number_of(octets: bytes) -> int | None:
@@ -29,9 +30,9 @@ class Manager:
     def close(self) -> None:
         self.socket.close()
 
-    def exchange(self, octets: bytes, patience: float = PATIENCE) -> bytes | None:
+    def exchange(self, octets: bytes, patience: float | None = None) -> bytes | None:
         """The reply to a datagram, None where none comes. A late reply to another one is let go."""
-        wanted, ends = number_of(octets), time.monotonic() + patience
+        wanted, ends = number_of(octets), time.monotonic() + (PACE.patience() if patience is None else patience)
         try:
             self.socket.send(octets)
             while select.select([self.socket], [], [], max(0.0, ends - time.monotonic()))[0]:
@@ -61,7 +62,7 @@ class Manager:
     def surely(self, octets: bytes, is_over: Callable[[], bool]) -> bytes | None:
         """The reply to a datagram; None where a Get that was sent after it was answered first, or the sign is gone."""
         wanted, after = number_of(octets), self.request(wire.GET, [])
-        ends = time.monotonic() + PATIENCE
+        ends = time.monotonic() + PACE.patience()
         try:
             self.socket.send(octets)
             self.socket.send(after)
@@ -79,7 +80,7 @@ class Manager:
         self.number += 1
         return bytes(wire.written(wire.Message(kind, self.community, self.number, 0, 0, bindings)))
 
-    def get(self, names: list[Name], patience: float = PATIENCE) -> list[tuple[Name, tuple[int, object]]]:
+    def get(self, names: list[Name], patience: float | None = None) -> list[tuple[Name, tuple[int, object]]]:
         """The values of names; none where no reply came."""
         reply = self.exchange(self.request(wire.GET, [(name, (wire.NULL, b"")) for name in names]), patience)
         message = None if reply is None else wire.spelled(reply)

@@ -2,14 +2,24 @@
 
 import socket
 import subprocess
+import time
 
-from .bench import Trial
-from .manager import PATIENCE
+from .bench import Trial, eventually
+from .follower import lines_of
+from .patience import PACE
+
+SHORT = "0.05"  # seconds from tick to tick where no sign answers
+
+
+def tick() -> float:
+    """Seconds from tick to tick, in which a sign answers on this machine."""
+    return min(max(0.2, PACE.start() / 2), 1.0)
 
 
 def commanded(trial: Trial, port: int, lines: str, *words: str) -> tuple[int, list[str]]:
     """The status of a centre's door that is given lines, and what it printed."""
-    door = trial.door("udp_centre.py", "--to", f"127.0.0.1:{port}", "--tick", "0.2", *words, stdin=subprocess.PIPE)
+    call = ["--to", f"127.0.0.1:{port}", "--tick", f"{tick():.2f}", *words]
+    door = trial.door("udp_centre.py", *call, stdin=subprocess.PIPE)
     assert door.process.stdin is not None
     door.process.stdin.write(lines.encode())
     door.process.stdin.close()
@@ -63,8 +73,7 @@ def operated(trial: Trial) -> None:
             trial,
             silent.getsockname()[1],
             "blank 5 65535 255 127.0.0.1\nblank 6 65535 255 127.0.0.1\n",
-            "--wait",
-            "0.3",
+            *("--wait", "0.3", "--tick", SHORT),
         )
     wanted = [
         "given up after 0.3 seconds: the job is not done",
@@ -84,7 +93,7 @@ def operated(trial: Trial) -> None:
         status == 1 and lines == wanted,
         (status, lines),
     )
-    status, lines = commanded(trial, silent_port(), "blank 5 65535 255 127.0.0.1\n")
+    status, lines = commanded(trial, silent_port(), "blank 5 65535 255 127.0.0.1\n", "--tick", SHORT)
     trial.holds("no sign there", status == 1 and "last failed at step 7: no reply" in lines, (status, lines))
 
 
@@ -94,10 +103,9 @@ def outsiders(trial: Trial) -> None:
         socket.AF_INET, socket.SOCK_DGRAM
     ) as other:
         sign.bind(("127.0.0.1", 0))
-        sign.settimeout(PATIENCE)
-        door = trial.door(
-            "udp_centre.py", "--to", f"127.0.0.1:{sign.getsockname()[1]}", "--wait", "30", stdin=subprocess.PIPE
-        )
+        sign.settimeout(PACE.patience())
+        call = ["--to", f"127.0.0.1:{sign.getsockname()[1]}", "--tick", f"{tick():.2f}"]
+        door = trial.door("udp_centre.py", *call, stdin=subprocess.PIPE)
         assert door.process.stdin is not None
         door.process.stdin.write(b"blank 5 65535 255 127.0.0.1\n")
         door.process.stdin.close()
@@ -114,6 +122,31 @@ def outsiders(trial: Trial) -> None:
         trial.holds("and the sign's does", door.ended() == 0 and b"last accepted" in door.output, door.output.decode())
 
 
+def idles(trial: Trial) -> None:
+    """The ticks of a centre that has nothing to do leave no record: not between two commands, not at a start."""
+    sign, path = trial.sign("--no-ticks"), trial.new_folder() / "centre"
+    call = ["--to", f"127.0.0.1:{sign.port}", "--tick", f"{tick():.2f}", "--journal", str(path)]
+    door = trial.door("udp_centre.py", *call, stdin=subprocess.PIPE)
+    operator = door.process.stdin
+    assert operator is not None
+    for count in (1, 2):
+        operator.write(b"blank %d 65535 255 127.0.0.1\n" % count)
+        operator.flush()
+        is_done = eventually(lambda: door.output.count(b"last accepted\n") == count)
+        trial.holds(f"command {count} is accepted", is_done, (door.output, door.errors))
+        before = path.read_bytes()
+        time.sleep(2.5 * tick())
+        trial.holds(f"idle after command {count}: no record", path.read_bytes() == before, path.read_bytes())
+    operator.close()
+    trial.holds("an idle centre ends", door.ended() == 0, door.errors.decode())
+    status = commanded(trial, sign.port, "status\n", "--journal", str(path))
+    trial.holds("a start of an idle centre: no record", path.read_bytes() == before and status[0] == 0, status)
+    words = [line.partition(b" ")[0] for line in lines_of(before)[1:]]
+    is_so = words.count(b"blank") == 2 and set(words) <= {b"blank", b"datagram", b"tick"}
+    trial.holds("the records are of commands, and of what came until each was done", is_so, words)
+    trial.holds("the sign of an idle centre ends", sign.stop() == 0, sign.errors.decode())
+
+
 def silent_port() -> int:
     """A port where nobody is."""
     with socket.socket(socket.AF_INET, socket.SOCK_DGRAM) as one:
@@ -125,3 +158,4 @@ def run(trial: Trial) -> None:
     """Everything."""
     operated(trial)
     outsiders(trial)
+    idles(trial)

@@ -7,6 +7,7 @@ import subprocess
 from door.places import TOP
 
 from .bench import Trial
+from .patience import PACE
 
 
 def built(trial: Trial) -> pathlib.Path | None:
@@ -27,8 +28,9 @@ def built(trial: Trial) -> pathlib.Path | None:
             ],
             check=True,
             capture_output=True,
+            timeout=PACE.patience(),
         )
-    except (OSError, subprocess.CalledProcessError) as fault:
+    except (OSError, subprocess.SubprocessError) as fault:
         trial.skip("faults of the disk", f"refuse_disk.c is not built: {fault}")
         return None
     return made

@@ -10,7 +10,8 @@ from model import wire
 
 from .bench import Door, Trial, eventually, is_gone
 from .follower import Follower, lines_of
-from .manager import PATIENCE, Manager
+from .manager import Manager
+from .patience import PACE
 from .requests import Changes
 
 
@@ -59,7 +60,7 @@ def started(door: Door) -> None:
         is_python = signal.SIGPIPE in ignored and (signal.SIGINT not in caught or signal.SIGTERM in caught)
         return is_python or door.process.poll() is not None
 
-    eventually(has_begun, 20.0)
+    eventually(has_begun)
 
 
 def signals(number: int, which: str) -> set[int]:
@@ -106,7 +107,7 @@ def co_process_stands_still(trial: Trial) -> None:
     door.process.send_signal(signal.SIGTERM)
     time.sleep(0.2)
     trial.holds("a door whose co-process is stopped waits for it", door.process.poll() is None, door.errors.decode())
-    ends = time.monotonic() + PATIENCE
+    ends = time.monotonic() + PACE.patience()
     while door.process.poll() is None and time.monotonic() < ends:  # a busy machine may take two for one
         door.process.send_signal(signal.SIGTERM)
         time.sleep(0.2)

@@ -10,6 +10,7 @@ from door.places import TOP
 
 from .bench import Trial, eventually
 from .follower import lines_of
+from .patience import PACE
 
 
 def run(trial: Trial) -> None:
@@ -21,22 +22,23 @@ def run(trial: Trial) -> None:
         path = trial.new_folder() / "journal"
         words = ["udp_sign.py", "--port", "0", "--signtool", trial.program, "--journal", str(path), "--log", "-"]
         process = shell(f'exec "$@" {row}' if row != "| true" else '"$@" | true', words)
-        trial.holds(f"a sign with {row} begins", eventually(lambda: has_begun(path), 60.0), path)
-        ends(process, path)
-        errors = process.communicate()[1]
+        trial.holds(f"a sign with {row} begins", eventually(lambda: has_begun(path)), path)
+        errors = ended(process, path)
         is_well = b"Traceback" not in errors and b"Exception" not in errors
         trial.holds(f"a sign with {row} ends", process.returncode == 0 and is_well, (process.returncode, errors))
         lines = lines_of(path.read_bytes())
         trial.holds(f"a sign with {row} keeps a journal", lines[-1].startswith(b"clock ") and len(lines) >= 4, lines)
         if row != "| true":
-            status = shell(f'exec "$@" {row}', ["udp_centre.py", "--to", "x"]).wait(60)
-            trial.holds(f"a centre with {row} has its status", status == 2, status)
+            centre = shell(f'exec "$@" {row}', ["udp_centre.py", "--to", "x"])
+            communicated(centre)
+            trial.holds(f"a centre with {row} has its status", centre.returncode == 2, centre.returncode)
 
 
 def shell(line: str, words: list[str]) -> subprocess.Popen[bytes]:
     """A tool that a shell starts with other standard files."""
     call = ["sh", "-c", line, "sh", sys.executable, str(TOP / "tools" / words[0]), *words[1:]]
-    return subprocess.Popen(call, stdin=subprocess.DEVNULL, stdout=subprocess.PIPE, stderr=subprocess.PIPE)
+    pipe = subprocess.PIPE
+    return subprocess.Popen(call, stdin=subprocess.DEVNULL, stdout=pipe, stderr=pipe, process_group=0)
 
 
 def has_begun(path: pathlib.Path) -> bool:
@@ -47,8 +49,8 @@ def has_begun(path: pathlib.Path) -> bool:
         return False
 
 
-def ends(process: subprocess.Popen[bytes], path: pathlib.Path) -> None:
-    """Asks the door of a journal to end, whose process may be a shell's."""
+def ended(process: subprocess.Popen[bytes], path: pathlib.Path) -> bytes:
+    """Asks the door of a journal to end, whose process may be a shell's: what it said on standard error."""
     numbers = [int(name) for name in os.listdir("/proc") if name.isdecimal()]
     for number in numbers:
         try:
@@ -56,12 +58,18 @@ def ends(process: subprocess.Popen[bytes], path: pathlib.Path) -> None:
         except OSError:
             continue
         if str(path).encode() in words and words[0] == sys.executable.encode():
-            eventually(lambda number=number: is_waiting(number), 10.0)
+            eventually(lambda number=number: is_waiting(number))
             os.kill(number, signal.SIGTERM)
+    return communicated(process)
+
+
+def communicated(process: subprocess.Popen[bytes]) -> bytes:
+    """What a process said on standard error, once it and all that it started have ended, or are ended."""
     try:
-        process.wait(60)
+        return process.communicate(timeout=PACE.patience())[1]
     except subprocess.TimeoutExpired:
-        process.kill()
+        os.killpg(process.pid, signal.SIGKILL)
+        return process.communicate(timeout=PACE.patience())[1]
 
 
 def is_waiting(number: int) -> bool:

@@ -8,8 +8,11 @@ import subprocess
 from door.places import TOP
 
 from .bench import Door, Trial
+from .patience import PACE
 
-ROADSIDE = str(TOP / "signs/roadside.sign")
+AT_ONCE = 8  # doors that are started together
+RESOLVER = {"RES_OPTIONS": "timeout:1 attempts:1", "LOCALDOMAIN": ""}  # no server of names is waited for long
+Row = tuple[str, list[str], str]  # what is wrong, the options, and the words of the refusal
 
 
 def says(trial: Trial, name: str, door: Door, status: int, words: str) -> None:
@@ -22,6 +25,17 @@ def says(trial: Trial, name: str, door: Door, status: int, words: str) -> None:
         and b"a sign at" not in door.output
     )
     trial.holds(f"{name}: said in words", well, (found, door.errors.decode(), door.output.decode()))
+
+
+def refused(trial: Trial, tool: str, rows: list[Row]) -> None:
+    """Each row's door says so, with status 2."""
+    for at in range(0, len(rows), AT_ONCE):
+        if trial.is_late():
+            break
+        some = rows[at : at + AT_ONCE]
+        doors = [trial.door(tool, *words, environment=RESOLVER) for _, words, _ in some]
+        for (name, _, told), door in zip(some, doors):
+            says(trial, name, door, 2, told)
 
 
 def signs(trial: Trial) -> None:
@@ -42,47 +56,44 @@ def signs(trial: Trial) -> None:
     with socket.socket(socket.AF_INET, socket.SOCK_DGRAM) as other:
         other.bind(("127.0.0.1", 0))
         port = str(other.getsockname()[1])
-        rows = [
-            ("a refused description", ["--sign", str(bad)], 2, "line "),
-            ("a description that breaks off", ["--sign", str(short)], 2, "line "),
-            ("a description with more after it", ["--sign", str(more)], 2, "there is more"),
-            ("no such description", ["--sign", str(folder / "none")], 2, "No such file or directory"),
-            ("a folder for a description", ["--sign", str(folder)], 2, "Is a directory"),
-            ("a port in use", ["--port", port], 2, "in use"),
-            ("a port that is none", ["--port", "70000"], 2, "is no port"),
-            ("no such host", ["--host", "no.such.host.invalid"], 2, "no.such.host.invalid"),
-            ("an address of another machine", ["--host", "192.0.2.1"], 2, "192.0.2.1"),
-            ("--fresh without a journal", ["--fresh"], 2, "--journal"),
-            ("--json without a log", ["--json"], 2, "--log"),
+        rows: list[Row] = [
+            ("a refused description", ["--sign", str(bad)], "line "),
+            ("a description that breaks off", ["--sign", str(short)], "line "),
+            ("a description with more after it", ["--sign", str(more)], "there is more"),
+            ("no such description", ["--sign", str(folder / "none")], "No such file or directory"),
+            ("a folder for a description", ["--sign", str(folder)], "Is a directory"),
+            ("a port in use", ["--port", port], "in use"),
+            ("a port that is none", ["--port", "70000"], "is no port"),
+            ("no such host", ["--host", "no.such.host.invalid"], "no.such.host.invalid"),
+            ("an address of another machine", ["--host", "192.0.2.1"], "192.0.2.1"),
+            ("--fresh without a journal", ["--fresh"], "--journal"),
+            ("--json without a log", ["--json"], "--log"),
             (
                 "a log that is the journal",
                 ["--log", str(more), "--journal", str(more)],
-                2,
                 "cannot be the log and the journal",
             ),
-            ("--down without a journal", ["--down", "power"], 2, "--journal"),
-            ("a log that is a folder", ["--log", str(folder)], 2, "Is a directory"),
-            ("no such program", ["--signtool", str(folder / "none")], 2, "No such file or directory"),
-            ("a program that is none", ["--signtool", str(bad)], 2, "Permission denied"),
-            ("another program", ["--signtool", "/bin/true"], 2, "co-process ended"),
-            ("a program that answers otherwise", ["--signtool", "/usr/bin/yes"], 2, "does not answer as signtool does"),
-            ("a journal without a name", ["--journal", ""], 2, "--journal has no name"),
-            ("a log without a name", ["--log", ""], 2, "--log has no name"),
-            ("a host without a name", ["--host", ""], 2, "--host has no name"),
-            ("datagrams below none", ["--lose", "-1"], 2, "--lose -1"),
-            ("a port in words", ["--port", "http"], 2, "--port"),
-            ("another word", ["more"], 2, "unrecognized"),
-            ("a journal that is a pipe", ["--journal", str(pipe)], 2, "is no plain file"),
-            ("a journal that is a description", ["--journal", str(bad)], 2, "is no journal"),
-            ("a journal of links in a ring", ["--journal", str(ring)], 2, "symbolic links"),
-            ("a journal whose name is too long", ["--journal", str(folder / ("a" * 300))], 2, "File name too long"),
-            ("a log that is the description", ["--log", str(more), "--sign", str(more)], 2, "log and the description"),
-            ("a description that is none", ["--sign", "/bin/sh"], 2, "no line `end`"),
-            ("a description without a line", ["--sign", "/dev/null"], 2, "no line `end`"),
+            ("--down without a journal", ["--down", "power"], "--journal"),
+            ("a log that is a folder", ["--log", str(folder)], "Is a directory"),
+            ("no such program", ["--signtool", str(folder / "none")], "No such file or directory"),
+            ("a program that is none", ["--signtool", str(bad)], "Permission denied"),
+            ("another program", ["--signtool", "/bin/true"], "co-process ended"),
+            ("a program that answers otherwise", ["--signtool", "/usr/bin/yes"], "does not answer as signtool does"),
+            ("a journal without a name", ["--journal", ""], "--journal has no name"),
+            ("a log without a name", ["--log", ""], "--log has no name"),
+            ("a host without a name", ["--host", ""], "--host has no name"),
+            ("datagrams below none", ["--lose", "-1"], "--lose -1"),
+            ("a port in words", ["--port", "http"], "--port"),
+            ("another word", ["more"], "unrecognized"),
+            ("a journal that is a pipe", ["--journal", str(pipe)], "is no plain file"),
+            ("a journal that is a description", ["--journal", str(bad)], "is no journal"),
+            ("a journal of links in a ring", ["--journal", str(ring)], "symbolic links"),
+            ("a journal whose name is too long", ["--journal", str(folder / ("a" * 300))], "File name too long"),
+            ("a log that is the description", ["--log", str(more), "--sign", str(more)], "log and the description"),
+            ("a description that is none", ["--sign", "/bin/sh"], "no line `end`"),
+            ("a description without a line", ["--sign", "/dev/null"], "no line `end`"),
         ]
-        doors = [trial.door("udp_sign.py", "--port", "0", *words) for _, words, _, _ in rows]
-        for (name, _, status, told), door in zip(rows, doors):
-            says(trial, name, door, status, told)
+        refused(trial, "udp_sign.py", [(name, ["--port", "0", *words], told) for name, words, told in rows])
 
 
 def described(trial: Trial) -> None:
@@ -98,7 +109,8 @@ def described(trial: Trial) -> None:
         path = folder / "wrong.sign"
         path.write_text(re.sub(f"^{right}", wrong, text, count=1, flags=re.MULTILINE), encoding="utf-8")
         with open(path, "rb") as file:
-            program = subprocess.run([trial.program, "sign", "--sign"], stdin=file, capture_output=True, check=False)
+            call, most = [trial.program, "sign", "--sign"], PACE.patience()
+            program = subprocess.run(call, stdin=file, capture_output=True, check=False, timeout=most)
         line = program.stdout.decode().strip()
         trial.holds(f"{name}: the program refuses it", re.fullmatch(r"line \d+", line) is not None, program)
         for tool, words in (("udp_sign.py", ["--port", "0"]), ("udp_centre.py", ["--to", "127.0.0.1:9"])):
@@ -110,7 +122,7 @@ def described(trial: Trial) -> None:
 
 def centres(trial: Trial) -> None:
     """The centre's door."""
-    rows = [
+    rows: list[Row] = [
         ("a bad --to", ["--to", "127.0.0.1"], "no HOST:PORT"),
         ("a port of 0", ["--to", "127.0.0.1:0"], "no HOST:PORT"),
         ("an IPv6 address without brackets", ["--to", "::1:1161"], "no HOST:PORT"),
@@ -126,9 +138,7 @@ def centres(trial: Trial) -> None:
         ("a broadcast", ["--to", "255.255.255.255:1161"], "Permission denied"),
         ("--fresh without a journal", ["--to", "127.0.0.1:1161", "--fresh"], "--journal"),
     ]
-    doors = [trial.door("udp_centre.py", *words) for _, words, _ in rows]
-    for (name, _, told), door in zip(rows, doors):
-        says(trial, name, door, 2, told)
+    refused(trial, "udp_centre.py", rows)
 
 
 def run(trial: Trial) -> None:

@@ -1,5 +1,6 @@
 """A journal of a year, and one of a gigabyte of ticks: how large, and how long a start takes."""
 
+import itertools
 import os
 import pathlib
 import resource
@@ -60,13 +61,13 @@ def write(path: pathlib.Path, lines: Iterator[bytes]) -> int:
             octets, checksum = records.records(some, checksum)
             file.write(octets)
             count += len(some)
-            some = [line for line, _ in zip(lines, range(BATCH))]
+            some = list(itertools.islice(lines, BATCH))
     os.chmod(path, 0o600)
     return count
 
 
-def start(trial: Trial, name: str, path: pathlib.Path, count: int, counter: int) -> float:
-    """The seconds of processors that a start over a journal takes; on a quiet machine it takes no more by the clock."""
+def start(trial: Trial, name: str, path: pathlib.Path, count: int, counter: int) -> tuple[float, float]:
+    """The seconds that a start over a journal takes by the clock, and of processors."""
     begun = time.monotonic()
     door = trial.door("udp_sign.py", "--port", "0", "--journal", str(path), "--down", "process", "--no-ticks")
     while not door.port and door.process.poll() is None and time.monotonic() < begun + 600:
@@ -87,7 +88,7 @@ def start(trial: Trial, name: str, path: pathlib.Path, count: int, counter: int)
         f"{os.getloadavg()[0]:.1f} of {os.cpu_count()} processors",
         flush=True,
     )
-    return processor
+    return seconds, processor
 
 
 def run(trial: Trial) -> None:
@@ -96,9 +97,11 @@ def run(trial: Trial) -> None:
     minutes = 24 * 60 if trial.is_short else MINUTES
     count = write(path, year(Moment.now(), minutes))
     size = path.stat().st_size
-    seconds = start(trial, "a day" if trial.is_short else "a year", path, count, (minutes - 1) % 65_536)
+    taken = start(trial, "a day" if trial.is_short else "a year", path, count, (minutes - 1) % 65_536)
     if not trial.is_short:
-        trial.holds("a year is under 300 MB, and starts in under 30 s", size < 300e6 and seconds < 30, (size, seconds))
+        is_busy = os.getloadavg()[0] > (os.cpu_count() or 1)  # then the clock tells of the machine
+        seconds = taken[1] if is_busy else max(taken)
+        trial.holds("a year is under 300 MB, and starts in under 30 s", size < 300e6 and seconds < 30, (size, taken))
     path.unlink()
     records_of_ticks = (10**6 if trial.is_short else 10**9) // 23
     count = write(path, ticks(Moment.now().later(-10 * records_of_ticks), records_of_ticks))

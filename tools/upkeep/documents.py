@@ -6,6 +6,7 @@ from collections.abc import Iterator
 from .tree import Tree
 
 WIDTH, ROW = 120, 200
+LONGEST = {"README.md": 170, "docs/MAP.md": 200}
 LINK = re.compile(r"\]\(([^)\s]+)\)")
 FENCE = "```"
 
@@ -45,6 +46,12 @@ def wide_rows(tree: Tree) -> list[str]:
         for number, line in prose(tree, name)
         if is_row(line) and len(line) > ROW
     ]
+
+
+def long_pages(tree: Tree) -> list[str]:
+    """Pages that have more lines than they may."""
+    counts = {name: tree.text(name).count("\n") for name in LONGEST if tree.has(name)}
+    return [f"{name}: {count} lines, {LONGEST[name]} at most" for name, count in counts.items() if count > LONGEST[name]]
 
 
 def anchors(text: str) -> set[str]:

@@ -5,7 +5,7 @@ import re
 from .tree import Tree
 
 LIST = "CONTRIBUTING.md"
-FOLDERS = ("tools/", "bench/", "measures/")
+FOLDERS = ("tools/", "measures/")
 MAIN = 'if __name__ == "__main__":'
 
 

@@ -1,6 +1,7 @@
 """What the time without a process was."""
 
 from door.clock import MOST_MADE_UP, Moment, down, running
+from door.refusal import Refusal
 
 LAST = Moment("one", 1_000_000, 500)
 ROWS = [
@@ -32,6 +33,20 @@ def test_the_lines_of_the_time_without_a_process() -> None:
 def test_a_moment_is_read_as_it_is_written() -> None:
     assert Moment.of(LAST.start() + b" #00000000", LAST.clock() + b" #00000000\n") == LAST
     assert LAST.later(3) == Moment("one", 1_000_003, 503)
+
+
+def test_records_that_tell_no_moment_are_refused() -> None:
+    for start, clock in (
+        (b"start one 1 2 #00000000", b"clock 1 #00000000\n"),
+        (b"start one 1 2 #00000000", b"clock x 2 #00000000\n"),
+        (b"start \xff 1 2 #00000000", b"clock 1 2 #00000000\n"),
+    ):
+        try:
+            Moment.of(start, clock)
+            found = ""
+        except Refusal as refused:
+            found = str(refused)
+        assert "tell no moment" in found, clock
 
 
 def test_where_no_boot_has_an_id_less_time_since_it_is_another_boot() -> None:

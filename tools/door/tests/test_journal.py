@@ -129,6 +129,9 @@ def test_a_start_without_its_clock_counts_for_nothing() -> None:
         journal = Journal.opened(path, HEAD)
         assert journal.last == NOW and journal.size == len(text)
         os.close(journal.file)
+        starts, _ = records.records([NOW.start()] * 2000, records.checksum_at(text, len(text)))
+        pathlib.Path(path).write_bytes(text + starts)
+        assert kept(path) == LINES and pathlib.Path(path).read_bytes() == text
 
 
 def test_seconds_and_polls_in_a_row_are_one_record() -> None:

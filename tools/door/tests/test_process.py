@@ -90,17 +90,20 @@ def lines(octets: bytes) -> list[str | None]:
     reader, writer = os.pipe()
     child = os.fork()
     if child == 0:
-        os.write(writer, octets)
-        os._exit(0)
+        try:
+            os.close(reader)
+            os.write(writer, octets)
+        finally:
+            os._exit(0)
     os.close(writer)
     before, waiting = sys.stdin, Always()
-    with open(reader, encoding="utf-8") as file:
-        sys.stdin = file
-        try:
+    try:
+        with open(reader, encoding="utf-8") as file:
+            sys.stdin = file
             return list(commands.lines(waiting))  # type: ignore[arg-type]
-        finally:
-            sys.stdin = before
-            os.waitpid(child, 0)
+    finally:
+        sys.stdin = before
+        os.waitpid(child, 0)
 
 
 def test_lines_of_an_operator() -> None:

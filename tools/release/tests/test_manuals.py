@@ -17,7 +17,7 @@ COMMANDS = {
     "wisangub-conform": [[*PYTHON, "-m", "conform"]],
     "wisangub-control": [[*PYTHON, "-m", "control"]],
 }
-PARTS = ["answer", "check", "pages", "code", "decode", "items", "replay", "sign", "centre"]
+PARTS = ["answer", "check", "pages", "code", "activation", "decode", "items", "replay", "sign", "centre"]
 
 
 def options(text: str) -> set[str]:

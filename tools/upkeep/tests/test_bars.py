@@ -5,7 +5,7 @@ import re
 
 import pytest
 
-from upkeep import crates, documents, tools, words
+from upkeep import crates, documents, drawing, tools, words
 from upkeep.bars import BARS, Bar
 from upkeep.tree import Tree
 
@@ -16,7 +16,7 @@ def made(tmp_path: pathlib.Path):
 
     def tree(**texts: str) -> Tree:
         for name, text in texts.items():
-            path = tmp_path / re.sub(r"_(md|py|txt)$", r".\1", name.replace("__", "/"))
+            path = tmp_path / re.sub(r"_(md|py|txt|svg)$", r".\1", name.replace("__", "/"))
             path.parent.mkdir(parents=True, exist_ok=True)
             path.write_text(text, encoding="utf-8")
         return Tree(tmp_path)
@@ -36,6 +36,11 @@ def test_rows(made) -> None:
     assert documents.wide_lines(tree) == []
 
 
+def test_lengths(made) -> None:
+    tree = made(README_md="a\n" * 171, docs__MAP_md="a\n" * 200)
+    assert documents.long_pages(tree) == ["README.md: 171 lines, 170 at most"]
+
+
 def test_links(made) -> None:
     tree = made(docs__one_md="# First part, `x`\n[a](two.md) [b](three.md) [c](#first-part-x) [d](#second) <x>\n",
                 docs__two_md="[e](one.md#first-part-x) [f](one.md#no) ![g](picture.png) [h](https://nobody)\n")
@@ -52,6 +57,46 @@ def test_crates(made) -> None:
     tree = made(crates_txt="# a comment\none: two\ntwo staticlib:\n", **pages)
     assert crates.names(tree) == ["one", "two"]
     assert crates.named(tree) == ["docs/MAP.md: one is not named", "docs/PROVED.md: one is not named"]
+
+
+def test_houses(made) -> None:
+    listed = "# NAME: a sentence.\n\n# octets\none: two\n\n# both ends\ntwo:\n"
+    heads = "# Page\n## Octets\none\n## Both ends\ntwo\n"
+    table = "| **Octets**: one | |\n| **Both ends**: none | |\n"
+    other = "## Both ends\none two\n## Octets\ntwo\n"
+    tree = made(crates_txt=listed, docs__ARCHITECTURE_md=heads, docs__MAP_md=table, docs__PROVED_md=other)
+    assert crates.houses(tree) == {"octets": ["one"], "both ends": ["two"]}
+    assert crates.ordered(tree) == [
+        "docs/MAP.md: two does not stand under both ends",
+        "docs/PROVED.md: the houses are both ends, octets; in crates.txt they are octets, both ends",
+        "docs/PROVED.md: one does not stand under octets",
+    ]
+
+
+LISTED = "# low\nfirst:\nsecond: first\n# high\nthird: first second other\nthird_tests: third\n"
+
+
+def test_nearest(made) -> None:
+    tree = made(crates_txt=LISTED)
+    assert drawing.nearest(tree)["third"] == {"second"}
+    assert "third -> second;" in drawing.as_dot(tree)
+    assert "third_tests" not in drawing.as_dot(tree)
+
+
+def test_drawing(made) -> None:
+    titles = "<title>first</title><title>second</title><title>second&#45;&gt;first</title><title>third-&gt;first</title>"
+    tree = made(crates_txt=LISTED, docs__pictures__houses_svg=titles)
+    assert [line.split(" (")[0].removeprefix("docs/pictures/houses.svg: ") for line in drawing.drawn(tree)] == [
+        "no crate third",
+        "no line third to second",
+        "a line third to first",
+    ]
+
+
+def test_stands_on(made) -> None:
+    rows = "| **Low** | | |\n| first | does this | |\n| second | does that | third |\n| third | more | second |\n"
+    tree = made(crates_txt=LISTED, docs__ARCHITECTURE_md=rows)
+    assert drawing.told(tree) == ["docs/ARCHITECTURE.md: second stands on first"]
 
 
 def test_tools(made, tmp_path: pathlib.Path) -> None:

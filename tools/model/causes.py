@@ -1,0 +1,200 @@
+"""Why a description or a script is refused: the line, and the program's words for what is wrong with it."""
+
+from dataclasses import dataclass
+
+from . import forms, layout, text
+from .sign import Row
+
+Cause = tuple[int, str]
+NO_END = "the text ends before its line `end`"
+FAULTS = {
+    3: "unsupported tag",
+    4: "unsupported tag value",
+    5: "text too big",
+    6: "font not defined",
+    7: "character not defined",
+    11: "tag conflict",
+    12: "too many pages",
+    13: "another version of the font",
+}
+
+
+@dataclass
+class Parts:
+    """What a description has, line by line."""
+
+    head: list[list[bytes]]
+    rows: list[Row]
+    fonts: list[layout.Font]
+
+
+def of_description(octets: bytes) -> Cause | None:
+    """Why these octets describe no sign; None where they do."""
+    kept, after = text.kept_lines(octets)
+    found, at = first(kept, after)
+    if found is None and at < len(kept):
+        return kept[at][0], "no line may stand after `end`"
+    return found
+
+
+def before_lines(octets: bytes) -> Cause | None:
+    """The same of what stands before a conversation: the lines up to and with the first `end`."""
+    lines = octets.split(b"\n")
+    ended = [at for at, line in enumerate(lines) if line in (b"end", b"end\r")]
+    if not ended or ended[0] == len(lines) - 1:
+        return of_description(octets)
+    return of_description(b"\n".join(lines[: ended[0] + 1]) + b"\n")
+
+
+def of_script(octets: bytes) -> Cause | None:
+    """Why these octets are no script; None where they are."""
+    kept, after = text.kept_lines(octets)
+    found, at = (None, 1) if kept and kept[0][1] == b"bench" else first(kept, after)
+    if found is not None:
+        return found
+    return next(((number, why) for number, line in kept[at:] if (why := of_event(line)) is not None), None)
+
+
+def of_event(line: bytes) -> str | None:
+    """Why a line is no event."""
+    word = line.split(b" ")[0]
+    if word not in forms.EVENTS:
+        return "no event begins with this word"
+    return forms.fault([forms.word(word.decode()), *forms.EVENTS[word]], line)
+
+
+def first(kept: list[tuple[int, bytes]], after: int) -> tuple[Cause | None, int]:
+    """Why the first lines describe no sign, and how many lines were read; no other line is looked at than those up to
+    the first at fault."""
+    parts = Parts([], [], [])
+    for at, (number, line) in enumerate(kept):
+        if line == b"end" and at >= len(forms.HEAD):
+            why = of_sign(parts)
+            return (None if why is None else (number, why)), at + 1
+        why = of_head(parts, at, line) if at < len(forms.HEAD) else of_body(parts, line)
+        if why is not None:
+            return (number, why), at
+    return (after, NO_END), len(kept)
+
+
+def of_head(parts: Parts, at: int, line: bytes) -> str | None:
+    """Takes one of the first lines."""
+    why = forms.fault(forms.HEAD[at], line)
+    if why is None:
+        parts.head.append(line.split(b" ")[1:])
+    return why
+
+
+def of_body(parts: Parts, line: bytes) -> str | None:
+    """Takes a line of a row, a font or a character."""
+    words = line.split(b" ")
+    if words[0] == b"permanent":
+        return "a permanent row stands before all fonts" if parts.fonts else of_row(parts, line)
+    if words[0] == b"font":
+        why = forms.fault(forms.FONT, line)
+        if why is None:
+            parts.fonts.append(layout.Font(*map(int, words[1:9:2]), int(words[9], 16)))
+        return why
+    if words[0] == b"glyph":
+        return of_glyph(parts.fonts[-1], line) if parts.fonts else "a character stands after its font"
+    if words[0] == b"end":
+        return forms.fault(forms.END, line)
+    return "a row, a font, a character or `end` is wanted"
+
+
+def of_row(parts: Parts, line: bytes) -> str | None:
+    why = forms.fault(forms.PERMANENT, line)
+    if why is None:
+        _, shown, owner, *numbers = line.split(b" ")
+        parts.rows.append(Row(text.octets(shown), text.octets(owner), *map(int, numbers)))
+    return why
+
+
+def of_glyph(font: layout.Font, line: bytes) -> str | None:
+    """Takes a character of a font. Bits that are no octets are the picture's fault where the other words are well."""
+    words = line.split(b" ")
+    if len(words) != 4 or b"" in words or forms.fault(forms.GLYPH[:3], b" ".join(words[:3])) is not None:
+        return forms.fault(forms.GLYPH, line)
+    try:
+        character, picture = text.glyph(words, font.height)
+    except ValueError:
+        return "bits that do not fit the picture"
+    if character in font.glyphs:
+        return "a character for the second time"
+    if len(font.glyphs) == 255:
+        return "more than 255 characters"
+    font.glyphs[character] = picture
+    return None
+
+
+def of_sign(parts: Parts) -> str | None:
+    """Why these parts are no sign: the first that a face, the communities or the table is refused for."""
+    size, communities, rows, _, services, defaults, _ = parts.head
+    face = layout.Face(int(size[0]), int(size[1]), parts.fonts, tuple(map(int, defaults)))
+    why = of_matrix(face) or of_fonts(face) or of_defaults(face) or of_communities(*communities)
+    if why is not None:
+        return why
+    for count, most, kind in ((len(parts.rows), 16, "permanent"), (int(rows[0]), 64, "changeable")):
+        if count > most:
+            return f"there are more than {most} {kind} rows"
+    if int(rows[1]) > 16:
+        return "there are more than 16 volatile rows"
+    for place, row in enumerate(parts.rows, 1):
+        why = of_permanent(face, services, row)
+        if why is not None:
+            return f"permanent row {place}: {why}"
+    return None
+
+
+def of_matrix(face: layout.Face) -> str | None:
+    if not 1 <= face.width <= 256:
+        return "the matrix is wider than 256" if face.width else "the matrix has no columns"
+    if not 1 <= face.height <= 64:
+        return "the matrix is higher than 64" if face.height else "the matrix has no rows"
+    return None
+
+
+def of_fonts(face: layout.Face) -> str | None:
+    numbers = [font.number for font in face.fonts]
+    if not 1 <= len(numbers) <= 4:
+        return "there are more than four fonts" if numbers else "there is no font"
+    twice = [number for number in numbers if numbers.count(number) > 1]
+    return f"two fonts have the number {twice[0]}" if twice else None
+
+
+def of_defaults(face: layout.Face) -> str | None:
+    back, colour, _, _, font, line, page, _, _ = face.defaults
+    if back > 9:
+        return f"the default background {back} is no colour"
+    if colour > 9:
+        return f"the default foreground {colour} is no colour"
+    if line not in (2, 3, 4):
+        return f"the default line justification {line} is none"
+    if page not in (2, 3, 4):
+        return f"the default page justification {page} is none"
+    return None if face.font(font) else f"the default font {font} is none of the face's"
+
+
+def of_communities(reader: bytes, writer: bytes) -> str | None:
+    for name, community in (("first", reader), ("second", writer)):
+        if not 1 <= len(community) <= 32:
+            return f"the {name} community has not 1 to 32 octets"
+    return "both communities are the same" if reader == writer else None
+
+
+def of_permanent(face: layout.Face, services: list[bytes], row: Row) -> str | None:
+    """Why a permanent row cannot stand."""
+    if len(row.text) > 512:
+        return "its text is longer than 512 octets"
+    if len(row.owner) > 127:
+        return "its owner is longer than 127 octets"
+    for name, value in (("beacon", row.beacon), ("pixel service", row.pixel)):
+        if value > 1:
+            return f"its {name} is neither 0 nor 1"
+    if not row.priority:
+        return "its priority is 0"
+    for name, value, service in (("beacons", row.beacon, services[0]), ("pixel service", row.pixel, services[1])):
+        if value and not int(service):
+            return f"the sign has no {name}"
+    fault = layout.laid_out(face, face.defaults, row.text)[1]
+    return f"its text: {FAULTS[fault[0]]} at octet {fault[1]}" if fault else None
