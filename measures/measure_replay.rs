@@ -13,17 +13,17 @@ const CYCLE: usize = 20;
 
 const TEXT: &[u8] = b"ROAD CLOSED";
 
-#[link(name = "dms_bench", kind = "static")]
+#[link(name = "dms_measures", kind = "static")]
 unsafe extern "C" {
-    fn dms_bench_script_read(script: *const u8, size: usize, times: u32) -> u64;
-    fn dms_bench_script_report(script: *const u8, size: usize, times: u32) -> u64;
-    fn dms_bench_script_replay(script: *const u8, size: usize, times: u32) -> u64;
+    fn dms_measures_script_read(script: *const u8, size: usize, times: u32) -> u64;
+    fn dms_measures_script_report(script: *const u8, size: usize, times: u32) -> u64;
+    fn dms_measures_script_replay(script: *const u8, size: usize, times: u32) -> u64;
 }
 
 const MEASURES: [(&str, Exported, Plain); 3] = [
-    ("reading", dms_bench_script_read, peer_replay::read_times),
-    ("the report", dms_bench_script_report, peer_replay::report_times),
-    ("the whole replay", dms_bench_script_replay, peer_replay::replay_times),
+    ("reading", dms_measures_script_read, peer_replay::read_times),
+    ("the report", dms_measures_script_report, peer_replay::report_times),
+    ("the whole replay", dms_measures_script_replay, peer_replay::replay_times),
 ];
 
 fn hexadecimal(octets: &[u8]) -> String {

@@ -11,10 +11,10 @@ const PERMANENT_TEXT: &[u8] = b"ROAD CLOSED";
 /// The numbers of permanent, changeable and volatile rows of the two signs.
 const ROWS: [(usize, usize, usize); 2] = [(1, 2, 1), (16, 64, 16)];
 
-#[link(name = "dms_bench", kind = "static")]
+#[link(name = "dms_measures", kind = "static")]
 unsafe extern "C" {
     #[allow(clippy::too_many_arguments)]
-    fn dms_bench_sign(
+    fn dms_measures_sign(
         fonts: *const u8,
         fonts_size: usize,
         before: *const u8,
@@ -201,7 +201,7 @@ fn compared(topic: &'static str, measure: Measure, fonts: &str, rows: (usize, us
     let proved = move |times| unsafe {
         let [before, script] = &*scripts;
         let (before, before_size, script, script_size) = (before.as_ptr(), before.len(), script.as_ptr(), script.len());
-        dms_bench_sign(text.as_ptr(), text.len(), before, before_size, script, script_size, rows.1 as u32, times)
+        dms_measures_sign(text.as_ptr(), text.len(), before, before_size, script, script_size, rows.1 as u32, times)
     };
     let by_hand = move |times| sign_times(sign_of(&fonts, rows), &same[0], &same[1], times);
     crate::Measure::new(topic, measure.name, proved, by_hand)

@@ -1049,7 +1049,7 @@ fn played(sign: &mut Sign, script: &[u8], place: u32, out: &mut Out) -> u64 {
     sum
 }
 
-/// Hands a new sign the script `before` once and then `script` `times` times, as `dms_bench_sign`.
+/// Hands a new sign the script `before` once and then `script` `times` times, as `dms_measures_sign`.
 pub fn sign_times(mut sign: Sign, before: &[u8], script: &[u8], times: u32) -> u64 {
     let mut out = Out::new();
     let mut sum = played(&mut sign, before, 0, &mut out);

@@ -1,24 +1,24 @@
 #!/usr/bin/env bash
-# Builds the measures and prints their tables, as Markdown: bench/run.sh [WORDS OF measured.py].
+# Builds the measures and prints their tables, as Markdown: measures/run.sh [WORDS OF measured.py].
 set -eu
-bench=$(cd "$(dirname "$0")" && pwd)
-case ${1-} in -h | --help) exec "$bench/measured.py" --help ;; esac
-crate=$bench/../crates/dms_bench
+folder=$(cd "$(dirname "$0")" && pwd)
+case ${1-} in -h | --help) exec "$folder/measured.py" --help ;; esac
+crate=$folder/../crates/dms_measures
 build=$crate/out
 
 log=$(mktemp)
 trap 'rm -f "$log"' EXIT
 (cd "$crate" && "${RT:-rt}" lib > "$log" 2>&1) || { cat "$log" >&2; exit 1; }
-"${CC:-cc}" -O2 -c -o "$build/crc.o" "$bench/crc.c"
+"${CC:-cc}" -O2 -c -o "$build/crc.o" "$folder/crc.c"
 ar rcs "$build/libcrc.a" "$build/crc.o"
 # The kit's own few lines of C, through which what allocates calls malloc and free.
 kit=$(dirname "$("${RT:-rt}" doc)")
-rustc --edition 2024 -O -L "$build" -L "$kit/c" -l static=libc_c -o "$build/measure" "$bench/measure.rs"
-"$bench/measured.py" "$@"
+rustc --edition 2024 -O -L "$build" -L "$kit/c" -l static=libc_c -o "$build/measure" "$folder/measure.rs"
+"$folder/measured.py" "$@"
 
-if "${CC:-cc}" -O2 -o "$build/netsnmp" "$bench/netsnmp.c" -lnetsnmp 2> /dev/null; then
+if "${CC:-cc}" -O2 -o "$build/netsnmp" "$folder/netsnmp.c" -lnetsnmp 2> /dev/null; then
     printf '## Net-SNMP'"'"'s parse\n\n| datagram | ns |\n|---|---|\n'
-    for datagram in "$bench"/datagrams/*.hex; do
+    for datagram in "$folder"/datagrams/*.hex; do
         printf '| %s | %s |\n' "$(basename "$datagram" .hex)" "$("$build/netsnmp" "$(cat "$datagram")")"
     done
 else

@@ -94,20 +94,20 @@ unsafe extern "C" {
     fn bit_by_bit_crc(text: *const u8, size: usize, times: u32) -> u64;
 }
 
-#[link(name = "dms_bench", kind = "static")]
+#[link(name = "dms_measures", kind = "static")]
 unsafe extern "C" {
-    fn dms_bench_cells(fonts: *const u8, fonts_size: usize, text: *const u8, size: usize, times: u32) -> u64;
-    fn dms_bench_centre_command(text: *const u8, size: usize, times: u32) -> u64;
-    fn dms_bench_centre_foreign(datagram: *const u8, size: usize, times: u32) -> u64;
-    fn dms_bench_centre_publication(text: *const u8, size: usize, times: u32) -> u64;
-    fn dms_bench_centre_resend(text: *const u8, size: usize, times: u32) -> u64;
-    fn dms_bench_centre_ticks(text: *const u8, size: usize, times: u32) -> u64;
-    fn dms_bench_check(fonts: *const u8, fonts_size: usize, text: *const u8, size: usize, times: u32) -> u64;
-    fn dms_bench_crc(text: *const u8, size: usize, times: u32) -> u64;
-    fn dms_bench_pages(fonts: *const u8, fonts_size: usize, text: *const u8, size: usize, times: u32) -> u64;
-    fn dms_bench_read(datagram: *const u8, size: usize, times: u32) -> u64;
-    fn dms_bench_walk(datagram: *const u8, size: usize, times: u32) -> u64;
-    fn dms_bench_write(datagram: *const u8, size: usize, times: u32) -> u64;
+    fn dms_measures_cells(fonts: *const u8, fonts_size: usize, text: *const u8, size: usize, times: u32) -> u64;
+    fn dms_measures_centre_command(text: *const u8, size: usize, times: u32) -> u64;
+    fn dms_measures_centre_foreign(datagram: *const u8, size: usize, times: u32) -> u64;
+    fn dms_measures_centre_publication(text: *const u8, size: usize, times: u32) -> u64;
+    fn dms_measures_centre_resend(text: *const u8, size: usize, times: u32) -> u64;
+    fn dms_measures_centre_ticks(text: *const u8, size: usize, times: u32) -> u64;
+    fn dms_measures_check(fonts: *const u8, fonts_size: usize, text: *const u8, size: usize, times: u32) -> u64;
+    fn dms_measures_crc(text: *const u8, size: usize, times: u32) -> u64;
+    fn dms_measures_pages(fonts: *const u8, fonts_size: usize, text: *const u8, size: usize, times: u32) -> u64;
+    fn dms_measures_read(datagram: *const u8, size: usize, times: u32) -> u64;
+    fn dms_measures_walk(datagram: *const u8, size: usize, times: u32) -> u64;
+    fn dms_measures_write(datagram: *const u8, size: usize, times: u32) -> u64;
 }
 
 /// A Get of one binding, and a GetNext of 205, in hexadecimal.
@@ -207,9 +207,9 @@ fn foreign() -> [(&'static str, Vec<u8>); 4] {
 /// Datagrams are read, read and walked, and written.
 fn datagrams() -> Vec<Measure> {
     let calls: [(&str, Exported, Plain); 3] = [
-        ("read", dms_bench_read, peer::read_times),
-        ("read and walk", dms_bench_walk, peer::walk_times),
-        ("write", dms_bench_write, peer::write_times),
+        ("read", dms_measures_read, peer::read_times),
+        ("read and walk", dms_measures_walk, peer::walk_times),
+        ("write", dms_measures_write, peer::write_times),
     ];
     let all = [("a Get of one binding, 48 octets", GET), ("a GetNext of 205 bindings, 1,472 octets", FULL)];
     let measures = all.iter().flat_map(|(of, digits)| {
@@ -224,7 +224,7 @@ fn checksums() -> Vec<Measure> {
     let sizes = [64, 128, 256, 512];
     let measures = sizes.map(|size| {
         let text = (0..size).map(|at| (at * 7 + 13) as u8).collect();
-        over_octets("checksum, beside bit by bit in C", format!("{size} octets"), text, dms_bench_crc, by_bits)
+        over_octets("checksum, beside bit by bit in C", format!("{size} octets"), text, dms_measures_crc, by_bits)
     });
     measures.into()
 }
@@ -232,9 +232,9 @@ fn checksums() -> Vec<Measure> {
 /// Each text is checked, and its pages made; then every cell of these pages is looked up.
 fn texts() -> Vec<Measure> {
     let calls: [(&'static str, ExportedOfText, fn(&Face, &[u8], u32) -> u64); 3] = [
-        ("check", dms_bench_check, peer_text::check_times),
-        ("pages", dms_bench_pages, peer_text::pages_times),
-        ("cells of these pages", dms_bench_cells, peer_text::cells_times),
+        ("check", dms_measures_check, peer_text::check_times),
+        ("pages", dms_measures_pages, peer_text::pages_times),
+        ("cells of these pages", dms_measures_cells, peer_text::cells_times),
     ];
     let mut measures = Vec::new();
     for (topic, exported, by_hand) in calls {
@@ -254,10 +254,10 @@ fn texts() -> Vec<Measure> {
 /// The central system: publications, commands with and without ticks, and datagrams that do not answer what waits.
 fn centre() -> Vec<Measure> {
     let calls: [(&str, Exported, Plain); 4] = [
-        ("a publication", dms_bench_centre_publication, peer_centre::publication_times),
-        ("a command and a restart", dms_bench_centre_command, peer_centre::command_times),
-        ("the same with 2 ticks", dms_bench_centre_ticks, peer_centre::ticks_times),
-        ("the same with a third, which sends again", dms_bench_centre_resend, peer_centre::resend_times),
+        ("a publication", dms_measures_centre_publication, peer_centre::publication_times),
+        ("a command and a restart", dms_measures_centre_command, peer_centre::command_times),
+        ("the same with 2 ticks", dms_measures_centre_ticks, peer_centre::ticks_times),
+        ("the same with a third, which sends again", dms_measures_centre_resend, peer_centre::resend_times),
     ];
     let of = |call: &str, pieces| format!("{call}, {} octets", text_of(pieces).len());
     let mut measures = Vec::new();
@@ -265,7 +265,7 @@ fn centre() -> Vec<Measure> {
         measures.extend([0, 1, 2, 4, 8].map(|pieces| over_octets("centre", of(call, pieces), text_of(pieces).into_bytes(), exported, plain)));
     }
     let foreign = foreign().map(|(name, octets)| {
-        over_octets("centre", format!("no answer: {name}"), octets, dms_bench_centre_foreign, peer_centre::foreign_times)
+        over_octets("centre", format!("no answer: {name}"), octets, dms_measures_centre_foreign, peer_centre::foreign_times)
     });
     measures.extend(foreign);
     measures

@@ -1,9 +1,9 @@
 #!/usr/bin/env python3
 """Prints tables of the measures: the times of the proved calls and of those by hand, and their instructions.
 
-    bench/measured.py [--instructions] [--times] [TOPIC ..]
+    measures/measured.py [--instructions] [--times] [TOPIC ..]
 
-It runs the program that bench/run.sh builds, crates/dms_bench/out/measure; its `--list` names the topics. Times are the least of
+It runs the program that measures/run.sh builds, crates/dms_measures/out/measure; its `--list` names the topics. Times are the least of
 interleaved passes of two milliseconds. Instructions are counted by callgrind (Debian's package valgrind): those of a run of no
 calls are taken from those of a run of some. They are the same whatever else the machine does. With neither option both are printed.
 """
@@ -16,7 +16,7 @@ import re
 import subprocess
 from dataclasses import dataclass
 
-MEASURE = pathlib.Path(__file__).resolve().parent.parent / "crates/dms_bench/out/measure"
+MEASURE = pathlib.Path(__file__).resolve().parent.parent / "crates/dms_measures/out/measure"
 SIDES = ("proved", "by-hand")
 MOST_CALLS = 400
 ENOUGH = 20_000_000  # instructions of all calls that are counted
