@@ -15,9 +15,19 @@ Address = tuple[Any, ...]
 
 
 def named(address: Address) -> str:
-    """HOST:PORT, an IPv6 host in brackets."""
+    """HOST:PORT, an IPv6 host in brackets, with its interface where it is of one alone."""
     host, port = address[:2]
+    if len(address) == 4 and address[3] and "%" not in host:
+        host += f"%{interface(address[3])}"
     return f"[{host}]:{port}" if ":" in host else f"{host}:{port}"
+
+
+def interface(number: int) -> str:
+    """The name of an interface, its number where it has none any more."""
+    try:
+        return socket.if_indextoname(number)
+    except OSError:
+        return str(number)
 
 
 def host_and_port(words: str) -> tuple[str, int]:

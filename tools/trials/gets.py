@@ -1,8 +1,10 @@
 """Each request of vectors/ in every form of its lengths: nothing that changes a sign is taken for a Get."""
 
+import itertools
 import json
 from typing import Iterator
 
+from door.datagrams import is_get
 from door.places import TOP
 from model import text, wire
 from model.sign import Sign
@@ -11,8 +13,9 @@ from .bench import Door, Trial
 from .follower import lines_of
 from .manager import Manager
 
-Form = tuple[int, int, int, int]
-SHORTEST, LONGEST = (0, 0, 0, 0), (4, 4, 4, 4)
+Form = tuple[int, ...]  # of the lengths of the message, the version, the community, the PDU, and all within the PDU
+PLACES, MOST_DIGITS = 5, 4
+SHORTEST, LONGEST = (0,) * PLACES, (MOST_DIGITS,) * PLACES
 
 
 def requests() -> list[tuple[bytes, bool]]:
@@ -33,8 +36,21 @@ def element(tag: int, content: bytes, form: int) -> bytes:
     return bytes([tag]) + length(len(content), form) + content
 
 
+def within(octets: bytes, form: int) -> bytes:
+    """The same elements, spelled in the shortest form, with all their lengths in this one."""
+    made, at = b"", 0
+    while at < len(octets):
+        tag, size, begin = octets[at], octets[at + 1], at + 2
+        if size >= 128:
+            begin += size - 128
+            size = int.from_bytes(octets[at + 2 : begin], "big")
+        content, at = octets[begin : begin + size], begin + size
+        made += element(tag, within(content, form) if tag == wire.SEQUENCE else content, form)
+    return made
+
+
 def respelled(octets: bytes, forms: Form) -> bytes | None:
-    """The same message with the lengths of the message, the version, the community and the PDU in these forms."""
+    """The same message with its lengths in these forms."""
     message = wire.spelled(octets)
     if message is None:
         return None
@@ -43,18 +59,36 @@ def respelled(octets: bytes, forms: Form) -> bytes | None:
     made = (
         element(wire.INTEGER, b"\0", forms[1])
         + element(wire.OCTETS, message.community, forms[2])
-        + element(message.kind, pdu, forms[3])
+        + element(message.kind, within(pdu, forms[4]), forms[3])
     )
     return element(wire.SEQUENCE, made, forms[0])
 
 
 def forms() -> Iterator[Form]:
-    """Every form of each of the four lengths alone, and all at once."""
-    yield 0, 0, 0, 0
-    for form in range(1, 5):
-        for place in range(4):
-            yield tuple(form if at == place else 0 for at in range(4))  # type: ignore[misc]
-        yield form, form, form, form
+    """Every form of each of the lengths alone, and all at once."""
+    yield SHORTEST
+    for form in range(1, MOST_DIGITS + 1):
+        for place in range(PLACES):
+            yield tuple(form if at == place else 0 for at in range(PLACES))
+        yield (form,) * PLACES
+
+
+def taken_for_gets(trial: Trial, some: list[bytes]) -> None:
+    """Each request with every form of each outer length beside every one of the others: it is taken for a Get where it
+    is one and they are in the shortest form, and nowhere else."""
+    count, other = 0, []
+    for octets in some:
+        message = wire.spelled(octets)
+        for inner in (0, MOST_DIGITS):
+            shortest = respelled(octets, (0, 0, 0, 0, inner))
+            for outer in itertools.product(range(MOST_DIGITS + 1), repeat=PLACES - 1):
+                made = respelled(octets, (*outer, inner))
+                assert made is not None and message is not None
+                count += 1
+                if is_get(made) != (message.kind in (wire.GET, wire.GET_NEXT) and made == shortest):
+                    other.append(made.hex())
+    trial.holds("what is taken for a Get is one, its outer lengths in the shortest form", not other, other[:3])
+    print(f"requests with every form of each length: {count} looked at", flush=True)
 
 
 class Lives:
@@ -123,8 +157,9 @@ def run(trial: Trial) -> None:
     a kill at each in the shortest form and in the longest. All of them one at a time are a trial of `spelled`."""
     every = [octets for octets, _ in requests() if is_spelled(octets)]
     changing = [octets for octets, changes in requests() if changes]
+    taken_for_gets(trial, trial.chance.sample(every, 10) if trial.is_short else every)
     lives = Lives(trial)
-    for form in forms() if not trial.is_short else [SHORTEST, (0, 0, 0, 1), (1, 1, 1, 1)]:
+    for form in forms() if not trial.is_short else [SHORTEST, (0, 0, 0, 1, 0), (1,) * PLACES]:
         if trial.is_late():
             break
         lives.life(form, every)

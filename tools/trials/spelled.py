@@ -1,11 +1,11 @@
-"""Each request of vectors/ in every form of its lengths, one at a time: its door's parts are let go where they are
-after the reply, its co-process is killed, and what the journal brings back is looked at."""
+"""Each request of vectors/ as it stands and in every form of its lengths, one at a time: its door's parts are let go
+where they are after the reply, its co-process is killed, and what the journal brings back is looked at."""
 
 import contextlib
 import io
 import signal
 import time
-from typing import Any
+from typing import Any, Iterator
 
 from door.clock import Moment
 from door.journal import Journal
@@ -17,7 +17,7 @@ from model import text, wire
 from model.sign import Sign
 
 from .bench import Trial
-from .gets import Form, forms, is_spelled, requests, respelled
+from .gets import forms, requests, respelled
 from .manager import Name
 
 NOW = Moment("boot", 1_000_000, 1000)  # of all starts: no second passes
@@ -77,11 +77,8 @@ class Spelled:
         self.recorded = keeper.journal.size
         keeper.journal.close()
 
-    def life(self, form: Form, octets: bytes) -> None:
-        """A request in a form, and what the sign before it is by the whole walk."""
-        made = respelled(octets, form)
-        if made is None or len(made) > wire.MOST_DATAGRAM:
-            return
+    def life(self, name: str, made: bytes) -> None:
+        """A request, and what the sign before it is by the whole walk."""
         if self.recorded > LONG:
             self.anew()
         process, keeper = self.started()
@@ -89,7 +86,7 @@ class Spelled:
         wires: Any = Wire()
         SignDoor(process, wires, keeper, None, 1000.0, is_quiet=True).answer([(made, ("127.0.0.1", 1))])
         wanted, _ = self.sign.receive(made)
-        name = f"{made.hex()} with lengths {form}"
+        name = f"{made.hex()}, {name}"
         if wires.sent != ([] if wanted is None else [wanted]):
             self.trial.holds(f"{name}: the reply", False, (wires.sent, wanted))
         self.killed(process, keeper)
@@ -111,17 +108,26 @@ class Spelled:
         self.values, self.replies = values, replies
 
 
+def spellings() -> Iterator[tuple[str, bytes]]:
+    """Each request as it stands, and in each form of its lengths in which it is no longer than a datagram may be."""
+    for octets, _ in requests():
+        yield "as it stands", octets
+        for form in forms():
+            made = respelled(octets, form)
+            if made is not None and len(made) <= wire.MOST_DATAGRAM:
+                yield f"with lengths {form}", made
+
+
 def run(trial: Trial) -> None:
-    """All requests that spell a message, each in every form; in the short form some of them."""
-    begun = time.monotonic()
-    every = [octets for octets, _ in requests() if is_spelled(octets)]
-    spelled = Spelled(trial)
-    pairs = [(form, octets) for octets in every for form in forms()]
-    before = trial.failed
-    for form, octets in trial.chance.sample(pairs, 100) if trial.is_short else pairs:
+    """All of them; in the short form some."""
+    begun, before, spelled = time.monotonic(), trial.failed, Spelled(trial)
+    every = list(spellings())
+    for name, made in trial.chance.sample(every, 100) if trial.is_short else every:
         if trial.is_late():
             break
-        spelled.life(form, octets)
+        spelled.life(name, made)
+        if spelled.count % 1000 == 0:
+            print(f"{spelled.count} of {len(every)} requests, {time.monotonic() - begun:.0f} s", flush=True)
     process, keeper = spelled.started()
     spelled.look(process)
     spelled.killed(process, keeper)

@@ -1,5 +1,6 @@
 """Standard files of a door that are closed, or full, or that nobody reads."""
 
+import functools
 import os
 import pathlib
 import signal
@@ -58,7 +59,7 @@ def ended(process: subprocess.Popen[bytes], path: pathlib.Path) -> bytes:
         except OSError:
             continue
         if str(path).encode() in words and words[0] == sys.executable.encode():
-            eventually(lambda number=number: is_waiting(number))
+            eventually(functools.partial(is_waiting, number))
             os.kill(number, signal.SIGTERM)
     return communicated(process)
 

@@ -3,6 +3,7 @@
 import os
 import pathlib
 import tempfile
+from typing import Callable
 
 from door import records
 from door.journal import Journal
@@ -14,7 +15,12 @@ from .test_journal import HEAD, kept, refused
 
 
 def test_what_another_hand_did_is_seen_at_the_next_record() -> None:
-    for change in (os.unlink, lambda path: os.truncate(path, 9), lambda path: os.rename(path, path + "-")):
+    changes: list[Callable[[str], None]] = [
+        os.unlink,
+        lambda path: os.truncate(path, 9),
+        lambda path: os.rename(path, path + "-"),
+    ]
+    for change in changes:
         with tempfile.TemporaryDirectory() as folder:
             journal = Journal.opened(f"{folder}/journal", HEAD)
             change(f"{folder}/journal")

@@ -39,8 +39,9 @@ def is_ended(does: Callable[[], object], seconds: float) -> bool:
 
 
 def test_what_hangs_is_ended() -> None:
+    hanging: list[Callable[[], object]] = [read_for_ever, swallowed, threading.Event().wait, lambda: time.sleep(60)]
     with mock.patch("trials.patience.RINGS_AGAIN", 1.0):
-        for does in (read_for_ever, swallowed, threading.Event().wait, lambda: time.sleep(60)):
+        for does in hanging:
             assert is_ended(does, 0.05), does
 
 

@@ -5,7 +5,7 @@ import socket
 import time
 from typing import cast
 
-from door.sockets import bound, connected, received, sent
+from door.sockets import bound, connected, named, received, sent
 
 
 class Unreachable:
@@ -47,3 +47,10 @@ def test_a_port_that_opens_again_gets_the_next_datagram() -> None:
             again.settimeout(0.1)
             begun = time.monotonic()
             assert received(again) is None and time.monotonic() < begun + 2
+
+
+def test_an_address_of_one_interface_is_named_with_it() -> None:
+    number, interface = socket.if_nameindex()[0]
+    assert named(("fe80::1", 161, 0, number)) == f"[fe80::1%{interface}]:161"
+    assert named(("fe80::1", 161, 0, 99_999)) == "[fe80::1%99999]:161"
+    assert named(("::1", 161, 0, 0)) == "[::1]:161" and named(("192.0.2.1", 161)) == "192.0.2.1:161"
