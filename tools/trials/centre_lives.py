@@ -16,7 +16,7 @@ from .numbers import numbers
 from .refusals import refusing
 from .relay import Relay
 
-FAULTS = (("write", errno.ENOSPC), ("write", errno.EIO), ("fdatasync", errno.EIO))
+FAULTS = (("write", errno.ENOSPC), ("write", errno.EIO), ("fdatasync", errno.EIO), ("open", errno.EACCES))
 
 
 class Centres:
@@ -71,7 +71,7 @@ class Centres:
         told = os.strerror(error).encode() in door.errors
         self.trial.holds(
             f"a centre whose {call} {at} is refused says why",
-            not told or status == 1 or call == "write",
+            not told or status == 1 or call == "write" or (call, status) == ("open", 2),
             (status, door.errors.decode()),
         )
         self.over(door)

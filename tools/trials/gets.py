@@ -157,7 +157,7 @@ def run(trial: Trial) -> None:
     a kill at each in the shortest form and in the longest. All of them one at a time are a trial of `spelled`."""
     every = [octets for octets, _ in requests() if is_spelled(octets)]
     changing = [octets for octets, changes in requests() if changes]
-    taken_for_gets(trial, trial.chance.sample(every, 10) if trial.is_short else every)
+    taken_for_gets(trial, trial.chance.sample(every, 4) if trial.is_short else every)
     lives = Lives(trial)
     for form in forms() if not trial.is_short else [SHORTEST, (0, 0, 0, 1, 0), (1,) * PLACES]:
         if trial.is_late():

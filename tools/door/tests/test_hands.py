@@ -74,3 +74,17 @@ def test_a_fresh_centre_begins_above_all_that_a_file_may_have_used() -> None:
         (records.records([Head("centre", "bench", 2**31 - 1).line(), *lines[1:]], 0)[0], "no number of a request"),
     ):
         assert words in str(above(other, "centre")), other
+
+
+def test_each_prefix_of_a_centres_journal_goes_on_with_its_number() -> None:
+    head, lines = Head("centre", "bench", 40), [b"blank 1 2 3 127.0.0.1", b"tick", b"datagram 30"]
+    octets, _ = records.records([head.line(), *lines], 0)
+    with tempfile.TemporaryDirectory() as folder:
+        path = pathlib.Path(folder, "journal")
+        for size in range(len(octets) + 1):
+            path.write_bytes(octets[:size])
+            ends = octets[:size].count(b"\n")
+            assert kept(str(path), head) == lines[: max(0, ends - 1)]
+            journal = Journal.opened(str(path), Head("centre", "bench", 7) if ends else head)
+            assert journal.head.first == 40
+            journal.close()
