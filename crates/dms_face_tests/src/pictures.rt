@@ -23,7 +23,8 @@ const DEFAULTS: Defaults = Defaults {
 };
 
 const HEAD: &str =
-    r##"<svg xmlns="http://www.w3.org/2000/svg" viewBox="-1 -1 5 4" width="40" height="32" fill="none" stroke-linecap="round" stroke-width="0.8">
+    r##"<svg xmlns="http://www.w3.org/2000/svg" viewBox="-1 -1 5 4" fill="none" stroke-linecap="round" stroke-width="0.8">
+<title>A message sign of 4 by 3 lamps</title>
 <path stroke="none" fill="#202020" d="M-1-1h5v4H-1z"/>
 <path stroke="#000000" stroke-dasharray="0 1" d="M0 0h3.5M0 1h3.5M0 2h3.5"/>
 "##;

@@ -1,5 +1,5 @@
 -- The pages of a message, one after the other.
-use Rattle.std.proofs.Common.{◌≡◌, ◌∙◌, sym, ℕ, ◌+◌, List, ◌∷◌, ◌++◌, length, ap, arith, append_assoc}
+use Rattle.std.proofs.Common.{◌≡◌, ◌∙◌, sym, ℕ, ◌+◌, List, ◌∷◌, ◌++◌, ap, arith, append_assoc}
 use Rattle.std.proofs.lemmas.List.Sums.{sum_by-cons}
 use Rattle.dms_pages.specs.Drawn.{DrawnPage}
 use Rattle.dms_picture.specs.declared.motion.Motion.{Motion}

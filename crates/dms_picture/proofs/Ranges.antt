@@ -1,5 +1,5 @@
 -- What a loop over numbers has written so far, with one number more.
-use Rattle.std.proofs.Common.{◌≡◌, ◌∙◌, ℕ, suc, zero, ◌+◌, List, [], ◌∷◌, ◌++◌, fold, refl, sym, ap, subst, arith, append_assoc, ◌<◌, length, take, get_or}
+use Rattle.std.proofs.Common.{◌≡◌, ◌∙◌, ℕ, suc, zero, ◌+◌, List, [], ◌∷◌, ◌++◌, fold, sym, ap, arith, append_assoc, ◌<◌, length, take, get_or}
 use Rattle.std.specs.List.{flat_map, range_with_len}
 use Rattle.std.proofs.lemmas.List.{append-nil, flat_map_more, take_more}
 use Rattle.std.proofs.lemmas.Grind.{flat_map-append}

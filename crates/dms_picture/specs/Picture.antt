@@ -1,6 +1,6 @@
 -- A message as one document (Scalable Vector Graphics 1.1; its form is this profile's): a plate, all lamps dark, and each page above them.
 -- The lamp in column x and row y is a dot around the point (x, y).
-use Rattle.std.specs.Prelude.{ℕ, ◌+◌, ◌*◌, List, [], ◌∷◌, ◌++◌, length, codes, decimal, Option, Some, None}
+use Rattle.std.specs.Prelude.{ℕ, ◌+◌, List, [], ◌∷◌, ◌++◌, length, codes, decimal, Option, Some, None}
 use Rattle.std.specs.List.{flat_map, sum_by}
 use Rattle.dms_face.specs.declared.cell.Flash.{Flash}
 use Rattle.dms_face.specs.declared.cell.Cell.{Cell}
@@ -39,25 +39,25 @@ abbrev pub view : ℕ → ℕ → List ℕ
 view columns rows =
     codes "<svg xmlns=\"http://www.w3.org/2000/svg\" viewBox=\"-1 -1 " ++ decimal columns ++ codes " " ++ decimal rows ++ codes "\""
 
-abbrev pub size : ℕ → ℕ → List ℕ
-size width height = codes " width=\"" ++ decimal width ++ codes "\" height=\"" ++ decimal height ++ codes "\""
-
--- the tag of a document of so many columns and rows
+-- the tag of a document of so many columns and rows, whose size is left to the reader
 abbrev pub svg_tag : ℕ → ℕ → List ℕ
-svg_tag columns rows =
-    view columns rows ++ size (8 * columns) (8 * rows) ++ codes " fill=\"none\" stroke-linecap=\"round\" stroke-width=\"0.8\">\n"
+svg_tag columns rows = view columns rows ++ codes " fill=\"none\" stroke-linecap=\"round\" stroke-width=\"0.8\">\n"
+
+-- what the document is called where it is not seen
+abbrev pub title : ℕ → ℕ → List ℕ
+title width height = codes "<title>A message sign of " ++ decimal width ++ codes " by " ++ decimal height ++ codes " lamps</title>\n"
 
 abbrev pub plate : ℕ → ℕ → List ℕ
 plate columns rows =
     codes "<path stroke=\"none\" fill=\"#202020\" d=\"M-1-1h" ++ decimal columns ++ codes "v" ++ decimal rows ++ codes "H-1z\"/>\n"
 
--- a plate of so many columns and rows
+-- the plate is one lamp wider and higher than the matrix
 abbrev pub board : ℕ → ℕ → List ℕ
-board columns rows = svg_tag columns rows ++ plate columns rows
+board width height = svg_tag (width + 1) (height + 1) ++ title width height ++ plate (width + 1) (height + 1)
 
--- the plate is one lamp wider and higher than the matrix; all lamps are dark where no page is up
+-- all lamps are dark where no page is up
 abbrev pub opening : ℕ → ℕ → List ℕ
-opening width height = board (width + 1) (height + 1) ++ plain_path 0 width height
+opening width height = board width height ++ plain_path 0 width height
 
 abbrev pub closing : List ℕ
 closing = codes "</svg>\n"

@@ -3,7 +3,7 @@
 ghost use Rattle.std.specs.Prelude.{◌≡◌, ◌≤◌, ◌++◌, length, take, IfOk, OnOk};
 ghost use Rattle.std.specs.List.{flat_map};
 ghost use Rattle.dms_picture.specs.Lamps.{styles_of};
-ghost use Rattle.dms_picture.specs.Picture.{page_time, board, svg_tag, view, size, plate, dashes_start, dots_start, plain_path, style_animation, style_path, page_group, opening, closing, round_of, groups_from, most_pages, picture_of, still_of};
+ghost use Rattle.dms_picture.specs.Picture.{page_time, board, svg_tag, view, title, plate, dashes_start, dots_start, plain_path, style_animation, style_path, page_group, opening, closing, round_of, groups_from, most_pages, picture_of, still_of};
 
 use crate::lamps::{put_lamps, put_whole_rows, styles_of};
 use crate::motion::{Motion, put_flash_animation, put_page_animation};
@@ -13,6 +13,7 @@ use dms_face::{Cell, Flash};
 use dms_pages::Page;
 use std::alloc::{AllocError, Global};
 use std::io;
+use std::io::Write;
 
 /// The most pages of a message.
 const MOST_PAGES: usize = 6;
@@ -179,35 +180,43 @@ fn put_dots_start(out: &mut Vec<u8>, colour: u8) -> io::Result<()>
     put(out, "\" d=\"")
 }
 
-/// Appends the document's tag, the plate, and all lamps dark.
+/// Appends the document's tag, its title, the plate, and all lamps dark.
 fn put_opening(out: &mut Vec<u8>, width: u16, height: u16) -> io::Result<()>
     ensures { OnOk result (out.new.items ≡ out.old.items ++ opening width height) }
 {
-    let columns = u32::from(width) + 1;
-    let rows = u32::from(height) + 1;
-    put_board(out, columns, rows)?;
+    put_board(out, width, height)?;
     put_plain_path(out, 0, width, height)
 }
 
-/// Appends a plate of so many columns and rows.
-fn put_board(out: &mut Vec<u8>, columns: u32, rows: u32) -> io::Result<()>
-    requires { (columns ≤ 65536) × (rows ≤ 65536) }
-    ensures { OnOk result (out.new.items ≡ out.old.items ++ board columns rows) }
+/// Appends the plate of a matrix, which is one lamp wider and higher, under the document's tag and title.
+fn put_board(out: &mut Vec<u8>, width: u16, height: u16) -> io::Result<()>
+    ensures { OnOk result (out.new.items ≡ out.old.items ++ board width height) }
 {
+    let columns = u32::from(width) + 1;
+    let rows = u32::from(height) + 1;
     put_svg_tag(out, columns, rows)?;
+    put_title(out, width, height)?;
     put_plate(out, columns, rows)
 }
 
 /// Appends the tag of a document of so many columns and rows.
 fn put_svg_tag(out: &mut Vec<u8>, columns: u32, rows: u32) -> io::Result<()>
-    requires { (columns ≤ 65536) × (rows ≤ 65536) }
     ensures { OnOk result (out.new.items ≡ out.old.items ++ svg_tag columns rows) }
 {
     put_view(out, columns, rows)?;
-    put_size(out, 8 * columns, 8 * rows)?;
     put(
         out,
         " fill=\"none\" stroke-linecap=\"round\" stroke-width=\"0.8\">\n",
+    )
+}
+
+/// Appends what the document is called where it is not seen.
+fn put_title(out: &mut Vec<u8>, width: u16, height: u16) -> io::Result<()>
+    ensures { OnOk result (out.new.items ≡ out.old.items ++ title width height) }
+{
+    write!(
+        out,
+        "<title>A message sign of {width} by {height} lamps</title>\n"
     )
 }
 
@@ -221,17 +230,6 @@ fn put_view(out: &mut Vec<u8>, columns: u32, rows: u32) -> io::Result<()>
     put_number(out, columns)?;
     put(out, " ")?;
     put_number(out, rows)?;
-    put(out, "\"")
-}
-
-#[tactic(auto, using(crate::proofs::Parts::five_parts))]
-fn put_size(out: &mut Vec<u8>, width: u32, height: u32) -> io::Result<()>
-    ensures { OnOk result (out.new.items ≡ out.old.items ++ size width height) }
-{
-    put(out, " width=\"")?;
-    put_number(out, width)?;
-    put(out, "\" height=\"")?;
-    put_number(out, height)?;
     put(out, "\"")
 }
 

@@ -1,4 +1,4 @@
-use Rattle.std.proofs.Common.{◌≡◌, ◌≤◌, ◌+◌, ◌++◌, ℕ, length}
+use Rattle.std.proofs.Common.{◌≡◌, ◌+◌, ◌++◌, length}
 use Rattle.dms_picture.specs.Picture.{round_of, groups_from}
 use Rattle.dms_picture.proofs.document.put_groups.Given as goal
 

@@ -1,4 +1,4 @@
-use Rattle.std.proofs.Common.{◌≡◌, ◌∙◌, ◌++◌, flat_map, ap, codes}
+use Rattle.std.proofs.Common.{◌∙◌, ◌++◌, flat_map, ap, codes}
 use Rattle.dms_picture.specs.Lamps.{styles_of}
 use Rattle.dms_picture.specs.Motion.{page_animation}
 use Rattle.dms_picture.specs.Picture.{plain_path, style_path}

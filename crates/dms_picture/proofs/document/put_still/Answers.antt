@@ -1,4 +1,4 @@
-use Rattle.std.proofs.Common.{◌≡◌, ◌∙◌, ◌++◌, ap}
+use Rattle.std.proofs.Common.{◌∙◌, ◌++◌, ap}
 use Rattle.dms_picture.specs.declared.motion.Motion.TheVariants.{Still}
 use Rattle.dms_picture.specs.Picture.{opening, page_group, closing}
 use Rattle.dms_picture.proofs.Parts.{three_parts, OnOk-map}

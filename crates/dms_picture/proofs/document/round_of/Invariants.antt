@@ -1,4 +1,4 @@
-use Rattle.std.proofs.Common.{◌≡◌, ◌≤◌, ◌*◌, ℕ, take}
+use Rattle.std.proofs.Common.{◌≡◌, ◌≤◌, ◌*◌, take}
 use Rattle.dms_picture.specs.Picture.{round_of}
 use Rattle.dms_picture.proofs.document.round_of.Given as goal
 
