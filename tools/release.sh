@@ -119,7 +119,8 @@ library() {
 recommended() {
     local pair
     printf snmp
-    for pair in rich:python3-rich aiohttp:python3-aiohttp jinja2:python3-jinja2 psycopg:python3-psycopg; do
+    for pair in rich:python3-rich aiohttp:python3-aiohttp jinja2:python3-jinja2 markupsafe:python3-markupsafe \
+        psycopg:python3-psycopg; do
         if grep -rqE "^ *(from|import) ${pair%%:*}\b" "$usr/share/wisangub"; then printf ', %s' "${pair#*:}"; fi
     done
 }

@@ -33,12 +33,12 @@ PLACES = ("Beside the B300, kilometre 12", "Beside the B300, kilometre 14", "Ove
 FACES = ("roadside", "roadside", "gantry")
 # the lamps of a picture: the colour in the middle of each, as drawn by the browser
 LAMPS = """
-const image = arguments[0], size = 8, board = document.createElement("canvas");
-board.width = image.naturalWidth; board.height = image.naturalHeight;
+const [image, columns, rows] = arguments, size = 8, board = document.createElement("canvas");
+board.width = size * (columns + 1); board.height = size * (rows + 1);
 const pen = board.getContext("2d");
 pen.drawImage(image, 0, 0, board.width, board.height);
 const held = pen.getImageData(0, 0, board.width, board.height).data, lit = [];
-for (let y = 1; y < board.height / size; y++) for (let x = 1; x < board.width / size; x++) {
+for (let y = 1; y <= rows; y++) for (let x = 1; x <= columns; x++) {
   const at = 4 * (y * size * board.width + x * size);
   if (held[at] + held[at + 1] + held[at + 2] > 200) lit.push([x - 1, y - 1]);
 }
@@ -145,15 +145,15 @@ class Browser:
         self.find("#send").click()
         until(lambda: "/batches/" in self.driver.current_url and self.find("#summary"), "it was asked for")
 
-    def lamps(self, selector: str) -> list[list[int]]:
-        """The lamps that are lit in a picture, as the browser draws it."""
-        held: list[list[int]] = self.driver.execute_script(LAMPS, self.find(selector))
+    def lamps(self, selector: str, columns: int, rows: int) -> list[list[int]]:
+        """The lamps that are lit in a picture of so many columns and rows, as the browser draws it."""
+        held: list[list[int]] = self.driver.execute_script(LAMPS, self.find(selector), columns, rows)
         return held
 
     def shows(self, selector: str, face: str, text: str) -> None:
         """Waits until a picture's lamps are those of a text."""
-        lamps = lamps_of(face, text)
-        until(lambda: self.lamps(selector) == lamps, f"{selector} shows {text}")
+        lamps, of = lamps_of(face, text), described.described(description(face)).face
+        until(lambda: self.lamps(selector, of.width, of.height) == lamps, f"{selector} shows {text}")
 
 
 @dataclass
