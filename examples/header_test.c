@@ -1,4 +1,7 @@
-/* Null, zero and short buffers at each function of the header, and a SET that a short buffer keeps from being heard. */
+/*
+ * Null, zero and short buffers at each function of the header, and a SET that a short buffer keeps from being heard:
+ * header_test DESCRIPTION. It is C11 and C++17.
+ */
 #undef NDEBUG
 #include <assert.h>
 #include <stdio.h>
@@ -6,12 +9,31 @@
 
 #include "wisangub.h"
 
-static char text[1 << 16];
+/* A call that is refused for a null, and one that does what it should. */
+#define REFUSED(call) assert((call) == WISANGUB_NULL)
+#define DONE(call) assert((call) == WISANGUB_DONE)
 
+static const enum wisangub_layer LOOK = WISANGUB_LOOK;
+static const enum wisangub_order SWAPPED = WISANGUB_SWAPPED;
+
+static char text[1 << 16];
 static struct wisangub_sign sign = {NULL};
 static struct wisangub_centre centre = {NULL};
 static uint8_t buffer[WISANGUB_DATAGRAM], room[1 << 17];
 static size_t size = 9;
+
+/* Whether so many octets from there are as `spread` left them. */
+static void spread(void) { memset(room, 5, sizeof room); }
+
+static int untouched(size_t from, size_t count)
+{
+    for (size_t at = from; at < from + count; at++) {
+        if (room[at] != 5) {
+            return 0;
+        }
+    }
+    return 1;
+}
 
 /* No call has a sign before it is made. */
 static void without_a_sign(void)
@@ -21,115 +43,179 @@ static void without_a_sign(void)
     uint16_t width, height;
     for (int turn = 0; turn < 2; turn++) {
         struct wisangub_sign *none = turn ? &sign : NULL;
-        assert(wisangub_sign_receive(none, "", 0, buffer, sizeof buffer, &size) == WISANGUB_NULL);
-        assert(wisangub_sign_tick(none) == WISANGUB_NULL && wisangub_sign_heard(none) == WISANGUB_NULL);
-        assert(wisangub_sign_power_lost(none) == WISANGUB_NULL && wisangub_sign_power_back(none, 1) == WISANGUB_NULL);
-        assert(wisangub_sign_shown(none, &shown) == WISANGUB_NULL);
-        assert(wisangub_sign_matrix(none, &width, &height) == WISANGUB_NULL);
-        assert(wisangub_sign_text(none, buffer, sizeof buffer, &size) == WISANGUB_NULL);
-        assert(wisangub_sign_writer(none, buffer, sizeof buffer, &size) == WISANGUB_NULL);
-        assert(wisangub_sign_check(none, "", 0, &size, &fault) == WISANGUB_NULL);
-        assert(wisangub_sign_pages(none, WISANGUB_LOOK, room, sizeof room, &size) == WISANGUB_NULL);
-        assert(wisangub_sign_text_pages(none, "", 0, WISANGUB_LOOK, room, sizeof room, &size, &fault) == WISANGUB_NULL);
+        REFUSED(wisangub_sign_receive(none, "", 0, buffer, sizeof buffer, &size));
+        REFUSED(wisangub_sign_tick(none));
+        REFUSED(wisangub_sign_heard(none));
+        REFUSED(wisangub_sign_power_lost(none));
+        REFUSED(wisangub_sign_power_back(none, 1));
+        REFUSED(wisangub_sign_shown(none, &shown));
+        REFUSED(wisangub_sign_matrix(none, &width, &height));
+        REFUSED(wisangub_sign_text(none, buffer, sizeof buffer, &size));
+        REFUSED(wisangub_sign_writer(none, buffer, sizeof buffer, &size));
+        REFUSED(wisangub_sign_check(none, "", 0, &size, &fault));
+        REFUSED(wisangub_sign_pages(none, LOOK, room, sizeof room, &size));
+        REFUSED(wisangub_sign_text_pages(none, "", 0, LOOK, room, sizeof room, &size, &fault));
         wisangub_sign_free(none);
     }
     assert(size == 9);
 }
 
-static void new_signs(const char *text, size_t text_size)
+static void new_signs(const char *description, size_t description_size)
 {
     uint32_t first = 7;
     size_t line = 0;
-    assert(wisangub_sign_new(NULL, text, text_size, &first, &line) == WISANGUB_NULL);
-    assert(wisangub_sign_new(&sign, NULL, text_size, &first, &line) == WISANGUB_NULL);
-    assert(wisangub_sign_new(&sign, text, text_size, NULL, &line) == WISANGUB_NULL);
-    assert(wisangub_sign_new(&sign, text, text_size, &first, NULL) == WISANGUB_NULL);
-    assert(wisangub_sign_new(&sign, text, 0, &first, &line) == WISANGUB_FAULT && sign.at == NULL && first == 7);
+    REFUSED(wisangub_sign_new(NULL, description, description_size, &first, &line));
+    REFUSED(wisangub_sign_new(&sign, NULL, description_size, &first, &line));
+    REFUSED(wisangub_sign_new(&sign, description, description_size, NULL, &line));
+    REFUSED(wisangub_sign_new(&sign, description, description_size, &first, NULL));
+    assert(wisangub_sign_new(&sign, description, 0, &first, &line) == WISANGUB_FAULT && sign.at == NULL && first == 7);
     assert(wisangub_sign_new(&sign, "size 1 x\n", 9, &first, &line) == WISANGUB_FAULT && line == 1);
-    assert(wisangub_sign_new(&sign, text, text_size, &first, &line) == WISANGUB_DONE && sign.at != NULL);
-    assert(wisangub_sign_new(&sign, text, text_size, &first, &line) == WISANGUB_NULL);
+    DONE(wisangub_sign_new(&sign, description, description_size, &first, &line));
+    assert(sign.at != NULL);
+    REFUSED(wisangub_sign_new(&sign, description, description_size, &first, &line));
 }
 
 static void datagrams(void)
 {
-    assert(wisangub_sign_receive(&sign, NULL, 0, buffer, sizeof buffer, &size) == WISANGUB_NULL);
-    assert(wisangub_sign_receive(&sign, "", 0, NULL, 0, &size) == WISANGUB_NULL);
-    assert(wisangub_sign_receive(&sign, "", 0, buffer, sizeof buffer, NULL) == WISANGUB_NULL);
+    REFUSED(wisangub_sign_receive(&sign, NULL, 0, buffer, sizeof buffer, &size));
+    REFUSED(wisangub_sign_receive(&sign, "", 0, NULL, 0, &size));
+    REFUSED(wisangub_sign_receive(&sign, "", 0, buffer, sizeof buffer, NULL));
     assert(wisangub_sign_receive(&sign, "", 0, buffer, sizeof buffer, &size) == WISANGUB_NOTHING && size == 0);
-    memset(buffer, 5, sizeof buffer);
-    assert(wisangub_sign_receive(&sign, "", 0, buffer, WISANGUB_DATAGRAM - 1, &size) == WISANGUB_TOO_SMALL);
-    assert(size == WISANGUB_DATAGRAM && buffer[0] == 5 && buffer[WISANGUB_DATAGRAM - 1] == 5);
-    assert(wisangub_sign_tick(&sign) == WISANGUB_DONE && wisangub_sign_heard(&sign) == WISANGUB_DONE);
-    assert(wisangub_sign_power_lost(&sign) == WISANGUB_DONE && wisangub_sign_power_back(&sign, 3) == WISANGUB_DONE);
+    spread();
+    assert(wisangub_sign_receive(&sign, "", 0, room, WISANGUB_DATAGRAM - 1, &size) == WISANGUB_TOO_SMALL);
+    assert(size == WISANGUB_DATAGRAM && untouched(0, WISANGUB_DATAGRAM));
+    DONE(wisangub_sign_tick(&sign));
+    DONE(wisangub_sign_heard(&sign));
+    DONE(wisangub_sign_power_lost(&sign));
+    DONE(wisangub_sign_power_back(&sign, 3));
 }
 
-/* What is shown at the start: a blank message, one page. */
+/* Of what is shown at the start, a blank message, all but its page. */
 static void shown_things(void)
 {
     struct wisangub_shown shown;
     uint16_t width = 0, height = 0;
     size_t needed = 0;
-    assert(wisangub_sign_shown(&sign, NULL) == WISANGUB_NULL && wisangub_sign_matrix(&sign, NULL, &height) == WISANGUB_NULL);
-    assert(wisangub_sign_shown(&sign, &shown) == WISANGUB_DONE && shown.memory == 7 && shown.number == 1 && shown.checksum == 0);
-    assert(shown.minutes == 65535 && shown.mode == 10 && shown.priority == 1 && shown.beacon == 0 && shown.pixel == 0);
-    assert(wisangub_sign_matrix(&sign, &width, &height) == WISANGUB_DONE && width > 0 && height > 0);
-    assert(wisangub_sign_text(&sign, NULL, 0, &size) == WISANGUB_DONE && size == 0);
-    assert(wisangub_sign_text(&sign, NULL, 1, &size) == WISANGUB_NULL && wisangub_sign_text(&sign, buffer, 1, NULL) == WISANGUB_NULL);
-    assert(wisangub_sign_writer(&sign, NULL, 0, &needed) == WISANGUB_TOO_SMALL && needed > 0);
-    memset(buffer, 5, sizeof buffer);
-    assert(wisangub_sign_writer(&sign, buffer, needed - 1, &size) == WISANGUB_TOO_SMALL && size == needed && buffer[0] == 5);
-    assert(wisangub_sign_writer(&sign, buffer, needed, &size) == WISANGUB_DONE && buffer[0] != 5 && buffer[needed] == 5);
-    assert(wisangub_sign_pages(&sign, WISANGUB_LOOK, NULL, 0, &needed) == WISANGUB_TOO_SMALL);
+    REFUSED(wisangub_sign_shown(&sign, NULL));
+    DONE(wisangub_sign_shown(&sign, &shown));
+    assert(shown.memory == 7 && shown.number == 1 && shown.checksum == 0 && shown.minutes == 65535);
+    assert(shown.mode == 10 && shown.priority == 1 && shown.beacon == 0 && shown.pixel == 0);
+    REFUSED(wisangub_sign_matrix(&sign, NULL, &height));
+    REFUSED(wisangub_sign_matrix(&sign, &width, NULL));
+    DONE(wisangub_sign_matrix(&sign, &width, &height));
+    assert(width > 0 && width <= 256 && height > 0 && height <= 64);
+    REFUSED(wisangub_sign_writer(&sign, NULL, 1, &needed));
+    REFUSED(wisangub_sign_writer(&sign, buffer, sizeof buffer, NULL));
+    assert(wisangub_sign_writer(&sign, NULL, 0, &needed) == WISANGUB_TOO_SMALL && needed > 0 && needed <= 32);
+    spread();
+    assert(wisangub_sign_writer(&sign, room, needed - 1, &size) == WISANGUB_TOO_SMALL && size == needed);
+    assert(untouched(0, needed));
+    DONE(wisangub_sign_writer(&sign, room, needed, &size));
+    assert(size == needed && room[0] != 5 && untouched(needed, 16));
+}
+
+static void pages(void)
+{
+    uint16_t width = 0, height = 0;
+    size_t needed = 0;
+    wisangub_sign_matrix(&sign, &width, &height);
+    REFUSED(wisangub_sign_pages(&sign, LOOK, NULL, 1, &size));
+    REFUSED(wisangub_sign_pages(&sign, LOOK, room, sizeof room, NULL));
+    assert(wisangub_sign_pages(&sign, LOOK, NULL, 0, &needed) == WISANGUB_TOO_SMALL);
     assert(needed == WISANGUB_PAGE_HEAD + (size_t)width * height);
-    memset(room, 5, sizeof room);
-    assert(wisangub_sign_pages(&sign, WISANGUB_LOOK, room, needed - 1, &size) == WISANGUB_TOO_SMALL && room[0] == 5);
-    assert(wisangub_sign_pages(&sign, WISANGUB_LOOK, room, needed, &size) == WISANGUB_DONE && size == needed && room[needed] == 5);
-    assert(wisangub_sign_pages(&sign, WISANGUB_LOOK, NULL, 1, &size) == WISANGUB_NULL);
-    assert(wisangub_sign_pages(&sign, WISANGUB_LOOK, room, needed, NULL) == WISANGUB_NULL);
+    spread();
+    assert(wisangub_sign_pages(&sign, LOOK, room, needed - 1, &size) == WISANGUB_TOO_SMALL && size == needed);
+    assert(untouched(0, needed));
+    DONE(wisangub_sign_pages(&sign, LOOK, room, needed, &size));
+    assert(size == needed && untouched(needed, 16));
 }
 
 static void texts(void)
 {
     struct wisangub_text_fault fault = {0, 0};
+    size_t count = 0;
+    REFUSED(wisangub_sign_check(&sign, NULL, 0, &count, &fault));
+    REFUSED(wisangub_sign_check(&sign, "", 0, NULL, &fault));
+    REFUSED(wisangub_sign_check(&sign, "", 0, &count, NULL));
+    DONE(wisangub_sign_check(&sign, "", 0, &count, &fault));
+    DONE(wisangub_sign_check(&sign, "A[np]A", 6, &count, &fault));
+    assert(count == 2 && fault.code == 0);
+    assert(wisangub_sign_check(&sign, "A[x]", 4, &count, &fault) == WISANGUB_FAULT);
+    assert(count == 2 && fault.code == 3 && fault.place == 1);
+}
+
+static void text_pages(void)
+{
+    static const char flashes[] = "[flt3o4]A[/fl]";
+    struct wisangub_text_fault fault = {0, 0};
     uint16_t width = 0, height = 0;
-    size_t pages = 0;
+    size_t lit = WISANGUB_PAGE_HEAD, count = sizeof flashes - 1;
     wisangub_sign_matrix(&sign, &width, &height);
     size_t page = WISANGUB_PAGE_HEAD + (size_t)width * height;
-    assert(wisangub_sign_check(&sign, NULL, 0, &pages, &fault) == WISANGUB_NULL && wisangub_sign_check(&sign, "", 0, NULL, &fault) == WISANGUB_NULL);
-    assert(wisangub_sign_check(&sign, "A[np]A", 6, &pages, &fault) == WISANGUB_DONE && pages == 2 && fault.code == 0);
-    assert(wisangub_sign_check(&sign, "A[x]", 4, &pages, &fault) == WISANGUB_FAULT && pages == 2 && fault.code == 3 && fault.place == 1);
-    fault.code = 0;
-    assert(wisangub_sign_text_pages(&sign, "A]", 2, WISANGUB_LOOK, room, sizeof room, &size, &fault) == WISANGUB_FAULT && fault.code == 3);
-    assert(wisangub_sign_text_pages(&sign, "A[np]A", 6, WISANGUB_LOOK, NULL, 0, &size, &fault) == WISANGUB_TOO_SMALL && size == 2 * page);
-    assert(wisangub_sign_text_pages(&sign, "[flt3o4]A[/fl]", 14, WISANGUB_LOOK, room, page, &size, &fault) == WISANGUB_DONE && size == page);
-    size_t lit = WISANGUB_PAGE_HEAD;
+    REFUSED(wisangub_sign_text_pages(&sign, NULL, 0, LOOK, room, page, &size, &fault));
+    REFUSED(wisangub_sign_text_pages(&sign, "", 0, LOOK, NULL, 1, &size, &fault));
+    REFUSED(wisangub_sign_text_pages(&sign, "", 0, LOOK, room, page, NULL, &fault));
+    REFUSED(wisangub_sign_text_pages(&sign, "", 0, LOOK, room, page, &size, NULL));
+    assert(wisangub_sign_text_pages(&sign, "A]", 2, LOOK, room, page, &size, &fault) == WISANGUB_FAULT);
+    assert(fault.code == 3 && fault.place == 1);
+    spread();
+    assert(wisangub_sign_text_pages(&sign, "A[np]A", 6, LOOK, NULL, 0, &size, &fault) == WISANGUB_TOO_SMALL);
+    assert(size == 2 * page);
+    assert(wisangub_sign_text_pages(&sign, "A[np]A", 6, LOOK, room, 2 * page - 1, &size, &fault) == WISANGUB_TOO_SMALL);
+    assert(size == 2 * page && untouched(0, 2 * page));
+    DONE(wisangub_sign_text_pages(&sign, flashes, count, LOOK, room, page, &size, &fault));
+    assert(size == page && untouched(page, 16));
     while (!(room[lit] & WISANGUB_LIT)) {
         lit++;
     }
     assert((room[lit] & WISANGUB_FLASHES) && !(room[lit] & WISANGUB_DARK_FIRST));
-    assert(wisangub_sign_text_pages(&sign, "[flt3o4]A[/fl]", 14, WISANGUB_FLASH_LIT, room, page, &size, &fault) == WISANGUB_DONE && room[lit] == 3);
-    assert(wisangub_sign_text_pages(&sign, "[flt3o4]A[/fl]", 14, WISANGUB_FLASH_DARK, room, page, &size, &fault) == WISANGUB_DONE && room[lit] == 4);
-    assert(wisangub_sign_text_pages(&sign, NULL, 0, WISANGUB_LOOK, room, page, &size, &fault) == WISANGUB_NULL);
-    assert(wisangub_sign_text_pages(&sign, "", 0, WISANGUB_LOOK, room, page, &size, NULL) == WISANGUB_NULL);
+    DONE(wisangub_sign_text_pages(&sign, flashes, count, WISANGUB_FLASH_LIT, room, page, &size, &fault));
+    assert(room[lit] == 3);
+    DONE(wisangub_sign_text_pages(&sign, flashes, count, WISANGUB_FLASH_DARK, room, page, &size, &fault));
+    assert(room[lit] == 4);
+}
+
+static void bits(void)
+{
+    const uint8_t looks[9] = {25, 9, 25, 0, 0, 0, 0, 16, 25}, wanted[2] = {0xA1, 0x80};
+    REFUSED(wisangub_row_bits(NULL, 0, room, 2, &size));
+    REFUSED(wisangub_row_bits(looks, 9, NULL, 2, &size));
+    REFUSED(wisangub_row_bits(looks, 9, room, 2, NULL));
+    spread();
+    assert(wisangub_row_bits(looks, 9, room, 1, &size) == WISANGUB_TOO_SMALL && size == 2 && untouched(0, 2));
+    assert(wisangub_row_bits(looks, 9, NULL, 0, &size) == WISANGUB_TOO_SMALL && size == 2);
+    DONE(wisangub_row_bits(looks, 9, room, 2, &size));
+    assert(memcmp(room, wanted, 2) == 0 && untouched(2, 16));
+    DONE(wisangub_row_bits(looks, 0, NULL, 0, &size));
+    assert(size == 0);
 }
 
 static void codes(void)
 {
-    const uint8_t looks[9] = {25, 9, 25, 0, 0, 0, 0, 16, 25}, wanted[2] = {0xA1, 0x80};
     const uint8_t activation[12] = {255, 255, 255, 3, 0, 1, 0x66, 0x9a, 192, 0, 2, 1};
-    struct wisangub_code parts = {.minutes = 65535, .number = 1, .priority = 255, .memory = 3, .address = {192, 0, 2, 1}};
-    assert(wisangub_row_bits(NULL, 0, buffer, 2, &size) == WISANGUB_NULL && wisangub_row_bits(looks, 9, NULL, 2, &size) == WISANGUB_NULL);
-    assert(wisangub_row_bits(looks, 9, buffer, 1, &size) == WISANGUB_TOO_SMALL && size == 2);
-    assert(wisangub_row_bits(looks, 9, buffer, 2, &size) == WISANGUB_DONE && memcmp(buffer, wanted, 2) == 0);
-    assert(wisangub_row_bits(looks, 0, NULL, 0, &size) == WISANGUB_DONE && size == 0);
-    assert(wisangub_crc(NULL, 0, 0, 0, &parts.checksum) == WISANGUB_NULL && wisangub_crc("A", 1, 0, 0, NULL) == WISANGUB_NULL);
-    assert(wisangub_crc("A", 1, 0, 0, &parts.checksum) == WISANGUB_DONE && parts.checksum == 0x9a66);
-    assert(wisangub_activation_code(WISANGUB_SWAPPED, NULL, buffer, 12, &size) == WISANGUB_NULL);
-    assert(wisangub_activation_code(WISANGUB_SWAPPED, &parts, buffer, 11, &size) == WISANGUB_TOO_SMALL && size == 12);
-    assert(wisangub_activation_code(WISANGUB_SWAPPED, &parts, buffer, 12, &size) == WISANGUB_DONE && memcmp(buffer, activation, 12) == 0);
-    assert(wisangub_message_code(WISANGUB_SWAPPED, &parts, buffer, 5, NULL) == WISANGUB_NULL);
-    assert(wisangub_message_code(WISANGUB_SWAPPED, &parts, buffer, 4, &size) == WISANGUB_TOO_SMALL && size == 5);
-    assert(wisangub_message_code(WISANGUB_SWAPPED, &parts, buffer, 5, &size) == WISANGUB_DONE && memcmp(buffer, activation + 3, 5) == 0);
+    struct wisangub_code parts = {65535, 1, 0, 255, 3, {192, 0, 2, 1}};
+    REFUSED(wisangub_crc(NULL, 0, 0, 0, &parts.checksum));
+    REFUSED(wisangub_crc("A", 1, 0, 0, NULL));
+    DONE(wisangub_crc("A", 1, 0, 0, &parts.checksum));
+    assert(parts.checksum == 0x9a66);
+    spread();
+    REFUSED(wisangub_activation_code(SWAPPED, NULL, room, 12, &size));
+    REFUSED(wisangub_activation_code(SWAPPED, &parts, NULL, 12, &size));
+    REFUSED(wisangub_activation_code(SWAPPED, &parts, room, 12, NULL));
+    assert(wisangub_activation_code(SWAPPED, &parts, NULL, 0, &size) == WISANGUB_TOO_SMALL && size == 12);
+    assert(wisangub_activation_code(SWAPPED, &parts, room, 11, &size) == WISANGUB_TOO_SMALL && size == 12);
+    assert(untouched(0, 12));
+    DONE(wisangub_activation_code(SWAPPED, &parts, room, 12, &size));
+    assert(memcmp(room, activation, 12) == 0 && untouched(12, 16));
+    spread();
+    REFUSED(wisangub_message_code(SWAPPED, NULL, room, 5, &size));
+    REFUSED(wisangub_message_code(SWAPPED, &parts, NULL, 5, &size));
+    REFUSED(wisangub_message_code(SWAPPED, &parts, room, 5, NULL));
+    assert(wisangub_message_code(SWAPPED, &parts, NULL, 0, &size) == WISANGUB_TOO_SMALL && size == 5);
+    assert(wisangub_message_code(SWAPPED, &parts, room, 4, &size) == WISANGUB_TOO_SMALL && size == 5
+           && untouched(0, 5));
+    DONE(wisangub_message_code(SWAPPED, &parts, room, 5, &size));
+    assert(memcmp(room, activation + 3, 5) == 0 && untouched(5, 16));
 }
 
 static void without_a_centre(void)
@@ -138,42 +224,115 @@ static void without_a_centre(void)
     struct wisangub_entry entry;
     for (int turn = 0; turn < 2; turn++) {
         struct wisangub_centre *none = turn ? &centre : NULL;
-        assert(wisangub_centre_command(none, "", 0, buffer, sizeof buffer, &size) == WISANGUB_NULL);
-        assert(wisangub_centre_receive(none, "", 0, buffer, sizeof buffer, &size) == WISANGUB_NULL);
-        assert(wisangub_centre_tick(none, buffer, sizeof buffer, &size) == WISANGUB_NULL);
-        assert(wisangub_centre_restart(none) == WISANGUB_NULL && wisangub_centre_status(none, &status) == WISANGUB_NULL);
-        assert(wisangub_centre_entry(none, 0, &entry) == WISANGUB_NULL);
+        REFUSED(wisangub_centre_command(none, "", 0, buffer, sizeof buffer, &size));
+        REFUSED(wisangub_centre_receive(none, "", 0, buffer, sizeof buffer, &size));
+        REFUSED(wisangub_centre_tick(none, buffer, sizeof buffer, &size));
+        REFUSED(wisangub_centre_restart(none));
+        REFUSED(wisangub_centre_status(none, &status));
+        REFUSED(wisangub_centre_entry(none, 0, &entry));
         wisangub_centre_free(none);
     }
-    assert(wisangub_centre_new(NULL, "a", 1, WISANGUB_HIGH, 1) == WISANGUB_NULL && wisangub_centre_new(&centre, NULL, 1, WISANGUB_HIGH, 1) == WISANGUB_NULL);
-    assert(wisangub_centre_new(&centre, "", 0, WISANGUB_HIGH, 1) == WISANGUB_FAULT && wisangub_centre_new(&centre, buffer, 33, WISANGUB_HIGH, 1) == WISANGUB_FAULT);
-    assert(wisangub_centre_new(&centre, "a", 1, WISANGUB_HIGH, 5) == WISANGUB_DONE && wisangub_centre_new(&centre, "a", 1, WISANGUB_HIGH, 5) == WISANGUB_NULL);
+    REFUSED(wisangub_centre_new(NULL, "a", 1, WISANGUB_HIGH, 1));
+    REFUSED(wisangub_centre_new(&centre, NULL, 1, WISANGUB_HIGH, 1));
+    assert(wisangub_centre_new(&centre, "", 0, WISANGUB_HIGH, 1) == WISANGUB_FAULT && centre.at == NULL);
+    assert(wisangub_centre_new(&centre, buffer, 33, WISANGUB_HIGH, 1) == WISANGUB_FAULT && centre.at == NULL);
 }
 
+/* A command whose room is too small, and a centre that knows nothing of it. */
 static void commands(void)
 {
     static const char blank[] = "blank 1 5 255 192.0.2.1";
     struct wisangub_status status;
     struct wisangub_entry entry;
-    assert(wisangub_centre_command(&centre, NULL, 0, buffer, sizeof buffer, &size) == WISANGUB_NULL);
-    assert(wisangub_centre_command(&centre, "", 0, NULL, sizeof buffer, &size) == WISANGUB_NULL);
-    assert(wisangub_centre_command(&centre, "", 0, buffer, sizeof buffer, NULL) == WISANGUB_NULL);
-    assert(wisangub_centre_command(&centre, "sign-tick", 9, buffer, sizeof buffer, &size) == WISANGUB_FAULT);
-    assert(wisangub_centre_command(&centre, "blank 0 5 255 192.0.2.1", 23, buffer, sizeof buffer, &size) == WISANGUB_RANGE);
-    assert(wisangub_centre_command(&centre, blank, 23, buffer, WISANGUB_DATAGRAM - 1, &size) == WISANGUB_TOO_SMALL && size == WISANGUB_DATAGRAM);
-    assert(wisangub_centre_status(&centre, &status) == WISANGUB_DONE && status.busy == 0 && status.entries == 0 && status.last == WISANGUB_NEVER);
-    assert(wisangub_centre_entry(&centre, 0, &entry) == WISANGUB_FAULT && wisangub_centre_entry(&centre, 0, NULL) == WISANGUB_NULL);
-    assert(wisangub_centre_command(&centre, blank, 23, buffer, sizeof buffer, &size) == WISANGUB_DONE && size > 0 && buffer[0] == 0x30);
-    assert(wisangub_centre_command(&centre, blank, 23, buffer, sizeof buffer, &size) == WISANGUB_BUSY);
-    assert(wisangub_centre_entry(&centre, 0, &entry) == WISANGUB_DONE && entry.number == 5 && entry.outcome == WISANGUB_WAITS && entry.code.minutes == 5);
-    assert(wisangub_centre_receive(&centre, "", 0, buffer, WISANGUB_DATAGRAM - 1, &size) == WISANGUB_TOO_SMALL);
-    assert(wisangub_centre_receive(&centre, "", 0, buffer, sizeof buffer, &size) == WISANGUB_NOTHING && size == 0);
-    assert(wisangub_centre_receive(&centre, NULL, 0, buffer, sizeof buffer, &size) == WISANGUB_NULL);
-    assert(wisangub_centre_tick(&centre, buffer, WISANGUB_DATAGRAM - 1, &size) == WISANGUB_TOO_SMALL);
-    assert(wisangub_centre_tick(&centre, NULL, sizeof buffer, &size) == WISANGUB_NULL);
-    assert(wisangub_centre_restart(&centre) == WISANGUB_DONE && wisangub_centre_entry(&centre, 0, &entry) == WISANGUB_DONE);
-    assert(entry.outcome == WISANGUB_UNKNOWN && wisangub_centre_status(&centre, NULL) == WISANGUB_NULL);
-    assert(wisangub_centre_status(&centre, &status) == WISANGUB_DONE && status.last == WISANGUB_FAILED && status.why == WISANGUB_WHY_RESTARTED);
+    size_t count = sizeof blank - 1, least = WISANGUB_DATAGRAM;
+    DONE(wisangub_centre_new(&centre, "a", 1, WISANGUB_HIGH, 5));
+    REFUSED(wisangub_centre_new(&centre, "a", 1, WISANGUB_HIGH, 5));
+    REFUSED(wisangub_centre_command(&centre, NULL, 0, room, least, &size));
+    REFUSED(wisangub_centre_command(&centre, "", 0, NULL, least, &size));
+    REFUSED(wisangub_centre_command(&centre, "", 0, room, least, NULL));
+    assert(wisangub_centre_command(&centre, "", 0, room, least, &size) == WISANGUB_FAULT);
+    assert(wisangub_centre_command(&centre, "sign-tick", 9, room, least, &size) == WISANGUB_FAULT);
+    assert(wisangub_centre_command(&centre, "blank 0 5 255 192.0.2.1", count, room, least, &size) == WISANGUB_RANGE);
+    spread();
+    assert(wisangub_centre_command(&centre, blank, count, room, least - 1, &size) == WISANGUB_TOO_SMALL);
+    assert(size == least && untouched(0, least));
+    REFUSED(wisangub_centre_status(&centre, NULL));
+    DONE(wisangub_centre_status(&centre, &status));
+    assert(status.busy == 0 && status.entries == 0 && status.last == WISANGUB_NEVER);
+    REFUSED(wisangub_centre_entry(&centre, 0, NULL));
+    assert(wisangub_centre_entry(&centre, 0, &entry) == WISANGUB_FAULT);
+    DONE(wisangub_centre_command(&centre, blank, count, room, least, &size));
+    assert(size > 0 && room[0] == 0x30);
+    assert(wisangub_centre_command(&centre, blank, count, room, least, &size) == WISANGUB_BUSY);
+    DONE(wisangub_centre_entry(&centre, 0, &entry));
+    assert(entry.number == 5 && entry.outcome == WISANGUB_WAITS && entry.code.minutes == 5);
+}
+
+/* While it waits for a reply. */
+static void waiting(void)
+{
+    struct wisangub_status status;
+    struct wisangub_entry entry;
+    spread();
+    REFUSED(wisangub_centre_receive(&centre, NULL, 0, room, WISANGUB_DATAGRAM, &size));
+    REFUSED(wisangub_centre_receive(&centre, "", 0, NULL, WISANGUB_DATAGRAM, &size));
+    REFUSED(wisangub_centre_receive(&centre, "", 0, room, WISANGUB_DATAGRAM, NULL));
+    assert(wisangub_centre_receive(&centre, "", 0, room, WISANGUB_DATAGRAM - 1, &size) == WISANGUB_TOO_SMALL);
+    assert(size == WISANGUB_DATAGRAM);
+    assert(wisangub_centre_receive(&centre, "", 0, room, WISANGUB_DATAGRAM, &size) == WISANGUB_NOTHING && size == 0);
+    REFUSED(wisangub_centre_tick(&centre, NULL, WISANGUB_DATAGRAM, &size));
+    REFUSED(wisangub_centre_tick(&centre, room, WISANGUB_DATAGRAM, NULL));
+    for (int turn = 0; turn < 100; turn++) {
+        assert(wisangub_centre_tick(&centre, room, WISANGUB_DATAGRAM - 1, &size) == WISANGUB_TOO_SMALL);
+        assert(size == WISANGUB_DATAGRAM && untouched(0, WISANGUB_DATAGRAM));
+    }
+    DONE(wisangub_centre_restart(&centre));
+    DONE(wisangub_centre_entry(&centre, 0, &entry));
+    assert(entry.outcome == WISANGUB_UNKNOWN && wisangub_centre_entry(&centre, 1, &entry) == WISANGUB_FAULT);
+    DONE(wisangub_centre_status(&centre, &status));
+    assert(status.entries == 1 && status.last == WISANGUB_FAILED && status.why == WISANGUB_WHY_RESTARTED);
+}
+
+/* A publication up to its end, in which the sign once hears nothing, as its room is too small. */
+static void published(void)
+{
+    static const char command[] = "publish 3 1 41 - 0 0 200 65535 255 127.0.0.1";
+    struct wisangub_status status = {0, 0, 1, 0, 0, 0};
+    struct wisangub_shown shown;
+    uint8_t *request = room, *reply = room + 2000;
+    enum wisangub_answer sends;
+    size_t community = 0;
+    wisangub_centre_free(&centre);
+    assert(centre.at == NULL);
+    DONE(wisangub_sign_writer(&sign, buffer, sizeof buffer, &community));
+    DONE(wisangub_centre_new(&centre, buffer, community, WISANGUB_HIGH, 1));
+    sends = wisangub_centre_command(&centre, command, sizeof command - 1, request, WISANGUB_DATAGRAM, &size);
+    for (int turn = 0; turn < 20 && status.busy; turn++) {
+        while (sends == WISANGUB_DONE) {
+            size_t asked = size;
+            assert(wisangub_sign_receive(&sign, request, asked, reply, 1471, &size) == WISANGUB_TOO_SMALL);
+            DONE(wisangub_sign_receive(&sign, request, asked, reply, WISANGUB_DATAGRAM, &size));
+            sends = wisangub_centre_receive(&centre, reply, size, request, WISANGUB_DATAGRAM, &size);
+        }
+        DONE(wisangub_sign_tick(&sign));
+        sends = wisangub_centre_tick(&centre, request, WISANGUB_DATAGRAM, &size);
+        DONE(wisangub_centre_status(&centre, &status));
+    }
+    assert(status.last == WISANGUB_DID && status.entries == 1);
+    DONE(wisangub_sign_shown(&sign, &shown));
+    assert(shown.memory == 3 && shown.number == 1 && shown.checksum == 0x9a66 && shown.minutes == 65535);
+}
+
+/* The text that is shown, with room and without. */
+static void shown_text(void)
+{
+    REFUSED(wisangub_sign_text(&sign, NULL, 1, &size));
+    REFUSED(wisangub_sign_text(&sign, buffer, sizeof buffer, NULL));
+    spread();
+    assert(wisangub_sign_text(&sign, NULL, 0, &size) == WISANGUB_TOO_SMALL && size == 1);
+    assert(wisangub_sign_text(&sign, room, 0, &size) == WISANGUB_TOO_SMALL && size == 1 && untouched(0, 16));
+    DONE(wisangub_sign_text(&sign, room, 1, &size));
+    assert(size == 1 && room[0] == 'A' && untouched(1, 16));
 }
 
 int main(int count, char **words)
@@ -186,11 +345,18 @@ int main(int count, char **words)
     without_a_sign();
     new_signs(text, text_size);
     datagrams();
+    DONE(wisangub_sign_text(&sign, NULL, 0, &size));
     shown_things();
+    pages();
     texts();
+    text_pages();
+    bits();
     codes();
     without_a_centre();
     commands();
+    waiting();
+    published();
+    shown_text();
     wisangub_centre_free(&centre);
     wisangub_sign_free(&sign);
     assert(sign.at == NULL && centre.at == NULL);

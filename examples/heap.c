@@ -10,10 +10,7 @@ struct had {
 
 static char none;
 
-static struct had had(void *at)
-{
-    return (struct had){at != NULL, at != NULL ? at : &none};
-}
+static struct had had(void *at) { return (struct had){at != NULL, at != NULL ? at : &none}; }
 
 struct had rattle_alloc(size_t size, size_t align);
 struct had rattle_realloc(void *at, size_t old, size_t size, size_t align);

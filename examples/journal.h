@@ -8,28 +8,32 @@
 
 #include "wisangub.h"
 
-enum { OWED_MOST = 1 << 16 };
-
 struct journal {
     const char *path;
     int file;
+    int refused;          /* the error with which the disk refused last; 0 where it takes records */
     off_t size;
-    uint32_t sum;            /* the CRC-32 of all octets so far */
-    uint64_t seconds;        /* that were handed over and are in no line yet */
-    unsigned since_clock;    /* seconds */
-    int heard;               /* the silence is over since the last second */
-    size_t owed_size;        /* of lines that wait for the next record */
-    char owed[OWED_MOST];
+    uint32_t sum;         /* the CRC-32 of all octets so far */
+    uint64_t seconds;     /* that were handed over and are in no line yet */
+    uint64_t since_clock; /* seconds */
+    int heard;            /* the silence is over since the last second */
+    char *owed;           /* lines that wait for the next record */
+    size_t owed_size, owed_room;
+    size_t owed_ticks;    /* where the last of them that counts seconds begins, or SIZE_MAX where more than a clock follows */
 };
+
+/* What the time without a process was: told by the boot's id, a loss of power, or seconds. */
+enum down { DOWN_BY_BOOT, DOWN_POWER, DOWN_PROCESS };
 
 /* The seconds since the machine's boot, with those in which it slept. */
 double running(void);
 
 /*
- * Opens the journal of this description's sign, hands the sign all that is in it, and what the time without a process was. What it
- * cannot go on from is told on standard error, and the process ends.
+ * Opens the journal of this description's sign, hands the sign all that is in it, and what the time without a process
+ * was up to this moment. What it cannot go on from is told on standard error, and the process ends.
  */
-void journal_open(struct journal *journal, const char *path, const char *digest, struct wisangub_sign *sign, double up);
+void journal_open(struct journal *journal, const char *path, const char *digest, struct wisangub_sign *sign, double up,
+                  enum down down);
 
 /* Whether these lines, each with a newline at its end, are on the disk, and so may be handed over. */
 int journal_keep(struct journal *journal, const char *lines, size_t size);

@@ -1,7 +1,8 @@
 /*
- * Mutated datagrams: mutated DESCRIPTION SECONDS SEED, with datagrams as digits on standard input, a line each. It changes octets of
- * them, cuts, doubles and joins them, and hands them to a sign and a central system, with ticks and losses of power between. Each
- * reply is at most 1,472 octets, and nothing is written beyond them; sanitizers and valgrind see the rest.
+ * Mutated datagrams: mutated DESCRIPTION SECONDS SEED, with datagrams as digits on standard input, a line each. It
+ * changes octets of them, cuts, doubles and joins them, and hands them to a sign and a central system, with ticks and
+ * losses of power between. Each reply is at most 1,472 octets, and nothing is written beyond them; sanitizers and
+ * valgrind see the rest.
  */
 #define _POSIX_C_SOURCE 200809L
 #include <inttypes.h>
@@ -77,7 +78,9 @@ int main(int words, char **word)
     size_t fault = 0, size = 0, told = 0;
     uint64_t done = 0, replies = 0;
     FILE *file = words == 4 ? fopen(word[1], "rb") : NULL;
-    if (file == NULL || wisangub_sign_new(&sign, description, fread(description, 1, sizeof description, file), &first, &fault) != WISANGUB_DONE
+    if (file == NULL
+        || wisangub_sign_new(&sign, description, fread(description, 1, sizeof description, file), &first, &fault)
+               != WISANGUB_DONE
         || wisangub_centre_new(&centre, "administrator", 13, WISANGUB_HIGH, first) != WISANGUB_DONE) {
         fputs("usage: mutated DESCRIPTION SECONDS SEED\n", stderr);
         return 2;
@@ -86,7 +89,8 @@ int main(int words, char **word)
     random_state = strtoull(word[3], NULL, 10) * 2 + 1;
     read_seeds();
     memset(reply, 0xA5, sizeof reply);
-    for (time_t end = time(NULL) + strtol(word[2], NULL, 10); count > 0 && (done % 1000 != 0 || time(NULL) < end); done++) {
+    for (time_t end = time(NULL) + strtol(word[2], NULL, 10); count > 0 && (done % 1000 != 0 || time(NULL) < end);
+         done++) {
         uint8_t *made = mutated(&size);
         enum wisangub_answer answer = wisangub_sign_receive(&sign, made, size, reply, WISANGUB_DATAGRAM, &told);
         replies += answer == WISANGUB_DONE;

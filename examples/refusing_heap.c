@@ -20,16 +20,16 @@ static int is_refused(void)
     return ++calls == refused;
 }
 
-static struct had had(void *at)
-{
-    return (struct had){at != NULL, at != NULL ? at : &none};
-}
+static struct had had(void *at) { return (struct had){at != NULL, at != NULL ? at : &none}; }
 
 struct had rattle_alloc(size_t size, size_t align);
 struct had rattle_realloc(void *at, size_t old, size_t size, size_t align);
 void rattle_dealloc(void *at);
 
-struct had rattle_alloc(size_t size, size_t align) { return had(is_refused() ? NULL : malloc(size != 0 ? size : align)); }
+struct had rattle_alloc(size_t size, size_t align)
+{
+    return had(is_refused() ? NULL : malloc(size != 0 ? size : align));
+}
 
 struct had rattle_realloc(void *at, size_t old, size_t size, size_t align)
 {

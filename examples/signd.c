@@ -1,11 +1,14 @@
 /*
- * A sign on a UDP port of Linux: signd [--port N] [--host ADDRESS] [--journal FILE] [--quiet] DESCRIPTION. Without options it is at
- * 127.0.0.1:1161. Each datagram goes to the sign and its reply back; each second is a tick. SIGUSR1 takes the power away, SIGUSR2
- * gives it back, and SIGINT or SIGTERM ends it. With a journal the sign goes on where it was, also where tools/udp_sign.py kept it.
+ * A sign on a UDP port of Linux: signd [--port N] [--host ADDRESS] [--journal FILE [--down power|process]] [--no-ticks]
+ * [--quiet] DESCRIPTION. Without options it is at 127.0.0.1:1161. Each datagram goes to the sign and its reply back;
+ * each second is a tick. SIGUSR1 takes the power away, SIGUSR2 gives it back, and SIGINT or SIGTERM ends it. With a
+ * journal the sign goes on where it was, also where tools/udp_sign.py kept it; what the time without a process was, a
+ * loss of power or seconds, is told by the kernel's boot id, or by --down.
  */
 #define _GNU_SOURCE
 #include <arpa/inet.h>
 #include <errno.h>
+#include <fcntl.h>
 #include <getopt.h>
 #include <poll.h>
 #include <signal.h>
@@ -17,11 +20,14 @@
 #include <sys/timerfd.h>
 #include <unistd.h>
 
+#include "datagrams.h"
 #include "digests.h"
 #include "journal.h"
 #include "wisangub.h"
 
-enum { DESCRIPTION_MOST = 1 << 20, AT_ONCE = 16, LINE_MOST = 10 + 2 * WISANGUB_DATAGRAM };
+#define LOST SIZE_MAX /* the size of a datagram that the sign does not hear */
+
+enum { DESCRIPTION_MOST = 1 << 20, AT_ONCE = 16 };
 
 /* The descriptors that are waited on. */
 enum { SOCKET, TIMER, SIGNALS, WAITED };
@@ -31,7 +37,7 @@ struct door {
     struct journal *journal; /* null where nothing is kept */
     double up;               /* the moment up to which the sign was told its seconds */
     double lost;             /* when the power was lost */
-    int socket;
+    int socket, timer;       /* the timer is -1 where no seconds pass */
 };
 
 /* A datagram that waits. */
@@ -45,7 +51,8 @@ struct heard {
 struct asked {
     const char *host, *journal, *description;
     long port;
-    int is_quiet;
+    enum down down;
+    int is_quiet, has_ticks;
 };
 
 /* Ends with a message where a call failed. */
@@ -56,6 +63,17 @@ static int had(int result, const char *call)
         exit(1);
     }
     return result;
+}
+
+/* No file of ours gets the number of a standard file that is closed, and a reader that goes away ends nothing. */
+static void keep_standard_files(void)
+{
+    int file;
+    do {
+        file = had(open("/dev/null", O_RDWR), "/dev/null");
+    } while (file <= STDERR_FILENO);
+    close(file);
+    signal(SIGPIPE, SIG_IGN);
 }
 
 /* ---- the description */
@@ -71,8 +89,10 @@ static size_t described(const char *name, char *text)
     size_t size = fread(text, 1, DESCRIPTION_MOST - 1, file), ended = 0;
     fclose(file);
     text[size] = '\0';
-    for (char *line = text; line != NULL && *line != '\0'; line = strchr(line, '\n'), line = line != NULL ? line + 1 : NULL) {
+    for (char *line = text, *next; *line != '\0'; line = next) {
         size_t length = strcspn(line, "\r\n");
+        next = line + strcspn(line, "\n");
+        next += *next == '\n';
         if (ended == 0 && length == 3 && strncmp(line, "end", 3) == 0) {
             ended = (size_t)(line - text) + 3;
         } else if (ended != 0 && length != 0 && *line != '#') {
@@ -139,87 +159,37 @@ static int signals(void)
 
 /* ---- datagrams */
 
-/* Where the content of the element at `at` begins and ends, its length in the shortest form; 0 where there is none. */
-static int content(const uint8_t *octets, size_t size, size_t at, uint8_t tag, size_t *begin, size_t *end)
+/* A datagram from or to a peer. */
+static struct msghdr message(struct sockaddr_in *peer, struct iovec *octets)
 {
-    if (at + 2 > size || octets[at] != tag) {
-        return 0;
-    }
-    size_t length = octets[at + 1];
-    *begin = at + 2;
-    if (length >= 128) {
-        size_t count = length - 128;
-        length = 0;
-        if (count == 0 || count > 2 || *begin + count > size || octets[*begin] == 0) {
-            return 0;
-        }
-        for (size_t octet = 0; octet < count; octet++) {
-            length = length << 8 | octets[(*begin)++];
-        }
-        if (length < 128) {
-            return 0;
-        }
-    }
-    *end = *begin + length;
-    return *end <= size;
-}
-
-/* Whether it is a Get or a GetNext by its outer elements: then it changes nothing but the silence of the sign. */
-static int is_get(const uint8_t *octets, size_t size)
-{
-    size_t begin = 0, end = 0, from = 0, to = 0;
-    if (!content(octets, size, 0, 0x30, &begin, &end) || end != size || size - begin < 3 || memcmp(octets + begin, "\2\1\0", 3) != 0
-        || !content(octets, size, begin + 3, 4, &from, &to) || to >= size || (octets[to] != 0xA0 && octets[to] != 0xA1)) {
-        return 0;
-    }
-    return content(octets, size, to, octets[to], &from, &end) && end == size;
-}
-
-/* The line that hands a datagram over; its size. */
-static size_t put_line(char *line, const uint8_t *octets, size_t size)
-{
-    const char *digits = "0123456789abcdef";
-    char *at = line + sprintf(line, "datagram ");
-    for (size_t octet = 0; octet < size; octet++) {
-        *at++ = digits[octets[octet] >> 4];
-        *at++ = digits[octets[octet] & 15];
-    }
-    if (size == 0) {
-        *at++ = '-';
-    }
-    *at++ = '\n';
-    return (size_t)(at - line);
+    return (struct msghdr){.msg_name = peer, .msg_namelen = sizeof *peer, .msg_iov = octets, .msg_iovlen = 1};
 }
 
 /* What waits, at most so many at once; one that is longer than a datagram of this profile counts as lost. */
 static size_t waiting(int from, struct heard *heard)
 {
-    size_t count = 0;
-    while (count < AT_ONCE) {
-        struct heard *one = heard + count;
-        socklen_t peer_size = sizeof one->peer;
-        ssize_t size = recvfrom(from, one->octets, sizeof one->octets, 0, (struct sockaddr *)&one->peer, &peer_size);
-        if (size < 0 && errno != ECONNREFUSED) {
-            break;
-        }
-        if (size < 0 || (size_t)size > WISANGUB_DATAGRAM) {
-            continue;
-        }
-        one->size = (size_t)size;
-        one->is_kept = 0;
-        count++;
+    static struct mmsghdr messages[AT_ONCE];
+    static struct iovec rooms[AT_ONCE];
+    for (size_t at = 0; at < AT_ONCE; at++) {
+        rooms[at] = (struct iovec){heard[at].octets, sizeof heard[at].octets};
+        messages[at].msg_hdr = message(&heard[at].peer, rooms + at);
     }
-    return count;
+    int count = recvmmsg(from, messages, AT_ONCE, MSG_DONTWAIT, NULL);
+    for (int at = 0; at < count; at++) {
+        heard[at].size = messages[at].msg_len <= WISANGUB_DATAGRAM ? messages[at].msg_len : LOST;
+        heard[at].is_kept = 0;
+    }
+    return count > 0 ? (size_t)count : 0;
 }
 
 /* Records what is no Get, with one sync. What the disk refuses is lost, as a datagram may be. */
 static void keep(struct journal *journal, struct heard *heard, size_t count)
 {
-    static char lines[AT_ONCE * (LINE_MOST + 1)];
+    static char lines[AT_ONCE * DATAGRAM_LINE];
     size_t size = 0;
     for (size_t at = 0; at < count; at++) {
-        if (!is_get(heard[at].octets, heard[at].size)) {
-            size += put_line(lines + size, heard[at].octets, heard[at].size);
+        if (heard[at].size != LOST && !datagram_is_get(heard[at].octets, heard[at].size)) {
+            size += datagram_line(lines + size, heard[at].octets, heard[at].size);
             heard[at].is_kept = 1;
         }
     }
@@ -227,56 +197,79 @@ static void keep(struct journal *journal, struct heard *heard, size_t count)
         return;
     }
     for (size_t at = 0; at < count; at++) {
-        heard[at].size = heard[at].is_kept ? SIZE_MAX : heard[at].size;
+        heard[at].size = heard[at].is_kept ? LOST : heard[at].size;
     }
 }
 
-/* Answers the datagrams that wait. A reply that the kernel does not take is lost. */
-static void answer(struct door *door)
+/* Sends all replies. One that the kernel does not take is lost. */
+static void send_all(int to, struct mmsghdr *replies, unsigned count)
+{
+    for (unsigned sent = 0; sent < count;) {
+        int taken = sendmmsg(to, replies + sent, count - sent, 0);
+        sent += taken > 0 ? (unsigned)taken : errno != EINTR;
+    }
+}
+
+/* Answers the datagrams that wait, at most so many: whether there were any. */
+static int answer(struct door *door)
 {
     static struct heard heard[AT_ONCE];
-    uint8_t reply[WISANGUB_DATAGRAM];
+    static uint8_t replies[AT_ONCE][WISANGUB_DATAGRAM];
+    static struct mmsghdr messages[AT_ONCE];
+    static struct iovec rooms[AT_ONCE];
+    struct wisangub_sign *sign = &door->sign;
     size_t count = waiting(door->socket, heard), size = 0;
-    int is_heard = 0, by_kept = 0;
+    unsigned made = 0;
+    int by_kept = 0;
     if (door->journal != NULL) {
         keep(door->journal, heard, count);
     }
     for (struct heard *one = heard; one < heard + count; one++) {
-        if (one->size != SIZE_MAX && wisangub_sign_receive(&door->sign, one->octets, one->size, reply, sizeof reply, &size) == WISANGUB_DONE) {
-            is_heard = 1;
-            by_kept |= one->is_kept;
-            (void)sendto(door->socket, reply, size, 0, (struct sockaddr *)&one->peer, sizeof one->peer);
+        uint8_t *reply = replies[made];
+        if (one->size == LOST
+            || wisangub_sign_receive(sign, one->octets, one->size, reply, WISANGUB_DATAGRAM, &size) != WISANGUB_DONE) {
+            continue;
         }
+        rooms[made] = (struct iovec){reply, size};
+        messages[made].msg_hdr = message(&one->peer, rooms + made);
+        made++;
+        by_kept |= one->is_kept;
     }
-    if (door->journal != NULL && is_heard) {
+    send_all(door->socket, messages, made);
+    if (door->journal != NULL && made > 0) {
         journal_heard(door->journal, by_kept);
     }
+    return count > 0;
 }
 
 /* ---- seconds and power */
 
-static void pass(struct door *door, int timer)
+/* Hands the sign the seconds that have passed. The clock counts them; the timer only ends the waiting for one. */
+static void pass(struct door *door)
 {
-    uint64_t passed = 0;
-    if (read(timer, &passed, sizeof passed) != (ssize_t)sizeof passed) {
-        return;
-    }
-    for (uint64_t second = 0; second < passed; second++) {
+    double passed = door->timer >= 0 ? running() - door->up : 0;
+    uint64_t seconds = passed >= 1 ? (uint64_t)passed : 0, expired;
+    for (uint64_t second = 0; second < seconds; second++) {
         wisangub_sign_tick(&door->sign);
     }
-    door->up += (double)passed;
-    if (door->journal != NULL) {
-        journal_tick(door->journal, passed, door->up);
+    if (seconds > 0) {
+        (void)!read(door->timer, &expired, sizeof expired);
+        door->up += (double)seconds;
+    }
+    if (seconds > 0 && door->journal != NULL) {
+        journal_tick(door->journal, seconds, door->up);
     }
 }
 
 /* Takes the power away, or gives it back, once that is recorded. */
 static void switch_power(struct door *door, int is_lost)
 {
-    char line[32];
+    char line[32] = "power-lost\n";
     uint32_t seconds = (uint32_t)(running() - door->lost);
-    int size = is_lost ? snprintf(line, sizeof line, "power-lost\n") : snprintf(line, sizeof line, "power-back %u\n", (unsigned)seconds);
-    if (door->journal != NULL && !journal_keep(door->journal, line, (size_t)size)) {
+    if (!is_lost) {
+        snprintf(line, sizeof line, "power-back %u\n", (unsigned)seconds);
+    }
+    if (door->journal != NULL && !journal_keep(door->journal, line, strlen(line))) {
         return;
     }
     if (is_lost) {
@@ -287,7 +280,7 @@ static void switch_power(struct door *door, int is_lost)
     }
 }
 
-/* Does what a signal asks. 0 where it asks to end. */
+/* Does what a signal asks: 0 where it asks to end. */
 static int heed(struct door *door, int from)
 {
     struct signalfd_siginfo told;
@@ -301,52 +294,67 @@ static int heed(struct door *door, int from)
     return 0;
 }
 
-static void serve(struct door *door, struct pollfd *waited)
+static void serve(struct door *door, int signals)
 {
+    struct pollfd waited[WAITED] = {[SOCKET] = {.fd = door->socket, .events = POLLIN},
+                                    [TIMER] = {.fd = door->timer, .events = POLLIN},
+                                    [SIGNALS] = {.fd = signals, .events = POLLIN}};
     int goes_on = 1;
     while (goes_on) {
-        if (poll(waited, WAITED, -1) < 0 && errno != EINTR) {
-            perror("poll");
-            return;
-        }
+        had(poll(waited, WAITED, -1) < 0 && errno != EINTR ? -1 : 0, "poll");
         /* Seconds that passed come before the datagrams that came meanwhile. */
-        pass(door, waited[TIMER].fd);
+        pass(door);
         if (waited[SIGNALS].revents != 0) {
-            goes_on = heed(door, waited[SIGNALS].fd);
+            goes_on = heed(door, signals);
         }
         if (waited[SOCKET].revents != 0) {
             answer(door);
         }
     }
+    pass(door);
 }
 
 /* ---- the command line */
+
+static void misused(const char *why)
+{
+    fprintf(stderr, "signd: %s\nusage: signd [--port N] [--host ADDRESS] [--journal FILE [--down power|process]]"
+            " [--no-ticks] [--quiet] DESCRIPTION\n", why);
+    exit(2);
+}
 
 static struct asked asked_for(int count, char **words)
 {
     static const struct option options[] = {{"host", required_argument, NULL, 'h'},
                                             {"port", required_argument, NULL, 'p'},
                                             {"journal", required_argument, NULL, 'j'},
+                                            {"down", required_argument, NULL, 'd'},
+                                            {"no-ticks", no_argument, NULL, 'n'},
                                             {"quiet", no_argument, NULL, 'q'},
                                             {NULL, 0, NULL, 0}};
-    struct asked asked = {.host = "127.0.0.1", .port = 1161};
+    struct asked asked = {.host = "127.0.0.1", .port = 1161, .has_ticks = 1};
+    char *rest = "";
     int found;
     while ((found = getopt_long(count, words, "", options, NULL)) != -1) {
         if (found == 'h') {
             asked.host = optarg;
         } else if (found == 'p') {
-            asked.port = strtol(optarg, NULL, 10);
+            asked.port = strtol(optarg, &rest, 10);
         } else if (found == 'j') {
             asked.journal = optarg;
+        } else if (found == 'd') {
+            asked.down = strcmp(optarg, "power") == 0 ? DOWN_POWER : DOWN_PROCESS;
+            rest = asked.down == DOWN_POWER || strcmp(optarg, "process") == 0 ? rest : optarg;
+        } else if (found == 'n') {
+            asked.has_ticks = 0;
         } else if (found == 'q') {
             asked.is_quiet = 1;
         } else {
-            exit(2);
+            misused("an option");
         }
     }
-    if (optind != count - 1) {
-        fputs("usage: signd [--port N] [--host ADDRESS] [--journal FILE] [--quiet] DESCRIPTION\n", stderr);
-        exit(2);
+    if (optind != count - 1 || *rest != '\0') {
+        misused(*rest != '\0' ? rest : "one description");
     }
     asked.description = words[optind];
     return asked;
@@ -367,22 +375,23 @@ int main(int count, char **words)
 {
     static struct journal journal;
     struct asked asked = asked_for(count, words);
-    struct door door = {.socket = bound(asked.host, asked.port)};
-    struct pollfd waited[WAITED];
     char digest[65];
+    keep_standard_files();
+    struct door door = {.socket = bound(asked.host, asked.port), .timer = -1};
     make(&door.sign, asked.description, digest);
-    waited[SIGNALS] = (struct pollfd){.fd = signals(), .events = POLLIN};
-    waited[SOCKET] = (struct pollfd){.fd = door.socket, .events = POLLIN};
     door.up = running();
     if (asked.journal != NULL) {
-        journal_open(&journal, asked.journal, digest, &door.sign, door.up);
+        journal_open(&journal, asked.journal, digest, &door.sign, door.up, asked.down);
         door.journal = &journal;
     }
-    waited[TIMER] = (struct pollfd){.fd = seconds_after(door.up), .events = POLLIN};
+    if (asked.has_ticks) {
+        door.timer = seconds_after(door.up);
+    }
+    int waited = signals();
     announce(door.socket, &asked);
     serve(&door, waited);
     if (door.journal != NULL) {
-        journal_end(door.journal, door.up);
+        journal_end(door.journal, asked.has_ticks ? door.up : running());
     }
     wisangub_sign_free(&door.sign);
     return 0;

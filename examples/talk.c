@@ -1,9 +1,10 @@
 /*
- * A sign and a central system that are spoken to in lines, as `signtool sign --sign` and `signtool centre --sign` are: a description
- * up to its line `end`, and then a line for each call. What begins with `centre ` goes to the central system, whose community is the
- * one that may write. Beside the lines of docs/PROFILE.md there are `check OCTETS` and `pages OCTETS` of a text, `bits`, which is
- * `show` with each row as bits, and `code ORDER MEMORY NUMBER TEXT BEACON PIXEL MINUTES PRIORITY ADDRESS`. An activation that is
- * accepted is answered `reply OCTETS`, too.
+ * A sign and a central system that are spoken to in lines, as `signtool sign --sign` and `signtool centre --sign` are:
+ * a description up to its line `end`, and then a line for each call. What begins with `centre ` goes to the central
+ * system, whose community is the one that may write. Beside the lines of docs/PROFILE.md there are `check OCTETS` and
+ * `pages OCTETS` of a text, `bits`, which is `show` with each row as bits, `code ORDER MEMORY NUMBER TEXT BEACON PIXEL
+ * MINUTES PRIORITY ADDRESS`, and `anew`, which frees both and makes them again. An activation that is accepted is
+ * answered `reply OCTETS`, too. What memory is wanting for is answered `memory`.
  */
 #include <inttypes.h>
 #include <stdio.h>
@@ -21,6 +22,9 @@ static enum wisangub_order order;
 static struct wisangub_sign sign = {NULL};
 static struct wisangub_centre centre = {NULL};
 
+/* The value of a hexadecimal digit. */
+static unsigned digit(char one) { return (unsigned)(one <= '9' ? one - '0' : (one | 32) - 'a' + 10); }
+
 /* The octets that pairs of digits are, or -1. */
 static long read_octets(const char *digits)
 {
@@ -32,18 +36,20 @@ static long read_octets(const char *digits)
         return -1;
     }
     for (size_t at = 0; at < size / 2; at++) {
-        char pair[3] = {digits[2 * at], digits[2 * at + 1], '\0'};
-        octets[at] = (uint8_t)strtoul(pair, NULL, 16);
+        octets[at] = (uint8_t)(digit(digits[2 * at]) << 4 | digit(digits[2 * at + 1]));
     }
     return (long)(size / 2);
 }
 
 static void print_octets(const char *word, const uint8_t *found, size_t size, const char *after)
 {
-    fputs(word, stdout);
+    static char digits[LINE_MOST];
     for (size_t at = 0; at < size; at++) {
-        printf("%02x", found[at]);
+        digits[2 * at] = "0123456789abcdef"[found[at] >> 4];
+        digits[2 * at + 1] = "0123456789abcdef"[found[at] & 15];
     }
+    fputs(word, stdout);
+    fwrite(digits, 2, size, stdout);
     fputs(size == 0 ? "-" : "", stdout);
     fputs(after, stdout);
 }
@@ -52,7 +58,8 @@ static void print_octets(const char *word, const uint8_t *found, size_t size, co
 static int64_t read_number(const char *word, uint64_t most)
 {
     size_t size = strlen(word);
-    if (size == 0 || size > 10 || strspn(word, "0123456789") != size || (size > 1 && *word == '0') || strtoull(word, NULL, 10) > most) {
+    if (size == 0 || size > 10 || strspn(word, "0123456789") != size || (size > 1 && *word == '0')
+        || strtoull(word, NULL, 10) > most) {
         return -1;
     }
     return (int64_t)strtoull(word, NULL, 10);
@@ -116,7 +123,10 @@ static void show(void (*print)(const uint8_t *))
     puts("ok");
 }
 
-static void print_fault(const struct wisangub_text_fault *fault) { printf("fault %u at %zu\n", fault->code, fault->place); }
+static void print_fault(const struct wisangub_text_fault *fault)
+{
+    printf("fault %u at %zu\n", fault->code, fault->place);
+}
 
 static void draw(const char *digits)
 {
@@ -127,7 +137,8 @@ static void draw(const char *digits)
         puts("bad line");
         return;
     }
-    enum wisangub_answer answer = wisangub_sign_text_pages(&sign, octets, (size_t)count, WISANGUB_LOOK, pages, sizeof pages, &size, &fault);
+    enum wisangub_answer answer =
+        wisangub_sign_text_pages(&sign, octets, (size_t)count, WISANGUB_LOOK, pages, sizeof pages, &size, &fault);
     if (answer == WISANGUB_FAULT) {
         print_fault(&fault);
     } else if (answer == WISANGUB_DONE) {
@@ -160,8 +171,8 @@ static void state(void)
     size_t size = 0;
     wisangub_sign_shown(&sign, &shown);
     wisangub_sign_text(&sign, octets, sizeof octets, &size);
-    printf("shown %u %u %04x mode %u priority %u remaining %" PRIu32, shown.memory, shown.number, shown.checksum, shown.mode, shown.priority,
-           shown.minutes);
+    printf("shown %u %u %04x mode %u priority %u remaining %" PRIu32, shown.memory, shown.number, shown.checksum,
+           shown.mode, shown.priority, shown.minutes);
     print_octets(" text ", octets, size, "\nok\n");
 }
 
@@ -201,13 +212,19 @@ static void print_code(const char *words)
     unsigned swapped, memory, number, beacon, pixel, minutes, priority, address[4];
     static char digits[LINE_MOST];
     size_t size = 0;
-    if (sscanf(words, "%u %u %u %139999s %u %u %u %u %u.%u.%u.%u", &swapped, &memory, &number, digits, &beacon, &pixel, &minutes, &priority,
-               &address[0], &address[1], &address[2], &address[3]) != 12 || read_octets(digits) < 0) {
+    if (sscanf(words, "%u %u %u %139999s %u %u %u %u %u.%u.%u.%u", &swapped, &memory, &number, digits, &beacon, &pixel,
+               &minutes, &priority, &address[0], &address[1], &address[2], &address[3])
+            != 12
+        || read_octets(digits) < 0) {
         puts("bad line");
         return;
     }
-    code = (struct wisangub_code){.minutes = (uint16_t)minutes, .number = (uint16_t)number, .priority = (uint8_t)priority, .memory = (uint8_t)memory,
-                                  .address = {(uint8_t)address[0], (uint8_t)address[1], (uint8_t)address[2], (uint8_t)address[3]}};
+    code = (struct wisangub_code){
+        .minutes = (uint16_t)minutes,
+        .number = (uint16_t)number,
+        .priority = (uint8_t)priority,
+        .memory = (uint8_t)memory,
+        .address = {(uint8_t)address[0], (uint8_t)address[1], (uint8_t)address[2], (uint8_t)address[3]}};
     wisangub_crc(octets, (size_t)read_octets(digits), (uint8_t)beacon, (uint8_t)pixel, &code.checksum);
     printf("crc %04x ", code.checksum);
     wisangub_message_code(swapped ? WISANGUB_SWAPPED : WISANGUB_HIGH, &code, sent, sizeof sent, &size);
@@ -253,9 +270,15 @@ static void answer(void)
 
 static void print_ended(const struct wisangub_status *status)
 {
-    static const char *const reasons[] = {"", "error-status %" PRId64, "the row has status %" PRId64, "the row is still being validated",
-                                          "the row has another checksum", "no reply", "no request number is left",
-                                          "the reply does not answer what was asked", "the sign refused the activation for cause %" PRId64,
+    static const char *const reasons[] = {"",
+                                          "error-status %" PRId64,
+                                          "the row has status %" PRId64,
+                                          "the row is still being validated",
+                                          "the row has another checksum",
+                                          "no reply",
+                                          "no request number is left",
+                                          "the reply does not answer what was asked",
+                                          "the sign refused the activation for cause %" PRId64,
                                           "the central system was restarted"};
     if (status->last != WISANGUB_FAILED) {
         puts(status->last == WISANGUB_DID ? "last accepted" : "last none");
@@ -268,7 +291,8 @@ static void print_ended(const struct wisangub_status *status)
 
 static void print_entry(size_t index)
 {
-    static const char *const outcomes[] = {"waiting\n", "accepted\n", "refused %" PRId64 "\n", "noreply\n", "unknown\n"};
+    static const char *const outcomes[] = {"waiting\n", "accepted\n", "refused %" PRId64 "\n", "noreply\n",
+                                           "unknown\n"};
     struct wisangub_entry entry;
     uint8_t code[12];
     size_t size = 0;
@@ -322,7 +346,8 @@ static void answer_centre(const char *words)
 {
     size_t size = 0;
     if (strncmp(words, "datagram ", 9) == 0 && read_octets(words + 9) >= 0) {
-        enum wisangub_answer answer = wisangub_centre_receive(&centre, octets, (size_t)read_octets(words + 9), sent, sizeof sent, &size);
+        enum wisangub_answer answer =
+            wisangub_centre_receive(&centre, octets, (size_t)read_octets(words + 9), sent, sizeof sent, &size);
         print_answer(answer, "send ", size, "ok");
     } else if (strcmp(words, "tick") == 0) {
         enum wisangub_answer answer = wisangub_centre_tick(&centre, sent, sizeof sent, &size);
@@ -354,39 +379,60 @@ static size_t read_description(void)
     return size;
 }
 
-static enum wisangub_answer make(void)
+/* Makes the sign and the central system of the text; nothing is made where one of them is not. */
+static enum wisangub_answer make(size_t size)
 {
     uint8_t community[32];
     uint32_t first = 0;
-    size_t fault = 0, size = read_description(), written = 0;
+    size_t fault = 0, written = 0;
     enum wisangub_answer made = wisangub_sign_new(&sign, text, size, &first, &fault);
+    if (made == WISANGUB_DONE) {
+        wisangub_sign_writer(&sign, community, sizeof community, &written);
+        wisangub_sign_matrix(&sign, &width, &height);
+        made = wisangub_centre_new(&centre, community, written, order, first);
+    }
     if (made == WISANGUB_FAULT) {
-        printf("line %zu\n", fault);
+        printf("fault line %zu\n", fault);
+    } else if (made == WISANGUB_MEMORY) {
+        wisangub_sign_free(&sign);
+        puts("memory");
     }
-    if (made != WISANGUB_DONE) {
-        return made;
-    }
-    wisangub_sign_writer(&sign, community, sizeof community, &written);
-    wisangub_sign_matrix(&sign, &width, &height);
-    return wisangub_centre_new(&centre, community, written, order, first);
+    return made;
+}
+
+/* As `make`; where memory is wanting it says so and tries again. */
+static int is_made(size_t size)
+{
+    enum wisangub_answer made;
+    do {
+        made = make(size);
+    } while (made == WISANGUB_MEMORY);
+    return made == WISANGUB_DONE;
+}
+
+static void free_both(void)
+{
+    wisangub_centre_free(&centre);
+    wisangub_sign_free(&sign);
 }
 
 int main(void)
 {
-    enum wisangub_answer made = make();
-    if (made != WISANGUB_DONE) {
-        puts(made == WISANGUB_MEMORY ? "memory" : "fault");
-    }
-    while (made == WISANGUB_DONE && fgets(line, LINE_MOST, stdin) != NULL) {
+    size_t size = read_description();
+    int goes_on = is_made(size), status = !goes_on;
+    while (goes_on && fgets(line, LINE_MOST, stdin) != NULL) {
         line[strcspn(line, "\n")] = '\0';
-        if (strncmp(line, "centre ", 7) == 0) {
+        if (strcmp(line, "anew") == 0) {
+            free_both();
+            goes_on = is_made(size);
+            puts("ok");
+        } else if (strncmp(line, "centre ", 7) == 0) {
             answer_centre(line + 7);
         } else {
             answer();
         }
         fflush(stdout);
     }
-    wisangub_centre_free(&centre);
-    wisangub_sign_free(&sign);
-    return made == WISANGUB_DONE ? 0 : 1;
+    free_both();
+    return status;
 }

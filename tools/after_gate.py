@@ -54,6 +54,7 @@ STEPS = (
     Step("no memory", "tools/no_memory.sh --built --count 1000", 120, "crates/dms_measures/out/libdms_measures.a"),
     Step("lasting", "tools/lasting.py --short {program}", 400),
     Step("conformance", "python3 -m conform.short", 500),
+    Step("library for C", "tools/c_library.py --short --program {program}", 300),
     Step("helps", "tools/helps.sh", 400),
     Step("control room", "python3 -m control.short --signtool {program}", 600),
     Step("house", "tools/house.py --check", 60),

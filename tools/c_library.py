@@ -1,13 +1,18 @@
 #!/usr/bin/env python3
 """The library for C against the vectors, the program and hostile callers: `tools/c_library.py` prints `N passed, N failed`.
 
-    tools/c_library.py [--library crates/wisangub_c/out/libwisangub_c.a] [--program PATH] [--seconds 60] [--seed 1]
+    tools/c_library.py [--short] [--library crates/wisangub_c/out/libwisangub_c.a] [--aarch64 LIBRARY] [--program PATH]
+        [--seconds 60] [--seed 1]
 
-Without --library it is built first, by `rt lib`. Needed is a C compiler; what else is not here is printed as `skipped
-NAME: why`. The examples are compiled with the sanitizers of addresses and of undefined behaviour. Every datagram,
-request, text, code and script of vectors/ goes through the library; talks of many lines are compared with the
-program's; each allocation of a talk is refused once; and mutated datagrams go in for --seconds. It needs no network but
-loopback, and leaves no process and no file.
+Without --library it is made first, by `rt lib`. Needed is a C compiler; what else is not here is printed as `skipped
+NAME: why`. Every datagram, request, text, code and script of vectors/ goes through the library, with the sanitizers of
+addresses and of undefined behaviour and under valgrind; talks of many lines are compared with the program's, with the
+whole walk after every call; each allocation of a talk is refused once; signd and tools/udp_sign.py go on from each
+other's journals; C++, CMake and pkg-config build with it; and mutated datagrams go in for --seconds. With --aarch64 the
+vectors go through that library too, for ARM64, under qemu-user.
+
+The short form begins nothing after 230 seconds, and stops `rt lib` after 150: what there is no time for is skipped by
+name. It needs no network but loopback, and leaves no process and no file.
 """
 
 from __future__ import annotations
@@ -21,12 +26,14 @@ import signal
 import subprocess
 import sys
 import tempfile
+import time
+from typing import Callable
 
-from c_trials import against_program, against_vectors, hostile, journals
-from c_trials.trial import TOP, Trial
+from c_trials import against_program, against_vectors, builds, hostile, journals
+from c_trials.trial import AARCH64, PLAIN, REFUSING, SANITIZE, SANITIZED, TOP, UNDER_VALGRIND, Trial, Way
 
 BUILT = TOP / "crates/wisangub_c/out/libwisangub_c.a"
-LIMIT = 150  # seconds of `rt lib`
+SHORT, MOST_LIB, LONG = 230.0, 150.0, 3600.0  # seconds of the short form, of `rt lib` in it, of `rt lib` else
 
 
 def built(trial: Trial) -> pathlib.Path | None:
@@ -34,33 +41,86 @@ def built(trial: Trial) -> pathlib.Path | None:
     if shutil.which("rt") is None:
         trial.skip("library", "here is no rt")
         return None
-    words = {"stdout": subprocess.PIPE, "stderr": subprocess.STDOUT, "start_new_session": True}
-    made = subprocess.Popen(["rt", "lib"], cwd=BUILT.parent.parent, **words)
+    begun, most = time.monotonic(), MOST_LIB if trial.is_short() else LONG
+    words = {"stdin": subprocess.DEVNULL, "stdout": subprocess.PIPE, "stderr": subprocess.STDOUT}
+    made = subprocess.Popen(["rt", "lib"], cwd=BUILT.parent.parent, start_new_session=True, **words)
     try:
-        said, _ = made.communicate(timeout=LIMIT)
+        said, _ = made.communicate(timeout=most)
     except subprocess.TimeoutExpired:
         os.killpg(made.pid, signal.SIGKILL)
         made.communicate()
-        trial.skip("library", f"rt lib took more than {LIMIT} seconds")
+        trial.skip("library", f"rt lib took more than {most:.0f} seconds")
         return None
-    is_made = trial.check("rt lib", made.returncode == 0, said[-2000:].decode(errors="replace"))
+    print(f"rt lib: {time.monotonic() - begun:.0f} s", flush=True)
+    is_made = trial.check("rt lib", made.returncode == 0, said[-600:].decode(errors="replace"))
     return BUILT if is_made else None
+
+
+def sanitized(trial: Trial, library: pathlib.Path) -> bool:
+    """Whether the examples are compiled with sanitizers; without their libraries they are skipped by name."""
+    source, tried = trial.folder / "empty.c", str(trial.folder / "empty")
+    source.write_text("int main(void) { return 0; }\n")
+    if trial.ran(["cc", *SANITIZE.split(), "-o", tried, str(source)])[0] or trial.ran([tried])[0]:
+        trial.skip("sanitizers", "this compiler has none for addresses and undefined behaviour")
+        return False
+    return trial.compiled(SANITIZED, library)
+
+
+def ways(trial: Trial, library: pathlib.Path, for_aarch64: pathlib.Path | None) -> list[Way]:
+    """How the vectors go through the library here."""
+    found = [SANITIZED] if sanitized(trial, library) else [PLAIN]
+    trial.way = found[0]
+    if trial.has("valgrind", "valgrind"):
+        found.append(UNDER_VALGRIND)
+    if for_aarch64 is None:
+        trial.skip("aarch64", "no library for it was named")
+    elif builds.is_for_aarch64(trial) and trial.compiled(AARCH64, for_aarch64):
+        found.append(AARCH64)
+    return found
+
+
+def all_tried(trial: Trial, library: pathlib.Path, for_aarch64: pathlib.Path | None, seconds: int, seed: int) -> None:
+    """What there is time for."""
+    if not all(trial.compiled(way, library) for way in (PLAIN, REFUSING)):
+        return
+    by = ways(trial, library, for_aarch64)
+    parts: list[tuple[str, Callable[[], None]]] = [
+        ("vectors", lambda: against_vectors.run(trial, trial.way)),
+        ("blink", lambda: hostile.blinked(trial)),
+        ("builds", lambda: builds.run(trial, library)),
+        ("refused memory", lambda: hostile.refusals(trial)),
+        ("mutated datagrams", lambda: hostile.mutated(trial, trial.way, trial.seconds(seconds), seed)),
+        ("the program", lambda: against_program.run(trial)),
+        ("journals", lambda: journals.run(trial)),
+    ]
+    parts += [(way.name, lambda way=way: against_vectors.run(trial, way)) for way in by[1:]]
+    if UNDER_VALGRIND in by:
+        parts.append(("valgrind of a talk", lambda: hostile.under_valgrind(trial)))
+    for name, part in parts:
+        begun = time.monotonic()
+        if trial.left() <= 0:
+            trial.skip(name, "there was no time left for it")
+            continue
+        part()
+        print(f"{name}: {time.monotonic() - begun:.0f} s, load {os.getloadavg()[0]:.1f}", flush=True)
 
 
 def main() -> int:
     words = argparse.ArgumentParser(description=__doc__, formatter_class=argparse.RawDescriptionHelpFormatter)
-    words.add_argument("--library", type=pathlib.Path)
+    words.add_argument("--short", action="store_true")
+    words.add_argument("--library", type=pathlib.Path, help="that is there already")
+    words.add_argument("--aarch64", type=pathlib.Path, metavar="LIBRARY", help="of `rt lib --target`, for ARM64")
     words.add_argument("--program", type=pathlib.Path, default=TOP / "crates/signtool/out/signtool")
-    words.add_argument("--seconds", type=int, default=60)
+    words.add_argument("--seconds", type=int, default=60, help="of mutated datagrams")
     words.add_argument("--seed", type=int, default=1)
     asked = words.parse_args()
+    ends = time.monotonic() + SHORT if asked.short else float("inf")
+    for_aarch64 = asked.aarch64.absolute() if asked.aarch64 else None
     with tempfile.TemporaryDirectory(prefix="c-library-") as folder:
-        trial = Trial(pathlib.Path(folder), asked.program.absolute(), random.Random(asked.seed))
+        trial = Trial(pathlib.Path(folder), asked.program.absolute(), random.Random(asked.seed), ends)
         library = asked.library or built(trial)
-        if library is not None and trial.compiled(library.absolute()):
-            for run in (against_vectors.run, against_program.run, journals.run, hostile.run):
-                run(trial)
-            hostile.mutated(trial, asked.seconds, asked.seed)
+        if library is not None:
+            all_tried(trial, library.absolute(), for_aarch64, asked.seconds, asked.seed)
     print(f"{trial.passed} passed, {trial.failed} failed")
     return 1 if trial.failed else 0
 

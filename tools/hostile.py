@@ -1,7 +1,7 @@
 #!/usr/bin/env python3
 """Puts hostile datagrams through `signtool replay`, at both ends, and looks that nothing was harmed.
 
-    tools/hostile.py [--count 20000] [--seed 1] [--program crates/signtool/out/signtool] [--print]
+    tools/hostile.py [--count 20000] [--seed 1] [--program crates/signtool/out/signtool] [--print | --udp [--door PATH]]
 
 A publication to the bench sign is carried out datagram by datagram, and before each of its events a share of hostile
 datagrams is handed to the sign and to the centre: requests and replies whose fields are changed (forms of lengths, tag
@@ -12,7 +12,9 @@ end could tell from its partner: a SET that is in order and has the writing comm
 waits for. A script holds at most 1,048,576 octets, so as many scripts are run as the count needs. Of each report every
 line is foretold, the number of the sign's replies too, by the reader of tools/model.
 
-It prints what each script took, and last `N passed, M failed`. With --print it prints the first script alone.
+It prints what each script took, and last `N passed, M failed`. With --print it prints the first script alone. With --udp
+the datagrams to the sign, and those that are left out too, go to a sign's door over UDP, tools/udp_sign.py or that of
+--door (examples/signd.c), and each reply has to be the model's.
 """
 
 import argparse
@@ -23,9 +25,12 @@ import random
 import resource
 import subprocess
 import sys
+import tempfile
 import time
 
 from model import wire
+from trials import hostile_udp
+from trials.bench import Trial
 
 MOST_INPUT = 1_048_576
 MOST_DATAGRAM = wire.MOST_DATAGRAM
@@ -362,6 +367,27 @@ def random_scripts(maker, count):
         yield made
 
 
+def all_to_sign(maker, count):
+    """Every datagram near the first request, and so many random ones, those that change the sign too."""
+    kinds = [GET, GET, GET_NEXT, GET_NEXT, SET, SET, SET, RESPONSE, TRAP]
+    yield from alike(REQUEST)
+    for _ in range(count):
+        yield maker.hostile(kinds, maker.bound())
+
+
+def over_udp(asked, maker):
+    """To a sign's door."""
+    with tempfile.TemporaryDirectory() as folder:
+        trial = Trial(os.path.abspath(asked.program), False, maker.random, pathlib.Path(folder))
+        trial.other = os.path.abspath(asked.door) if asked.door else None
+        try:
+            hostile_udp.run(trial, all_to_sign(maker, asked.count))
+        finally:
+            trial.end()
+    print(f"{trial.passed} passed, {trial.failed} failed")
+    return 1 if trial.failed else 0
+
+
 def run(program, text):
     before = time.monotonic()
     ended = subprocess.run([program, "replay"], input=text.encode(), capture_output=True, timeout=60, check=False)
@@ -369,12 +395,14 @@ def run(program, text):
 
 
 def main():
-    words = argparse.ArgumentParser(description="hostile datagrams through signtool replay")
+    words = argparse.ArgumentParser(description=__doc__, formatter_class=argparse.RawDescriptionHelpFormatter)
     top = pathlib.Path(__file__).resolve().parent.parent
     words.add_argument("--count", type=int, default=20000)
     words.add_argument("--seed", type=int, default=1)
     words.add_argument("--program", default=str(top / "crates/signtool/out/signtool"))
     words.add_argument("--print", action="store_true")
+    words.add_argument("--udp", action="store_true", help="to a sign's door")
+    words.add_argument("--door", metavar="PATH", help="another sign's door, such as examples/out/signd")
     asked = words.parse_args()
     maker = Maker(asked.seed)
     if asked.print:
@@ -383,6 +411,8 @@ def main():
     if not os.access(asked.program, os.X_OK):
         print(f"no program at {asked.program}: tools/build.py builds it", file=sys.stderr)
         return 2
+    if asked.udp or asked.door:
+        return over_udp(asked, maker)
     passed = failed = 0
     for text, done, report in itertools.chain(near_scripts(), random_scripts(maker, asked.count)):
         ended, seconds = run(asked.program, text)

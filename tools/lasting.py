@@ -1,13 +1,14 @@
 #!/usr/bin/env python3
 """Ends that outlive their process: doors that are killed, disks that refuse, journals that are changed.
 
-    tools/lasting.py [--short] [--seed 1] [--only WORD] [PROGRAM]
+    tools/lasting.py [--short] [--seed 1] [--only WORD] [--door PATH] [PROGRAM]
 
-The program is signtool, or another that answers the same lines: tools/coprocess_model.py. The short form takes at most
-two minutes. It prints what does not hold, a line when a kind of trial is over, and last `N passed, N failed`, with
-`, N skipped` where something cannot be tried here. How long anything is waited for goes by what a door's start takes on
-this machine; a kind of trial that hangs is ended and counts as failed, with where it stood, and the others go on. It
-needs no network but loopback, and leaves no process and no file.
+The program is signtool, or another that answers the same lines: tools/coprocess_model.py. With --door the sign's door is
+that program, examples/signd.c's, in place of tools/udp_sign.py, and what is of our doors alone is left out. The short
+form takes at most two minutes. It prints what does not hold, a line when a kind of trial is over, and last `N passed,
+N failed`, with `, N skipped` where something cannot be tried here. How long anything is waited for goes by what a
+door's start takes on this machine; a kind of trial that hangs is ended and counts as failed, with where it stood, and
+the others go on. It needs no network but loopback, and leaves no process and no file.
 """
 
 import argparse
@@ -41,23 +42,24 @@ class Kind:
 
     run: Callable[[Trial], None]
     share: float = 5.0
+    is_ours: bool = False  # it is of the parts of our doors, or of a centre's door
 
 
 KINDS = {
-    "parts": Kind(parts.run),
+    "parts": Kind(parts.run, is_ours=True),
     "kills": Kind(lambda trial: kills.run(trial, 24 if trial.is_short else 1000), 11.0),
     "faults": Kind(faults.run, 8.0),
-    "centres": Kind(lambda trial: centres.run(trial, 6 if trial.is_short else 200), 11.0),
+    "centres": Kind(lambda trial: centres.run(trial, 6 if trial.is_short else 200), 11.0, True),
     "files": Kind(files.run, 6.0),
     "gets": Kind(gets.run),
-    "spelled": Kind(spelled.run, 4.0),
+    "spelled": Kind(spelled.run, 4.0, True),
     "disks": Kind(disks.run, 4.0),
     "downs": Kind(downs.run),
     "stops": Kind(stops.run, 8.0),
     "streams": Kind(streams.run, 4.0),
-    "words": Kind(words.run, 8.0),
-    "operators": Kind(operators.run, 8.0),
-    "logs": Kind(logs.run, 3.0),
+    "words": Kind(words.run, 8.0, True),
+    "operators": Kind(operators.run, 8.0, True),
+    "logs": Kind(logs.run, 3.0, True),
     "year": Kind(year.run, 3.0),
     "speed": Kind(speed.run, 3.0),
 }
@@ -87,6 +89,8 @@ def all_tried(trial: Trial, only: str | None) -> None:
     print(f"a door starts in {PACE.start():.2f} s: waits of at most {PACE.patience():.0f} s", flush=True)
     kinds = [(name, kind) for name, kind in KINDS.items() if only in (None, name)]
     for at, (name, kind) in enumerate(kinds):
+        if kind.is_ours and not trial.is_ours(name):
+            continue
         now, shares = time.monotonic(), sum(later.share for _, later in kinds[at:])
         if trial.is_short and now > enough:
             trial.skip(name, "this machine is too busy for it in the short form")
@@ -100,6 +104,7 @@ def main() -> int:
     options.add_argument("program", nargs="?", default=str(SIGNTOOL))
     options.add_argument("--short", action="store_true", help="at most two minutes")
     options.add_argument("--seed", type=int, default=1)
+    options.add_argument("--door", metavar="PATH", help="another sign's door, such as examples/out/signd")
     options.add_argument("--only", choices=sorted(KINDS), help="one kind of trial alone")
     asked = options.parse_args()
     if not os.access(asked.program, os.X_OK):
@@ -109,6 +114,7 @@ def main() -> int:
         faulthandler.dump_traceback_later(MOST_IN_ALL, exit=True)
     with tempfile.TemporaryDirectory() as folder:
         trial = Trial(os.path.abspath(asked.program), asked.short, random.Random(asked.seed), pathlib.Path(folder))
+        trial.other = os.path.abspath(asked.door) if asked.door else None
         try:
             all_tried(trial, asked.only)
         finally:

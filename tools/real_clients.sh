@@ -1,12 +1,19 @@
 #!/usr/bin/env bash
-# SNMP programs of others talk to a sign over UDP: `tools/real_clients.sh [CO-PROCESS]` prints `N passed, N failed`.
+# SNMP programs of others talk to a sign over UDP: `tools/real_clients.sh [--door PATH] [CO-PROCESS]` prints `N passed,
+# N failed`.
 #
-# Needed are Debian's snmp, smitools, tshark and python3-pysnmp4. The co-process is signtool, or another that answers the same
-# lines: tools/coprocess_model.py. One datagram in five is lost where a centre of ours publishes to the sign. With SIGND=PATH in
-# the environment the signs are those of examples/signd, which loses none and does not tell what it accepts.
+# Needed are Debian's snmp, smitools, tshark and python3-pysnmp4. The co-process is signtool, or another that answers the
+# same lines: tools/coprocess_model.py. One datagram in five is lost where a centre of ours publishes to the sign. With
+# --door the sign's door is that program, examples/signd.c's, which loses none and does not tell what it accepts.
 set -u
 case " $* " in *" --help "*) sed -n '2,/^[^#]/s/^# \{0,1\}//p' "$0"; exit ;; esac
 top=$(cd "$(dirname "$0")/.." && pwd)
+signd=
+if [ "${1:-}" = --door ]; then
+    signd=${2:?--door PATH}
+    shift 2
+    [ -x "$signd" ] || { echo "no program at $signd" >&2; exit 2; }
+fi
 program=${1:-$top/crates/signtool/out/signtool}
 for needed in snmpget snmpgetnext snmpset snmpwalk smilint tshark; do
     command -v $needed > /dev/null || { echo "$needed is not here: apt-get install snmp smitools tshark python3-pysnmp4" >&2; exit 2; }
@@ -35,9 +42,11 @@ is() {
 # door WORDS..: a new sign at a port of its own
 door() {
     port=$((port + 1))
-    if [ -n "${SIGND:-}" ]; then
-        [ "${1:-}" = --sign ] && sign=$2 || sign=$folder/bench.sign
-        "$SIGND" --port $port "$sign" > "$folder/door.$port" 2>&1 &
+    if [ -n "$signd" ]; then
+        local sign=$folder/bench.sign ticks=
+        [ "${1:-}" = --sign ] && sign=$2
+        [ "${1:-}" = --no-ticks ] && ticks=--no-ticks
+        "$signd" --port $port $ticks "$sign" > "$folder/door.$port" 2>&1 &
     else
         python3 "$top/tools/udp_sign.py" --port $port --signtool "$program" "$@" > "$folder/door.$port" 2>&1 &
     fi
@@ -125,7 +134,7 @@ writes dmsActivateMessage.0 x FFFFFF0300019A667F000001 > "$folder/set"
 is "activated" "$(reads dmsActivateMsgError.0)" none
 is "the text that is shown" "$(reads dmsMessageMultiString.5.1)" '"A"'
 is "who activated it" "$(reads dmsMsgRequesterID.0)" 127.0.0.1
-[ -n "${SIGND:-}" ] || is "the door says so" "$(grep -c 'accepted ffffff0300019a667f000001' "$folder/door.$port")" 1
+[ -n "$signd" ] || is "the door says so" "$(grep -c 'accepted ffffff0300019a667f000001' "$folder/door.$port")" 1
 
 # --- by pysnmp --------------------------------------------------------------------------------------------------------------
 if python3 -c 'import pysnmp' 2> /dev/null; then clients=python3; else clients=/usr/bin/python3; fi

@@ -107,11 +107,8 @@ completions() {
 library() {
     local built=crates/wisangub_c/out/libwisangub_c.a
     [ -f "$built" ] || return 0
-    install -D -m 644 "$built" "$usr/lib/libwisangub_c.a"
-    install -D -m 644 "$source/include/wisangub.h" "$usr/include/wisangub.h"
-    mkdir -p "$usr/lib/pkgconfig"
-    sed -e 's#@prefix@#${pcfiledir}/../..#' -e "s/@version@/$version/" "$source/examples/wisangub.pc.in" \
-        > "$usr/lib/pkgconfig/wisangub.pc"
+    make -s -C "$source/examples" install LIBRARY="$PWD/$built" OUT="$room/c" PREFIX="$usr" \
+        PC_PREFIX='$${pcfiledir}/../..' VERSION="$version"
     cp -R "$source/examples" "$usr/share/doc/wisangub/"
 }
 

@@ -1,15 +1,24 @@
-"""Talks of many lines, with the library and with the program."""
+"""Talks of many lines, with the library and with the program; and the whole walk of both after every call."""
 
 from __future__ import annotations
 
+import itertools
 import os
+import pathlib
+import subprocess
+import threading
+from typing import BinaryIO
 
-from model.text import BENCH
+from model import text, wire
+from model.sign import Sign
 
 from .against_vectors import cases
-from .trial import SIGNS, Trial, described
+from .trial import MOST_TALK, SIGNS, Trial, described
 
 LINES = 2000
+WALKED, WALKED_SHORT = 1000, 60  # calls with a walk after each
+PREFIXES, PREFIXES_SHORT = 150, 12  # talks with a walk at the end alone
+AT_ONCE = 30  # names of a Get of a walk
 COMMANDS = (
     "publish 3 1 41 - 0 0 200 65535 255 192.0.2.1",
     "publish 4 1 5b6e705d - 1 1 1 5 255 192.0.2.1",
@@ -19,32 +28,36 @@ COMMANDS = (
     "sign-tick",
     "",
 )
+OTHERS = ("tick", "tick", "ticks 61", "heard", "power-lost", "power-back 3", "power-back 9999", "state", "show", "x")
+BENCH = text.BENCH.decode("latin-1")
 
 
-def sign_lines(trial: Trial) -> list[str]:
+def datagrams(which: str) -> list[str]:
+    """Lines of the requests or the replies of the vectors, and of all datagrams."""
+    octets = [case[which] or "-" for case in cases("requests")] + [case["octets"] or "-" for case in cases("datagrams")]
+    return [f"datagram {one}" for one in octets]
+
+
+def sign_lines(trial: Trial, count: int = LINES) -> list[str]:
     """Requests of the vectors in any order, seconds, losses of power, and what is shown."""
-    octets = [case["request"] or "-" for case in cases("requests")] + [case["octets"] or "-" for case in cases("datagrams")]
-    lines = []
-    for _ in range(LINES):
-        chance = trial.chance.random()
-        if chance < 0.8:
-            lines.append(f"datagram {trial.chance.choice(octets)}")
-        else:
-            other = ("tick", "tick", "ticks 61", "heard", "power-lost", "power-back 3", "power-back 9999", "state", "show", "x")
-            lines.append(trial.chance.choice(other))
-    return lines
+    octets = datagrams("request")
+    return [trial.chance.choice(octets if trial.chance.random() < 0.8 else OTHERS) for _ in range(count)]
 
 
-def centre_lines(trial: Trial) -> list[str]:
-    octets = [case["reply"] or "-" for case in cases("requests")] + [case["octets"] or "-" for case in cases("datagrams")]
+def centre_lines(trial: Trial, count: int = LINES) -> list[str]:
+    octets = datagrams("reply")
+    others = (*COMMANDS, "tick", "tick", "status", "restart")
+    return [trial.chance.choice(octets if trial.chance.random() < 0.5 else others) for _ in range(count)]
+
+
+def walk() -> list[str]:
+    """Gets of every instance of the bench sign, and what it shows."""
+    names = Sign(text.bench()).instances()
     lines = []
-    for _ in range(LINES):
-        chance = trial.chance.random()
-        if chance < 0.5:
-            lines.append(f"datagram {trial.chance.choice(octets)}")
-        else:
-            lines.append(trial.chance.choice((*COMMANDS, "tick", "tick", "status", "restart")))
-    return lines
+    for at in range(0, len(names), AT_ONCE):
+        bindings = [(name, (wire.NULL, b"")) for name in names[at : at + AT_ONCE]]
+        lines.append(f"datagram {wire.written(wire.Message(wire.GET, b'public', at, 0, 0, bindings)).hex()}")
+    return [*lines, "state", "show"]
 
 
 def as_told(answer: str) -> str:
@@ -53,28 +66,61 @@ def as_told(answer: str) -> str:
     return f"reply {rest.partition(' ')[2]}" if word == "accepted" else answer
 
 
+def lines_of(file: BinaryIO) -> "itertools.chain[str]":
+    return (line.decode("latin-1").rstrip("\n") for line in file)  # type: ignore[return-value]
+
+
 def compare(trial: Trial, name: str, end: str, description: str, lines: list[str]) -> None:
+    """Both answer the same lines in the same way."""
     prefix = "centre " if end == "centre" else ""
-    status, theirs = trial.ran([str(trial.program), end, "--sign"], description + "".join(f"{line}\n" for line in lines))
-    wanted = [as_told(line) for line in theirs.split("\n")]
-    if not trial.check(f"{name}: the program", status == 0, theirs[-300:]):
-        return
-    status, ours = trial.ran(
-        [str(trial.folder / "sanitized" / "talk")], description + "".join(f"{prefix}{line}\n" for line in lines)
-    )
-    found = ours.split("\n")
-    place = next((at for at, (one, other) in enumerate(zip(found, wanted)) if one != other), min(len(found), len(wanted)))
-    told = f"line {place + 1} of the answers: found {found[place:][:1]}, wanted {wanted[place:][:1]}, exit {status}"
-    trial.check(name, status == 0 and found == wanted, told)
+    inputs = {"theirs": "".join(f"{line}\n" for line in lines), "ours": "".join(f"{prefix}{line}\n" for line in lines)}
+    calls = {"theirs": [str(trial.program), end, "--sign"], "ours": trial.called(trial.way, "talk")}
+    processes = {}
+    for which, words in calls.items():
+        asked: pathlib.Path = trial.folder / f"{which}.lines"
+        asked.write_text(description + inputs[which], encoding="latin-1")
+        with open(asked, "rb") as stdin:
+            processes[which] = subprocess.Popen(words, stdin=stdin, stdout=subprocess.PIPE, stderr=subprocess.DEVNULL)
+    late = threading.Timer(MOST_TALK, lambda: [process.kill() for process in processes.values()])
+    late.start()
+    found, wanted = (lines_of(processes[which].stdout) for which in ("ours", "theirs"))  # type: ignore[arg-type]
+    pairs = enumerate(itertools.zip_longest(found, wanted), 1)
+    other = next(((at, one, two) for at, (one, two) in pairs if one is None or two is None or one != as_told(two)), None)
+    if other:
+        for process in processes.values():
+            process.kill()
+    statuses = [process.wait() for process in processes.values()]
+    late.cancel()
+    for process in processes.values():
+        assert process.stdout is not None
+        process.stdout.close()
+    told = f"line {other[0]} of the answers: found {other[1]!r:.200}, wanted {other[2]!r:.200}" if other else ""
+    trial.check(name, other is None and statuses == [0, 0], f"{told}, exit {statuses}")
+
+
+def walks(trial: Trial) -> None:
+    """The whole walk, what is shown and its pages after every call; a centre's status and ledger after every call. A
+    Get ends the silence of a sign, so calls are tried without walks between them too: each beginning of a talk, with
+    one walk after it."""
+    gets, count = walk(), WALKED_SHORT if trial.is_short() else WALKED
+    lines = [one for line in sign_lines(trial, count) for one in (line, *gets)]
+    compare(trial, f"the whole walk after each of {count} calls", "sign", BENCH, lines)
+    lines = [one for line in centre_lines(trial, count) for one in (line, "status")]
+    compare(trial, f"the ledger after each of {count} calls", "centre", BENCH, lines)
+    lines = sign_lines(trial, PREFIXES)
+    step = PREFIXES // PREFIXES_SHORT if trial.is_short() else 1
+    for size in range(step, PREFIXES + 1, step):
+        if trial.left() > 0:
+            compare(trial, f"the whole walk after {size} calls without one", "sign", BENCH, [*lines[:size], *gets])
 
 
 def run(trial: Trial) -> None:
     if not os.access(trial.program, os.X_OK):
         trial.skip("talks with the program", f"there is none at {trial.program}")
         return
-    descriptions = [("bench", BENCH.decode("latin-1")), *((sign, described(sign)) for sign in SIGNS)]
-    for name, description in descriptions:
-        lines = [line for line in description.split("\n") if not line.startswith("#")]
-        text = "\n".join(lines[: lines.index("end") + 1]) + "\n"
-        compare(trial, f"a talk with a sign, {name}", "sign", text, sign_lines(trial))
-        compare(trial, f"a talk with a central system, {name}", "centre", text, centre_lines(trial))
+    compare(trial, "each request and datagram, one after the other", "sign", BENCH, datagrams("request"))
+    compare(trial, "each reply and datagram, one after the other", "centre", BENCH, datagrams("reply"))
+    for name, description in [("bench", BENCH), *((sign, described(sign)) for sign in SIGNS)]:
+        compare(trial, f"a talk with a sign, {name}", "sign", description, sign_lines(trial))
+        compare(trial, f"a talk with a central system, {name}", "centre", description, centre_lines(trial))
+    walks(trial)

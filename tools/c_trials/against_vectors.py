@@ -5,67 +5,97 @@ from __future__ import annotations
 import json
 from typing import Any, Iterator
 
-from model.text import BENCH
+from model import text
+from model.sign import Sign
 
-from .trial import SIGNS, TOP, Talk, Trial
+from .trial import SIGNS, TOP, Talk, Trial, Way
 
-DESCRIPTION = BENCH.decode("latin-1")
+DESCRIPTION = text.BENCH.decode("latin-1")
 
 
 def cases(name: str) -> list[dict[str, Any]]:
     return [json.loads(line) for line in (TOP / "vectors" / f"{name}.jsonl").read_text(encoding="utf-8").splitlines()]
 
 
-def headers(trial: Trial) -> None:
+class Named:
+    """Trials of one way, which their names begin with."""
+
+    def __init__(self, trial: Trial, way: Way) -> None:
+        self.trial, self.way = trial, way
+
+    def same(self, name: str, found: object, wanted: object) -> None:
+        self.trial.same(f"{self.way.name}: {name}", found, wanted)
+
+    def check(self, name: str, is_so: bool, told: object = "") -> None:
+        self.trial.check(f"{self.way.name}: {name}", is_so, told)
+
+    def talk(self, description: str = DESCRIPTION) -> Talk:
+        return self.trial.talk(description, self.way)
+
+    def over(self, name: str, talk: Talk) -> None:
+        """A talk ended well: nothing was said of memory, leaks or undefined behaviour."""
+        status = talk.end()
+        self.check(f"{name}: its end", status == 0 and not talk.faults, f"exit {status}: {talk.faults!r}")
+
+
+def headers(named: Named) -> None:
     """Null, zero and short buffers at each function of the header."""
-    for kind in ("sanitized", "plain"):
-        for sign in SIGNS:
-            status, text = trial.ran([str(trial.folder / kind / "header_test"), str(TOP / "signs" / f"{sign}.sign")])
-            trial.check(f"header_test, {kind}, {sign}", (status, text) == (0, "ok\n"), text)
+    for sign in SIGNS:
+        words = named.trial.called(named.way, "header_test", str(TOP / "signs" / f"{sign}.sign"))
+        status, said = named.trial.ran(words)
+        named.check(f"header_test, {sign}", (status, said) == (0, "ok\n"), said)
 
 
-def requests(trial: Trial) -> None:
-    """Each request to the bench sign as it starts; what changes nothing goes to one process."""
-    found = cases("requests")
-    with trial.talk(DESCRIPTION) as talk:
-        for case in found:
-            if not case["changes"]:
-                one_request(trial, talk, case)
-    for case in found:
-        if case["changes"]:
-            with trial.talk(DESCRIPTION) as talk:
-                one_request(trial, talk, case)
+def requests(named: Named) -> None:
+    """Each request to the bench sign as it starts."""
+    with named.talk() as talk:
+        for case in cases("requests"):
+            wanted = "dropped" if case["reply"] is None else f"reply {case['reply']}"
+            named.same(f"request: {case['name']}", talk.ask(f"datagram {case['request'] or '-'}"), wanted)
+            if case["changes"]:
+                named.same("a sign that is made anew", talk.ask("anew"), "ok")
+        named.over("requests", talk)
 
 
-def one_request(trial: Trial, talk: Talk, case: dict[str, Any]) -> None:
-    wanted = "dropped" if case["reply"] is None else f"reply {case['reply']}"
-    trial.same(f"request: {case['name']}", talk.ask(f"datagram {case['request'] or '-'}"), wanted)
+def datagrams(named: Named) -> None:
+    """Each datagram to both ends as they start: the sign's reply is the model's, and the central system sends nothing."""
+    with named.talk() as talk:
+        for case in cases("datagrams"):
+            octets = case["octets"] or "-"
+            reply, _ = Sign(text.bench()).receive(bytes.fromhex(case["octets"]))
+            wanted = "dropped" if reply is None else f"reply {reply.hex()}"
+            named.same(f"datagram to a sign: {case['name']}", talk.ask(f"datagram {octets}"), wanted)
+            named.same(f"datagram to a central system: {case['name']}", talk.ask(f"centre datagram {octets}"), "ok")
+            talk.ask("anew")
+        named.over("datagrams", talk)
 
 
-def texts(trial: Trial) -> None:
+def texts(named: Named) -> None:
     """The pages of each text on the bench sign, or its fault."""
-    with trial.talk(DESCRIPTION) as talk:
+    with named.talk() as talk:
         for case in cases("texts"):
             octets = case["text"].encode("latin-1").hex() or "-"
             if "pages" in case:
                 count = sum(line.startswith("page ") for line in case["pages"])
-                trial.same(f"check: {case['name']}", talk.ask(f"check {octets}"), f"ok pages {count}")
-                trial.same(f"pages: {case['name']}", talk.ask_lines(f"pages {octets}")[:-1], case["pages"])
+                named.same(f"check: {case['name']}", talk.ask(f"check {octets}"), f"ok pages {count}")
+                named.same(f"pages: {case['name']}", talk.ask_lines(f"pages {octets}")[:-1], case["pages"])
             else:
                 wanted = f"fault {case['fault']['code']} at {case['fault']['offset']}"
-                trial.same(f"check: {case['name']}", talk.ask(f"check {octets}"), wanted)
-                trial.same(f"pages: {case['name']}", talk.ask(f"pages {octets}"), wanted)
+                named.same(f"check: {case['name']}", talk.ask(f"check {octets}"), wanted)
+                named.same(f"pages: {case['name']}", talk.ask(f"pages {octets}"), wanted)
+        named.over("texts", talk)
 
 
-def codes(trial: Trial) -> None:
+def codes(named: Named) -> None:
     """The checksum and both codes of each message."""
-    with trial.talk(DESCRIPTION) as talk:
+    with named.talk() as talk:
         for case in cases("codes"):
             octets = case["text"].encode("latin-1").hex() or "-"
             words = [int(case["swapped"]), case["type"], case["number"], octets, case["beacon"], case["pixel"]]
             words += [case["duration"], case["priority"], case["address"]]
             wanted = f"crc {case['checksum']} id {case['code'][6:16]} code {case['code']}"
-            trial.same(f"code: {case['name']}", talk.ask("code " + " ".join(map(str, words))), wanted)
+            named.same(f"code: {case['name']}", talk.ask("code " + " ".join(map(str, words))), wanted)
+        named.over("codes", talk)
 
 
 def events_of(script: str) -> tuple[str, list[str]]:
@@ -121,23 +151,32 @@ class World:
         yield from (line for line in self.talk.ask_lines("centre status") if line.startswith("ledger "))
 
 
-def scripts(trial: Trial) -> None:
-    """Each script that is read, with both ends in one process."""
+def scripts(named: Named) -> None:
+    """Each script that is read, with both ends in one process; scripts of one description one after the other."""
+    by_description: dict[str, list[tuple[dict[str, Any], list[str]]]] = {}
     for case in cases("scripts"):
-        if "report" not in case:
-            continue
-        description, events = events_of(case["script"])
-        with trial.talk(description) as talk:
-            world = World(talk)
-            for event in events:
-                world.happen(event)
-            wanted = [line for line in case["report"] if not line.startswith(("events ", "accepted "))]
-            trial.same(f"script: {case['name']}", list(world.report()), wanted)
+        if "report" in case:
+            description, events = events_of(case["script"])
+            by_description.setdefault(description, []).append((case, events))
+    for description, some in by_description.items():
+        with named.talk(description) as talk:
+            for case, events in some:
+                world = World(talk)
+                for event in events:
+                    world.happen(event)
+                wanted = [line for line in case["report"] if not line.startswith(("events ", "accepted "))]
+                named.same(f"script: {case['name']}", list(world.report()), wanted)
+                talk.ask("anew")
+            named.over("scripts", talk)
 
 
-def run(trial: Trial) -> None:
-    headers(trial)
-    requests(trial)
-    texts(trial)
-    codes(trial)
-    scripts(trial)
+PARTS = (headers, requests, datagrams, texts, codes, scripts)
+
+
+def run(trial: Trial, way: Way) -> None:
+    """All vectors by one way; in the short form those parts for which there is time."""
+    for part in PARTS:
+        if trial.left() > 0:
+            part(Named(trial, way))
+        else:
+            trial.skip(f"{way.name}, {part.__name__}", "there was no time left for it")

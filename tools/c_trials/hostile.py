@@ -1,32 +1,28 @@
-"""Want of memory at each allocation, mutated datagrams, valgrind, and ARM64."""
+"""Want of memory at each allocation, mutated datagrams, and valgrind."""
 
 from __future__ import annotations
 
-import shutil
+import itertools
 
 from .against_vectors import cases
-from .trial import TOP, Trial, described
+from .trial import PLAIN, REFUSING, TOP, UNDER_VALGRIND, Trial, Way, described
 
-MOST_CALLS = 400  # allocations that are refused one after the other
-VALGRIND = ["valgrind", "-q", "--error-exitcode=9", "--leak-check=full", "--errors-for-leak-kinds=all"]
+MOST_CALLS = 2000  # allocations of a talk
+MOST_START = 60  # seconds beside those that are asked for
 ROADSIDE = str(TOP / "signs" / "roadside.sign")
-
-
-def sign_text() -> str:
-    lines = [line for line in described("roadside").split("\n") if not line.startswith("#")]
-    return "\n".join(lines[: lines.index("end") + 1]) + "\n"
+MANY = ("show", "bits", "state", "centre status", "pages 415b6e705d42")  # lines that are answered by many
 
 
 def lines_of_a_talk() -> list[str]:
     """A line of each kind that takes memory, and some that take none."""
     requests = [case["request"] for case in cases("requests") if case["reply"]]
     return [
+        "state",
         "show",
         "pages 415b6e705d42",
         "pages 5b",
         "check 41",
         "bits",
-        "state",
         *(f"datagram {octets}" for octets in requests[:3]),
         "centre blank 1 5 255 192.0.2.1",
         "centre tick",
@@ -35,49 +31,42 @@ def lines_of_a_talk() -> list[str]:
         "centre restart",
         "centre status",
         "code 0 3 1 41 0 0 65535 255 192.0.2.1",
+        "anew",
+        "state",
     ]
 
 
+def told(trial: Trial, call: int) -> tuple[int, list[str]]:
+    """A talk whose allocation of this number is refused: how often memory was wanting, and all answers."""
+    with trial.talk(described("roadside"), REFUSING, REFUSED_CALL=str(call)) as talk:
+        found = [talk.first("check 41")]
+        for line in lines_of_a_talk():
+            found += talk.ask_lines(line) if line in MANY else [talk.ask(line)]
+        status = talk.end()
+    return talk.refused, [*found, f"exit {status}", talk.faults.decode("latin-1")]
+
+
 def refusals(trial: Trial) -> None:
-    """The talk with each allocation refused once: what wants memory says so, and answers as ever when it is asked again."""
-    text = sign_text()
-
-    def told(call: int) -> list[str] | None:
-        """All answers; None where the sign or the central system was not made."""
-        with trial.talk(text, "refusing", REFUSED_CALL=str(call)) as talk:
-            talk.write("state\n")
-            if talk.line() == "memory":
-                return None
-            talk.line()
-            return [
-                found
-                for line in lines_of_a_talk()
-                for found in (
-                    talk.ask_lines(line)
-                    if line in ("show", "bits", "state", "centre status", "pages 415b6e705d42")
-                    else [talk.ask(line)]
-                )
-            ]
-
-    wanted = told(0)
-    made = [found for found in map(told, range(1, MOST_CALLS + 1)) if found is not None]
-    trial.check("refused memory: the sign is not made", len(made) < MOST_CALLS, "no call was refused while it was made")
-    for found in made:
-        trial.same("refused memory", found, wanted)
+    """A talk with each of its allocations refused, in turn: what wants memory says so once, nothing has changed, and when
+    it is asked again it is answered as ever. The first number at which none is refused ends it."""
+    _, wanted = told(trial, 0)
+    for call in itertools.count(1):
+        refused, found = told(trial, call)
+        if refused == 0 or call > MOST_CALLS:
+            break
+        trial.same(f"allocation {call} is refused: how often memory is wanting", refused, 1)
+        trial.same(f"allocation {call} is refused: the answers", found, wanted)
+    trial.check("all allocations of a talk are refused", 20 < call < MOST_CALLS and found == wanted, (call, found))
+    print(f"allocations that were refused: {call - 1}")
 
 
-def valgrind(trial: Trial) -> None:
-    if shutil.which("valgrind") is None:
-        trial.skip("valgrind", "it is not here")
-        return
-    status, text = trial.ran([*VALGRIND, str(trial.folder / "plain" / "header_test"), ROADSIDE])
-    trial.check("valgrind: header_test", (status, text) == (0, "ok\n"), text)
-    status, text = trial.ran(
-        [*VALGRIND, str(trial.folder / "plain" / "talk")], sign_text() + "".join(f"{line}\n" for line in lines_of_a_talk())
+def under_valgrind(trial: Trial) -> None:
+    """What is not in the vectors: a talk that takes memory, and mutated datagrams."""
+    status, said = trial.ran(
+        trial.called(UNDER_VALGRIND, "talk"), described("roadside") + "".join(f"{line}\n" for line in lines_of_a_talk())
     )
-    trial.check("valgrind: a talk", status == 0 and "==" not in text, text[-600:])
-    status, text = trial.ran([*VALGRIND, str(trial.folder / "plain" / "mutated"), ROADSIDE, "3", "1"], datagrams())
-    trial.check("valgrind: mutated datagrams", status == 0, text[-600:])
+    trial.check("valgrind: a talk", status == 0 and "==" not in said, said[-600:])
+    mutated(trial, UNDER_VALGRIND, 3, 1)
 
 
 def datagrams() -> str:
@@ -87,14 +76,25 @@ def datagrams() -> str:
     return "".join(f"{one}\n" for one in octets)
 
 
-def mutated(trial: Trial, seconds: int, seed: int) -> None:
-    """Datagrams that are changed, for so many seconds, with the sanitizers."""
-    words = [str(trial.folder / "sanitized" / "mutated"), ROADSIDE, str(seconds), str(seed)]
-    status, text = trial.ran(words, datagrams(), seconds + 60)
-    trial.check("mutated datagrams", status == 0 and text.endswith("replies\n"), text[-600:])
-    print(f"mutated datagrams: {text.strip()[-100:]}")
+def mutated(trial: Trial, way: Way, seconds: int, seed: int) -> None:
+    """Datagrams that are changed, for so many seconds."""
+    words = trial.called(way, "mutated", ROADSIDE, str(seconds), str(seed))
+    status, said = trial.ran(words, datagrams(), seconds + MOST_START)
+    trial.check(f"{way.name}: mutated datagrams", status == 0 and said.endswith("replies\n"), said[-600:])
+    print(f"mutated datagrams, {way.name}, {seconds} s: {said.strip()[-100:]}", flush=True)
 
 
-def run(trial: Trial) -> None:
-    refusals(trial)
-    valgrind(trial)
+def blinked(trial: Trial) -> None:
+    """examples/blink.c publishes a text and draws its cells; a text that is at fault is told by the step."""
+    sign = described("roadside")
+    for way in {PLAIN, trial.way}:
+        status, said = trial.ran(trial.called(way, "blink", "[pt1o0]AB"), sign)
+        matrix = [line for line in said.split("\n") if line]
+        width, height = map(int, sign.split("\n")[0].split()[1:])
+        cells = [line.count("m ") for line in matrix]
+        trial.check(f"{way.name}: blink", status == 0 and cells == [width] * height, (status, cells))
+        trial.check(f"{way.name}: blink draws", len(set(said.split("m ")[0:-1])) > 1, said[:200])
+        status, said = trial.ran(trial.called(way, "blink", "A["), sign)
+        trial.check(f"{way.name}: blink with a text at fault", status not in (0, -1), (status, said[-200:]))
+        status, said = trial.ran(trial.called(way, "blink", "A"), "size 1 x\n")
+        trial.check(f"{way.name}: blink without a description", status == 2 and "line 1" in said, (status, said))

@@ -26,7 +26,7 @@ class Door:
     def __init__(self, trial: Trial, kind: str, journal: pathlib.Path, *words: str) -> None:
         sign = str(trial.folder / "bench.sign")
         if kind == "signd":
-            command = [str(trial.folder / "sanitized" / "signd"), "--port", "0", "--journal", str(journal), *words, sign]
+            command = [*trial.called(trial.way, "signd"), "--port", "0", "--journal", str(journal), *words, sign]
         else:
             command = [sys.executable, str(TOP / "tools/udp_sign.py"), "--port", "0", "--signtool", str(trial.program)]
             command += ["--sign", sign, "--journal", str(journal), *words]

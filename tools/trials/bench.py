@@ -13,7 +13,10 @@ import time
 from dataclasses import dataclass, field
 from typing import Callable
 
+from door import description
 from door.places import TOP
+from door.records import Head
+from model import text
 
 from .patience import PACE
 
@@ -22,12 +25,15 @@ MOST_TOLD = 3000  # characters of what was found, the last ones
 
 @dataclass
 class Trial:
-    """A folder of its own, the program, chance, whether it is the short form, and what came of it."""
+    """A folder of its own, the program, chance, whether it is the short form, and what came of it. Where another sign's
+    door is tried than tools/udp_sign.py, `other` is its program: it is one process and takes the options --port,
+    --journal, --down, --no-ticks and --quiet, and then a description."""
 
     program: str
     is_short: bool
     chance: random.Random
     folder: pathlib.Path
+    other: str | None = None
     passed: int = 0
     failed: int = 0
     skipped: int = 0
@@ -55,11 +61,39 @@ class Trial:
         """An empty folder."""
         return pathlib.Path(tempfile.mkdtemp(dir=self.folder))
 
+    def is_ours(self, name: str) -> bool:
+        """Whether the sign's door is tools/udp_sign.py; what only that has is told of another."""
+        if self.other:
+            print(f"left out {name}: the door is {self.other}", flush=True)
+        return self.other is None
+
+    def victims(self) -> tuple[str, ...]:
+        """What of a sign's door can be killed."""
+        return ("door",) if self.other else ("door", "co-process", "both")
+
+    def bench(self) -> pathlib.Path:
+        """The bench sign's description, for a door that has to be handed one."""
+        path = self.folder / "bench.sign"
+        if not path.exists():
+            path.write_bytes(text.BENCH)
+        return path
+
+    def head(self, **words: int) -> Head:
+        """The first record of a journal of the bench sign."""
+        return Head("sign", description.digest(description.read(str(self.bench())) if self.other else None), **words)
+
+    def call(self, tool: str, *words: str) -> list[str]:
+        """The call of a door."""
+        if not self.other or tool != "udp_sign.py":
+            return [sys.executable, str(TOP / "tools" / tool), "--signtool", self.program, *words]
+        at = words.index("--sign") if "--sign" in words else len(words)
+        return [self.other, *words[:at], *words[at + 2 :], words[at + 1] if words[at:] else str(self.bench())]
+
     def door(
         self, tool: str, *words: str, environment: dict[str, str] | None = None, stdin: int | None = subprocess.DEVNULL
     ) -> "Door":
         """A door that is started."""
-        door = Door([sys.executable, str(TOP / "tools" / tool), "--signtool", self.program, *words], environment, stdin)
+        door = Door(self.call(tool, *words), environment, stdin)
         self.doors.append(door)
         return door
 

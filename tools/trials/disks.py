@@ -156,7 +156,7 @@ def run(trial: Trial) -> None:
     try:
         if mounted.is_there:
             for part in (full, full_at_start, log_on_full, read_only):
-                if not trial.is_late():
+                if not trial.is_late() and (part is not log_on_full or trial.is_ours("a log on a full disk")):
                     part(trial, mounted)
         else:
             trial.skip("a full disk, a folder that can only be read", "no file system can be mounted")

@@ -165,7 +165,7 @@ def run(trial: Trial) -> None:
         some(trial, faults)
     else:
         each(trial, library, faults, MOST_CALLS)
-    for call in ("link", "rename"):
+    for call in ("link", "rename") if trial.is_ours("--fresh with a disk that refuses") else ():
         if not trial.is_late():
             faults.fresh(call)
     print(f"faults of the disk: {Faults.lives}", flush=True)

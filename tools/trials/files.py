@@ -16,8 +16,6 @@ from .follower import Follower, lines_of
 from .manager import Manager
 from .requests import Changes
 
-HEAD = Head("sign", "bench")
-
 
 class Files:
     """A journal that a door wrote, and what becomes of it."""
@@ -28,10 +26,10 @@ class Files:
         self.written = self.made()
         self.ends = [0, *(found.end() for found in re.finditer(rb"\n", self.written))]
 
-    def made(self) -> bytes:
+    def made(self, *words: str) -> bytes:
         """What a life of several SETs and a Get leaves."""
         changes = Changes(self.trial.chance)
-        door = self.trial.sign("--journal", str(self.path), "--no-ticks")
+        door = self.trial.sign("--journal", str(self.path), "--no-ticks", *words)
         manager = Manager(door.port)
         for _ in range(6):
             manager.exchange(changes.next(manager))
@@ -45,7 +43,7 @@ class Files:
         self.path.write_bytes(octets)
         try:
             with contextlib.redirect_stderr(io.StringIO()):
-                journal = Journal.opened(str(self.path), HEAD)
+                journal = Journal.opened(str(self.path), self.trial.head())
         except Refusal as refused:
             return str(refused)
         lines = [line for some in journal.lines() for line in some]
@@ -122,8 +120,8 @@ class Files:
     def others(self) -> None:
         """Journals of something else, and doors beside one another."""
         for head, words in (
-            (Head("sign", "bench", rules=2), "its rules is 2"),
-            (Head("sign", "bench", form=2), "its form is 2"),
+            (self.trial.head(rules=2), "its rules is 2"),
+            (self.trial.head(form=2), "its form is 2"),
             (Head("centre", "bench", 1), "its end is centre"),
             (Head("sign", "0" * 64), "another description"),
         ):
@@ -152,11 +150,12 @@ class Files:
         self.trial.holds("and the first goes on", answers(door) and door.stop() == 0, door.errors.decode())
 
     def older(self) -> None:
-        """A journal that another program wrote under the same rules."""
-        program, self.trial.program = self.trial.program, str(TOP / "tools/coprocess_model.py")
+        """A journal that another program wrote under the same rules; another door goes on from one of ours."""
+        program, other = self.trial.program, self.trial.other
+        self.trial.program, self.trial.other = str(TOP / "tools/coprocess_model.py"), None
         self.path.unlink()
-        octets = self.made()
-        self.trial.program = program
+        octets = self.made(*(["--sign", str(self.trial.bench())] if other else []))
+        self.trial.program, self.trial.other = program, other
         self.started("a journal of another program with the same rules", octets)
 
     def says(self, name: str, octets: bytes, words: str, *more: str) -> None:
@@ -175,6 +174,9 @@ def run(trial: Trial) -> None:
     files = Files(trial)
     anew = Anew(trial, files.path.parent, files.written)
     at_once = 3 if trial.is_short else 8
-    for part in (files.changed, files.others, files.prefixes, anew.fresh, lambda: anew.fresh_at_once(at_once)):
+    parts = [files.changed, files.others, files.prefixes]
+    if trial.is_ours("--fresh"):
+        parts += [anew.fresh, lambda: anew.fresh_at_once(at_once)]
+    for part in parts:
         if not trial.is_late():
             part()

@@ -32,7 +32,7 @@ class Kills:
 
     def early(self, at: int) -> None:
         """A life that is killed while it starts, or soon after."""
-        which = ("door", "co-process", "both")[self.trial.chance.randrange(3)]
+        which = self.trial.chance.choice(self.trial.victims())
         name = f"life {at}, {which} killed at its start"
         door = self.trial.door("udp_sign.py", "--port", "0", "--journal", str(self.path), "--no-ticks")
         time.sleep(self.trial.chance.uniform(0.0, 1.2 * self.takes))
@@ -48,7 +48,7 @@ class Kills:
     def life(self, at: int) -> None:
         """A life with ticks or without, which is looked at where no tick can change it meanwhile."""
         has_ticks = at % 3 == 2
-        which = ("door", "co-process", "both")[self.trial.chance.randrange(3)]
+        which = self.trial.chance.choice(self.trial.victims())
         begun = time.monotonic()
         door = self.trial.sign("--journal", str(self.path), *([] if has_ticks else ["--no-ticks"]))
         self.takes = time.monotonic() - begun

@@ -26,9 +26,10 @@ def interrupts(trial: Trial, count: int) -> None:
     for at in range(count):
         if trial.is_late():
             break
-        tool = ("udp_sign.py", "udp_centre.py")[at % 2]
-        words = ["--port", "0", "--journal", f"{path}-{at}"] if at % 2 == 0 else ["--to", "127.0.0.1:9", "--wait", "9"]
-        door = trial.door(tool, *words, stdin=None if at % 2 == 0 else lines_in(b"blank 5 65535 255 127.0.0.1\n"))
+        is_sign = trial.other is not None or at % 2 == 0
+        tool = "udp_sign.py" if is_sign else "udp_centre.py"
+        words = ["--port", "0", "--journal", f"{path}-{at}"] if is_sign else ["--to", "127.0.0.1:9", "--wait", "9"]
+        door = trial.door(tool, *words, stdin=None if is_sign else lines_in(b"blank 5 65535 255 127.0.0.1\n"))
         started(door)
         inner = door.inner()
         for _ in range(trial.chance.randint(1, 2)):
@@ -174,6 +175,7 @@ def run(trial: Trial) -> None:
     """All of it; in the long form a sign stands still for more than a minute."""
     by_another_hand(trial)
     read_once(trial)
-    co_process_stands_still(trial)
+    if trial.is_ours("a co-process that stands still"):
+        co_process_stands_still(trial)
     stands_still(trial, 3.0 if trial.is_short else 70.0)
     interrupts(trial, 8 if trial.is_short else 100)

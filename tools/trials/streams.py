@@ -21,25 +21,25 @@ def run(trial: Trial) -> None:
         if trial.is_late():
             break
         path = trial.new_folder() / "journal"
-        words = ["udp_sign.py", "--port", "0", "--signtool", trial.program, "--journal", str(path), "--log", "-"]
-        process = shell(f'exec "$@" {row}' if row != "| true" else '"$@" | true', words)
+        words = ["--port", "0", "--journal", str(path), *([] if trial.other else ["--log", "-"])]
+        call = trial.call("udp_sign.py", *words)
+        process = shell(f'exec "$@" {row}' if row != "| true" else '"$@" | true', call)
         trial.holds(f"a sign with {row} begins", eventually(lambda: has_begun(path)), path)
-        errors = ended(process, path)
+        errors = ended(process, path, call[0])
         is_well = b"Traceback" not in errors and b"Exception" not in errors
         trial.holds(f"a sign with {row} ends", process.returncode == 0 and is_well, (process.returncode, errors))
         lines = lines_of(path.read_bytes())
         trial.holds(f"a sign with {row} keeps a journal", lines[-1].startswith(b"clock ") and len(lines) >= 4, lines)
-        if row != "| true":
-            centre = shell(f'exec "$@" {row}', ["udp_centre.py", "--to", "x"])
+        if row != "| true" and trial.other is None:
+            centre = shell(f'exec "$@" {row}', [sys.executable, str(TOP / "tools/udp_centre.py"), "--to", "x"])
             communicated(centre)
             trial.holds(f"a centre with {row} has its status", centre.returncode == 2, centre.returncode)
 
 
-def shell(line: str, words: list[str]) -> subprocess.Popen[bytes]:
-    """A tool that a shell starts with other standard files."""
-    call = ["sh", "-c", line, "sh", sys.executable, str(TOP / "tools" / words[0]), *words[1:]]
+def shell(line: str, call: list[str]) -> subprocess.Popen[bytes]:
+    """A call that a shell makes with other standard files."""
     pipe = subprocess.PIPE
-    return subprocess.Popen(call, stdin=subprocess.DEVNULL, stdout=pipe, stderr=pipe, process_group=0)
+    return subprocess.Popen(["sh", "-c", line, "sh", *call], stdin=subprocess.DEVNULL, stdout=pipe, stderr=pipe, process_group=0)
 
 
 def has_begun(path: pathlib.Path) -> bool:
@@ -50,7 +50,7 @@ def has_begun(path: pathlib.Path) -> bool:
         return False
 
 
-def ended(process: subprocess.Popen[bytes], path: pathlib.Path) -> bytes:
+def ended(process: subprocess.Popen[bytes], path: pathlib.Path, program: str) -> bytes:
     """Asks the door of a journal to end, whose process may be a shell's: what it said on standard error."""
     numbers = [int(name) for name in os.listdir("/proc") if name.isdecimal()]
     for number in numbers:
@@ -58,7 +58,7 @@ def ended(process: subprocess.Popen[bytes], path: pathlib.Path) -> bytes:
             words = pathlib.Path(f"/proc/{number}/cmdline").read_bytes().split(b"\0")
         except OSError:
             continue
-        if str(path).encode() in words and words[0] == sys.executable.encode():
+        if str(path).encode() in words and words[0] == program.encode():
             eventually(functools.partial(is_waiting, number))
             os.kill(number, signal.SIGTERM)
     return communicated(process)
@@ -79,5 +79,5 @@ def is_waiting(number: int) -> bool:
         status = pathlib.Path(f"/proc/{number}/status").read_text(encoding="latin-1")
     except OSError:
         return True
-    caught = int(status.split("SigCgt:")[1].split()[0], 16)
-    return bool(caught >> (signal.SIGTERM - 1) & 1)
+    caught, blocked = (int(status.split(word)[1].split()[0], 16) for word in ("SigCgt:", "SigBlk:"))
+    return bool((caught | blocked) >> (signal.SIGTERM - 1) & 1)

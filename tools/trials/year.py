@@ -52,11 +52,11 @@ def ticks(now: Moment, count: int) -> Iterator[bytes]:
             yield now.later(10 * at).clock()
 
 
-def write(path: pathlib.Path, lines: Iterator[bytes]) -> int:
+def write(head: Head, path: pathlib.Path, lines: Iterator[bytes]) -> int:
     """Writes a journal of a sign: how many lines."""
     count, checksum = 0, 0
     with open(path, "wb") as file:
-        some = [Head("sign", "bench").line()]
+        some = [head.line()]
         while some:
             octets, checksum = records.records(some, checksum)
             file.write(octets)
@@ -95,7 +95,7 @@ def run(trial: Trial) -> None:
     """In the short form a day, and a megabyte of ticks."""
     path = trial.new_folder() / "journal"
     minutes = 24 * 60 if trial.is_short else MINUTES
-    count = write(path, year(Moment.now(), minutes))
+    count = write(trial.head(), path, year(Moment.now(), minutes))
     size = path.stat().st_size
     taken = start(trial, "a day" if trial.is_short else "a year", path, count, (minutes - 1) % 65_536)
     if not trial.is_short:
@@ -104,6 +104,6 @@ def run(trial: Trial) -> None:
         trial.holds("a year is under 300 MB, and starts in under 30 s", size < 300e6 and seconds < 30, (size, taken))
     path.unlink()
     records_of_ticks = (10**6 if trial.is_short else 10**9) // 23
-    count = write(path, ticks(Moment.now().later(-10 * records_of_ticks), records_of_ticks))
+    count = write(trial.head(), path, ticks(Moment.now().later(-10 * records_of_ticks), records_of_ticks))
     start(trial, "a megabyte of ticks" if trial.is_short else "a gigabyte of ticks", path, count, 0)
     path.unlink()
