@@ -45,7 +45,7 @@ def commit() -> str:
     call = ["git", "-C", str(TOP)]
     try:
         head = subprocess.run([*call, "rev-parse", "--short", "HEAD"], capture_output=True, check=True).stdout
-        status = [*call, "status", "--porcelain", "--", "conform", "tools/model", "tools/hostile.py"]
+        status = [*call, "status", "--porcelain", "--", "conform", "tools/model", "tools/hostile_datagrams.py"]
         return head.decode().strip() + ("*" if subprocess.run(status, capture_output=True, check=True).stdout else "")
     except (OSError, subprocess.CalledProcessError):
         return "unknown"

@@ -70,7 +70,7 @@ tree() {
     install -m 755 "$program" "$usr/bin/wisangub-signtool"
     cp -R "$source"/conform "$source"/control "$source"/mibs "$source"/signs "$source"/vectors "$share/"
     cp -R "$source"/tools/door "$source"/tools/model "$source"/tools/udp_sign.py "$source"/tools/udp_centre.py \
-        "$source"/tools/ask_vectors.py "$source"/tools/hostile.py "$share/tools/"
+        "$source"/tools/ask_vectors.py "$source"/tools/hostile_datagrams.py "$share/tools/"
     cp "$source/tools/release/run.py" "$share/tools/run.py"
     cp -R "$source"/docs/{PROFILE,COVERAGE,JOURNAL,CONFORMANCE,CONTROL,C}.md "$source"/docs/pictures "$share/docs/"
     rm -rf "$share"/conform/tests "$share"/conform/short.py "$share"/control/tests "$share"/tools/door/tests

@@ -45,7 +45,7 @@ class Requests(Values):
         return self.name(), self.wild()
 
     def hostile(self) -> Raw:
-        """Octets of tools/hostile.py, with a request number of this run."""
+        """Octets of tools/hostile_datagrams.py, with a request number of this run."""
         state = self.chance.randrange(2**32)
 
         def make(number: int, _: tuple[bytes, bytes]) -> bytes:

@@ -2,7 +2,7 @@
 
 import random
 
-from hostile import Maker
+from hostile_datagrams import Maker
 from model import wire
 
 from ..context import ADDRESS, Context

@@ -1,6 +1,6 @@
 """Addresses, Gets, readable texts, and the words of causes."""
 
-import hostile
+import hostile_datagrams
 from door.datagrams import fields_of, is_get
 from door.mib import Mib
 from door.refusal import Refusal
@@ -94,7 +94,7 @@ def test_a_get_is_known_by_its_outer_elements_alone() -> None:
 
 
 def test_what_is_taken_for_a_get_changes_nothing_that_it_spells() -> None:
-    maker, taken = hostile.Maker(1), 0
+    maker, taken = hostile_datagrams.Maker(1), 0
     for _ in range(4000):
         octets = maker.hostile([wire.GET, wire.GET_NEXT, wire.SET, wire.SET, wire.RESPONSE], 7)
         message = wire.spelled(octets)
