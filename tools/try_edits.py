@@ -77,12 +77,24 @@ def checked(crate, edits):
     return heard(crate, (ran.stdout + ran.stderr).splitlines())
 
 
+def are_apart(edits):
+    """Whether each can be applied where the others are: none makes a text twice that another one changes."""
+    texts = {}
+    try:
+        for edit in edits:
+            texts = applied(edit, texts)
+    except BadEdit:
+        return False
+    return True
+
+
 def groups(edits):
     """Edits that change functions of their own, and each other one alone."""
     made = []
     for edit in edits:
         place = next((group for group in made if None not in edit.functions and not any(
-            None in other.functions or other.functions & edit.functions for other in group)), None)
+            None in other.functions or other.functions & edit.functions for other in group)
+            and are_apart([*group, edit])), None)
         if place is None:
             made.append([edit])
         else:

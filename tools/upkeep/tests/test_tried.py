@@ -3,6 +3,7 @@
 import pathlib
 
 import try_edits
+from upkeep.edits import edits_of
 
 CRATE = pathlib.Path("crates/dms_face")
 RENAMED = "./proofs/checking/check_with/Answers.antt:16:1: error: `then-gt` is no name that rattle asks for in `Answers`"
@@ -21,3 +22,14 @@ def test_an_open_goal_refuses_an_edit():
 
 def test_a_goal_beside_a_proof_file_that_does_not_read_says_nothing():
     assert goals([RENAMED, OPEN]) == []
+
+
+def test_edits_go_together_where_none_makes_a_text_twice(tmp_path):
+    crate = tmp_path / "dms_one"
+    (crate / "src").mkdir(parents=True)
+    (crate / "src/lib.rt").write_text("fn one() {\n    first();\n}\n\nfn two() {\n    second();\n}\n", encoding="utf-8")
+    (crate / "must-fail").mkdir()
+    for name, old, new in (("a", "first();", "second();"), ("b", "second();", "third();"), ("c", "second();", "first();")):
+        (crate / f"must-fail/{name}.edit").write_text(f"file: src/lib.rt\nold: {old}\nnew: {new}\n", encoding="utf-8")
+    assert [[edit.name for edit in group] for group in try_edits.groups(edits_of(crate))] == [
+        ["must-fail/a"], ["must-fail/b"], ["must-fail/c"]]
