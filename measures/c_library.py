@@ -1,13 +1,15 @@
 #!/usr/bin/env python3
 """Sizes and times of the library for C, and examples/signd beside Net-SNMP's snmpd.
 
-    measures/c_library.py [--library crates/wisangub_c/out/libwisangub_c.a] [--seconds 2] [--turns 5]
+    measures/c_library.py [--library crates/wisangub_c/out/libwisangub_c.a] [--seconds 2] [--turns 5] [--calls]
 
-It wants a C compiler with make and size, and for the second table Debian's packages snmpd (without it that table is left out).
-Times of calls are the least of forty passes. Requests a second are those of measures/c_requests.c on loopback; signd and
-snmpd take turns, and the middle turn of each is told. A walk is 200 GetNexts, each of the name that the one before it
-read. A SET writes a number (a row's run-time priority; nsCacheDefaultTimeout); one that is kept a text of 12 octets,
-which signd has on the disk before it answers, and snmpd (sysContact) in its persistent file.
+It wants a C compiler with make and size, and for the second table Debian's package snmpd (without it that table is left
+out). Times of calls are the least of forty passes. Requests a second are those of measures/c_requests.c on loopback;
+signd and snmpd take turns, and the middle turn of each is told. snmpd has the sign's own objects, name for name, with
+its directive `override`, beside all of its own; so that the first three kinds are the same datagrams to both, and the
+next three are of the objects that are its own. A walk is 200 GetNexts, each of the name that the one before it read. A
+SET writes a number (a row's run-time priority; nsCacheDefaultTimeout); one that is kept a text of 12 octets, which signd
+has on the disk before it answers, and snmpd (sysContact) in its persistent file.
 """
 
 from __future__ import annotations
@@ -29,6 +31,7 @@ TOP = pathlib.Path(__file__).resolve().parent.parent
 sys.path.insert(0, str(TOP / "tools"))
 
 from model import wire  # noqa: E402
+from model.text import BENCH  # noqa: E402
 
 SIGN = (1, 3, 6, 1, 4, 1, 1206, 4, 2, 3)
 SYSTEM = (1, 3, 6, 1, 2, 1)
@@ -125,12 +128,12 @@ def calls(folder: pathlib.Path, library: pathlib.Path) -> None:
     }
     lines = "".join(f"{name} {octets.hex()}\n" for name, octets in asked.items())
     found = {}
-    for sign in ("roadside", "gantry"):
-        ran = subprocess.run(
-            [folder / "speed", TOP / "signs" / f"{sign}.sign"], input=lines, capture_output=True, text=True, check=True
-        )
-        found[sign] = dict(line.split() for line in ran.stdout.splitlines())
-    print("| | " + " | ".join(found) + " |\n|---|---|---|")
+    small = folder / "bench.sign"
+    small.write_bytes(BENCH.replace(b" admin\n", b" administrator\n"))
+    for path in (small, TOP / "signs/roadside.sign", TOP / "signs/gantry.sign"):
+        ran = subprocess.run([folder / "speed", path], input=lines, capture_output=True, text=True, check=True)
+        found[path.stem] = dict(line.split() for line in ran.stdout.splitlines())
+    print("| | " + " | ".join(found) + " |\n|---|---|---|---|")
     for name in found["gantry"]:
         print(f"| {name} | " + " | ".join(found[sign][name] for sign in found) + " |")
 
@@ -141,6 +144,26 @@ def rate(folder: pathlib.Path, agent: Agent, window: int, seconds: float, asked:
     return float(subprocess.run(words, input=text, capture_output=True, text=True, check=True).stdout)
 
 
+def objects_of(agent: Agent, above: tuple[int, ...]) -> list[tuple[tuple[int, ...], tuple[int, object]]]:
+    """All objects below a name, with their values."""
+    found: list[tuple[tuple[int, ...], tuple[int, object]]] = []
+    name = above
+    while True:
+        reply = agent.ask(request(wire.GET_NEXT, name))
+        if reply is None or reply.status != 0 or reply.bindings[0][0][: len(above)] != above:
+            return found
+        found.append(reply.bindings[0])
+        name = reply.bindings[0][0]
+
+
+def overridden(name: tuple[int, ...], value: tuple[int, object]) -> str:
+    """The line by which snmpd has an object."""
+    tag, held = value
+    octets = held if isinstance(held, bytes) else bytes(held) if isinstance(held, tuple) else b""
+    told = f"integer {held}" if tag == wire.INTEGER else f"octet_str 0x{octets.hex()}" if octets else 'octet_str ""'
+    return f"override -rw .{'.'.join(map(str, name))} {told}\n"
+
+
 def beside(folder: pathlib.Path, seconds: float, turns: int) -> None:
     """The second table: requests a second of signd and of snmpd."""
     snmpd = shutil.which("snmpd") or "/usr/sbin/snmpd"
@@ -148,30 +171,43 @@ def beside(folder: pathlib.Path, seconds: float, turns: int) -> None:
         print("\nhere is no snmpd")
         return
     ports = free_port(), free_port(), free_port()
-    (folder / "conf").write_text("rocommunity public 127.0.0.1\nrwcommunity administrator 127.0.0.1\n")
-    signd = [str(folder / "signd"), "--quiet", str(TOP / "signs" / "gantry.sign"), "--port"]
-    theirs = [snmpd, "-f", "-C", "-c", str(folder / "conf"), "-Lf", "/dev/null", "-p", str(folder / "pid")]
+    signd = [str(folder / "signd"), "--quiet"]
+    sign = str(TOP / "signs" / "gantry.sign")
     with (
-        running([*signd, str(ports[0])], {}),
-        running([*signd, str(ports[1]), "--journal", str(folder / "journal")], {}),
-        running([*theirs, f"udp:127.0.0.1:{ports[2]}"], {"SNMP_PERSISTENT_DIR": str(folder)}),
+        running([*signd, "--port", str(ports[0]), sign], {}),
+        running([*signd, "--port", str(ports[1]), "--journal", str(folder / "journal"), sign], {}),
     ):
-        compare(folder, seconds, turns, *map(Agent, ports))
+        ours = Agent(ports[0])
+        if not ours.is_there(request(wire.SET, column(9), (wire.INTEGER, 6))):
+            raise SystemExit("signd does not answer")
+        has = objects_of(ours, SIGN)
+        conf = "rocommunity public 127.0.0.1\nrwcommunity administrator 127.0.0.1\n"
+        (folder / "conf").write_text(conf + "".join(overridden(*one) for one in has))
+        theirs = [snmpd, "-f", "-C", "-c", str(folder / "conf"), "-Lf", "/dev/null", "-p", str(folder / "pid")]
+        with running([*theirs, f"udp:127.0.0.1:{ports[2]}"], {"SNMP_PERSISTENT_DIR": str(folder)}):
+            compare(folder, seconds, turns, ours, Agent(ports[1]), Agent(ports[2]), len(has))
 
 
-def compare(folder: pathlib.Path, seconds: float, turns: int, ours: Agent, keeping: Agent, other: Agent) -> None:
+def compare(
+    folder: pathlib.Path, seconds: float, turns: int, ours: Agent, keeping: Agent, other: Agent, count: int
+) -> None:
     contact, owner = (*SYSTEM, 1, 4, 0), column(4)
     if not other.is_there(request(wire.GET, contact)):
         raise SystemExit("snmpd does not answer")
-    for agent in (ours, keeping):
-        if not agent.is_there(request(wire.SET, column(9), (wire.INTEGER, 6))):
-            raise SystemExit("signd does not answer")
+    if not keeping.is_there(request(wire.SET, column(9), (wire.INTEGER, 6))):
+        raise SystemExit("signd does not answer")
+    told = len(objects_of(other, SIGN)), len(objects_of(other, (1, 3, 6)))
+    print(f"\nobjects: {count} of signd; snmpd has {told[0]} under the same names, and {told[1]} in all")
     number, text = (wire.INTEGER, 5), (wire.OCTETS, b"control room")
+    get, walk, change = request(wire.GET, owner), ours.walk(SIGN), request(wire.SET, column(8), number)
     kinds = [
-        ("Get", ours, [request(wire.GET, owner)], [request(wire.GET, contact)]),
-        ("walk", ours, ours.walk(SIGN), other.walk(SYSTEM)),
-        ("SET", ours, [request(wire.SET, column(8), number)], [request(wire.SET, TIMEOUT, number)]),
-        ("SET, kept", keeping, [request(wire.SET, owner, text)], [request(wire.SET, contact, text)]),
+        ("Get, the same object", ours, [get], [get]),
+        ("walk, the same objects", ours, walk, walk),
+        ("SET, the same object", ours, [change], [change]),
+        ("Get, an object of its own", ours, [get], [request(wire.GET, contact)]),
+        ("walk, objects of its own", ours, walk, other.walk(SYSTEM)),
+        ("SET, an object of its own", ours, [change], [request(wire.SET, TIMEOUT, number)]),
+        ("SET that is kept", keeping, [request(wire.SET, owner, text)], [request(wire.SET, contact, text)]),
     ]
     print("\n| replies a second | in flight | signd | snmpd | ratio |\n|---|---|---|---|---|")
     for kind, agent, mine, its in kinds:
@@ -193,12 +229,14 @@ def main() -> None:
     words.add_argument("--library", type=pathlib.Path, default=TOP / "crates/wisangub_c/out/libwisangub_c.a")
     words.add_argument("--seconds", type=float, default=2.0)
     words.add_argument("--turns", type=int, default=5)
+    words.add_argument("--calls", action="store_true", help="the first table alone")
     asked = words.parse_args()
     with tempfile.TemporaryDirectory(prefix="c-measures-") as place:
         folder = pathlib.Path(place)
         compiled(folder, asked.library.absolute())
         calls(folder, asked.library)
-        beside(folder, asked.seconds, asked.turns)
+        if not asked.calls:
+            beside(folder, asked.seconds, asked.turns)
     print(f"\nload {os.getloadavg()[0]:.1f}")
 
 
