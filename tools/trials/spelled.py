@@ -3,6 +3,7 @@ where they are after the reply, its co-process is killed, and what the journal b
 
 import contextlib
 import io
+import pickle
 import signal
 import time
 from typing import Any, Iterator
@@ -53,7 +54,7 @@ class Spelled:
     def anew(self) -> None:
         """A new journal of a new sign."""
         self.path, self.sign = str(self.trial.new_folder() / "journal"), Sign(text.bench())
-        self.values: dict[Name, tuple[int, object]] = {}
+        self.state, self.values = b"", dict[Name, tuple[int, object]]()
         self.replies: list[bytes] = []
 
     def started(self) -> tuple[CoProcess, Keeper]:
@@ -94,8 +95,9 @@ class Spelled:
         self.count += 1
 
     def look(self, process: CoProcess) -> None:
-        """The walk is the model's: looked at octet by octet where the last request may have changed something."""
-        values = {name: self.sign.value(name) for name in self.names}
+        """The walk is the model's: looked at octet by octet where the last request changed the model or the walk."""
+        state = pickle.dumps(self.sign)
+        values = self.values if state == self.state else {name: self.sign.value(name) for name in self.names}
         replies = process.hand(self.walk)
         if values != self.values or replies != self.replies:
             found: dict[Name, tuple[int, object]] = {}
@@ -105,7 +107,7 @@ class Spelled:
             other = [(name, found.get(name), values[name]) for name in self.names if found.get(name) != values[name]]
             if other:
                 self.trial.holds(f"after {self.last}: the walk", False, other[:3])
-        self.values, self.replies = values, replies
+        self.state, self.values, self.replies = state, values, replies
 
 
 def spellings() -> Iterator[tuple[str, bytes]]:
