@@ -13,7 +13,6 @@ import pathlib
 import pwd
 import shutil
 import signal
-import socket
 import subprocess
 import sys
 import tempfile
@@ -21,6 +20,8 @@ import time
 from typing import Iterator
 
 from door.refusal import Refusal, status_of
+
+from .ports import free_port
 
 USERS = ("postgres", "nobody")
 START = 60.0  # seconds that the server has to answer
@@ -34,13 +35,6 @@ def program(name: str) -> str:
     if found is None:
         raise Refusal(f"there is no {name}: apt-get install postgresql")
     return found
-
-
-def free_port() -> int:
-    """A port of loopback that nothing had a moment ago."""
-    with socket.socket() as tried:
-        tried.bind(("127.0.0.1", 0))
-        return int(tried.getsockname()[1])
 
 
 class Cluster:

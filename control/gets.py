@@ -9,18 +9,12 @@ from door.refusal import Refusal, reason
 from door.sockets import connected, received, sent
 from model import wire
 
+from . import encoder
 from .fleet import Sign
 
 SENDS, PATIENCE = 3, 1.0  # how often a Get goes out, and the seconds from one time to the next
 Name = tuple[int, ...]
 Values = list[int | str]  # an integer, or octets as digits, for each name that was asked for
-
-
-def request(community: bytes, number: int, asked: list[Name]) -> bytes:
-    """The octets of a Get."""
-    bindings = [(name, (wire.NULL, b"")) for name in asked]
-    octets: bytes = wire.written(wire.Message(wire.GET, community, number, 0, 0, bindings))
-    return octets
 
 
 def answer(octets: bytes, community: bytes, number: int) -> wire.Message | None:
@@ -42,7 +36,7 @@ class Get:
 
     def __init__(self, sign: Sign, number: int, asked: list[Name], end: Callable[[Values | str], None]) -> None:
         self.sign, self.number, self.asked, self.end = sign, number, asked, end
-        self.octets = request(sign.reader, number, asked)
+        self.octets = encoder.get(sign.reader, number, asked)
         self.door: socket.socket = connected(sign.host, sign.port)
         self.sends, self.due = 0, 0.0
 

@@ -34,12 +34,14 @@ class Fates:
 
 @dataclass
 class LoopbackSign:
-    """A sign, its socket, the datagrams that came there, and what the sign accepted: request's number and code."""
+    """A sign, its socket, the datagrams that came there, each from where, and what the sign accepted: request's number
+    and code."""
 
     name: str
     process: CoProcess
     door: socket.socket
     requests: list[bytes] = field(default_factory=list)
+    peers: list[Address] = field(default_factory=list)
     accepted: list[tuple[int, str]] = field(default_factory=list)
     sent: dict[bytes, int] = field(default_factory=dict)
 
@@ -97,6 +99,7 @@ class Loopback(threading.Thread):
     def heard(self, sign: LoopbackSign) -> None:
         """What waits at a sign's socket was on the wire."""
         while (heard := received(sign.door)) is not None:
+            sign.peers.append(heard[1])
             sign.requests.append(heard[0])
             self.under_way(sign, heard[0], heard[1], is_request=True)
 

@@ -2,8 +2,8 @@
 
 Proved signs on loopback without trouble; workers, each a process, over a database of their own; and publications, all
 asked for at once or so many a second. It prints how many ended a second, how long each took from the asking to its end,
-and the processor's time and the memory of the workers with their co-processes and of the database's server, without the
-signs.
+how old what is known of a sign became, how long a co-process takes to begin, and the processor's time and the memory of
+the workers with their co-processes and of the database's server, without the signs.
 """
 
 import argparse
@@ -16,6 +16,7 @@ import tempfile
 import time
 from dataclasses import dataclass
 
+from door.process import CoProcess
 from door.refusal import status_of, tell
 
 from . import SIGNTOOL, TOP, database, fleet, start
@@ -28,6 +29,7 @@ from .usage import Group, children, pinned
 DESCRIPTION = TOP / "signs/roadside.sign"
 LOOK, LOOK_AT_MEMORY = 0.1, 0.5
 START = 300.0  # seconds that the first readings of all signs may take
+BEGINNINGS = 50  # co-processes that are begun one after the other
 
 
 @dataclass
@@ -40,6 +42,7 @@ class Asked:
     rate: float
     poll: float
     seconds: float
+    hold: float
     tick: float
     is_pinned: bool
     database: str
@@ -68,34 +71,71 @@ def begun_once(store: Store, rows: list[int]) -> None:
         time.sleep(LOOK)
 
 
-def carried(asked: Asked, store: Store, rows: list[int], groups: list[Group]) -> float:
-    """Asks for the commands, and waits for their ends: the seconds that it took."""
-    begun = time.monotonic()
-    ends, sent, next_look = begun + asked.seconds, 0, 0.0
-    while time.monotonic() < ends:
-        now = time.monotonic() - begun
-        to_send = asked.commands if not asked.rate else min(asked.commands, 1 + int(now * asked.rate))
+class Watch:
+    """What is looked at now and then from the first command on."""
+
+    def __init__(self, store: Store, groups: list[Group]) -> None:
+        self.store, self.groups = store, groups
+        self.begun, self.next_look, self.oldest = time.monotonic(), 0.0, 0.0
+        self.gets_before = self.gets()
+
+    def gets(self) -> int:
+        """How many Gets of readings and tables went out, but for those that were sent again."""
+        return -whole(self.store.run("SELECT CAST(sum(reading_number) AS BIGINT) FROM signs")[0][0])
+
+    def span(self) -> float:
+        return time.monotonic() - self.begun
+
+    def look(self) -> None:
+        """Memory, and the age of what is known of the sign that was not heard for longest."""
+        if time.monotonic() < self.next_look:
+            return
+        self.next_look, of = time.monotonic() + LOOK_AT_MEMORY, children()
+        for group in self.groups:
+            group.look(of)
+        age = self.store.run("SELECT max({clock} - heard) FROM readings"
+                             " WHERE (sign, number) IN (SELECT sign, min(number) FROM readings GROUP BY sign)")[0][0]
+        self.oldest = max(self.oldest, float(age or 0))
+
+
+def carried(asked: Asked, store: Store, rows: list[int], watch: Watch) -> float:
+    """Asks for the commands, and waits for their ends: the seconds that it took. Then it goes on watching for as long
+    as is asked for."""
+    sent, took = 0, 0.0
+    while watch.span() < asked.seconds:
+        to_send = asked.commands if not asked.rate else min(asked.commands, 1 + int(watch.span() * asked.rate))
         if sent < to_send:
             with store.database.transaction():
                 store.database.run_all(
                     "INSERT INTO commands (sign, who, at, line) VALUES (?, 'measure', {clock}, ?)",
                     [(rows[at % len(rows)], publication(at)) for at in range(sent, to_send)])
             sent = to_send
-        if now >= next_look:
-            next_look, of = now + LOOK_AT_MEMORY, children()
-            for group in groups:
-                group.look(of)
-        if sent == asked.commands and not count(store, "commands WHERE how IS NULL"):
+        watch.look()
+        if not took and sent == asked.commands and not count(store, "commands WHERE how IS NULL"):
+            took = watch.span()
+        if took and watch.span() >= asked.hold:
             break
         time.sleep(LOOK)
-    return time.monotonic() - begun
+    return took or watch.span()
 
 
-def told(asked: Asked, store: Store, seconds: float, groups: list[Group]) -> None:
+def beginning(asked: Asked) -> float:
+    """The milliseconds in which a co-process begins and answers, half of the times."""
+    took = []
+    for _ in range(BEGINNINGS):
+        begun = time.perf_counter()
+        process = CoProcess(asked.signtool, ["centre"], DESCRIPTION.read_bytes())
+        process.begin(b"status", "a measure")
+        took.append(1000 * (time.perf_counter() - begun))
+        process.end()
+    return statistics.median(took)
+
+
+def told(asked: Asked, store: Store, seconds: float, watch: Watch) -> None:
     """The numbers."""
+    span, gets = watch.span(), watch.gets() - watch.gets_before
     took = sorted(float(row[0] or 0) for row in store.run(
         "SELECT ended - at FROM commands WHERE who = 'measure' AND how = 'accepted'"))
-    readings = count(store, "signs WHERE reading_number < 0")
     tell(f"{asked.signs} signs, {asked.workers} workers, {asked.database}, tick {asked.tick:g} s, poll {asked.poll:g} s,"
          f" {'all at once' if not asked.rate else f'{asked.rate:g} a second'}")
     tell(f"{len(took)} of {asked.commands} commands accepted in {seconds:.1f} s: {len(took) / seconds:.1f} a second")
@@ -103,10 +143,11 @@ def told(asked: Asked, store: Store, seconds: float, groups: list[Group]) -> Non
         at = [took[min(len(took) - 1, len(took) * part // 100)] for part in (50, 95)]
         tell(f"time to accepted: median {statistics.median(took):.2f} s, 95 of 100 within {at[1]:.2f} s, all within"
              f" {took[-1]:.2f} s")
-    tell(f"{readings} signs read; {count(store, 'lines')} lines")
-    for group in groups:
-        tell(group.told(seconds))
-    memory = sum(group.most_memory for group in groups)
+    tell(f"in {span:.1f} s {gets / span:.0f} Gets a second; what is known of a sign was {watch.oldest:.1f} s old at most")
+    tell(f"{count(store, 'lines')} lines; a co-process begins in {beginning(asked):.1f} ms, half of the times")
+    for group in watch.groups:
+        tell(group.told(span))
+    memory = sum(group.most_memory for group in watch.groups)
     tell(f"together {memory:.0f} MB, {1000 * memory / asked.signs:.0f} kB a sign of the fleet")
     tell(f"load {os.getloadavg()[0]:.1f}, {os.cpu_count()} processors")
 
@@ -136,9 +177,9 @@ def run(asked: Asked, folder: pathlib.Path, place: Place) -> bool:
         if asked.is_pinned:
             pinned([process for group in groups for process in group.processes])
         begun_once(store, rows)
-        groups = grouped(workers, place)
-        seconds = carried(asked, store, rows, groups)
-        told(asked, store, seconds, groups)
+        watch = Watch(store, grouped(workers, place))
+        seconds = carried(asked, store, rows, watch)
+        told(asked, store, seconds, watch)
         return count(store, "commands WHERE who = 'measure' AND how = 'accepted'") == asked.commands
     finally:
         workers.end()
@@ -155,6 +196,7 @@ def arguments() -> argparse.ArgumentParser:
                        help="commands asked for a second; else all at once")
     words.add_argument("--poll", type=float, default=10.0, metavar="SECONDS", help="from reading to reading of a sign")
     words.add_argument("--seconds", type=float, default=300, metavar="N", help="that the commands have to end")
+    words.add_argument("--hold", type=float, default=0, metavar="N", help="that signs are watched for at least")
     words.add_argument("--tick", type=float, default=1.0, metavar="SECONDS")
     words.add_argument("--one-processor", action="store_true", dest="is_pinned",
                        help="workers, co-processes and server on one")

@@ -3,7 +3,7 @@
 import contextlib
 import logging
 import os
-from typing import Iterator, Sequence
+from typing import Any, Iterator, Sequence
 
 os.environ.setdefault("PSYCOPG_WAIT_FUNC", "wait_selector")  # select, its first choice, takes no file above 1023
 
@@ -21,7 +21,7 @@ SETTINGS = {
 }
 NEEDED = ("fsync", "full_page_writes")  # of the server: without them a committed line can be lost
 ALONE = 0x5163_6E73  # the advisory lock of those transactions of which one is under way at a time
-SILENCE: dict[str, int | str | None] = {  # after which a server that does not answer is given up
+SILENCE: dict[str, Any] = {  # after which a server that does not answer is given up
     "connect_timeout": 10, "tcp_user_timeout": 10_000, "keepalives_idle": 5, "keepalives_interval": 2,
     "keepalives_count": 3}
 logging.getLogger("psycopg").setLevel(logging.CRITICAL)  # what it would say comes as an exception too

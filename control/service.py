@@ -33,13 +33,14 @@ class Pages:
         """Returns when the pages can be asked for; refused where they cannot."""
         self.room = Room(self.settings, self.signs)
         self.loop = asyncio.new_event_loop()
-        self.fault: BaseException | None = None
+        self.fault: Exception | None = None
         self.is_up = threading.Event()
         self.thread = threading.Thread(target=self.serve, name="pages", daemon=True)
         self.thread.start()
         self.is_up.wait(PATIENCE)
         if self.fault is not None or not self.is_up.is_set():
-            words = reason(self.fault) if isinstance(self.fault, OSError) else str(self.fault or "no pages in time")
+            fault: Exception | None = self.fault
+            words = reason(fault) if isinstance(fault, OSError) else str(fault or "no pages in time")
             raise Refusal(f"{self.host}:{self.port}: {words}")
 
     def serve(self) -> None:
@@ -53,10 +54,9 @@ class Pages:
             self.port = int(self.runner.addresses[0][1])
         except (OSError, OverflowError) as fault:
             self.fault = fault
-            self.is_up.set()
-            return
         self.is_up.set()
-        self.loop.run_forever()
+        if self.fault is None:
+            self.loop.run_forever()
         self.loop.run_until_complete(self.runner.cleanup())
         self.loop.run_until_complete(self.ended())
         self.loop.close()

@@ -96,7 +96,7 @@ def main() -> int:
     words.add_argument("--seconds", type=float, default=10.0, help="for each page")
     asked = words.parse_args()
     start.needed("control.tests.page_measures", "aiohttp", "jinja2")
-    from control.tests.ports import free_port, until_answers
+    from control.ports import free_port, until_answers
     from control.tests.visits import PROGRAM
 
     text = (TOP / "signs/roadside.sign").read_bytes()

@@ -20,7 +20,8 @@ return [...document.images].every((one) => one.getBoundingClientRect().top > inn
 
 def taken(folder: pathlib.Path) -> list[pathlib.Path]:
     """The wall, a text with a fault, publications on their way, and the wall on a small screen."""
-    from control.tests.browsing import Browser, place, until
+    from control.tests.browser import Browser, until
+    from control.tests.browsing import place
 
     made: list[pathlib.Path] = []
 

@@ -10,10 +10,8 @@ from control.tests import needs
 needs.modules("aiohttp", "jinja2", "selenium")
 needs.programs("chromium", "chromedriver")
 
-from selenium.webdriver.common.keys import Keys
-
-from control.tests.browsing import FACES, FOLLOWS, NAMES, Browser, Place, away_and_back, lamps_of, place, until
-from control.tests.visits import PASSWORD
+from control.tests.browser import Browser, lamps_of, until
+from control.tests.browsing import FACES, FOLLOWS, NAMES, Place, away_and_back, place
 
 PAGES = ("/", "/signs/1", "/signs/1/table", "/signs/1/ledger", "/signs/1/shown", "/signs/1/log", "/history",
          "/compose?sign=1&sign=3", "/blank?sign=1&sign=3", "/users", "/audit", "/account")
@@ -26,14 +24,14 @@ def at(tmp_path_factory: pytest.TempPathFactory) -> Iterator[Place]:
         yield made
 
 
-def accepted(one: Browser, count: int) -> None:
-    """Waits until all commands of a page were accepted."""
-    one.says(f"{count} of {count} accepted", "#summary")
+def acceptances(at: Place, *names: str) -> int:
+    """How many activations these signs accepted; one that went out again counts once."""
+    return sum(len(set(at.sign(name).accepted)) for name in names)
 
 
 def test_a_text_from_the_first_key_to_lit_lamps(at: Place) -> None:
     text = "[fo2]ROAD WORK[nl]1 KM"
-    before = len(at.sign("B300 east").accepted)
+    before = acceptances(at, "B300 east")
     with at.browser("operator") as one:
         one.write("[fo2]ROAD WORK", [at.rows["B300 east"]])
         one.shows("#looks img", "roadside", "[fo2]ROAD WORK")
@@ -41,14 +39,15 @@ def test_a_text_from_the_first_key_to_lit_lamps(at: Place) -> None:
         one.shows("#looks img", "roadside", text)
         one.confirm()
         one.shows("figure:not(.before) img", "roadside", text)
-        assert "operator" in one.text(".facts-list") and len(at.sign("B300 east").accepted) == before
-        one.find("#send").click()
-        accepted(one, 1)
+        assert "operator" in one.text(".facts-list") and acceptances(at, "B300 east") == before
+        one.send()
+        one.accepted(1)
         assert len(one.all(".steps li.done")) == 7 and len(one.all(".steps li.none")) == 1
-        assert len(at.sign("B300 east").accepted) == before + 1
+        assert acceptances(at, "B300 east") == before + 1
         one.get("/")
         one.shows(at.card("B300 east"), "roadside", text)
-        assert "lit" in one.text(at.card("B300 east", "")) and len(lamps_of("roadside", text)) > 100
+        one.says("lit", at.card("B300 east", ""))
+        assert len(lamps_of("roadside", text)) > 100
         one.get(at.path("B300 east"))
         for words in ("ROAD WORK", "central", "owner operator"):
             one.says(words, "#shown")
@@ -72,7 +71,7 @@ def test_a_refused_text_has_its_place(at: Place) -> None:
         place_ = one.script("const t = document.getElementById('text');"
                             "return [t.selectionStart, t.selectionEnd, document.activeElement.id]")
         assert place_ == [3, 8, "text"]
-        one.find("#check").click()
+        one.click("#check")
         until(lambda: one.driver.current_url.endswith("/compose"), "the form comes again")
         until(lambda: one.text("#looks mark") == "[fo9]", "with its fault")
         assert not one.all("#send"), "it is not confirmed"
@@ -81,32 +80,32 @@ def test_a_refused_text_has_its_place(at: Place) -> None:
 def test_many_signs_of_two_kinds_at_once(at: Place) -> None:
     with at.browser("operator") as one:
         one.get("/")
-        one.find("#all").click()
+        one.click("#all")
         assert one.text("#chosen") == "3 chosen"
-        one.find(".bar button.main").click()
+        one.click(".bar button.main")
         until(lambda: one.all("#text"), "the form")
         one.find("#text").send_keys("[fo2]SLOW")
         until(lambda: len(one.all("#looks img")) == 2, "a picture for each kind")
         one.confirm()
         assert "Publish on 3 signs" in one.text("#send")
-        one.find("#send").click()
-        accepted(one, 3)
+        one.send()
+        one.accepted(3)
         one.get("/")
         for name, face in zip(NAMES, FACES):
             one.shows(at.card(name), face, "[fo2]SLOW")
 
 
 def test_two_operators_at_the_same_time(at: Place) -> None:
-    before = len(at.sign("A9 gantry").accepted)
+    before = acceptances(at, "A9 gantry")
     with at.browser("operator") as one, at.browser("administrator") as two:
         for browser, text in ((one, "FIRST"), (two, "SECOND")):
             browser.write(text, [at.rows["A9 gantry"]])
             browser.confirm()
-        one.find("#send").click()
-        two.find("#send").click()
+        for browser in (one, two):  # the second asks while the first one's is under way
+            browser.send()
         for browser in (one, two):
-            accepted(browser, 1)
-        assert len(at.sign("A9 gantry").accepted) == before + 2, "both were carried out, one after the other"
+            browser.accepted(1)
+        assert acceptances(at, "A9 gantry") == before + 2, "both were carried out, one after the other"
         one.get(at.path("A9 gantry"))
         for words in ("SECOND", "owner administrator"):
             one.says(words, "#shown")
@@ -114,23 +113,21 @@ def test_two_operators_at_the_same_time(at: Place) -> None:
 
 
 def test_a_reader_may_not(at: Place) -> None:
-    before = [len(sign.accepted) for sign in at.loopback.signs]
+    before = at.commands()
     with at.browser("reader") as one:
         assert "Compose" not in one.text("header") and not one.all("input[name=sign]")
         one.get("/compose?sign=1")
         one.says("This is for operators: you are logged in as a reader.")
         assert one.post("/send", BLANK) == 403
-    assert [len(sign.accepted) for sign in at.loopback.signs] == before
+    assert at.commands() == before
 
 
 def test_a_request_without_a_token(at: Place) -> None:
-    before = [len(sign.accepted) for sign in at.loopback.signs]
+    before = at.commands()
     with at.browser("operator") as one:
-        for token in ({}, {"token": "0" * 64}):
-            assert one.post("/send", {**BLANK, **token}) == 403
-        one.get("/history?outcome=open")
-        one.says("Nothing is like this.")
-    assert [len(sign.accepted) for sign in at.loopback.signs] == before
+        assert one.post("/send", BLANK) == 403
+        assert one.post("/send", {**BLANK, "token": "0" * 64}) == 403
+    assert at.commands() == before
 
 
 def test_no_script_of_a_page_runs_inline(at: Place) -> None:
@@ -156,38 +153,6 @@ def test_pages_fit_a_small_screen_and_say_nothing_wrong(at: Place) -> None:
         assert wrong == []
 
 
-def keys(one: Browser, *words: str) -> None:
-    """Keys, each to what has the focus."""
-    for word in words:
-        one.driver.switch_to.active_element.send_keys(word)
-
-
-def test_all_by_the_keyboard(at: Place) -> None:
-    with at.browser() as one:
-        one.get("/login")
-        until(lambda: one.script("return document.activeElement.name") == "name", "the first field has the focus")
-        keys(one, "operator", Keys.TAB, PASSWORD, Keys.ENTER)
-        until(lambda: one.all("#find"), "logged in")
-        one.find("body").send_keys("/")
-        assert one.focus() == "find"
-        keys(one, "west")
-        assert [card.is_displayed() for card in one.all(".card")] == [False, True, False]
-        until(lambda: one.find(at.card("B300 west", " a")).send_keys(Keys.SHIFT + Keys.TAB) or True,
-              "from the link of a card, which is made anew now and then, back to its box")
-        keys(one, Keys.SPACE)
-        assert one.text("#chosen") == "1 chosen"
-        keys(one, Keys.ENTER)
-        until(lambda: one.all("#text"), "the form")
-        one.find("#text").send_keys("KEYS")
-        one.shows("#looks img", "roadside", "KEYS")
-        keys(one, Keys.CONTROL + Keys.ENTER)
-        until(lambda: one.focus() == "send", "the button has the focus")
-        outline = one.script("return getComputedStyle(document.activeElement).outlineStyle")
-        assert outline == "solid", "what has the focus is seen"
-        keys(one, Keys.ENTER)
-        accepted(one, 1)
-
-
 def test_the_page_finds_a_service_that_was_away(at: Place) -> None:
     with at.browser("reader") as one, at.browser("operator") as two:
         away_and_back(at, one)
@@ -201,7 +166,7 @@ def test_a_page_says_that_its_log_in_has_ended(at: Place) -> None:
         first = one.driver.current_window_handle
         one.driver.switch_to.new_window("tab")
         one.get("/account")
-        one.find("form[action='/logout'] button").click()
+        one.click("form[action='/logout'] button")
         until(lambda: "/login" in one.driver.current_url, "logged out")
         one.driver.switch_to.window(first)
         one.says("Your log-in has ended.", "footer")

@@ -15,7 +15,8 @@ needs.programs("chromium", "chromedriver", "nginx", "openssl")
 
 from selenium.common.exceptions import WebDriverException
 
-from control.tests.browsing import Place, away_and_back, place, until
+from control.tests.browser import until
+from control.tests.browsing import Place, away_and_back, place
 from control.tests.tls import NAME, nginx, words_of_browser
 
 COOKIE = "__Host-login"
@@ -36,10 +37,10 @@ def test_a_log_in_over_tls(at: Place) -> None:
         assert cookie is not None and cookie["secure"] and cookie["httpOnly"] and cookie["sameSite"] == "Strict"
         assert cookie["path"] == "/" and cookie["domain"] == NAME
         one.publish("OVER TLS", [at.rows["B300 east"]])
-        one.says("1 of 1 accepted", "#summary")
+        one.accepted(1)
         one.get("/")
         one.shows(at.card("B300 east"), "roadside", "OVER TLS")
-        one.find("form[action='/logout'] button").click()
+        one.click("form[action='/logout'] button")
         until(lambda: one.find("[name=password]"), "the form to log in")
         assert one.driver.get_cookie(COOKIE) is None
 

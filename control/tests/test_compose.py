@@ -10,7 +10,7 @@ from control.tests import needs
 needs.modules("aiohttp", "jinja2")
 
 from control import past, views
-from control.tests.visits import Bench, Visitor, run
+from control.tests.visits import Bench, Visitor, Visitors, run
 from control.web.compose import marked
 from control.web.draft import Draft, joined
 from control.web.faces import face_of
@@ -40,7 +40,7 @@ async def confirmation(one: Visitor, fields: list[tuple[str, str]]) -> list[tupl
 
 
 def test_a_text_is_published(tmp_path: pathlib.Path, where: str) -> None:
-    async def act(bench: Bench, visitor) -> None:
+    async def act(bench: Bench, visitor: Visitors) -> None:
         one = await bench.logged_in(visitor, "operator")
         fields = [("sign", str(bench.one)), ("sign", str(bench.gantry)), *GOOD.items()]
         status, page, _ = await one.post("/compose", fields)
@@ -67,7 +67,7 @@ def test_a_text_is_published(tmp_path: pathlib.Path, where: str) -> None:
 @pytest.mark.parametrize(("written", "offset", "shown", "why"), FAULTS)
 def test_a_text_is_refused_at_its_place(tmp_path: pathlib.Path, written: str, offset: int, shown: str,
                                         why: str) -> None:
-    async def act(bench: Bench, visitor) -> None:
+    async def act(bench: Bench, visitor: Visitors) -> None:
         one = await bench.logged_in(visitor, "operator")
         status, page, _ = await one.post("/compose", {**GOOD, "sign": str(bench.one), "text": written})
         assert status == 422 and f"At character {offset + 1}: " in page and why in page
@@ -85,7 +85,7 @@ def test_a_text_is_refused_at_its_place(tmp_path: pathlib.Path, written: str, of
 
 
 def test_fields_that_are_not_in_order(tmp_path: pathlib.Path) -> None:
-    async def act(bench: Bench, visitor) -> None:
+    async def act(bench: Bench, visitor: Visitors) -> None:
         one = await bench.logged_in(visitor, "operator")
         for key, value, why in (("number", "33", "from 1 to 32"), ("number", "x", "from 1 to 32"),
                                 ("run", "0", "from 1 to 255"), ("priority", "256", "from 0 to 255"),
@@ -104,11 +104,12 @@ def test_fields_that_are_not_in_order(tmp_path: pathlib.Path) -> None:
 
 
 def test_a_request_without_its_token_does_nothing(tmp_path: pathlib.Path, where: str) -> None:
-    async def act(bench: Bench, visitor) -> None:
+    async def act(bench: Bench, visitor: Visitors) -> None:
         one, other = [await bench.logged_in(visitor, name) for name in ("operator", "administrator")]
         held = {**GOOD, "sign": str(bench.one), "kind": "publish", "confirmation": "x" * 24}
         theirs = await other.token()
-        for wrong in ({}, {"token": ""}, {"token": theirs}):
+        wrongs: list[dict[str, str]] = [{}, {"token": ""}, {"token": theirs}]
+        for wrong in wrongs:
             answer = await one.answered("/send", {**held, **wrong})
             assert answer.status == 403 and "nothing was done" in await answer.text()
         for headers in ({"Origin": "https://example.org"}, {"Sec-Fetch-Site": "cross-site"}):
@@ -122,7 +123,7 @@ def test_a_request_without_its_token_does_nothing(tmp_path: pathlib.Path, where:
 
 
 def test_blanking_and_showing_a_row(tmp_path: pathlib.Path) -> None:
-    async def act(bench: Bench, visitor) -> None:
+    async def act(bench: Bench, visitor: Visitors) -> None:
         bench.table(bench.one)
         bench.read(bench.one, priority=200)
         one = await bench.logged_in(visitor, "operator")
@@ -133,8 +134,8 @@ def test_blanking_and_showing_a_row(tmp_path: pathlib.Path) -> None:
             form = page[page.index('action="/send"'):]
             held = re.findall(r'<input type="hidden" name="(\w+)" value="([^"]*)">', form)
             assert ("kind", kind) in held
-            fields = [*[field for field in held if field[0] != "token"], ("priority", "255"), ("lasts", "forever")]
-            assert (await one.post("/send", fields))[0] == 303
+            asked_for = [*[field for field in held if field[0] != "token"], ("priority", "255"), ("lasts", "forever")]
+            assert (await one.post("/send", asked_for))[0] == 303
             assert views.commands(bench.store.database, views.Wanted(most=1))[0].line == line
         fields = {**GOOD, "sign": str(bench.one)}
         assert "It will refuse this: what it shows has priority 200" in (await one.post("/compose", fields))[1]
@@ -143,7 +144,7 @@ def test_blanking_and_showing_a_row(tmp_path: pathlib.Path) -> None:
 
 
 def test_a_command_that_waits_is_withdrawn(tmp_path: pathlib.Path, where: str) -> None:
-    async def act(bench: Bench, visitor) -> None:
+    async def act(bench: Bench, visitor: Visitors) -> None:
         one = await bench.logged_in(visitor, "operator")
         number = bench.store.ask(bench.one, "operator", "blank 1 65535 255 127.0.0.1")
         assert "Withdraw" in (await one.get("/history"))[1]
@@ -156,7 +157,7 @@ def test_a_command_that_waits_is_withdrawn(tmp_path: pathlib.Path, where: str) -
 
 
 def test_an_earlier_text_is_used_again(tmp_path: pathlib.Path) -> None:
-    async def act(bench: Bench, visitor) -> None:
+    async def act(bench: Bench, visitor: Visitors) -> None:
         one = await bench.logged_in(visitor, "operator")
         held = await confirmation(one, [("sign", str(bench.one)), *GOOD.items()])
         await one.post("/send", held)
@@ -167,7 +168,7 @@ def test_an_earlier_text_is_used_again(tmp_path: pathlib.Path) -> None:
 
 
 def test_pictures_and_the_model_agree(tmp_path: pathlib.Path) -> None:
-    async def act(bench: Bench, visitor) -> None:
+    async def act(bench: Bench, visitor: Visitors) -> None:
         face = face_of(bench.room.signs[bench.one])
         held = text.described(face.text).face
         for octets in (b"FOG", b"F\xe9G", b"FO[\xe9]G", b"[fo2]A\x00B", b"A" * 40, b"FOG[xx]\xe9", b"[fo9]\xe9", b"",

@@ -158,6 +158,17 @@ def test_a_lease_is_one_worker_s_until_it_ends(where: str) -> None:
     assert first.lease([sign], "first", 60) == {sign}
 
 
+def test_a_lease_is_by_the_database_s_clock(where: str, monkeypatch: pytest.MonkeyPatch) -> None:
+    first, second, sign = two_stores(where)
+    now = float(first.run("SELECT {clock}")[0][0] or 0)
+    for clock in ("time", "monotonic"):
+        monkeypatch.setattr(time, clock, lambda: 7.0)
+    assert first.lease([sign], "first", 60) == {sign}
+    until = float(first.run("SELECT until FROM signs WHERE id = ?", sign)[0][0] or 0)
+    assert now + 60 <= until <= now + 120, "a worker's clock that is wrong changes no lease"
+    assert second.lease([sign], "second", 60) == set()
+
+
 def test_commands_have_their_turns(where: str) -> None:
     first, second, sign = two_stores(where)
     numbers = [first.ask(sign, "me", line) for line in ("blank 1 1 1 192.0.2.1", "blank 2 1 1 192.0.2.1")]

@@ -2,6 +2,7 @@
 
 import asyncio
 import contextlib
+import os
 import pathlib
 import re
 import select
@@ -18,22 +19,11 @@ needs.modules("aiohttp", "jinja2")
 import aiohttp
 
 from control import TOP
-from control.tests.ports import free_port
+from control.ports import free_port
 from control.tests.visits import PROGRAM, Visitor
 
 PATIENCE = 60.0  # seconds that a busy machine takes
 NAMES = ("north", "south")
-
-
-def free_ports() -> list[int]:
-    """Ports of UDP that are free now."""
-    held = [socket.socket(socket.AF_INET, socket.SOCK_DGRAM) for _ in NAMES]
-    for one in held:
-        one.bind(("127.0.0.1", 0))
-    ports = [int(one.getsockname()[1]) for one in held]
-    for one in held:
-        one.close()
-    return ports
 
 
 def until_said(process: subprocess.Popen[bytes], words: str) -> str:
@@ -43,7 +33,7 @@ def until_said(process: subprocess.Popen[bytes], words: str) -> str:
     while words.encode() not in said:
         assert time.monotonic() < ends and process.poll() is None, said
         if select.select([process.stdout], [], [], 0.2)[0]:
-            said += process.stdout.read1()
+            said += os.read(process.stdout.fileno(), 65536)
     return said.decode()
 
 
@@ -60,7 +50,7 @@ async def seen(url: str, password: str) -> None:
 
 
 def test_the_whole_with_one_command(tmp_path: pathlib.Path) -> None:
-    ports, listen = free_ports(), free_port()
+    ports, listen = [free_port(socket.SOCK_DGRAM) for _ in NAMES], free_port()
     (tmp_path / "fleet.toml").write_text("\n".join(
         f'[[sign]]\nname = "{name}"\naddress = "127.0.0.1:{port}"\ndescription = "{TOP}/signs/roadside.sign"\n'
         for name, port in zip(NAMES, ports)))

@@ -12,7 +12,7 @@ from control.tests import needs
 needs.modules("aiohttp", "jinja2")
 
 from control import users
-from control.tests.visits import Bench, Visitor, run
+from control.tests.visits import Bench, Visitor, Visitors, run
 from control.users import Role
 from control.web import events, wall
 
@@ -34,7 +34,7 @@ async def told(answer: Any) -> dict[str, str]:
 
 
 def test_what_has_changed_is_told(tmp_path: pathlib.Path, where: str) -> None:
-    async def act(bench: Bench, visitor) -> None:
+    async def act(bench: Bench, visitor: Visitors) -> None:
         bench.read(bench.one)
         one, two = [await bench.logged_in(visitor, name) for name in ("reader", "operator")]
         streams = [await listened(one, "wall"), await listened(two, "wall")]
@@ -57,7 +57,7 @@ def test_what_has_changed_is_told(tmp_path: pathlib.Path, where: str) -> None:
 
 
 def test_a_card_is_made_anew_where_its_sign_says_something_new(tmp_path: pathlib.Path, where: str) -> None:
-    async def act(bench: Bench, visitor) -> None:
+    async def act(bench: Bench, visitor: Visitors) -> None:
         room, held = bench.room, bench.store.database
 
         def made() -> int:
@@ -79,7 +79,7 @@ def test_a_stream_ends_with_its_log_in(tmp_path: pathlib.Path, monkeypatch: pyte
     monkeypatch.setattr(events, "SILENCE", 0.5)
     monkeypatch.setattr(events, "AGES", 60.0)
 
-    async def act(bench: Bench, visitor) -> None:
+    async def act(bench: Bench, visitor: Visitors) -> None:
         one = await bench.logged_in(visitor, "operator")
         stream = await listened(one, f"sign/{bench.one}")
         await told(stream)
@@ -98,7 +98,7 @@ def test_a_stream_ends_with_its_log_in(tmp_path: pathlib.Path, monkeypatch: pyte
 def test_streams_are_counted(tmp_path: pathlib.Path, monkeypatch: pytest.MonkeyPatch) -> None:
     monkeypatch.setattr(events, "MOST_OF_ONE", 2)
 
-    async def act(bench: Bench, visitor) -> None:
+    async def act(bench: Bench, visitor: Visitors) -> None:
         one = await bench.logged_in(visitor, "reader")
         streams = [await listened(one, "wall") for _ in range(2)]
         assert (await one.answered("/events?view=wall")).status == 503

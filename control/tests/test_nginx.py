@@ -16,7 +16,7 @@ from aiohttp.abc import AbstractResolver
 
 from control.tests.test_events import told
 from control.tests.tls import NAME, nginx
-from control.tests.visits import PASSWORD, Bench, Visitor, run
+from control.tests.visits import PASSWORD, Bench, Visitor, Visitors, run
 
 BOAST = "203.0.113.9"  # an address that a client says it has
 
@@ -45,7 +45,7 @@ async def behind(bench: Bench, service: int, folder: pathlib.Path) -> AsyncItera
 
 
 def test_all_through_the_proxy(tmp_path: pathlib.Path) -> None:
-    async def act(bench: Bench, visitor) -> None:
+    async def act(bench: Bench, visitor: Visitors) -> None:
         async with behind(bench, visitor().client.port, tmp_path) as one:
             form = await one.answered("/login")
             assert form.status == 200 and form.headers["Strict-Transport-Security"] == "max-age=31536000"
@@ -86,7 +86,7 @@ async def followed(bench: Bench, one: Visitor) -> None:
 
 
 def test_the_proxy_speaks_tls_alone(tmp_path: pathlib.Path) -> None:
-    async def act(bench: Bench, visitor) -> None:
+    async def act(bench: Bench, visitor: Visitors) -> None:
         with nginx(tmp_path, visitor().client.port) as port:
             known = ssl.create_default_context(cafile=str(tmp_path / "certificate.pem"))
             known.set_alpn_protocols(["h2", "http/1.1"])
@@ -100,7 +100,7 @@ def test_the_proxy_speaks_tls_alone(tmp_path: pathlib.Path) -> None:
 
 
 def test_a_service_that_is_off_is_told(tmp_path: pathlib.Path) -> None:
-    async def act(bench: Bench, visitor) -> None:
+    async def act(bench: Bench, visitor: Visitors) -> None:
         async with behind(bench, 9, tmp_path) as one:
             assert (await one.answered("/login")).status == 502
 

@@ -9,7 +9,7 @@ needs.modules("aiohttp", "jinja2")
 
 from control import past
 from control.store import Line
-from control.tests.visits import NAMES, READER, WRITER, Bench, Visitor, run
+from control.tests.visits import NAMES, READER, WRITER, Bench, Visitor, Visitors, run
 from control.users import Role
 from control.web.app import ROUTES
 from control.web.security import POLICY
@@ -61,7 +61,7 @@ def where_of(bench: Bench, path: str) -> str:
 
 
 def test_every_page_for_every_role(tmp_path: pathlib.Path, where: str) -> None:
-    async def act(bench: Bench, visitor) -> None:
+    async def act(bench: Bench, visitor: Visitors) -> None:
         filled(bench)
         for role in Role:
             one = await bench.logged_in(visitor, role.word)
@@ -92,7 +92,7 @@ async def every_page(bench: Bench, one: Visitor) -> dict[str, str]:
 
 
 def test_texts_and_names_are_escaped(tmp_path: pathlib.Path) -> None:
-    async def act(bench: Bench, visitor) -> None:
+    async def act(bench: Bench, visitor: Visitors) -> None:
         filled(bench)
         one = await bench.logged_in(visitor, "administrator")
         pages = await every_page(bench, one)
@@ -107,7 +107,7 @@ def test_texts_and_names_are_escaped(tmp_path: pathlib.Path) -> None:
 
 
 def test_no_community_stands_anywhere(tmp_path: pathlib.Path, where: str) -> None:
-    async def act(bench: Bench, visitor) -> None:
+    async def act(bench: Bench, visitor: Visitors) -> None:
         filled(bench)
         one = await bench.logged_in(visitor, "administrator")
         pages = await every_page(bench, one)
@@ -129,7 +129,7 @@ def test_no_community_stands_anywhere(tmp_path: pathlib.Path, where: str) -> Non
 
 
 def test_headers_of_every_answer(tmp_path: pathlib.Path) -> None:
-    async def act(bench: Bench, visitor) -> None:
+    async def act(bench: Bench, visitor: Visitors) -> None:
         filled(bench)
         one = await bench.logged_in(visitor, "administrator")
         paths = [where_of(bench, path) for path in PAGES] + ["/login", "/nothing", "/static/room.css"]
@@ -148,7 +148,7 @@ def test_headers_of_every_answer(tmp_path: pathlib.Path) -> None:
 
 
 def test_what_the_wall_says(tmp_path: pathlib.Path) -> None:
-    async def act(bench: Bench, visitor) -> None:
+    async def act(bench: Bench, visitor: Visitors) -> None:
         one = await bench.logged_in(visitor, "reader")
         assert "not heard yet" in (await one.get("/"))[1]
         bench.read(bench.one)
@@ -166,7 +166,7 @@ def test_what_the_wall_says(tmp_path: pathlib.Path) -> None:
 
 
 def test_a_table_is_wanted(tmp_path: pathlib.Path) -> None:
-    async def act(bench: Bench, visitor) -> None:
+    async def act(bench: Bench, visitor: Visitors) -> None:
         bench.table(bench.one)
         one = await bench.logged_in(visitor, "reader")
         text = (await one.get(f"/signs/{bench.one}/table"))[1]

@@ -9,7 +9,7 @@ from control.tests import needs
 needs.modules("aiohttp", "jinja2")
 
 from control import passwords, users
-from control.tests.visits import PASSWORD, Bench, run
+from control.tests.visits import PASSWORD, Bench, Visitors, run
 from control.users import Role
 from control.web import logins
 from control.web.sign_in import local
@@ -17,7 +17,7 @@ from door.refusal import Refusal
 
 
 def test_who_is_not_logged_in_sees_the_form_alone(tmp_path: pathlib.Path, where: str) -> None:
-    async def act(bench: Bench, visitor) -> None:
+    async def act(bench: Bench, visitor: Visitors) -> None:
         nobody = visitor()
         for path in ("/", "/signs/1", "/history", "/audit", "/compose?sign=1"):
             answer = await nobody.answered(path)
@@ -30,7 +30,7 @@ def test_who_is_not_logged_in_sees_the_form_alone(tmp_path: pathlib.Path, where:
 
 
 def test_a_log_in_leads_where_the_visitor_was_going(tmp_path: pathlib.Path, where: str) -> None:
-    async def act(bench: Bench, visitor) -> None:
+    async def act(bench: Bench, visitor: Visitors) -> None:
         assert await visitor().log_in("reader", then="/history?who=me") == (303, "/history?who=me")
         for elsewhere in ("https://example.org/", "//example.org", "/\\example.org", ""):
             assert await visitor().log_in("reader", then=elsewhere) == (303, "/")
@@ -40,7 +40,7 @@ def test_a_log_in_leads_where_the_visitor_was_going(tmp_path: pathlib.Path, wher
 
 
 def test_cookies_are_signed_and_kept_from_scripts(tmp_path: pathlib.Path, where: str) -> None:
-    async def act(bench: Bench, visitor) -> None:
+    async def act(bench: Bench, visitor: Visitors) -> None:
         one = visitor()
         token = await one.token("/login")
         answer = await one.answered("/login", {"token": token, "name": "reader", "password": PASSWORD})
@@ -56,7 +56,7 @@ def test_cookies_are_signed_and_kept_from_scripts(tmp_path: pathlib.Path, where:
 
 
 def test_behind_tls_cookies_are_secure(tmp_path: pathlib.Path) -> None:
-    async def act(bench: Bench, visitor) -> None:
+    async def act(bench: Bench, visitor: Visitors) -> None:
         answer = await visitor().answered("/login")
         cookie = answer.headers.getall("Set-Cookie")[0]
         assert cookie.startswith("__Host-before=") and "Secure" in cookie and "HttpOnly" in cookie
@@ -65,7 +65,7 @@ def test_behind_tls_cookies_are_secure(tmp_path: pathlib.Path) -> None:
 
 
 def test_a_form_without_its_token_logs_nobody_in(tmp_path: pathlib.Path) -> None:
-    async def act(bench: Bench, visitor) -> None:
+    async def act(bench: Bench, visitor: Visitors) -> None:
         one = visitor()
         await one.get("/login")
         for token in ("", "0" * 64):
@@ -78,7 +78,7 @@ def test_a_form_without_its_token_logs_nobody_in(tmp_path: pathlib.Path) -> None
 
 
 def test_log_ins_that_fail_are_counted(tmp_path: pathlib.Path, where: str) -> None:
-    async def act(bench: Bench, visitor) -> None:
+    async def act(bench: Bench, visitor: Visitors) -> None:
         one = visitor()
         for _ in range(logins.MOST_OF_BOTH):
             assert (await one.log_in("reader", "wrong"))[0] == 403
@@ -96,7 +96,7 @@ def test_log_ins_that_fail_are_counted(tmp_path: pathlib.Path, where: str) -> No
 
 
 def test_a_success_forgets_what_failed(tmp_path: pathlib.Path) -> None:
-    async def act(bench: Bench, visitor) -> None:
+    async def act(bench: Bench, visitor: Visitors) -> None:
         one = visitor()
         for _ in range(3):
             for _ in range(logins.MOST_OF_BOTH - 1):
@@ -108,7 +108,7 @@ def test_a_success_forgets_what_failed(tmp_path: pathlib.Path) -> None:
 
 
 def test_what_ends_a_log_in(tmp_path: pathlib.Path, where: str) -> None:
-    async def act(bench: Bench, visitor) -> None:
+    async def act(bench: Bench, visitor: Visitors) -> None:
         held = bench.store.database
         one = await bench.logged_in(visitor, "operator")
         cookie = one.client.session.cookie_jar.filter_cookies(one.client.make_url("/"))["login"].value

@@ -10,7 +10,7 @@ import subprocess
 from typing import Iterator
 
 from control import TOP
-from control.tests.ports import free_port, until_answers
+from control.ports import free_port, until_answers
 
 PAGE = TOP / "docs/CONTROL.md"
 EXAMPLE = re.compile(r"```nginx\n(.*?)```", re.DOTALL)

@@ -44,7 +44,7 @@ def entered(folder: pathlib.Path) -> pathlib.Path:
 class Visitor:
     """A browser with cookies of its own."""
 
-    def __init__(self, client: TestClient) -> None:
+    def __init__(self, client: Any) -> None:
         self.client = client
 
     async def get(self, path: str) -> tuple[int, str]:
@@ -77,6 +77,9 @@ class Visitor:
         return answer.status, answer.headers.get("Location", await answer.text())
 
 
+Visitors = Callable[[], Visitor]
+
+
 class Bench:
     """A room with a user of each role; the names of the users are those of their roles."""
 
@@ -102,7 +105,7 @@ class Bench:
         self.store.read_rows([RowSaid(row, 3, 1, -3, 4, json.dumps(held))])
 
     @contextlib.asynccontextmanager
-    async def standing(self) -> AsyncIterator[Callable[[], Visitor]]:
+    async def standing(self) -> AsyncIterator[Visitors]:
         """The service, and a way to make visitors."""
         server = TestServer(application(self.room))
         await server.start_server()
@@ -120,13 +123,13 @@ class Bench:
             await server.close()
             self.room.close()
 
-    async def logged_in(self, visitor: Callable[[], Visitor], name: str) -> Visitor:
+    async def logged_in(self, visitor: Visitors, name: str) -> Visitor:
         made = visitor()
         assert await made.log_in(name) == (303, "/")
         return made
 
 
-Act = Callable[[Bench, Callable[[], Visitor]], Awaitable[None]]
+Act = Callable[[Bench, Visitors], Awaitable[None]]
 
 
 def run(folder: pathlib.Path, where: str, act: Act, is_behind_tls: bool = False) -> None:

@@ -4,6 +4,7 @@ import asyncio
 import contextlib
 import logging
 from dataclasses import dataclass
+from functools import partial
 from typing import AsyncIterator, Awaitable, Callable
 
 from aiohttp import web
@@ -94,7 +95,7 @@ async def guard(request: web.Request, handler: Handler) -> web.StreamResponse:
         return await handler(request)
     room = room_of(request)
     cookie = room.seal.get(request, "login")
-    visitor = await room.connections.run(lambda held: logins.find(held, cookie)) if cookie else None
+    visitor = await room.connections.run(partial(logins.find, cookie=cookie)) if cookie else None
     if visitor is None:
         if request.method != "GET" or request.path == "/events":
             raise web.HTTPUnauthorized(text="You are not logged in, or your log-in has ended.")

@@ -4,6 +4,7 @@ import dataclasses
 import json
 import secrets
 from dataclasses import dataclass
+from functools import partial
 from typing import Any
 
 from aiohttp import web
@@ -101,7 +102,7 @@ async def form(request: web.Request) -> web.Response:
     room = room_of(request)
     draft = drafts.read(request.query, room.faces)
     again = number_of(request, "again")
-    command = await room.connections.run(lambda held: views.command(held, again)) if again is not None else None
+    command = await room.connections.run(partial(views.command, number=again)) if again is not None else None
     if command is not None and (old := asked(command.line)).kind == "publish":
         draft = dataclasses.replace(draft, signs=draft.signs or tuple({command.sign} & set(room.signs)),
                                     text=text_of(old.text), memory=old.memory, number=old.number, beacon=old.beacon,

@@ -60,8 +60,8 @@ class Hub:
         assert found is not None
         if found[1] is None:
             return lambda held: wall.parts(self.room, held)
-        of = OF[found[1]]
-        return lambda held: of(self.room, held, int(found[2]))
+        of, row = OF[found[1]], int(found[2])
+        return lambda held: of(self.room, held, row)
 
     async def run(self) -> None:
         """For ever."""

@@ -58,7 +58,7 @@ def spelled(text: bytes) -> tuple[bytes, list[int]]:
         return text, list(range(len(text) + 1))
     items, fault = multi.items(text)
     ends = [at for _, at in items[1:]] + [len(text) if fault is None else fault[1]]
-    made, places = b"", []
+    made, places = b"", list[int]()
     for (item, at), end in zip(items, ends):
         is_named = item[0] == "character" and not is_plain(item[1])
         piece = b"[hc%X]" % item[1] if is_named else text[at:end]
