@@ -11,7 +11,7 @@ from selenium.webdriver.common.action_chains import ActionChains
 from selenium.webdriver.common.keys import Keys
 
 from control.tests.browser import Browser, until
-from control.tests.browsing import place
+from control.tests.browsing import FOLLOWS, place
 from control.tests.standing import in_trouble, standing
 from control.tests.test_pages import PAGES, where_of
 from control.tests.visits import PASSWORD
@@ -70,15 +70,19 @@ def test_all_by_the_keyboard(tmp_path: pathlib.Path) -> None:
         one.accepted(1)
 
 
-def reached(one: Browser) -> set[str]:
-    """What Tab leads to, from the page's first control to its last, each of which is seen to have the focus."""
+def reached(one: Browser, wanted: set[str]) -> set[str]:
+    """What Tab leads to from the page's first control on, each of which is seen to have the focus, until all that are
+    wanted were reached."""
     found: dict[str, str] = {}
+    one.find(".skip").send_keys(Keys.TAB)
+    ActionChains(one.driver).key_down(Keys.SHIFT).send_keys(Keys.TAB).key_up(Keys.SHIFT).perform()
     for _ in range(MOST):
-        ActionChains(one.driver).send_keys(Keys.TAB).perform()
         focus = one.script(FOCUS)
-        if not isinstance(focus, list):
+        if isinstance(focus, list):  # else it is on the page itself: after the last control, or where one was made anew
+            found[focus[0]] = focus[1]
+        if wanted <= set(found):
             break
-        found[focus[0]] = focus[1]
+        ActionChains(one.driver).send_keys(Keys.TAB).perform()
     unseen = {name for name, outline in found.items() if outline != "solid 3px"}
     assert not unseen, f"nobody sees that these have the focus: {unseen}"
     return set(found)
@@ -91,8 +95,21 @@ def test_tab_leads_to_every_control(tmp_path: pathlib.Path) -> None:
         for path in (*PAGES, "/login", "/signs/999"):
             one.get(where_of(made, path))
             until(lambda: one.script("return document.readyState") == "complete", f"{path} and its pictures")
-            one.script("document.activeElement.blur()")
             controls = one.script(CONTROLS)
             assert isinstance(controls, list) and controls, path
-            missing = set(controls) - reached(one)
+            missing = set(controls) - reached(one, set(controls))
             assert not missing, (path, missing)
+
+
+def test_what_has_the_focus_keeps_it_where_it_is_made_anew(tmp_path: pathlib.Path) -> None:
+    with standing(tmp_path) as (made, url), Browser(url) as one:
+        one.log_in("operator")
+        for path, part, change in (("/", f"#sign-{made.two} a", lambda: made.read(made.two, -9, text=b"NEW".hex())),
+                                   (f"/signs/{made.one}/table", "#table [tabindex]", lambda: made.table(made.one, -9, 7))):
+            one.get(path)
+            one.says(FOLLOWS, "footer")
+            before = one.find(part)
+            one.script("arguments[0].focus()", before)
+            change()
+            until(lambda: one.find(part) != before, f"{part} is made anew")
+            assert one.script("return document.activeElement") == one.find(part)

@@ -99,10 +99,11 @@ class Bench:
     def silent(self, row: int, number: int = -2) -> None:
         self.store.read([Said(row, number, fault="no reply")])
 
-    def table(self, row: int) -> None:
+    def table(self, row: int, reading: int = -3, priority: int = 9) -> None:
         """A sign says a row of its table."""
-        held = {"text": b"FOG".hex(), "owner": b"me".hex(), "checksum": 0x9A66, "beacon": 0, "pixel": 0, "priority": 9}
-        self.store.read_rows([RowSaid(row, 3, 1, -3, 4, json.dumps(held))])
+        held = {"text": b"FOG".hex(), "owner": b"me".hex(), "checksum": 0x9A66, "beacon": 0, "pixel": 0,
+                "priority": priority}
+        self.store.read_rows([RowSaid(row, 3, 1, reading, 4, json.dumps(held))])
 
     @contextlib.asynccontextmanager
     async def standing(self) -> AsyncIterator[Visitors]:

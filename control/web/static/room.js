@@ -42,6 +42,11 @@ function setStill(on) {
   hold(document);
 }
 
+// what has the focus keeps it where it is made anew
+function nameOf(one) {
+  return one.localName + " " + (one.getAttribute("href") || one.getAttribute("aria-label"));
+}
+
 function replace(name, html) {
   const old = document.getElementById(name);
   if (!old) return;
@@ -55,9 +60,10 @@ function replace(name, html) {
     const same = [...old.querySelectorAll("picture")].find((one) => one.querySelector("img").getAttribute("src") === address);
     if (same) { same.querySelector("img").alt = image.querySelector("img").alt; image.replaceWith(same); }
   }
-  const had = old.contains(document.activeElement) ? document.activeElement.getAttribute("href") : null;
+  const had = old.contains(document.activeElement) ? nameOf(document.activeElement) : null;
   old.replaceWith(fresh);
-  if (had) { const again = [...fresh.querySelectorAll("a")].find((one) => one.getAttribute("href") === had); if (again) again.focus(); }
+  const again = had && [...fresh.querySelectorAll("a, [tabindex]")].find((one) => nameOf(one) === had);
+  if (again) again.focus();
 }
 
 // ---- events
