@@ -1,18 +1,22 @@
 /*
  * The proved sign and the proved central system of Wisangub for C (C11) and C++.
  *
- * What each function does is proved of the library, as the contract of the function that it calls. What this header and
- * its callers have to keep is not proved:
- *   - A sign is used only between wisangub_sign_new, which answered WISANGUB_DONE, and wisangub_sign_free, and is not
- *     copied: two copies of a struct wisangub_sign are one sign.
+ * What each function of the library does is proved: docs/PROVED.md, "Beside", has the contracts. Not proved is what this
+ * header and its callers have to keep:
+ *   - The declarations below are those of the library, and the functions of this header hand on what they are given. The
+ *     project's tests call each.
+ *   - `at` is null before the first use, and after that what the library wrote there: nobody else writes it, and a struct
+ *     is not copied, for two copies of a struct wisangub_sign are one sign. A sign is used only between wisangub_sign_new,
+ *     which answered WISANGUB_DONE, and wisangub_sign_free.
  *   - One sign is used by one thread at a time; two signs may be used by two threads at once. No function is called from a
  *     signal handler.
  *   - A pointer that comes with a size points to at least so many octets, and no two pointers of one call overlap.
  *   - malloc, realloc and free are those of the C library, or others that keep its promises and align to 16 octets.
  *
- * There is no global state, no thread, no exit and no abort. wisangub_sign_new takes memory (by malloc), and
- * wisangub_sign_free gives it back; calls that draw pages take memory and give it back before they answer; no other call
- * takes any. Sizes are octets and times are seconds. The functions answer one of enum wisangub_answer.
+ * There is no global state, no thread, no exit and no abort. wisangub_sign_new and wisangub_centre_new take memory (by
+ * malloc), and wisangub_sign_free and wisangub_centre_free give it back; the two calls that draw pages, and the command of
+ * a central system, take memory and give it back before they answer; a central system takes some for its ledger, where
+ * its command or tick answers MEMORY if there is none; no other call takes any. Sizes are octets and times are seconds. The functions answer one of enum wisangub_answer.
  *
  * A call that fills a buffer tells the size that it needs in *size. Where the room is smaller it answers TOO_SMALL and
  * does nothing else, and may be called again; null with a room of 0 asks for the size alone.
@@ -144,17 +148,19 @@ struct wisangub_status {
 };
 
 /* What the library exports, as the compiler of the library lays it out. Use the functions below, which refuse null. */
-uint32_t wisangub_sign_new_at(const uint8_t *text, size_t text_size, void **sign, uint32_t *first, size_t *line);
+uint32_t wisangub_sign_new_at(const uint8_t *text, size_t text_size, struct wisangub_sign *sign, uint32_t *first,
+                              size_t *line);
 uint32_t wisangub_sign_receive_at(struct wisangub_sign *sign, const uint8_t *datagram, size_t datagram_size,
                                   uint8_t *reply, size_t reply_room, size_t *reply_size);
 void wisangub_sign_tick_at(struct wisangub_sign *sign);
 void wisangub_sign_power_lost_at(struct wisangub_sign *sign);
 void wisangub_sign_power_back_at(struct wisangub_sign *sign, uint32_t seconds);
 void wisangub_sign_heard_at(struct wisangub_sign *sign);
-void wisangub_sign_free_at(struct wisangub_sign sign);
+void wisangub_sign_free_at(struct wisangub_sign *sign);
 void wisangub_sign_shown_at(struct wisangub_sign *sign, struct wisangub_shown *shown);
 void wisangub_sign_matrix_at(struct wisangub_sign *sign, uint16_t *width, uint16_t *height);
 uint32_t wisangub_sign_text_at(struct wisangub_sign *sign, uint8_t *text, size_t room, size_t *size);
+uint32_t wisangub_sign_reader_at(struct wisangub_sign *sign, uint8_t *community, size_t room, size_t *size);
 uint32_t wisangub_sign_writer_at(struct wisangub_sign *sign, uint8_t *community, size_t room, size_t *size);
 uint32_t wisangub_sign_check_at(struct wisangub_sign *sign, const uint8_t *text, size_t text_size, size_t *pages,
                                 struct wisangub_text_fault *fault);
@@ -169,7 +175,7 @@ uint32_t wisangub_activation_code_at(uint8_t order, const struct wisangub_code *
                                      size_t *size);
 
 uint32_t wisangub_centre_new_at(const uint8_t *community, size_t community_size, uint8_t order, uint32_t first,
-                                void **centre);
+                                struct wisangub_centre *centre);
 uint32_t wisangub_centre_command_at(struct wisangub_centre *centre, const uint8_t *line, size_t line_size,
                                     uint8_t *request, size_t request_room, size_t *request_size);
 uint32_t wisangub_centre_receive_at(struct wisangub_centre *centre, const uint8_t *datagram, size_t datagram_size,
@@ -179,7 +185,7 @@ uint32_t wisangub_centre_tick_at(struct wisangub_centre *centre, uint8_t *reques
 void wisangub_centre_restart_at(struct wisangub_centre *centre);
 void wisangub_centre_status_at(struct wisangub_centre *centre, struct wisangub_status *status);
 uint32_t wisangub_centre_entry_at(struct wisangub_centre *centre, size_t index, struct wisangub_entry *entry);
-void wisangub_centre_free_at(struct wisangub_centre centre);
+void wisangub_centre_free_at(struct wisangub_centre *centre);
 
 /* A buffer, or a place for none where its room is 0. */
 static inline uint8_t *wisangub_buffer(void *buffer, size_t room, uint8_t *none)
@@ -198,7 +204,7 @@ static inline enum wisangub_answer wisangub_sign_new(struct wisangub_sign *sign,
     if (sign == NULL || sign->at != NULL || text == NULL || first == NULL || line == NULL) {
         return WISANGUB_NULL;
     }
-    return (enum wisangub_answer)wisangub_sign_new_at((const uint8_t *)text, text_size, &sign->at, first, line);
+    return (enum wisangub_answer)wisangub_sign_new_at((const uint8_t *)text, text_size, sign, first, line);
 }
 
 /*
@@ -290,7 +296,18 @@ static inline enum wisangub_answer wisangub_sign_text(struct wisangub_sign *sign
     return (enum wisangub_answer)wisangub_sign_text_at(sign, buffer, room, size);
 }
 
-/* The community that may write, 1 to 32 octets. Answers DONE, TOO_SMALL or NULL. */
+/* The community that may only read, 1 to 32 octets. Answers DONE, TOO_SMALL or NULL. */
+static inline enum wisangub_answer wisangub_sign_reader(struct wisangub_sign *sign, void *community, size_t room,
+                                                        size_t *size)
+{
+    uint8_t none = 0, *buffer = wisangub_buffer(community, room, &none);
+    if (sign == NULL || sign->at == NULL || buffer == NULL || size == NULL) {
+        return WISANGUB_NULL;
+    }
+    return (enum wisangub_answer)wisangub_sign_reader_at(sign, buffer, room, size);
+}
+
+/* The community that may read and write, 1 to 32 octets. Answers DONE, TOO_SMALL or NULL. */
 static inline enum wisangub_answer wisangub_sign_writer(struct wisangub_sign *sign, void *community, size_t room,
                                                         size_t *size)
 {
@@ -347,7 +364,7 @@ static inline enum wisangub_answer wisangub_sign_text_pages(struct wisangub_sign
 
 /*
  * Which of so many cells are lit, of their looks, for a driver of lamps: eight cells an octet from the left, the first in
- * the highest bit. Answers DONE, TOO_SMALL, MEMORY or NULL.
+ * the highest bit. Answers DONE, TOO_SMALL or NULL.
  */
 static inline enum wisangub_answer wisangub_row_bits(const uint8_t *looks, size_t count, void *bits, size_t room,
                                                      size_t *size)
@@ -396,8 +413,7 @@ static inline enum wisangub_answer wisangub_activation_code(enum wisangub_order 
 static inline void wisangub_sign_free(struct wisangub_sign *sign)
 {
     if (sign != NULL && sign->at != NULL) {
-        wisangub_sign_free_at(*sign);
-        sign->at = NULL;
+        wisangub_sign_free_at(sign);
     }
 }
 
@@ -413,7 +429,7 @@ static inline enum wisangub_answer wisangub_centre_new(struct wisangub_centre *c
         return WISANGUB_NULL;
     }
     return (enum wisangub_answer)wisangub_centre_new_at((const uint8_t *)community, community_size, (uint8_t)order, first,
-                                                        &centre->at);
+                                                        centre);
 }
 
 /*
@@ -497,8 +513,7 @@ static inline enum wisangub_answer wisangub_centre_entry(struct wisangub_centre 
 static inline void wisangub_centre_free(struct wisangub_centre *centre)
 {
     if (centre != NULL && centre->at != NULL) {
-        wisangub_centre_free_at(*centre);
-        centre->at = NULL;
+        wisangub_centre_free_at(centre);
     }
 }
 

@@ -140,6 +140,13 @@ impl Sign {
         &self.face
     }
 
+    /// The community that may only read.
+    pub fn reader(&self) -> &[u8]
+        ensures { result.now ≡ self.now.config.reader }
+    {
+        self.reader.as_slice()
+    }
+
     /// The community that may write.
     pub fn writer(&self) -> &[u8]
         ensures { result.now ≡ self.now.config.writer }

@@ -1,2 +1,4 @@
 mod Entries
+mod Filled
+mod Places
 mod Values

@@ -1,5 +1,5 @@
 -- What the library answers of a central system (this profile).
-use Rattle.std.specs.Prelude.{ℕ, ℤ, pos, Bool, true, false, List, length, Option, Some, None}
+use Rattle.std.specs.Prelude.{ℕ, ◌≡◌, ◌≤◌, ℤ, pos, Bool, true, false, List, length, Option, Some, None}
 use Rattle.dms_codes.specs.declared.codes.Activation.{Activation}
 use Rattle.dms_centre.specs.declared.fault.CommandFault.{CommandFault}
 use Rattle.dms_centre.specs.declared.fault.CommandFault.TheVariants as faults
@@ -10,6 +10,7 @@ use Rattle.dms_centre.specs.declared.ended.Ended.TheVariants as endings
 use Rattle.dms_centre.specs.declared.ended.Why.{Why}
 use Rattle.dms_centre.specs.declared.ended.Why.TheVariants as reasons
 use Rattle.dms_centre.specs.State.{CentreState, Entry, is_busy}
+use Rattle.dms_centre.specs.Room.{CentreModel}
 use Rattle.dms_centre.specs.Commands.{CommandModel, commanded, refusal_of}
 use Rattle.dms_replay.specs.EventReading.{event_of}
 use Rattle.dms_centre_lines.specs.Calls.{CentreCall, command}
@@ -18,6 +19,16 @@ use Rattle.wisangub_c.specs.declared.code_calls.CodeParts.{CodeParts}
 use Rattle.wisangub_c.specs.declared.centre_calls.LedgerEntry.{LedgerEntry}
 use Rattle.wisangub_c.specs.declared.centre_calls.CentreStatus.{CentreStatus}
 use Rattle.wisangub_c.specs.Answers.{done, no_memory, at_fault, answer_of, size_of, buffer_with}
+
+-- ---- making one
+
+-- a community has 1 to 32 octets
+abbrev pub IsCommunity : List ℕ → Type 0
+IsCommunity community = (1 ≤ length community) × (length community ≤ 32)
+
+-- a central system of this state is in the place
+abbrev pub IsPlaced : CentreState → Option CentreModel → Type 0
+IsPlaced state place = (spare : ℕ) × (place ≡ Some (record { state = state; spare = spare }))
 
 -- ---- commands
 

@@ -1,3 +1,4 @@
+pub mod Place
 pub mod Answers
 pub mod Codes
 pub mod Shown

@@ -1,5 +1,5 @@
 -- Pages as octets (this profile): of each page its times, its background, and an octet for each cell.
-use Rattle.std.specs.Prelude.{ℕ, ◌+◌, ◌*◌, ◌/◌, ◌%◌, ◌==◌, if◌then◌else◌, List, [], ◌∷◌, ◌++◌, length, flat_map, Option, Some, None, Result, Ok, Err, slice_index_or}
+use Rattle.std.specs.Prelude.{ℕ, ◌+◌, ◌*◌, ◌/◌, ◌%◌, ◌==◌, if◌then◌else◌, List, [], ◌∷◌, ◌++◌, length, map, flat_map, Option, Some, None, Result, Ok, Err, slice_index_or}
 use Rattle.std.specs.List.{range_with_len}
 use Rattle.dms_multi.specs.declared.item.Lead.{Lead}
 use Rattle.dms_multi.specs.declared.item.Lead.TheVariants.{Lit, Dark}
@@ -85,4 +85,4 @@ eight_bits looks x =
     + 8 * lit_in looks (x + 4) + 4 * lit_in looks (x + 5) + 2 * lit_in looks (x + 6) + lit_in looks (x + 7)
 
 abbrev pub row_bits : List ℕ → List ℕ
-row_bits looks = flat_map (λ k. eight_bits looks (8 * k) ∷ []) (range_with_len 0 ((length looks + 7) / 8))
+row_bits looks = map (λ k. eight_bits looks (8 * k)) (range_with_len 0 ((length looks + 7) / 8))

@@ -1,21 +1,24 @@
 //! A central system's calls from C.
 
-ghost use Rattle.std.specs.Prelude.{◌≡◌, ◌≤◌, ◌<◌, ◌==◌, false, length, slice_get, IfOk};
+ghost use Rattle.std.specs.Prelude.{◌≡◌, ◌⊎◌, ◌≤◌, ◌<◌, ◌==◌, false, length, slice_get, None, IfOk, IfErr};
+ghost use denote.RawPtr.{null_ptr};
 ghost use Rattle.dms_ber.specs.Limits.{longest_datagram};
 ghost use Rattle.dms_centre.specs.State.{start};
 ghost use Rattle.dms_centre.specs.Inputs.{received, ticked, restarted};
 ghost use Rattle.dms_centre.specs.Commands.{commanded, refusal_of};
-ghost use Rattle.dms_centre.specs.CodeView.{command_model, entry_model, sent_in};
+ghost use Rattle.dms_centre.specs.CodeView.{settings_model, command_model, entry_model, sent_in};
 ghost use Rattle.wisangub_c.specs.Answers.{done, no_memory, too_small, at_fault, unless_memory, answer_of, size_of, buffer_with};
 ghost use Rattle.wisangub_c.specs.Codes.{order_of};
-ghost use Rattle.wisangub_c.specs.Centre.{command_in, refusal_answer, given_command_answer, given_command_size, given_command_buffer};
+ghost use Rattle.wisangub_c.specs.Centre.{IsCommunity, IsPlaced, command_in, refusal_answer, given_command_answer, given_command_size, given_command_buffer};
 ghost use Rattle.wisangub_c.specs.Centre.{command_answer, command_size, command_buffer, after_command, code_parts};
 ghost use Rattle.wisangub_c.specs.Centre.{outcome_number, outcome_status, ledger_entry, entry_answer, entry_after};
 ghost use Rattle.wisangub_c.specs.Centre.{ended_number, ended_step, ended_why, ended_value, why_number, why_value, busy_number, centre_status};
 
 use crate::answers::{AT_FAULT, DONE, NO_MEMORY, NOTHING_SENT, TOO_SMALL, put_first};
 use crate::centre_handle::CentreHandle;
+use crate::centre_place::CentrePlace;
 use crate::code_calls::{CodeParts, order_of};
+use crate::loose::Loose;
 use dms_centre::{
     Centre, CentreFault, Command, CommandFault, Ended, Entry, Outcome, Settings, Why,
 };
@@ -65,7 +68,10 @@ enum MakeFault {
 
 /// A central system on the heap.
 fn made(alloc: Global, settings: Settings<'_>, first: u32) -> Result<Box<Centre>, MakeFault>
-    ensures made { IfOk result (λ centre. centre.value.state ≡ start (record { community = settings.entry.community.now; order = settings.entry.order }) first) }
+    ensures made { IfOk result (λ centre. centre.value.state ≡ start (settings_model settings.entry) first) }
+    ensures community { IfOk result (λ centre. IsCommunity settings.entry.community.now) }
+    ensures fault { IfErr result (λ fault. fault ≡ MakeFault.Community → IsCommunity settings.entry.community.now → ⊥) }
+    ensures memory { IfErr result (λ fault. fault ≡ MakeFault.Memory → IsCommunity settings.entry.community.now) }
 {
     let centre = match Centre::new(alloc, settings, first) {
         Ok(centre) => centre,
@@ -77,22 +83,29 @@ fn made(alloc: Global, settings: Settings<'_>, first: u32) -> Result<Box<Centre>
     }
 }
 
-/// Makes a central system, whose requests have this community and begin with the number `first`: `centre` is its pointer.
+/// Makes a central system, in the place `centre`: its requests have this community and begin with the number `first`.
 #[unsafe(no_mangle)]
 pub extern "C" fn wisangub_centre_new_at(
     alloc: Global,
     community: &[u8],
     order: u8,
     first: u32,
-    centre: &mut *mut u8,
-) -> u32 {
+    centre: &mut CentrePlace,
+) -> u32
+    ensures answer { (result ≡ done) ⊎ ((result ≡ at_fault) ⊎ (result ≡ no_memory)) }
+    ensures made { result ≡ done → IsPlaced (start (record { community = community.now; order = order_of order }) first) centre.new.value }
+    ensures community { result ≡ done → IsCommunity community.now }
+    ensures fault { result ≡ at_fault → IsCommunity community.now → ⊥ }
+    ensures memory { result ≡ no_memory → IsCommunity community.now }
+    ensures kept { (result == done) ≡ false → centre.new ≡ centre.old }
+{
     let settings = Settings {
         community,
         order: order_of(order),
     };
     match made(alloc, settings, first) {
         Ok(made) => {
-            *centre = Box::into_raw(made) as *mut u8;
+            centre.put(CentrePlace::of(Loose::of(made)));
             DONE
         }
         Err(MakeFault::Community) => AT_FAULT,
@@ -449,8 +462,11 @@ pub extern "C" fn wisangub_centre_entry_at(
     tell_entry(centre.as_mut(), index, entry)
 }
 
-/// Gives the central system's memory back: its pointer is of no use after it.
+/// Gives the central system's memory back: its place has none then, and its pointer is null.
 #[unsafe(no_mangle)]
-pub extern "C" fn wisangub_centre_free_at(centre: CentreHandle) {
-    drop(centre.parts().into_box());
+pub extern "C" fn wisangub_centre_free_at(alloc: Global, centre: &mut CentrePlace)
+    ensures centre { centre.new.value ≡ None }
+    ensures pointer { centre.new.at ≡ null_ptr }
+{
+    centre.put(CentrePlace::none(alloc));
 }

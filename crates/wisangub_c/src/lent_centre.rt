@@ -1,4 +1,4 @@
-//! The central system of a handle: lent, and taken back from it.
+//! The central system of a handle: lent.
 
 ghost use Rattle.std.specs.Prelude.{◌≡◌};
 ghost use Rattle.std.specs.Borrow.{sem, follows};
@@ -6,9 +6,7 @@ ghost use Rattle.dms_centre.specs.contracts.centre.Centre.{the_row as centre_row
 ghost use Rattle.wisangub_c.specs.contracts.centre_handle.CentreHandle.{the_row as handle_row};
 
 use crate::centre_handle::CentreHandle;
-use crate::loose::Loose;
 use dms_centre::Centre;
-use std::alloc::Global;
 
 impl CentreHandle {
     /// The central system. What is done to it is done to the handle's.
@@ -17,16 +15,5 @@ impl CentreHandle {
         ensures value { result.now ≡ self.old.value }
     {
         unsafe { &mut *(self.at as *mut Centre) }
-    }
-
-    /// The parts of the central system's box.
-    pub(crate) fn parts(self) -> Loose<Centre, Global>
-        ensures { result.value ≡ self.value }
-    {
-        let CentreHandle { at, alloc } = self;
-        Loose {
-            at: at as *mut Centre,
-            alloc,
-        }
     }
 }

@@ -4,12 +4,16 @@
 mod answers;
 pub mod centre_calls;
 pub mod centre_handle;
+pub mod centre_place;
 pub mod code_calls;
 mod lent_centre;
 mod lent_sign;
 mod loose;
 pub mod page_calls;
 mod page_octets;
+mod placed_centre;
+mod placed_sign;
 pub mod shown_calls;
 pub mod sign_calls;
 pub mod sign_handle;
+pub mod sign_place;

@@ -7,8 +7,8 @@ ghost use Rattle.wisangub_c.specs.Answers.{no_memory, given_answer, given_buffer
 ghost use Rattle.wisangub_c.specs.Shown.{fault_after};
 ghost use Rattle.wisangub_c.specs.Pages.{pages_octets, shown_octets, drawn_answer, drawn_size, drawn_buffer, row_bits};
 
-use crate::answers::{AT_FAULT, NO_MEMORY, give};
-use crate::page_octets::{pages_octets, row_bits};
+use crate::answers::{AT_FAULT, DONE, NO_MEMORY, TOO_SMALL, give};
+use crate::page_octets::{bits_needed, pages_octets, put_bits};
 use crate::shown_calls::{TextFault, text_fault};
 use crate::sign_handle::SignHandle;
 use dms_pages::{Page, PagesFault, pages};
@@ -104,18 +104,15 @@ pub extern "C" fn wisangub_sign_text_pages_at(
 
 /// Which cells of a row are lit, of the looks of its cells: eight an octet from the left, the first in the highest bit.
 #[unsafe(no_mangle)]
-pub extern "C" fn wisangub_row_bits_at(
-    alloc: Global,
-    looks: &[u8],
-    bits: &mut [u8],
-    size: &mut usize,
-) -> u32
-    ensures answer { result ≡ unless_memory result no_memory (given_answer (row_bits looks.now) (length bits.old)) }
-    ensures size { size.new ≡ unless_memory result size.old (length (row_bits looks.now)) }
-    ensures bits { bits.new ≡ unless_memory result bits.old (given_buffer (row_bits looks.now) bits.old) }
+pub extern "C" fn wisangub_row_bits_at(looks: &[u8], bits: &mut [u8], size: &mut usize) -> u32
+    ensures answer { result ≡ given_answer (row_bits looks.now) (length bits.old) }
+    ensures size { size.new ≡ length (row_bits looks.now) }
+    ensures bits { bits.new ≡ given_buffer (row_bits looks.now) bits.old }
 {
-    match row_bits(alloc, looks) {
-        Ok(made) => give(made.as_slice(), bits, size),
-        Err(_) => NO_MEMORY,
+    *size = bits_needed(looks);
+    if bits.len() < *size {
+        return TOO_SMALL;
     }
+    put_bits(looks, bits);
+    DONE
 }

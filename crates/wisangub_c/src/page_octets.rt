@@ -1,6 +1,7 @@
 //! Pages as octets: of each page its times, its background, and an octet for each cell.
 
-ghost use Rattle.std.specs.Prelude.{◌≡◌, ◌++◌, ◌∷◌, [], ◌<◌, ◌≤◌, ◌+◌, ◌*◌, length, flat_map, IfOk, OnOk};
+ghost use Rattle.std.specs.Prelude.{◌≡◌, ◌++◌, ◌∷◌, [], ◌<◌, ◌≤◌, ◌+◌, ◌*◌, ◌/◌, length, flat_map, IfOk, OnOk};
+ghost use Rattle.wisangub_c.specs.Answers.{put_first};
 ghost use Rattle.wisangub_c.specs.Pages.{first_mark, lit_mark, look, lit_time, dark_time, cell_octet, row_octets, rows_octets};
 ghost use Rattle.wisangub_c.specs.Pages.{page_octets, pages_octets, lit_in, eight_bits, row_bits};
 
@@ -128,30 +129,23 @@ fn dark_time(flash: Option<Flash>) -> u8
     }
 }
 
-/// Which cells of a row are lit, eight an octet from the left, the first in the highest bit.
-pub(crate) fn row_bits(alloc: Global, looks: &[u8]) -> Result<Vec<u8>, AllocError>
-    ensures { IfOk result (λ bits. bits.items ≡ row_bits looks.now) }
+/// The octets of a row's bits.
+#[tactic(auto, using(crate::proofs::Filled::length_made))]
+pub(crate) fn bits_needed(looks: &[u8]) -> usize
+    ensures number { result ≡ (length looks.now + 7) / 8 }
+    ensures size { result ≡ length (row_bits looks.now) }
 {
-    let mut bits = Vec::new(alloc);
-    put_bits(&mut bits, looks)?;
-    Ok(bits)
+    looks.len().div_ceil(8)
 }
 
-fn put_bits(bits: &mut Vec<u8>, looks: &[u8]) -> Result<(), AllocError>
-    ensures { OnOk result (bits.new.items ≡ bits.old.items ++ row_bits looks.now) }
+/// Which cells of a row are lit, eight an octet from the left, the first in the highest bit: first in a buffer that has room for them.
+pub(crate) fn put_bits(looks: &[u8], bits: &mut [u8])
+    requires { (length looks.now + 7) / 8 ≤ length bits.old }
+    ensures { bits.new ≡ put_first (row_bits looks.now) bits.old }
 {
     for k in 0..looks.len().div_ceil(8) {
-        put_eight(bits, looks, k)?;
+        bits[k] = eight_bits(looks, 8 * k);
     }
-    Ok(())
-}
-
-fn put_eight(bits: &mut Vec<u8>, looks: &[u8], k: usize) -> Result<(), AllocError>
-    requires { 8 * k ≤ length looks.now + 7 }
-    ensures { OnOk result (bits.new.items ≡ bits.old.items ++ eight_bits looks.now (8 * k) ∷ []) }
-{
-    bits.push(eight_bits(looks, 8 * k))?;
-    Ok(())
 }
 
 fn eight_bits(looks: &[u8], x: usize) -> u8

@@ -122,6 +122,29 @@ pub extern "C" fn wisangub_sign_text_at(
     give_text(sign.as_mut(), text, size)
 }
 
+fn give_reader(sign: &Sign, community: &mut [u8], size: &mut usize) -> u32
+    ensures answer { result ≡ given_answer sign.now.config.reader (length community.old) }
+    ensures size { size.new ≡ length sign.now.config.reader }
+    ensures community { community.new ≡ given_buffer sign.now.config.reader community.old }
+{
+    give(sign.reader(), community, size)
+}
+
+/// The community that may only read.
+#[unsafe(no_mangle)]
+pub extern "C" fn wisangub_sign_reader_at(
+    sign: &mut SignHandle,
+    community: &mut [u8],
+    size: &mut usize,
+) -> u32
+    ensures same { sign.new.value ≡ sign.old.value }
+    ensures answer { result ≡ given_answer sign.old.value.config.reader (length community.old) }
+    ensures size { size.new ≡ length sign.old.value.config.reader }
+    ensures community { community.new ≡ given_buffer sign.old.value.config.reader community.old }
+{
+    give_reader(sign.as_mut(), community, size)
+}
+
 fn give_writer(sign: &Sign, community: &mut [u8], size: &mut usize) -> u32
     ensures answer { result ≡ given_answer sign.now.config.writer (length community.old) }
     ensures size { size.new ≡ length sign.now.config.writer }

@@ -1,17 +1,20 @@
 //! A sign's calls from C.
 
-ghost use Rattle.std.specs.Prelude.{◌≡◌, ◌⊎◌, ◌≤◌, length, IfOk, IfErr};
+ghost use Rattle.std.specs.Prelude.{◌≡◌, ◌⊎◌, ◌≤◌, ◌==◌, false, length, Some, None, IfOk, IfErr};
+ghost use denote.RawPtr.{null_ptr};
 ghost use Rattle.dms_ber.specs.Limits.{longest_datagram};
 ghost use Rattle.dms_text.specs.Lines.{kept_lines};
 ghost use Rattle.dms_description.specs.Description.{Description, SpellsSign};
 ghost use Rattle.dms_sign.specs.State.{start};
 ghost use Rattle.dms_sign.specs.Reply.{received, after_get};
 ghost use Rattle.dms_sign.specs.Events.{after_tick, after_power_loss, after_power_return};
-ghost use Rattle.wisangub_c.specs.Answers.{done, at_fault, answer_of, size_of, buffer_with};
+ghost use Rattle.wisangub_c.specs.Answers.{done, no_memory, at_fault, answer_of, size_of, buffer_with};
 ghost use Rattle.wisangub_c.specs.Answers.{after_datagram, datagram_answer, datagram_size, datagram_buffer};
 
 use crate::answers::{AT_FAULT, DONE, NO_MEMORY, NOTHING_SENT, TOO_SMALL, put_first};
+use crate::loose::Loose;
 use crate::sign_handle::SignHandle;
+use crate::sign_place::SignPlace;
 use dms_description::{DescriptionFault, Setup, description};
 use dms_sign::{Receipt, Sign};
 use dms_wire::{MAX_DATAGRAM, Out};
@@ -41,23 +44,27 @@ fn made(alloc: Global, text: &[u8]) -> Result<NewSign, DescriptionFault>
     }
 }
 
-/// Makes the sign of a description: `sign` is its pointer, and `first` the number of the first request of its centre. Where the
-/// description is at fault, `line` is the number of the line for which it is refused, from 1.
+/// Makes the sign of a description, in the place `sign`: `first` is the number of the first request of its centre. Where the description
+/// is at fault, `line` is the number of the line for which it is refused, from 1.
 #[unsafe(no_mangle)]
 pub extern "C" fn wisangub_sign_new_at(
     alloc: Global,
     text: &[u8],
-    sign: &mut *mut u8,
+    sign: &mut SignPlace,
     first: &mut u32,
     line: &mut usize,
 ) -> u32
-    ensures made { result ≡ done → (it : Description) × SpellsSign (kept_lines text.now) it × (first.new ≡ it.first) }
+    ensures answer { (result ≡ done) ⊎ ((result ≡ at_fault) ⊎ (result ≡ no_memory)) }
+    ensures made { result ≡ done → (it : Description) × SpellsSign (kept_lines text.now) it
+        × (sign.new.value ≡ Some (start it.config it.table)) × (first.new ≡ it.first) }
     ensures fault { result ≡ at_fault → (it : Description) → SpellsSign (kept_lines text.now) it → ⊥ }
+    ensures kept { (result == done) ≡ false → (sign.new ≡ sign.old) × (first.new ≡ first.old) }
+    ensures line { (result == at_fault) ≡ false → line.new ≡ line.old }
 {
     match made(alloc, text) {
         Ok(made) => {
             *first = made.first;
-            *sign = Box::into_raw(made.sign) as *mut u8;
+            sign.put(SignPlace::of(Loose::of(made.sign)));
             DONE
         }
         Err(DescriptionFault::Line(number)) => {
@@ -142,8 +149,11 @@ pub extern "C" fn wisangub_sign_power_back_at(sign: &mut SignHandle, seconds: u3
     sign.as_mut().power_back(seconds);
 }
 
-/// Gives the sign's memory back: its pointer is of no use after it.
+/// Gives the sign's memory back: its place has no sign then, and its pointer is null.
 #[unsafe(no_mangle)]
-pub extern "C" fn wisangub_sign_free_at(sign: SignHandle) {
-    drop(sign.parts().into_box());
+pub extern "C" fn wisangub_sign_free_at(alloc: Global, sign: &mut SignPlace)
+    ensures sign { sign.new.value ≡ None }
+    ensures pointer { sign.new.at ≡ null_ptr }
+{
+    sign.put(SignPlace::none(alloc));
 }

@@ -15,7 +15,8 @@ pub struct SignHandle {
 
 impl Model for SignHandle {
     ghost use Rattle.dms_sign.specs.contracts.sign.Sign.{the_row};
-    ghost use Rattle.std_alloc.specs.Box.Ownership.{box_owns};
+    ghost use Rattle.std.specs.Prelude.{Some};
+    ghost use Rattle.wisangub_c.specs.Place.{held};
 
-    ghost also_owns = { λ h. box_owns (⟦<Global as Allocator>⟧.dealloc_token h.alloc) the_row h.at h.value };
+    ghost also_owns = { λ h. held (⟦<Global as Allocator>⟧.dealloc_token h.alloc) the_row h.at (Some h.value) };
 }

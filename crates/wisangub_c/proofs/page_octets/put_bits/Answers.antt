@@ -1,7 +1,10 @@
-use Rattle.std.proofs.Common.{◌*◌, [], ◌∷◌}
+use Rattle.std.proofs.Common.{◌≡◌, ◌∙◌, ◌<◌, ◌*◌, length, slice_set, ap, arith}
 use Rattle.wisangub_c.specs.Pages.{eight_bits}
-use Rattle.dms_sign_lines.proofs.TextRuns.{number_more}
+use Rattle.wisangub_c.proofs.Filled.{filled_more}
 use Rattle.wisangub_c.proofs.page_octets.put_bits.Goals as goal
 
 pub loop-k-preserved : goal.loop-k-preserved
-loop-k-preserved c = number_more (λ k. eight_bits c.args.looks.now (8 * k) ∷ []) c.loop-k.k _ _ _ c.loop-k.invariant c.in_ok-put_eight.ensures
+loop-k-preserved c =
+    let inside : c.loop-k.k < length c.args.bits.now = omega (arith, c.loop-k-test.true, c.div_ceil-k-end.ensures, c.requires) in
+    ap (λ octet. slice_set c.loop-k.bits c.loop-k.k octet) c.eight_bits.ensures
+    ∙ filled_more (λ k. eight_bits c.args.looks.now (8 * k)) c.loop-k.k c.args.bits.now c.loop-k.bits inside c.loop-k.invariant

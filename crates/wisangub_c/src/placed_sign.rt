@@ -1,0 +1,59 @@
+//! The sign of a place: put there, and taken back from it.
+
+ghost use Rattle.std.specs.Prelude.{◌≡◌, Some, None, option_map};
+ghost use denote.RawPtr.{null_ptr};
+
+use crate::loose::Loose;
+use crate::sign_place::SignPlace;
+use dms_sign::Sign;
+use std::alloc::Global;
+use std::mem::replace;
+use std::ptr::null_mut;
+
+impl SignPlace {
+    /// A place with no sign.
+    pub(crate) fn none(alloc: Global) -> SignPlace
+        ensures value { result.value ≡ None }
+        ensures pointer { result.at ≡ null_ptr }
+    {
+        SignPlace {
+            at: null_mut(),
+            alloc,
+        }
+    }
+
+    /// A place with a sign.
+    pub(crate) fn of(loose: Loose<Sign, Global>) -> SignPlace
+        ensures { result.value ≡ Some loose.value }
+    {
+        let Loose { at, alloc } = loose;
+        SignPlace {
+            at: at as *mut u8,
+            alloc,
+        }
+    }
+
+    /// The parts of the sign's box, where one is there.
+    pub(crate) fn into_loose(self) -> Option<Loose<Sign, Global>>
+        ensures { option_map (λ loose. loose.value) result ≡ self.value }
+    {
+        let SignPlace { at, alloc } = self;
+        if at.is_null() {
+            None
+        } else {
+            Some(Loose {
+                at: at as *mut Sign,
+                alloc,
+            })
+        }
+    }
+
+    /// Puts another place in its stead, and frees the sign that was there.
+    pub(crate) fn put(&mut self, place: SignPlace)
+        ensures { self.new ≡ place }
+    {
+        if let Some(loose) = replace(self, place).into_loose() {
+            drop(loose.into_box());
+        }
+    }
+}
