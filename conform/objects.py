@@ -101,6 +101,11 @@ def row_of(name: Name) -> tuple[int, int] | None:
     return (rest[4], rest[5]) if rest and len(rest) == 6 and rest[:3] == (5, 8, 1) else None
 
 
+def is_validation(name: Name, value: Value) -> bool:
+    """Whether a binding asks a row to validate."""
+    return column_of(name) == 9 and value == (wire.INTEGER, 7)
+
+
 def scalar_of(name: Name) -> tuple[int, int] | None:
     """Group and member of an instance .0 that is in the table above."""
     rest = after_dms(name)

@@ -6,9 +6,9 @@ from model import wire
 
 from .clock import Clock
 from .compare import Kind, Mismatch, mismatch
-from .lost import is_known
+from .lost import is_command, is_known
 from .messages import spelled
-from .objects import Name, Row, row_of, scalar
+from .objects import Name, Row, is_validation, row_of, scalar
 from .oracle import Oracle
 from .port import Port
 from .steps import Ask, Raw, Step, Wait, get
@@ -152,6 +152,8 @@ class Pair:
         if heard.reply is None:
             self.settle_lost(octets, message, ours)
             return Exchange(step, octets, ours, None, Mismatch(Kind.NO_ANSWER), True, True)
+        if hangs_on_ticks(message) and self.ticks.may_have_come(heard.ended):
+            raise Inconclusive("a tick may have come before the sign took what hangs on ticks")
         differs = mismatch(ours, heard.reply, frozenset(self.masked))
         if differs is not None and self.ticks.is_in_doubt(heard.begun, heard.ended) and self.doubts < MOST_DOUBTS:
             self.doubts += 1
@@ -179,6 +181,11 @@ class Pair:
         self.hand(sentinel)
         differs = mismatch(None, answer) or (None if is_heard else Mismatch(Kind.NO_ANSWER))
         return Exchange(step, octets, None, answer, differs)
+
+
+def hangs_on_ticks(message: wire.Message) -> bool:
+    """Whether seconds count from when a sign takes this SET: a row is asked to validate, or something is shown."""
+    return is_command(message) or any(is_validation(*bound) for bound in message.bindings)
 
 
 def is_read(octets: bytes) -> bool:

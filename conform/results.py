@@ -12,6 +12,7 @@ class ChapterResult:
     chapter: Chapter
     blocks: int = 0
     requests: int = 0
+    told: int = 0  # requests of blocks of which it is told whether they differ
     seconds: float = 0.0
     differences: list[Difference] = field(default_factory=list)
     once: list[Difference] = field(default_factory=list)  # seen once, and not again from the known state

@@ -137,3 +137,13 @@ def gaps(context: Context) -> list[Sample]:
         if context.fault(one + b"[nl%d]" % gap + one) is not None:
             return made("room", [one + b"[nl%d]" % (gap + more) + one for more in (-1, 0) if gap + more >= 0], 2)
     return []
+
+
+def closed(context: Context) -> list[Sample]:
+    """Lines that fill the matrix, and an open one, which is too much as soon as something closes it."""
+    one = context.character()
+    full = b"[nl0]".join([one] * longest(context, one, b"[nl0]"))
+    if not full:
+        return []
+    found = [full + b"[nl0][np]" + one, b"[jp2]" + full + b"[nl0][jp3]", full + b"[nl0][nl0]" + one, full + b"[nl0]"]
+    return made("room", found, 1)

@@ -8,7 +8,7 @@ from model import wire
 from .found import Signature, object_of, signature
 from .known import Known
 from .messages import spelled
-from .objects import row_of
+from .objects import is_validation
 from .pair import Exchange, Inconclusive, Pair
 from .steps import Ask, Step, Wait
 
@@ -96,6 +96,6 @@ def is_timed(steps: Sequence[Step]) -> bool:
         isinstance(step, Wait)
         or isinstance(step, Ask)
         and step.kind == wire.SET
-        and any(row_of(name) is not None and value == (wire.INTEGER, 7) for name, value in step.bindings)
+        and any(is_validation(name, value) for name, value in step.bindings)
         for step in steps
     )

@@ -15,7 +15,7 @@ from .results import ChapterResult, Results, Watcher
 from .rules import RULES, Rule
 from .runs import Run, Runner
 from .shrinking import shrunk
-from .steps import Step
+from .steps import Step, datagrams
 from .wanted import Unreachable
 
 MOST_SHRUNK, MOST_TOLD = 4, 12  # differences of a chapter that are made small, and that are told
@@ -84,6 +84,7 @@ class Session:
         except Inconclusive:
             self.pair.is_dirty = True
             return self.again(result, block) if history is not None and not block.is_fresh else self.cannot_tell(result)
+        result.told += datagrams(block.steps if run is None else run.steps)
         if run is None:
             return [*history, *block.steps]
         self.difference(result, block, Run(run.exchange, [*history, *run.steps], run.sent), run.steps)

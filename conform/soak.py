@@ -1,13 +1,15 @@
 """Right signs through many random requests: python3 -m conform.soak [--seeds N] [--requests N] [--faulty SHARE]
 
-    [--under-test PATH] [--signtool PATH] [--sign FILE] [--first SEED] [--record FILE]
+    [--under-test PATH] [--signtool PATH] [--sign FILE] [--first SEED] [--record FILE] [--jobs N]
 
 The sign under test and the oracle are the model or a program. With --faulty that share of the replies is lost, late or
-doubled, a third of it each. A line a seed; last `N passed, N failed`. With --record each seed is a line of JSON in that
-file, with the commit that was run; seeds that stand there for the same commit and the same options are not run again.
+doubled, a third of it each. A line a seed, in the order in which they end; last how many sequences were told and how
+many could not be, and `N passed, N failed`. With --record each seed is a line of JSON in that file, with the commit
+that was run; seeds that stand there for the same commit and the same options are not run again.
 """
 
 import argparse
+import concurrent.futures
 import datetime
 import json
 import pathlib
@@ -20,6 +22,7 @@ from model import text
 
 from . import TOP, bench
 from .compare import fields
+from .kept import keep
 from .oracle import Oracle, made
 from .report.words import sequence
 from .results import Results
@@ -77,6 +80,7 @@ def run(entry: dict[str, Any], description: bytes) -> dict[str, Any]:
     return entry | {
         "when": datetime.datetime.now(datetime.timezone.utc).isoformat(timespec="seconds"),
         "asked": session.pair.requests,
+        "told_requests": sum(held.told for held in results.chapters),
         "clean": results.is_clean(),
         "asked_again": port.asked_again,
         "passed_over": port.passed_over,
@@ -92,7 +96,8 @@ def line(held: dict[str, Any]) -> str:
     verdict = "nothing differs" if held["clean"] else "differs"
     lost = f"{held['asked_again']} asked again, {held['passed_over']} passed over"
     untold = f"{held['not_told']} of {held['cases']} sequences not told, {held['seen_once']} seen once"
-    return f"seed {held['seed']}: {held['asked']} requests, {verdict}, {lost}, {untold}, {held['seconds']:.0f} s"
+    requests = f"{held['told_requests']} requests told"
+    return f"seed {held['seed']}: {requests}, {verdict}, {lost}, {untold}, {held['seconds']:.0f} s"
 
 
 def recorded(record: pathlib.Path | None) -> dict[tuple[Any, ...], dict[str, Any]]:
@@ -103,21 +108,32 @@ def recorded(record: pathlib.Path | None) -> dict[tuple[Any, ...], dict[str, Any
     return {tuple(held[option] for option in OPTIONS): held for held in found}
 
 
-def soak(asked: argparse.Namespace, description: bytes) -> list[bool]:
-    """Each seed, but for those that the record has: whether nothing differed."""
-    before, ends = recorded(asked.record), []
-    for seed in range(asked.first, asked.first + asked.seeds):
-        options = vars(asked) | {"seed": seed, "commit": commit(), "sign": str(asked.sign or "bench")}
-        entry = {option: options[option] for option in OPTIONS}
-        held = before.get(tuple(entry.values()))
-        said = " (of the record)" if held else ""
-        if held is None:
-            held = run(entry, description)
+def entries(asked: argparse.Namespace) -> list[dict[str, Any]]:
+    """The options of each seed."""
+    held = vars(asked) | {"commit": commit(), "sign": str(asked.sign or "bench")}
+    seeds = range(asked.first, asked.first + asked.seeds)
+    return [{option: (held | {"seed": seed})[option] for option in OPTIONS} for seed in seeds]
+
+
+def show(held: dict[str, Any], said: str = "") -> None:
+    print("\n".join([line(held) + said, *held["told"]]), flush=True)
+
+
+def soak(asked: argparse.Namespace, description: bytes) -> list[dict[str, Any]]:
+    """What came of each seed, by the record where that has it."""
+    before, wanted = recorded(asked.record), entries(asked)
+    ends = [before[key] for entry in wanted if (key := tuple(entry.values())) in before]
+    for held in ends:
+        show(held, " (of the record)")
+    left = [entry for entry in wanted if tuple(entry.values()) not in before]
+    with concurrent.futures.ProcessPoolExecutor(asked.jobs, initializer=keep) as pool:
+        for done in concurrent.futures.as_completed([pool.submit(run, entry, description) for entry in left]):
+            held = done.result()
             if asked.record is not None:
                 with asked.record.open("a", encoding="utf-8") as file:
                     file.write(json.dumps(held) + "\n")
-        print("\n".join([line(held) + said, *held["told"]]), flush=True)
-        ends.append(held["clean"])
+            show(held)
+            ends.append(held)
     return ends
 
 
@@ -131,10 +147,14 @@ def main() -> int:
     words.add_argument("--signtool", default="model", metavar="PATH")
     words.add_argument("--sign", type=pathlib.Path, help="a description; else the bench sign")
     words.add_argument("--record", type=pathlib.Path, metavar="FILE")
+    words.add_argument("--jobs", type=int, default=1, metavar="N", help="seeds at a time")
     asked = words.parse_args()
     ends = soak(asked, asked.sign.read_bytes() if asked.sign else text.BENCH)
-    print(f"{sum(ends)} passed, {len(ends) - sum(ends)} failed")
-    return 0 if all(ends) else 1
+    clean, untold = sum(held["clean"] for held in ends), sum(held["not_told"] for held in ends)
+    requests = sum(held["told_requests"] for held in ends)
+    print(f"{requests} requests in {sum(held['cases'] for held in ends) - untold} sequences told, {untold} not told")
+    print(f"{clean} passed, {len(ends) - clean} failed")
+    return 0 if clean == len(ends) else 1
 
 
 if __name__ == "__main__":

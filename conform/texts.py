@@ -3,7 +3,7 @@
 import random
 
 from .context import Context
-from .rooms import Sample, gaps, heights, longest, made, mixed, rooms, touching
+from .rooms import Sample, closed, gaps, heights, longest, made, mixed, rooms, touching
 
 MARKUP = [  # each with one fault of the markup, by the rule that it breaks
     ("markup code", [b"[zz]", b"[", b"]", b"[ nl]", b"[]", b"[nl", b"A]", b"[/f]", b"[/FLx", b"[n]", b"[[]"]),
@@ -158,19 +158,33 @@ def both(context: Context) -> list[Sample]:
         one + b"[np]" + one + b"[nl10]",
         b"[zz][fo255]",
         many[:480] + b"[zz]",
+        b"[fl]" * 100 + b"[zz]",
         b"A" * 512,
     ]
     return made("layout", found, 3)
 
 
+def joined(context: Context, chosen: list[Sample]) -> list[Sample]:
+    """Those that fit one page after the other in one text, as long as that fits: one validation tells of all."""
+    texts: list[bytes] = []
+    for sample in chosen:
+        both = texts[-1] + b"[np]" + sample.text if texts else sample.text
+        if texts and len(both) <= 512 and context.fault(both) is None:
+            texts[-1] = both
+        else:
+            texts.append(sample.text)
+    return made("layout", texts, 0)
+
+
 def samples(context: Context) -> list[Sample]:
-    """All of them with --slow; else the first of each rule and some others, by the seed."""
+    """All of them with --slow; else the first of each rule and some others by the seed, those that fit joined."""
     found = (
         parts(context)
         + pages(context)
         + fonts(context)
         + characters(context)
         + gaps(context)
+        + closed(context)
         + rooms(context)
         + mixed(context)
         + heights(context)
@@ -188,4 +202,6 @@ def samples(context: Context) -> list[Sample]:
         return list(known.values())
     rest = [sample for sample in known.values() if not sample.is_first]
     others = random.Random(context.seed).sample(rest, min(OTHERS, len(rest)))
-    return [sample for sample in known.values() if sample.is_first or sample in others]
+    chosen = [sample for sample in known.values() if sample.is_first or sample in others]
+    faulty = [sample for sample in chosen if context.fault(sample.text) is not None]
+    return faulty + joined(context, [sample for sample in chosen if sample not in faulty])

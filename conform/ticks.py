@@ -81,7 +81,11 @@ class Ticks:
         """Whether a tick may have come between two moments, or may be late at the first of them."""
         if math.isinf(self.next) or self.first is None:
             return False
-        return ended > self.next - self.margin / 2 or begun < self.next - self.period + LATE
+        return self.may_have_come(ended) or begun < self.next - self.period + LATE
+
+    def may_have_come(self, moment: float) -> bool:
+        """Whether the next tick that ours has not been handed may have come before this moment."""
+        return moment > self.next - self.margin / 2
 
     def after_doubt(self) -> float:
         """The moment from which on the last tick is late no more; now, where none is known."""

@@ -2,10 +2,10 @@
 
 from typing import Iterator
 
-from ..context import ADDRESS, Context, activate, activation
+from ..context import ADDRESS, Context, activate, activation, remaining
 from ..objects import Row, integer, scalar
-from ..steps import Step, get, put
-from .block import Block, Chapter, look, message, modify, reports, unuse
+from ..steps import Step, Wait, get, put
+from .block import Block, Chapter, fill, look, message, modify, reports, unuse, validate
 
 
 def tried(
@@ -29,9 +29,7 @@ def without_rows(context: Context) -> Iterator[Block]:
         (5, 2),
         (7, 0),
         (7, 256),
-        (3, 257),
-        (3, 65535),
-        (7, 65535),
+        *[(memory, number) for memory in (2, 3, 4, 5, 7) for number in (257, 65535)],
     ]
     for row in numbers:
         yield Block("no such row", "deciding", tried(context, Row(*row), 0))
@@ -43,6 +41,11 @@ def without_rows(context: Context) -> Iterator[Block]:
     )
     for crc in (0, 0x0F47, 1):
         yield Block("the current buffer while it is blank", "deciding", [*tried(context, Row(5, 1), crc)], True)
+    named: list[Step] = [activate(context.code(Row(7, 9), 0x1234)), *tried(context, Row(5, 1), 0x1234)]
+    yield Block("the current buffer while it is blank", "deciding", [*named, *tried(context, Row(5, 1), 0)], True)
+    ended = put(remaining(0))
+    kept: list[Step] = [ended, *tried(context, Row(5, 1), 0, minutes=9), *look()]
+    yield Block("the current buffer after an end", "current buffer", kept, True)
 
 
 def permanent(context: Context) -> Iterator[Block]:
@@ -81,6 +84,10 @@ def errors(context: Context, row: Row) -> Iterator[Block]:
     yield Block("a row with an error", "deciding", steps, True)
     good = activate(context.blank_code(2))
     yield Block("a success leaves the fault of a text", "accepted", [good, reports()])
+    text = context.character()
+    begun: list[Step] = [modify(row), fill(row, text), *tried(context, row, context.crc(text)), *tried(context, row, 0)]
+    begun += [Wait(0), validate(row), *tried(context, row, context.crc(text)), *tried(context, row, 0)]
+    yield Block("a row that is modified, and one that validates", "deciding", begun, True)
 
 
 def order(context: Context) -> Iterator[Block]:

@@ -2,10 +2,10 @@
 
 from typing import Iterator
 
-from ..context import Context, activate
-from ..objects import Binding, Row, integer, scalar
-from ..steps import Step, put
-from .block import Block, Chapter, look, message, modify, reports, unuse
+from ..context import Context, activate, activation, remaining
+from ..objects import Binding, Row, integer, octets, scalar
+from ..steps import Ask, Step, Wait, put
+from .block import Block, Chapter, fill, look, message, modify, reports, unuse, validate
 from .validation import judged
 
 
@@ -57,7 +57,7 @@ def telling(context: Context) -> list[tuple[int, int, bytes]]:
 
 def decide(context: Context, row: Row) -> Iterator[Block]:
     """A text is judged under the defaults of now, at its validation and at its activation."""
-    for member, value, text in telling(context):
+    for at, (member, value, text) in enumerate(telling(context)):
         own, other = put(default(member, context.defaults[member - 1])), put(default(member, value))
         yield Block(f"a text under default {member}", "missing values", [other, *judged(row, text)], True)
         first, then = (own, other) if context.fault(text) is None else (other, own)
@@ -82,6 +82,32 @@ def decide(context: Context, row: Row) -> Iterator[Block]:
             *look(),
         ]
         yield Block(f"an activation under default {member}", "fits now", steps, True)
+        if at == 0 or context.is_slow:
+            yield from at_once(context, row, text, first, then)
+            yield from while_validating(row, text, first, then)
+
+
+def at_once(context: Context, row: Row, text: bytes, good: Ask, bad: Ask) -> Iterator[Block]:
+    """A default and an activation in one SET, a text and a priority that are refused, and codes of the sign's own."""
+    code, end = context.code(row, context.crc(text)), octets(context.message_code(row, context.crc(text)))
+    yield Block(
+        "a default and an activation at once",
+        "fits now",
+        [
+            *[good, *message(row, text), bad, put(*good.bindings, activation(code)), *look()],
+            *[activate(context.blank_code(1)), put(*bad.bindings, activation(code)), *look()],
+            *[activate(context.blank_code(200)), bad, activate(context.code(row, context.crc(text), 5)), reports()],
+            *[put((scalar(6, 15), end)), put(remaining(0)), *look(), good, put(remaining(0)), *look()],
+        ],
+        True,
+    )
+
+
+def while_validating(row: Row, text: bytes, good: Ask, bad: Ask) -> Iterator[Block]:
+    """The defaults at the tick decide, not those at the request."""
+    for before, then in ((good, bad), (bad, good)):
+        steps: list[Step] = [before, modify(row), fill(row, text), Wait(0), validate(row), then, Wait(1), *look(row)]
+        yield Block("a default while a row validates", "missing values", steps, True)
 
 
 def copied(context: Context, row: Row) -> Iterator[Block]:
@@ -97,6 +123,9 @@ def copied(context: Context, row: Row) -> Iterator[Block]:
         *look(row),
         unuse(row),
         *look(row),
+        activate(context.blank_code(1, 8)),
+        activate(context.blank_code(1, 9)),
+        reports(),
     ]
     yield Block("what was copied", "copied", [*begun, *changes, *after], True)
 

@@ -39,6 +39,8 @@ def at_once(context: Context) -> Iterator[Block]:
     shown = activate(context.blank_code(200, 255, 30, bytes([10, 9, 8, 7])))
     for name, rule, code in at_end(context):
         yield Block(f"0 minutes: {name}", rule, [put(end_code(code)), shown, put(remaining(0)), *look()], True)
+    after = [shown, put(remaining(0)), put(remaining(5)), *look(), put(remaining(65535)), *look()]
+    yield Block("minutes after an end", "remaining", after, True)
     failed = activate(context.code(Row(9, 9), 0x99))
     yield Block("0 minutes after a refusal", "own refused", [failed, put(remaining(0)), *look()], True)
     together = put(end_code(context.message_code(Row(7, 9), 0)), remaining(0))

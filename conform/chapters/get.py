@@ -41,6 +41,10 @@ NO_INSTANCES: list[Name] = [
     DMS + (5, 8, 1, 3, 3, 2**32 - 1),
     DMS + (5, 8, 1, 3, 3, 65537),
     DMS + (5, 8, 1, 9, 259, 1),
+    DMS + (5, 8, 1, 259, 3, 1),
+    scalar(4, 257),
+    scalar(260, 1),
+    scalar(6, 3)[:-1] + (256,),
 ]
 
 
@@ -61,6 +65,7 @@ def no_rows(context: Context) -> list[Name]:
         (7, 0),
         (7, 256),
         (8, 1),
+        *[(memory, 257) for memory in (2, 3, 4, 5, 7)],
     ]
     return [cell(column, *row) for row in rows for column in (3, 9)]
 

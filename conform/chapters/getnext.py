@@ -11,11 +11,12 @@ from .block import Block, Chapter
 
 
 def gaps(names: list[Name]) -> list[Name]:
-    """Names that are none, around the instances where the object, the column or the memory changes."""
+    """Names that are none: some in each gap between two instances, more where the object, column or memory changes."""
     found: list[Name] = []
     for first, second in zip(names, names[1:]):
+        found += [first + (0,), first + (2**32 - 1, 1)]
         if first[:-1] != second[:-1]:
-            found += [first + (0,), first[:-1] + (first[-1] + 1,), first[:-1] + (2**32 - 1,), second[:-1]]
+            found += [first[:-1] + (first[-1] + 1,), first[:-1] + (2**32 - 1,), second[:-1]]
             if second[-1]:
                 found.append(second[:-1] + (second[-1] - 1,))
     return found

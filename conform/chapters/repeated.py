@@ -27,6 +27,10 @@ def scalars(context: Context) -> Iterator[Block]:
         put((scalar(4, 8), integer(256))),
     ):
         yield Block("a request repeated", "repeated", [*again(ask, 3), look_at(scalar(4, 8))])
+    number = next(GROUPS)
+    others = [get(scalar(2, 3)), put((scalar(4, 8), integer(9))), get(scalar(4, 8)), put((scalar(4, 8), integer(10)))]
+    shared: list[Step] = [replace(ask, group=number) for ask in (*others, get(scalar(4, 8)), get_next(scalar(4, 8)))]
+    yield Block("other requests with one number", "not looked at", [*shared, look_at(scalar(4, 8))], True)
     first, second = again(put((scalar(4, 8), integer(1))))[0], again(put((scalar(4, 8), integer(2))))[0]
     yield Block(
         "an earlier request comes late",

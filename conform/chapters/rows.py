@@ -28,7 +28,8 @@ def writes(row: Row) -> list[Step]:
     return [put(bound, rule="fields") for bound in fields]
 
 
-def transitions(context: Context, row: Row) -> Iterator[Block]:
+def transitions(context: Context, row: Row, is_settled: bool = True) -> Iterator[Block]:
+    """Each status asked for each command; those after a validation only where ticks are waited for."""
     asks = {value: put(row.status(value)) for value in (6, 7, 8)}
     for status in (1, 2):
         for value, ask in asks.items():
@@ -40,7 +41,7 @@ def transitions(context: Context, row: Row) -> Iterator[Block]:
         )
     refused = [step for ask in (*asks.values(), *writes(row)) for step in (ask, look_at(row.cell(9)))]
     yield Block("status 3 asked and written", "statuses", [*reaching(context, row, 3), *refused, *look(row)], True)
-    for status, last in ((4, 6), (5, 8)):  # a valid row is emptied in `counts`, one in error modified in `settling`
+    for status, last in ((4, 6), (5, 8)) if is_settled else ():  # a valid row is emptied in `counts`, one in error modified in `settling`
         steps = [*reaching(context, row, status), *writes(row), *look(row)]
         yield Block(f"status {status}: fields", "fields", steps, True)
         steps = [asks[7], *look(row), Wait(1), *look(row), asks[last], *look(row)]
@@ -108,6 +109,7 @@ def blocks(context: Context) -> Iterator[Block]:
     yield from emptied(context, first)
     yield from transitions(context, first)
     if last != first:
+        yield from transitions(context, last, context.is_slow)
         yield from two_rows(context, first, last)
     if len(rows) > 2 and context.is_slow:
         yield from two_rows(context, first, rows[1])

@@ -67,7 +67,7 @@ def scalars(context: Context) -> Iterator[Block]:
         "default font",
         [step for number in numbers for step in (put((scalar(4, 5), integer(number))), look_at(scalar(4, 5)))],
     )
-    for name in [scalar(4, 1), scalar(4, 5), scalar(4, 6), scalar(6, 4), scalar(6, 10)]:
+    for name in [*[name for name, _, _ in RANGES], scalar(4, 5), scalar(6, 4)]:
         yield Block("types", "bad value", alone([(name, value) for value in OTHER_TYPES]))
     yield Block("after that", "bad value", look())
     for member in OWN_CODES:
@@ -113,12 +113,15 @@ def cells(context: Context, row: Row) -> Iterator[Block]:
     yield Block("any octets", "set", [modify(row), put(*any_octets), *look(row)], True)
     types = [
         (row.cell(column), value)
-        for column in (3, 6, 8, 9)
+        for column in (3, 4, 6, 7, 8, 9)
         for value in OTHER_TYPES
-        if column != 3 or value[0] != wire.OCTETS
+        if column not in (3, 4) or value[0] != wire.OCTETS
     ]
     yield Block(
         "types of fields", "bad value", [modify(row), *alone(types), put((row.cell(3), integer(1))), *look(row)], True
     )
+    out: list[Binding] = [row.text(b"A" * 513), row.owner(b"A" * 128), row.beacon(2), row.pixel(2), row.priority(0)]
+    out += [row.priority(256), (row.cell(3), integer(1)), (row.cell(4), integer(1)), (row.cell(8), octets(b"1"))]
+    yield Block("bad values of a row that is not modifying", "order of causes", [*alone(out), *look(row)], True)
     asked = [row.status(value) for value in (0, 1, 2, 3, 4, 5, 9, 10, -1, 256 + 6)]
     yield Block("what a row is asked", "ranges", [*alone(asked), *look(row)], True)

@@ -1,12 +1,13 @@
 """Silence: what a sign does that hears nothing. It takes minutes, so it runs with --slow."""
 
+from dataclasses import replace
 from typing import Iterator
 
 from model import wire
 
 from ..context import Context, activate
 from ..objects import NULL, Binding, Row, integer, octets, scalar
-from ..steps import Ask, Raw, Step, Wait, get, put
+from ..steps import Ask, Raw, Step, Wait, fixed, get, get_next, put
 from .block import Block, Chapter, look, reports
 
 
@@ -29,15 +30,24 @@ def dropped(community: bytes) -> Raw:
     return Raw(make, is_quiet=True)
 
 
+def response() -> Raw:
+    """A Response in the writer's community, and nothing after it."""
+
+    def make(number: int, communities: tuple[bytes, bytes]) -> bytes:
+        message = wire.Message(wire.RESPONSE, communities[1], number, 0, 0, [(scalar(2, 3), integer(1))])
+        return wire.written(message)
+
+    return Raw(make, is_quiet=True)
+
+
 def blocks(context: Context) -> Iterator[Block]:
     blank = context.message_code(Row(7, 7), 0)
     short: list[Step] = [*begun(context, blank), Wait(59), reports(), Wait(59), reports(), Wait(60), reports(), *look()]
     yield Block("a minute of silence", "silence", short, True)
+    quiet = [dropped(b"nobody"), replace(fixed(b"\x30\0"), is_quiet=True), response(), dropped(b"")]
+    waits: list[Step] = [step for ask in quiet for step in (Wait(12), ask)]
     yield Block(
-        "a datagram that is dropped is silence",
-        "heard",
-        [*begun(context, blank), Wait(30), dropped(b"nobody"), Wait(30), *look()],
-        True,
+        "a datagram that is dropped is silence", "heard", [*begun(context, blank), *waits, Wait(12), *look()], True
     )
     refused = Ask(wire.SET, ((scalar(2, 3), integer(1)),))
     yield Block(
@@ -50,6 +60,12 @@ def blocks(context: Context) -> Iterator[Block]:
     yield Block(
         "the reader is no silence", "heard", [*begun(context, blank), Wait(30), reader, Wait(59), reports()], True
     )
+    answered: list[Step] = [get_next(scalar(2, 3)), get(scalar(2, 5)), get_next(scalar(6, 24)), put()]
+    answered += [put((scalar(4, 8), integer(9)), is_writer=False), get(*[scalar(6, 3)] * 60)]
+    heard: list[Step] = [step for ask in answered for step in (Wait(30), ask)]
+    yield Block(
+        "no answer is silence", "heard", [*begun(context, blank), *heard, Wait(59), reports(), Wait(60), reports()], True
+    )
     yield Block("a code that is refused", "own refused", [*begun(context, b"\6\0\1\0\0"), Wait(60), *look()], True)
     yield Block(
         "a code of the current buffer", "own current", [*begun(context, b"\5\0\1\0\0"), Wait(60), *look()], True
@@ -58,6 +74,13 @@ def blocks(context: Context) -> Iterator[Block]:
         "a silence acts once",
         "silence once",
         [*begun(context, blank), Wait(60), reports(), Wait(60), reports(), Wait(30), reports()],
+        True,
+    )
+    again = activate(context.blank_code(200, 255, 65535, bytes([10, 9, 8, 7])))
+    yield Block(
+        "a silence after a silence",
+        "silence once",
+        [*begun(context, blank), Wait(60), again, Wait(59), reports(), Wait(60), reports()],
         True,
     )
     yield Block("two minutes", "silence", [*begun(context, blank, 2), Wait(119), reports(), Wait(120), reports()], True)

@@ -17,7 +17,7 @@ from conform.results import ChapterResult
 from conform.session import Session
 from conform.settling import LONGEST
 from conform.simulated import SimulatedLink
-from conform.steps import get, put
+from conform.steps import Wait, get, put
 
 ROW, TIME = Row(3, 1), scalar(4, 8)
 LOOK = get(ROW.cell(9))
@@ -129,3 +129,31 @@ def test_lost_replies_leave_few_sequences_untold() -> None:
         results = bench.run(bench.session(text.BENCH, seed=seed, faulty=0.05, requests=900), ["random"])
         held = results.chapters[0]
         assert results.is_clean() and held.untold * 5 <= held.blocks, (seed, held.untold, held.blocks)
+
+
+class Held(Choosy):
+    """A link on which a row is asked to validate just before a tick, and the sign takes it after that."""
+
+    left = 1
+
+    def send(self, octets: bytes) -> None:
+        if self.left and is_asked(octets, 7) and self.clock.now() > self.next_tick - 0.2:
+            self.left -= 1
+            self.clock.sleep_until(self.next_tick + 0.01)
+        super().send(octets)
+
+
+def test_a_validation_that_the_sign_took_after_a_tick_is_no_difference() -> None:
+    session = bench.session(text.BENCH)
+    assert isinstance(session.pair.port.link, SimulatedLink) and isinstance(session.pair.clock, SimulatedClock)
+    session.pair.port.link.close()
+    link = Held(session.pair.clock, lambda _: False)
+    session.pair.port.link = link
+    assert session.beginning.begin()
+    result = ChapterResult(ALL[0])
+    session.results.chapters.append(result)
+    steps = [put(ROW.status(6)), put(ROW.status(7)), get(scalar(5, 2)), Wait(1), get(scalar(5, 2), ROW.cell(9))]
+    session.known.reach_or_end()
+    session.pair.clock.sleep_until(session.pair.ticks.upcoming() - 0.1)
+    session.block(result, Block("a validation at a tick", "settled", steps), [])
+    assert link.left == 0 and session.results.is_clean() and not result.once and not result.untold
