@@ -71,8 +71,17 @@ refused "$end" 's/^size .*/size 257 64/' "the matrix is wider than 256"
 refused "$end" 's/^communities .*/communities same same/' "both communities are the same"
 refused "$end" 's/^rows .*/rows 65 1/' "there are more than 64 changeable rows"
 refused "$end" 's/^end/stop/' 'a row, a font, a character or `end` is wanted'
-call replay < /dev/null; said "replay: no input" "the standard input is empty: < FILE gives it one"
-call check A --sign < /dev/null; said "check: no input" 'line 1: the text ends before its line `end`'
+for words in "replay" "answer $get --sign" "check A --sign" "pages A --sign" "sign --sign" "centre --sign"; do
+    call $words < /dev/null; ended "$words: no input" 1 "line 1"
+    said "$words: no input" 'line 1: the text ends before its line `end`'
+    said "$words: no input" "the standard input is empty: < FILE gives it one"
+done
+for words in "answer $get --sign" "check A --sign" "pages A --sign" "sign --sign" "centre --sign"; do
+    for named in "$words made.sign" "$words=made.sign"; do
+        call $named < /dev/null; ended "$named" 2 ""
+        said "$named" "hint: --sign takes no file: the description is read from the standard input, as in --sign < FILE"
+    done
+done
 printf 'bench\nsign-tick now\n' > "$folder/refused"
 call replay < "$folder/refused"; ended "replay: a word too many" 1 "line 2"; said "replay: a word too many" "line 2: word 2: no more words are wanted"
 
@@ -108,8 +117,6 @@ call check --json AAAAA < /dev/null; ended "check --json: a line that is too wid
 said "check --json: a line that is too wide" "text too big at octet 4: wider than the matrix by 6 columns"
 call pages C < /dev/null; ended "pages: a character that is not there" 1 "fault 7 at 0"
 said "pages: a character that is not there" "character not defined at octet 0: character 67 is not in font 1"
-call sign --sign made.sign < /dev/null; ended "sign --sign: a file" 2 ""
-said "sign --sign: a file" "hint: --sign takes no file: the description is read from the standard input, as in --sign < FILE"
 # words that are no text are named on standard error by their number
 call check $'A\xff' < /dev/null; ended "check: a word that is no text" 2 ""
 if grep -qx "word 2 of the command line is no text" "$folder/err"; then passed=$((passed + 1)); else failed=$((failed + 1)); cat "$folder/err"; fi
