@@ -9,10 +9,8 @@ ghost use Rattle.dms_centre.specs.Commands.{commanded, refusal_of};
 ghost use Rattle.dms_centre.specs.CodeView.{settings_model, command_model, entry_model, sent_in};
 ghost use Rattle.wisangub_c.specs.Answers.{done, no_memory, too_small, at_fault, unless_memory, answer_of, size_of, buffer_with};
 ghost use Rattle.wisangub_c.specs.Codes.{order_of};
-ghost use Rattle.wisangub_c.specs.Centre.{IsCommunity, IsPlaced, command_in, refusal_answer, given_command_answer, given_command_size, given_command_buffer};
-ghost use Rattle.wisangub_c.specs.Centre.{command_answer, command_size, command_buffer, after_command, code_parts};
-ghost use Rattle.wisangub_c.specs.Centre.{outcome_number, outcome_status, ledger_entry, entry_answer, entry_after};
-ghost use Rattle.wisangub_c.specs.Centre.{ended_number, ended_step, ended_why, ended_value, why_number, why_value, busy_number, centre_status};
+ghost use Rattle.wisangub_c.specs.Centre.{IsCommunity, IsPlaced, command_in, refusal_answer, given_command_answer, given_command_size, given_command_buffer, command_answer, command_size, command_buffer, after_command, code_parts};
+ghost use Rattle.wisangub_c.specs.Centre.{outcome_number, outcome_status, ledger_entry, entry_answer, entry_after, ended_number, ended_step, ended_why, ended_value, why_number, why_value, busy_number, centre_status};
 
 use crate::answers::{AT_FAULT, DONE, NO_MEMORY, NOTHING_SENT, TOO_SMALL, put_first};
 use crate::centre_handle::CentreHandle;

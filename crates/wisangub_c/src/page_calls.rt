@@ -12,7 +12,6 @@ use crate::page_octets::{bits_needed, pages_octets, put_bits};
 use crate::shown_calls::{TextFault, text_fault};
 use crate::sign_handle::SignHandle;
 use dms_pages::{Page, PagesFault, pages};
-use dms_sign::Sign;
 use dms_sign_lines::answering::shown_pages;
 use std::alloc::Global;
 
@@ -24,18 +23,6 @@ fn give_pages(alloc: Global, layer: u8, pages: &[Page], octets: &mut [u8], size:
 {
     match pages_octets(alloc, layer, pages) {
         Ok(made) => give(made.as_slice(), octets, size),
-        Err(_) => NO_MEMORY,
-    }
-}
-
-/// Gives the pages of what is shown.
-fn give_shown(alloc: Global, sign: &Sign, layer: u8, octets: &mut [u8], size: &mut usize) -> u32
-    ensures answer { result ≡ unless_memory result no_memory (given_answer (shown_octets layer sign.now) (length octets.old)) }
-    ensures size { size.new ≡ unless_memory result size.old (length (shown_octets layer sign.now)) }
-    ensures octets { octets.new ≡ unless_memory result octets.old (given_buffer (shown_octets layer sign.now) octets.old) }
-{
-    match shown_pages(alloc, sign) {
-        Ok(pages) => give_pages(alloc, layer, pages.as_slice(), octets, size),
         Err(_) => NO_MEMORY,
     }
 }
@@ -54,31 +41,9 @@ pub extern "C" fn wisangub_sign_pages_at(
     ensures size { size.new ≡ unless_memory result size.old (length (shown_octets layer sign.old.value)) }
     ensures octets { octets.new ≡ unless_memory result octets.old (given_buffer (shown_octets layer sign.old.value) octets.old) }
 {
-    give_shown(alloc, sign.as_mut(), layer, octets, size)
-}
-
-/// Gives the pages of a text under the face's own defaults.
-fn give_drawn(
-    alloc: Global,
-    sign: &Sign,
-    text: &[u8],
-    layer: u8,
-    octets: &mut [u8],
-    size: &mut usize,
-    fault: &mut TextFault,
-) -> u32
-    ensures answer { result ≡ unless_memory result no_memory (drawn_answer layer (drawn_text sign.now.config.face text.now) (length octets.old)) }
-    ensures size { size.new ≡ unless_memory result size.old (drawn_size layer (drawn_text sign.now.config.face text.now) size.old) }
-    ensures octets { octets.new ≡ unless_memory result octets.old (drawn_buffer layer (drawn_text sign.now.config.face text.now) octets.old) }
-    ensures fault { fault.new ≡ unless_memory result fault.old (fault_after (drawn_text sign.now.config.face text.now) fault.old) }
-{
-    match pages(alloc, sign.face(), text) {
+    match shown_pages(alloc, sign.as_mut()) {
         Ok(pages) => give_pages(alloc, layer, pages.as_slice(), octets, size),
-        Err(PagesFault::Multi(found)) => {
-            *fault = text_fault(found);
-            AT_FAULT
-        }
-        Err(PagesFault::Memory) => NO_MEMORY,
+        Err(_) => NO_MEMORY,
     }
 }
 
@@ -99,7 +64,14 @@ pub extern "C" fn wisangub_sign_text_pages_at(
     ensures octets { octets.new ≡ unless_memory result octets.old (drawn_buffer layer (drawn_text sign.old.value.config.face text.now) octets.old) }
     ensures fault { fault.new ≡ unless_memory result fault.old (fault_after (drawn_text sign.old.value.config.face text.now) fault.old) }
 {
-    give_drawn(alloc, sign.as_mut(), text, layer, octets, size, fault)
+    match pages(alloc, sign.as_mut().face(), text) {
+        Ok(pages) => give_pages(alloc, layer, pages.as_slice(), octets, size),
+        Err(PagesFault::Multi(found)) => {
+            *fault = text_fault(found);
+            AT_FAULT
+        }
+        Err(PagesFault::Memory) => NO_MEMORY,
+    }
 }
 
 /// Which cells of a row are lit, of the looks of its cells: eight an octet from the left, the first in the highest bit.

@@ -2,8 +2,7 @@
 
 ghost use Rattle.std.specs.Prelude.{◌≡◌, ◌++◌, ◌∷◌, [], ◌<◌, ◌≤◌, ◌+◌, ◌*◌, ◌/◌, length, flat_map, IfOk, OnOk};
 ghost use Rattle.wisangub_c.specs.Answers.{put_first};
-ghost use Rattle.wisangub_c.specs.Pages.{first_mark, lit_mark, look, lit_time, dark_time, cell_octet, row_octets, rows_octets};
-ghost use Rattle.wisangub_c.specs.Pages.{page_octets, pages_octets, lit_in, eight_bits, row_bits};
+ghost use Rattle.wisangub_c.specs.Pages.{first_mark, lit_mark, look, lit_time, dark_time, cell_octet, row_octets, rows_octets, page_octets, pages_octets, lit_in, eight_bits, row_bits};
 
 use dms_face::{Cell, Flash};
 use dms_multi::Lead;

@@ -99,14 +99,6 @@ pub extern "C" fn wisangub_sign_matrix_at(sign: &mut SignHandle, width: &mut u16
     *height = face.height();
 }
 
-fn give_text(sign: &Sign, text: &mut [u8], size: &mut usize) -> u32
-    ensures answer { result ≡ given_answer sign.now.shown.text (length text.old) }
-    ensures size { size.new ≡ length sign.now.shown.text }
-    ensures text { text.new ≡ given_buffer sign.now.shown.text text.old }
-{
-    give(sign.shown().text.as_slice(), text, size)
-}
-
 /// The text that the sign shows.
 #[unsafe(no_mangle)]
 pub extern "C" fn wisangub_sign_text_at(
@@ -119,15 +111,7 @@ pub extern "C" fn wisangub_sign_text_at(
     ensures size { size.new ≡ length sign.old.value.shown.text }
     ensures text { text.new ≡ given_buffer sign.old.value.shown.text text.old }
 {
-    give_text(sign.as_mut(), text, size)
-}
-
-fn give_reader(sign: &Sign, community: &mut [u8], size: &mut usize) -> u32
-    ensures answer { result ≡ given_answer sign.now.config.reader (length community.old) }
-    ensures size { size.new ≡ length sign.now.config.reader }
-    ensures community { community.new ≡ given_buffer sign.now.config.reader community.old }
-{
-    give(sign.reader(), community, size)
+    give(sign.as_mut().shown().text.as_slice(), text, size)
 }
 
 /// The community that may only read.
@@ -142,15 +126,7 @@ pub extern "C" fn wisangub_sign_reader_at(
     ensures size { size.new ≡ length sign.old.value.config.reader }
     ensures community { community.new ≡ given_buffer sign.old.value.config.reader community.old }
 {
-    give_reader(sign.as_mut(), community, size)
-}
-
-fn give_writer(sign: &Sign, community: &mut [u8], size: &mut usize) -> u32
-    ensures answer { result ≡ given_answer sign.now.config.writer (length community.old) }
-    ensures size { size.new ≡ length sign.now.config.writer }
-    ensures community { community.new ≡ given_buffer sign.now.config.writer community.old }
-{
-    give(sign.writer(), community, size)
+    give(sign.as_mut().reader(), community, size)
 }
 
 /// The community that may write.
@@ -165,25 +141,7 @@ pub extern "C" fn wisangub_sign_writer_at(
     ensures size { size.new ≡ length sign.old.value.config.writer }
     ensures community { community.new ≡ given_buffer sign.old.value.config.writer community.old }
 {
-    give_writer(sign.as_mut(), community, size)
-}
-
-/// Whether a text can be shown on the sign's face under the face's own defaults: the number of its pages, or its fault.
-fn check_text(sign: &Sign, text: &[u8], count: &mut usize, fault: &mut TextFault) -> u32
-    ensures answer { result ≡ check_answer (checked_text sign.now.config.face text.now) }
-    ensures count { count.new ≡ count_after (checked_text sign.now.config.face text.now) count.old }
-    ensures fault { fault.new ≡ fault_after (checked_text sign.now.config.face text.now) fault.old }
-{
-    match check(sign.face(), text) {
-        Ok(found) => {
-            *count = found;
-            DONE
-        }
-        Err(found) => {
-            *fault = text_fault(found);
-            AT_FAULT
-        }
-    }
+    give(sign.as_mut().writer(), community, size)
 }
 
 /// Whether a text can be shown on the sign's face under the face's own defaults: the number of its pages, or its fault.
@@ -199,5 +157,14 @@ pub extern "C" fn wisangub_sign_check_at(
     ensures count { count.new ≡ count_after (checked_text sign.old.value.config.face text.now) count.old }
     ensures fault { fault.new ≡ fault_after (checked_text sign.old.value.config.face text.now) fault.old }
 {
-    check_text(sign.as_mut(), text, count, fault)
+    match check(sign.as_mut().face(), text) {
+        Ok(found) => {
+            *count = found;
+            DONE
+        }
+        Err(found) => {
+            *fault = text_fault(found);
+            AT_FAULT
+        }
+    }
 }

@@ -8,8 +8,7 @@ ghost use Rattle.dms_description.specs.Description.{Description, SpellsSign};
 ghost use Rattle.dms_sign.specs.State.{start};
 ghost use Rattle.dms_sign.specs.Reply.{received, after_get};
 ghost use Rattle.dms_sign.specs.Events.{after_tick, after_power_loss, after_power_return};
-ghost use Rattle.wisangub_c.specs.Answers.{done, no_memory, at_fault, answer_of, size_of, buffer_with};
-ghost use Rattle.wisangub_c.specs.Answers.{after_datagram, datagram_answer, datagram_size, datagram_buffer};
+ghost use Rattle.wisangub_c.specs.Answers.{done, no_memory, at_fault, answer_of, size_of, buffer_with, after_datagram, datagram_answer, datagram_size, datagram_buffer};
 
 use crate::answers::{AT_FAULT, DONE, NO_MEMORY, NOTHING_SENT, TOO_SMALL, put_first};
 use crate::loose::Loose;

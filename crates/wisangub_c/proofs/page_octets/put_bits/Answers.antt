@@ -1,4 +1,4 @@
-use Rattle.std.proofs.Common.{◌≡◌, ◌∙◌, ◌<◌, ◌*◌, length, slice_set, ap, arith}
+use Rattle.std.proofs.Common.{◌∙◌, ◌<◌, ◌*◌, length, slice_set, ap, arith}
 use Rattle.wisangub_c.specs.Pages.{eight_bits}
 use Rattle.wisangub_c.proofs.Filled.{filled_more}
 use Rattle.wisangub_c.proofs.page_octets.put_bits.Goals as goal

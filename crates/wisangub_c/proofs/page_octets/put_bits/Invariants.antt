@@ -1,4 +1,4 @@
-use Rattle.std.proofs.Common.{◌≡◌, ◌*◌, length}
+use Rattle.std.proofs.Common.{◌≡◌, ◌*◌}
 use Rattle.wisangub_c.specs.Pages.{eight_bits}
 use Rattle.wisangub_c.proofs.Filled.{filled}
 use Rattle.wisangub_c.proofs.page_octets.put_bits.Given as goal

@@ -1,6 +1,6 @@
 -- `into_loose` takes a place apart: at null nothing is there, and elsewhere a box.
 use Rattle.std.proofs.Common.{◌≡◌, List, [], ◌∷◌, ◌++◌, refl, sym, subst, lit<}
-use mir.Syntax.{Ty, impl, tnil, dnil}
+use mir.Syntax.{impl, tnil, dnil}
 use mir.Val.{Val, vptr, vstruct, vcons, vnil, of_list, has_ty}
 use base.Logic.{SProp, ent, emp, id⊢}
 use base.Fml.{ftrue}

@@ -1,13 +1,12 @@
 -- `none` puts null into a place.
 use Rattle.std.proofs.Common.{◌≡◌, List, [], ◌∷◌, ◌++◌, refl, sym, subst, lit<}
-use lib.Dec.{T}
 use mir.Syntax.{impl, tnil, dnil}
-use mir.Val.{Val, vnull, vptr, has_ty}
+use mir.Val.{Val, has_ty}
 use base.Logic.{SProp, ent, emp, id⊢}
 use base.Fml.{ftrue}
 use prog.Wp.{WpFn}
 use types.Kit.{‵, raw, ◌⊛◌, ◌$◌, ◌∵◌, !, qed, by, move, keep, split, join, fsplit, fjoin, fpack, feq_i, suffices, use0}
-use types.Run.{lit, of_opd, no_more, and_then, returns, enter}
+use types.Run.{lit, no_more, and_then, returns, enter}
 use types.ByLocal.{alloc_all, pass_all, free_all, look_at, get, sets}
 use types.Part.{agg}
 use contract.Monad.{fact, fact_i}
@@ -17,7 +16,7 @@ use denote.Exit.{yes}
 use denote.RattleType.{RattleType, Valss, owns}
 use denote.RawPtr.{null_ptr, ptr_val}
 use denote.Param.{layout}
-use denote.Signature.{types_at, type_at, plain}
+use denote.Signature.{types_at, plain}
 use denote.Steps.{nothing}
 use denote.Struct.Struct.{within}
 use denote.Struct.Owning.{shape, to}
