@@ -73,16 +73,17 @@ def test_a_co_process_stands_while_its_sign_has_work(tmp_path: pathlib.Path, whe
         assert standing() == before
 
 
-def test_the_steps_of_a_publication(tmp_path: pathlib.Path, where: str) -> None:
+@pytest.mark.parametrize(("line", "wanted"), ((HELLO, [1, 2, 3, 4, 5, 6, 7]), (ROWS[2][1], [7, 8])))
+def test_the_steps_of_a_command(tmp_path: pathlib.Path, where: str, line: str, wanted: list[int]) -> None:
     with bench(tmp_path, where) as at:
-        at.ask(HELLO)
+        at.ask(line)
         found, steps = at.session("first"), []
         begin(found)
         while found.is_busy:
             steps.append(found.steps.step)
             carried_on(found, 1)
         found.close()
-        assert list(dict.fromkeys(steps)) == [1, 2, 3, 4, 5, 6, 7]
+        assert list(dict.fromkeys(steps)) == wanted
 
 
 def test_a_sign_that_is_silent(tmp_path: pathlib.Path, where: str, monkeypatch: pytest.MonkeyPatch) -> None:

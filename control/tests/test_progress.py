@@ -1,0 +1,57 @@
+"""The eight steps of a publication: what the page says of each."""
+
+import pathlib
+
+import pytest
+
+from control.tests import needs
+
+needs.modules("aiohttp", "jinja2")
+
+from control.tests.test_pages import filled
+from control.tests.visits import Bench, Visitors, run
+from control.views import CommandView
+from control.web.progress import STEPS, states
+
+PUBLISH = f"publish 3 1 {b'FOG'.hex()} - 0 0 100 65535 255 192.0.2.1"
+BLANK = "blank 1 65535 255 192.0.2.1"
+LETTERS = {"done": "d", "now": "n", "failed": "f", "left": "l", "none": "-"}
+ROWS = [
+    ("one that waits for its turn", PUBLISH, None, None, None, "lllllll-"),
+    ("one that has begun", PUBLISH, 3, 1, None, "nllllll-"),
+    ("one whose text is validated", PUBLISH, 3, 5, None, "ddddnll-"),
+    ("one that is activated", PUBLISH, 3, 7, None, "ddddddn-"),
+    ("one that asks why it was refused", PUBLISH, 3, 8, None, "ddddddfn"),
+    ("one that was accepted", PUBLISH, 3, 7, "accepted", "ddddddd-"),
+    ("a text that does not fit", PUBLISH, 3, 5, "failed at step 5: the row has status 5, error", "ddddfll-"),
+    ("an activation without an answer", PUBLISH, 3, 7, "failed at step 7: no reply", "ddddddf-"),
+    ("a refused activation", PUBLISH, 3, 8, "failed at step 7: the sign refused the activation for cause 5, x",
+     "ddddddfd"),
+    ("a blank that is activated", BLANK, 3, 7, None, "------n-"),
+    ("a blank that was accepted", BLANK, 3, 7, "accepted", "------d-"),
+]
+
+
+@pytest.mark.parametrize(("name", "line", "number", "step", "how", "letters"), ROWS, ids=[row[0] for row in ROWS])
+def test_the_steps_of_a_command(name: str, line: str, number: int | None, step: int | None, how: str | None,
+                                letters: str) -> None:
+    command = CommandView(1, 1, "one", "me", 0.0, line, number, None, how, step)
+    found = states(command)
+    assert "".join(LETTERS[one.state] for one in found) == letters
+    assert [one.number for one in found] == list(range(1, 9)) and tuple(one.word for one in found) == STEPS
+
+
+def test_the_page_of_what_was_asked_follows_the_steps(tmp_path: pathlib.Path) -> None:
+    async def act(bench: Bench, visitor: Visitors) -> None:
+        filled(bench)
+        one = await bench.logged_in(visitor, "reader")
+        for step, words in ((1, "Step 1 of 8: open the row"), (5, "Step 5 of 8: is the message valid"),
+                            (8, "Step 8 of 8: ask why it was refused")):
+            bench.store.run("UPDATE commands SET step = ?", step)
+            for path in ("/batches/1", f"/signs/{bench.one}"):
+                assert words in (await one.get(path))[1], path
+        bench.store.run("UPDATE commands SET how = 'failed at step 5: the row has status 5, error'")
+        page = (await one.get("/batches/1"))[1]
+        assert "Failed at step 5: is the message valid" in page and "the row has status 5, error" in page
+
+    run(tmp_path, str(tmp_path / "database"), act)
