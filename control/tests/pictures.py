@@ -31,7 +31,7 @@ def taken(folder: pathlib.Path) -> list[pathlib.Path]:
         one.script("document.activeElement.blur(); scrollTo(0, 0)")
         until(lambda: one.script(DRAWN), "the pictures of the page")
         made.append(folder / f"{name}.png")
-        one.driver.save_screenshot(str(made[-1]))
+        until(lambda: one.driver.save_screenshot(str(made[-1])), "a picture of the page")
 
     with tempfile.TemporaryDirectory() as held, place(pathlib.Path(held)) as at:
         gantry, east, west = (at.rows[name] for name in ("A9 gantry", "B300 east", "B300 west"))
