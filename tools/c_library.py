@@ -11,8 +11,8 @@ whole walk after every call; each allocation of a talk is refused once; signd an
 other's journals; C++, CMake and pkg-config build with it; and mutated datagrams go in for --seconds. With --aarch64 the
 vectors go through that library too, for ARM64, under qemu-user.
 
-The short form begins nothing after 230 seconds, and stops `rt lib` after 150: what there is no time for is skipped by
-name. It needs no network but loopback, and leaves no process and no file.
+The short form begins nothing after 230 seconds, stops `rt lib` after 150 and all else after 280: what there is no time
+for is skipped by name. In the long form what takes too long has failed. It needs no network but loopback, and leaves no process and no file.
 """
 
 from __future__ import annotations
@@ -30,7 +30,7 @@ import time
 from typing import Callable
 
 from c_trials import against_program, against_vectors, builds, hostile, journals
-from c_trials.trial import AARCH64, PLAIN, REFUSING, SANITIZE, SANITIZED, TOP, UNDER_VALGRIND, Trial, Way
+from c_trials.trial import AARCH64, PLAIN, REFUSING, SANITIZE, SANITIZED, TOP, UNDER_VALGRIND, Late, Trial, Way
 
 BUILT = TOP / "crates/wisangub_c/out/libwisangub_c.a"
 SHORT, MOST_LIB, LONG = 230.0, 150.0, 3600.0  # seconds of the short form, of `rt lib` in it, of `rt lib` else
@@ -79,11 +79,23 @@ def ways(trial: Trial, library: pathlib.Path, for_aarch64: pathlib.Path | None) 
     return found
 
 
+def told_of(trial: Trial, name: str, late: Late) -> None:
+    """A process took too long. In the short form the machine may be slow, and the rest of the part is skipped."""
+    if trial.is_short():
+        trial.skip(f"the rest of {name}", f"{late}")
+    else:
+        trial.check(name, False, late)
+
+
 def all_tried(trial: Trial, library: pathlib.Path, for_aarch64: pathlib.Path | None, seconds: int, seed: int) -> None:
     """What there is time for."""
-    if not all(trial.compiled(way, library) for way in (PLAIN, REFUSING)):
+    try:
+        if not all(trial.compiled(way, library) for way in (PLAIN, REFUSING)):
+            return
+        by = ways(trial, library, for_aarch64)
+    except Late as late:
+        told_of(trial, "compiling", late)
         return
-    by = ways(trial, library, for_aarch64)
     parts: list[tuple[str, Callable[[], None]]] = [
         ("vectors", lambda: against_vectors.run(trial, trial.way)),
         ("blink", lambda: hostile.blinked(trial)),
@@ -101,7 +113,10 @@ def all_tried(trial: Trial, library: pathlib.Path, for_aarch64: pathlib.Path | N
         if trial.left() <= 0:
             trial.skip(name, "there was no time left for it")
             continue
-        part()
+        try:
+            part()
+        except Late as late:
+            told_of(trial, name, late)
         print(f"{name}: {time.monotonic() - begun:.0f} s, load {os.getloadavg()[0]:.1f}", flush=True)
 
 

@@ -7,13 +7,14 @@ import os
 import pathlib
 import subprocess
 import threading
+import time
 from typing import BinaryIO
 
 from model import text, wire
 from model.sign import Sign
 
 from .against_vectors import cases
-from .trial import MOST_TALK, SIGNS, Trial, described
+from .trial import MOST_TALK, SIGNS, Late, Trial, described
 
 LINES = 2000
 WALKED, WALKED_SHORT = 1000, 60  # calls with a walk after each
@@ -81,7 +82,9 @@ def compare(trial: Trial, name: str, end: str, description: str, lines: list[str
         asked.write_text(description + inputs[which], encoding="latin-1")
         with open(asked, "rb") as stdin:
             processes[which] = subprocess.Popen(words, stdin=stdin, stdout=subprocess.PIPE, stderr=subprocess.DEVNULL)
-    late = threading.Timer(MOST_TALK, lambda: [process.kill() for process in processes.values()])
+    most = trial.most(MOST_TALK)
+    ends = time.monotonic() + most
+    late = threading.Timer(most, lambda: [process.kill() for process in processes.values()])
     late.start()
     found, wanted = (lines_of(processes[which].stdout) for which in ("ours", "theirs"))  # type: ignore[arg-type]
     pairs = enumerate(itertools.zip_longest(found, wanted), 1)
@@ -94,6 +97,8 @@ def compare(trial: Trial, name: str, end: str, description: str, lines: list[str
     for process in processes.values():
         assert process.stdout is not None
         process.stdout.close()
+    if time.monotonic() >= ends:
+        raise Late(f"{name} took more than {most:.0f} seconds")
     told = f"line {other[0]} of the answers: found {other[1]!r:.200}, wanted {other[2]!r:.200}" if other else ""
     trial.check(name, other is None and statuses == [0, 0], f"{told}, exit {statuses}")
 

@@ -16,8 +16,8 @@ from model.text import BENCH
 from .against_vectors import cases
 from .trial import TOP, Trial
 
-MOST_START = 10.0  # seconds
-MOST_REPLY = 2.0
+MOST_START = 60.0  # seconds
+MOST_REPLY = 20.0
 
 
 class Door:
@@ -95,6 +95,32 @@ def turns(trial: Trial, kinds: tuple[str, ...], is_killed: bool) -> None:
     trial.check(f"journal, {name}: replies", all(before), before)
 
 
+def power(trial: Trial) -> None:
+    """SIGUSR1 takes the power away, and SIGUSR2 gives it back: a sign answers nothing meanwhile, and whoever goes on
+    from the journal has the same."""
+    journal = trial.folder / "power.journal"
+    sets, gets = settings()
+    door = Door(trial, "signd", journal)
+    for octets in sets[:8]:
+        door.ask(octets)
+    door.process.send_signal(signal.SIGUSR1)
+    time.sleep(0.1)
+    door.socket.settimeout(0.3)
+    trial.same("power: without it nothing is answered", door.ask(gets[0]), "")
+    door.process.send_signal(signal.SIGUSR2)
+    time.sleep(0.1)
+    door.socket.settimeout(MOST_REPLY)
+    before = [door.ask(octets) for octets in gets]
+    trial.check("power: it is back", all(before), before)
+    trial.same("power: signd ends", door.end()[0], 0)
+    lines = journal.read_bytes()
+    trial.check("power: it is recorded", b"\npower-lost #" in lines and b"\npower-back 0 #" in lines, lines[-300:])
+    for kind in ("signd", "door") if os.access(trial.program, os.X_OK) else ("signd",):
+        door = Door(trial, kind, journal)
+        trial.same(f"power: what {kind} reads", [door.ask(octets) for octets in gets], before)
+        door.end()
+
+
 def refusals(trial: Trial) -> None:
     """What is no journal of this sign is refused, and a torn end is cut away."""
     journal = trial.folder / "refused.journal"
@@ -121,6 +147,7 @@ def run(trial: Trial) -> None:
     turns(trial, ("signd", "signd"), False)
     turns(trial, ("signd", "signd", "signd"), True)
     refusals(trial)
+    power(trial)
     if not os.access(trial.program, os.X_OK):
         trial.skip("journals with the door", f"there is no program at {trial.program}")
         return

@@ -15,6 +15,7 @@ TOP = pathlib.Path(__file__).resolve().parent.parent.parent
 SANITIZE = "-fsanitize=address,undefined -fno-sanitize-recover=all -fno-omit-frame-pointer"
 MOST_TALK = 120  # seconds
 MOST_COMPILED = 120
+LAST = 50.0
 MOST_SHOWN = 600
 SIGNS = ("roadside", "gantry")
 VALGRIND = ("valgrind", "-q", "--error-exitcode=9", "--leak-check=full", "--errors-for-leak-kinds=all")
@@ -38,10 +39,17 @@ UNDER_VALGRIND = Way("valgrind", "plain", VALGRIND)
 AARCH64 = Way("aarch64", "aarch64", QEMU, ("TARGET=aarch64",))
 
 
-class Trial:
-    """A folder with the examples, what passed and what failed. In the short form it ends at a moment."""
+class Late(Exception):
+    """A process took longer than it may, and was stopped."""
 
-    def __init__(self, folder: pathlib.Path, program: pathlib.Path, chance: random.Random, ends: float = float("inf")) -> None:
+
+class Trial:
+    """A folder with the examples, what passed and what failed. In the short form nothing begins after the moment `ends`,
+    and after LAST more seconds what still runs is stopped."""
+
+    def __init__(
+        self, folder: pathlib.Path, program: pathlib.Path, chance: random.Random, ends: float = float("inf")
+    ) -> None:
         self.folder, self.program, self.chance, self.ends = folder, program, chance, ends
         self.passed = self.failed = 0
         self.way = PLAIN  # with sanitizers, where they are here
@@ -52,6 +60,10 @@ class Trial:
     def left(self) -> float:
         """The seconds that are left."""
         return self.ends - time.monotonic()
+
+    def most(self, seconds: float) -> float:
+        """The seconds that a process may take that is given so many."""
+        return max(0.1, min(seconds, self.left() + LAST))
 
     def seconds(self, asked: int) -> int:
         """So many seconds as are asked for, or half of those that are left."""
@@ -92,19 +104,19 @@ class Trial:
         folder: pathlib.Path | None = None,
         **environment: str,
     ) -> tuple[int, str]:
-        """The exit status of a process, and what it printed; -1 where it took too long."""
+        """The exit status of a process, and what it printed. It is late after so many seconds."""
         try:
             ended = subprocess.run(
                 list(words),
                 input=text.encode("latin-1"),
                 stdout=subprocess.PIPE,
                 stderr=subprocess.STDOUT,
-                timeout=seconds,
+                timeout=self.most(seconds),
                 cwd=folder,
                 env={**os.environ, **environment},
             )
         except subprocess.TimeoutExpired as late:
-            return -1, (late.stdout or b"").decode("latin-1") + f"\nstopped after {seconds} seconds"
+            raise Late(f"{pathlib.Path(words[0]).name} took more than {late.timeout:.0f} seconds") from late
         return ended.returncode, ended.stdout.decode("latin-1")
 
     def called(self, way: Way, name: str, *words: str) -> list[str]:
@@ -112,7 +124,7 @@ class Trial:
         return [*way.by, str(self.folder / way.folder / name), *words]
 
     def talk(self, description: str, way: Way, **environment: str) -> "Talk":
-        return Talk(self.called(way, "talk"), description, environment)
+        return Talk(self.called(way, "talk"), description, environment, self.most(MOST_TALK))
 
 
 def described(sign: str) -> str:
@@ -123,9 +135,9 @@ def described(sign: str) -> str:
 
 
 class Talk:
-    """A process of examples/talk.c that is handed a line at a time. It is killed where it takes too long."""
+    """A process of examples/talk.c that is handed a line at a time. It is late after so many seconds."""
 
-    def __init__(self, words: list[str], description: str, environment: dict[str, str]) -> None:
+    def __init__(self, words: list[str], description: str, environment: dict[str, str], seconds: float) -> None:
         self.process = subprocess.Popen(
             words,
             stdin=subprocess.PIPE,
@@ -137,7 +149,8 @@ class Talk:
         self.faults = b""
         self.listener = threading.Thread(target=self.listen, daemon=True)
         self.listener.start()
-        self.late = threading.Timer(MOST_TALK, self.process.kill)
+        self.seconds, self.ends = seconds, time.monotonic() + seconds
+        self.late = threading.Timer(seconds, self.process.kill)
         self.late.start()
         self.write(description)
 
@@ -163,7 +176,10 @@ class Talk:
     def line(self) -> str:
         """A line of an answer; want of memory is counted, and answered by the next line where it was tried again."""
         assert self.process.stdout is not None
-        return self.process.stdout.readline().decode("latin-1").rstrip("\n")
+        line = self.process.stdout.readline().decode("latin-1")
+        if not line and time.monotonic() >= self.ends:
+            raise Late(f"a talk took more than {self.seconds:.0f} seconds")
+        return line.rstrip("\n")
 
     def ask(self, line: str) -> str:
         """The one line that answers a line; `memory` is asked again, as nothing has changed."""
