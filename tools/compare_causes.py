@@ -3,10 +3,11 @@
 
     tools/compare_causes.py [--count 2000] [--seed 1] [--program crates/signtool/out/signtool]
 
-Random descriptions and scripts, most of them at fault, go to `check --sign`, `sign --sign`, `centre --sign` and
-`replay`. Of one that is at fault the line has to stand on standard output, and on standard error what is wrong with it;
-of one that is not nothing is said. It prints each case that differs, how many causes of which kind were said, and last
-`N passed, M failed`. The same seed makes the same cases.
+A row for each cause that there is, worked by hand (cause_rows.py), and then random descriptions and scripts, most of
+them at fault, go to `check --sign`, `sign --sign`, `centre --sign` and `replay`. Of one that is at fault the line has
+to stand on standard output, and on standard error what is wrong with it; of one that is not nothing is said. It prints
+each case that differs, how many causes of which kind were said, and last `N passed, M failed`. The same seed makes the
+same cases.
 """
 
 import argparse
@@ -15,6 +16,7 @@ import re
 import subprocess
 import sys
 
+import cause_rows
 from cause_cases import Cases
 from door.places import SIGNTOOL
 from model import causes, text
@@ -63,13 +65,26 @@ def kind_of(cause: causes.Cause) -> str:
     return re.sub(r"[0-9]+", "N", re.sub(r"^word [0-9]+: ", "", cause[1]))
 
 
+def by_hand(program: str) -> tuple[int, int]:
+    """How many rows there are, and of how many the program says something else."""
+    calls = [(["check", "A", "--sign"], row) for row in cause_rows.described()]
+    calls += [(["replay"], row) for row in cause_rows.scripts()]
+    failed = 0
+    for words, (octets, at, why) in calls:
+        found, told = said(program, words, octets), wanted((at, why), octets)
+        if found != told:
+            failed += 1
+            print(f"by hand: {words} with {octets!r}\n  wanted  {told}\n  program {found}")
+    return len(calls), failed
+
+
 def main() -> int:
     options = argparse.ArgumentParser(description="what the program says of a refused line, beside the model")
     options.add_argument("--count", type=int, default=2000)
     options.add_argument("--seed", type=int, default=1)
     options.add_argument("--program", default=str(SIGNTOOL))
     asked = options.parse_args()
-    cases, failed = Cases(asked.seed), 0
+    cases, (rows, failed) = Cases(asked.seed), by_hand(asked.program)
     kinds: collections.Counter[str] = collections.Counter()
     for at in range(asked.count):
         words, octets = cases.case()
@@ -81,7 +96,7 @@ def main() -> int:
         kinds[kind_of(cause) if cause else "nothing"] += 1
     for kind, count in sorted(kinds.items(), key=lambda one: -one[1]):
         print(f"{count:6} {kind}")
-    print(f"{asked.count - failed} passed, {failed} failed")
+    print(f"{rows + asked.count - failed} passed, {failed} failed")
     return 1 if failed else 0
 
 

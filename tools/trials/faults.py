@@ -57,7 +57,7 @@ class Faults:
         answered = self.ask(door) if door.port else []
         is_over = is_ending(door) or answered[-1:] == [False] and eventually(lambda: is_ending(door))
         status = door.ended() if is_over else None
-        told = os.strerror(error).encode() in door.errors
+        told = self.is_told(door, error, all(answered) and status is None)
         if status is not None:
             self.trial.holds(f"{name}: it ends and says why", status in (1, 2) and told, (status, door.errors.decode()))
             self.trial.holds(f"{name}: nothing is answered after it", not any(answered[sum(answered) :]), answered)
@@ -82,6 +82,11 @@ class Faults:
         told = os.strerror(error).encode() in door.errors
         self.after(name)
         return told
+
+    def is_told(self, door: Door, error: int, is_well: bool) -> bool:
+        """Whether the door said why; where a datagram was not answered it has, and what it said is under way."""
+        words = os.strerror(error).encode()
+        return words in door.errors or not is_well and eventually(lambda: words in door.errors)
 
     def tear(self) -> None:
         """The journal has a record at its end that was not finished."""
