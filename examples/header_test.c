@@ -51,6 +51,7 @@ static void without_a_sign(void)
         REFUSED(wisangub_sign_shown(none, &shown));
         REFUSED(wisangub_sign_matrix(none, &width, &height));
         REFUSED(wisangub_sign_text(none, buffer, sizeof buffer, &size));
+        REFUSED(wisangub_sign_reader(none, buffer, sizeof buffer, &size));
         REFUSED(wisangub_sign_writer(none, buffer, sizeof buffer, &size));
         REFUSED(wisangub_sign_check(none, "", 0, &size, &fault));
         REFUSED(wisangub_sign_pages(none, LOOK, room, sizeof room, &size));
@@ -95,7 +96,6 @@ static void shown_things(void)
 {
     struct wisangub_shown shown;
     uint16_t width = 0, height = 0;
-    size_t needed = 0;
     REFUSED(wisangub_sign_shown(&sign, NULL));
     DONE(wisangub_sign_shown(&sign, &shown));
     assert(shown.memory == 7 && shown.number == 1 && shown.checksum == 0 && shown.minutes == 65535);
@@ -104,14 +104,27 @@ static void shown_things(void)
     REFUSED(wisangub_sign_matrix(&sign, &width, NULL));
     DONE(wisangub_sign_matrix(&sign, &width, &height));
     assert(width > 0 && width <= 256 && height > 0 && height <= 64);
+}
+
+/* The two communities, which are not the same. */
+static void communities(void)
+{
+    size_t needed = 0;
+    REFUSED(wisangub_sign_reader(&sign, NULL, 1, &needed));
+    REFUSED(wisangub_sign_reader(&sign, buffer, sizeof buffer, NULL));
+    assert(wisangub_sign_reader(&sign, NULL, 0, &needed) == WISANGUB_TOO_SMALL && needed > 0 && needed <= 32);
+    spread();
+    assert(wisangub_sign_reader(&sign, room, needed - 1, &size) == WISANGUB_TOO_SMALL && size == needed);
+    assert(untouched(0, needed));
+    DONE(wisangub_sign_reader(&sign, buffer, needed, &size));
+    assert(size == needed && size < sizeof buffer);
     REFUSED(wisangub_sign_writer(&sign, NULL, 1, &needed));
     REFUSED(wisangub_sign_writer(&sign, buffer, sizeof buffer, NULL));
     assert(wisangub_sign_writer(&sign, NULL, 0, &needed) == WISANGUB_TOO_SMALL && needed > 0 && needed <= 32);
-    spread();
     assert(wisangub_sign_writer(&sign, room, needed - 1, &size) == WISANGUB_TOO_SMALL && size == needed);
     assert(untouched(0, needed));
     DONE(wisangub_sign_writer(&sign, room, needed, &size));
-    assert(size == needed && room[0] != 5 && untouched(needed, 16));
+    assert(size == needed && room[0] != 5 && untouched(needed, 16) && memcmp(room, buffer, needed) != 0);
 }
 
 static void pages(void)
@@ -347,6 +360,7 @@ int main(int count, char **words)
     datagrams();
     DONE(wisangub_sign_text(&sign, NULL, 0, &size));
     shown_things();
+    communities();
     pages();
     texts();
     text_pages();

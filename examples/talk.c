@@ -88,9 +88,7 @@ static void print_bits(const uint8_t *looks)
 {
     uint8_t bits[32];
     size_t size = 0;
-    while (wisangub_row_bits(looks, width, bits, sizeof bits, &size) == WISANGUB_MEMORY) {
-        /* Nothing is changed, and it may be called again. */
-    }
+    wisangub_row_bits(looks, width, bits, sizeof bits, &size);
     for (unsigned x = 0; x < width; x++) {
         putchar(bits[x / 8] >> (7 - x % 8) & 1 ? '*' : '.');
     }

@@ -27,6 +27,7 @@ import subprocess
 import sys
 import tempfile
 import time
+from functools import partial
 from typing import Callable
 
 from c_trials import against_program, against_vectors, builds, hostile, journals
@@ -42,8 +43,14 @@ def built(trial: Trial) -> pathlib.Path | None:
         trial.skip("library", "here is no rt")
         return None
     begun, most = time.monotonic(), MOST_LIB if trial.is_short() else LONG
-    words = {"stdin": subprocess.DEVNULL, "stdout": subprocess.PIPE, "stderr": subprocess.STDOUT}
-    made = subprocess.Popen(["rt", "lib"], cwd=BUILT.parent.parent, start_new_session=True, **words)
+    made = subprocess.Popen(
+        ["rt", "lib"],
+        cwd=BUILT.parent.parent,
+        stdin=subprocess.DEVNULL,
+        stdout=subprocess.PIPE,
+        stderr=subprocess.STDOUT,
+        start_new_session=True,
+    )
     try:
         said, _ = made.communicate(timeout=most)
     except subprocess.TimeoutExpired:
@@ -97,17 +104,17 @@ def all_tried(trial: Trial, library: pathlib.Path, for_aarch64: pathlib.Path | N
         told_of(trial, "compiling", late)
         return
     parts: list[tuple[str, Callable[[], None]]] = [
-        ("vectors", lambda: against_vectors.run(trial, trial.way)),
-        ("blink", lambda: hostile.blinked(trial)),
-        ("builds", lambda: builds.run(trial, library)),
-        ("refused memory", lambda: hostile.refusals(trial)),
+        ("vectors", partial(against_vectors.run, trial, trial.way)),
+        ("blink", partial(hostile.blinked, trial)),
+        ("builds", partial(builds.run, trial, library)),
+        ("refused memory", partial(hostile.refusals, trial)),
         ("mutated datagrams", lambda: hostile.mutated(trial, trial.way, trial.seconds(seconds), seed)),
-        ("the program", lambda: against_program.run(trial)),
-        ("journals", lambda: journals.run(trial)),
+        ("the program", partial(against_program.run, trial)),
+        ("journals", partial(journals.run, trial)),
     ]
-    parts += [(way.name, lambda way=way: against_vectors.run(trial, way)) for way in by[1:]]
+    parts += [(way.name, partial(against_vectors.run, trial, way)) for way in by[1:]]
     if UNDER_VALGRIND in by:
-        parts.append(("valgrind of a talk", lambda: hostile.under_valgrind(trial)))
+        parts.append(("valgrind of a talk", partial(hostile.under_valgrind, trial)))
     for name, part in parts:
         begun = time.monotonic()
         if trial.left() <= 0:

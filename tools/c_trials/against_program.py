@@ -8,7 +8,7 @@ import pathlib
 import subprocess
 import threading
 import time
-from typing import BinaryIO
+from typing import IO, Iterable, Iterator
 
 from model import text, wire
 from model.sign import Sign
@@ -67,8 +67,14 @@ def as_told(answer: str) -> str:
     return f"reply {rest.partition(' ')[2]}" if word == "accepted" else answer
 
 
-def lines_of(file: BinaryIO) -> "itertools.chain[str]":
-    return (line.decode("latin-1").rstrip("\n") for line in file)  # type: ignore[return-value]
+def lines_of(file: IO[bytes] | None) -> Iterator[str]:
+    assert file is not None
+    return (line.decode("latin-1").rstrip("\n") for line in file)
+
+
+def kill(processes: Iterable[subprocess.Popen[bytes]]) -> None:
+    for process in processes:
+        process.kill()
 
 
 def compare(trial: Trial, name: str, end: str, description: str, lines: list[str]) -> None:
@@ -84,14 +90,13 @@ def compare(trial: Trial, name: str, end: str, description: str, lines: list[str
             processes[which] = subprocess.Popen(words, stdin=stdin, stdout=subprocess.PIPE, stderr=subprocess.DEVNULL)
     most = trial.most(MOST_TALK)
     ends = time.monotonic() + most
-    late = threading.Timer(most, lambda: [process.kill() for process in processes.values()])
+    late = threading.Timer(most, kill, (processes.values(),))
     late.start()
-    found, wanted = (lines_of(processes[which].stdout) for which in ("ours", "theirs"))  # type: ignore[arg-type]
+    found, wanted = (lines_of(processes[which].stdout) for which in ("ours", "theirs"))
     pairs = enumerate(itertools.zip_longest(found, wanted), 1)
     other = next(((at, one, two) for at, (one, two) in pairs if one is None or two is None or one != as_told(two)), None)
     if other:
-        for process in processes.values():
-            process.kill()
+        kill(processes.values())
     statuses = [process.wait() for process in processes.values()]
     late.cancel()
     for process in processes.values():

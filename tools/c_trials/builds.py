@@ -64,9 +64,9 @@ def pkg_config(trial: Trial, library: pathlib.Path) -> None:
     status, said = trial.ran(words, folder=TOP / "examples")
     if not trial.check("pkg-config: make install", status == 0, said):
         return
-    found = {"PKG_CONFIG_PATH": str(prefix / "lib/pkgconfig")}
-    status, flags = trial.ran(["pkg-config", "--cflags", "--libs", "wisangub"], **found)
-    status_of_version, version = trial.ran(["pkg-config", "--modversion", "wisangub"], **found)
+    place = str(prefix / "lib/pkgconfig")
+    status, flags = trial.ran(["pkg-config", "--cflags", "--libs", "wisangub"], PKG_CONFIG_PATH=place)
+    status_of_version, version = trial.ran(["pkg-config", "--modversion", "wisangub"], PKG_CONFIG_PATH=place)
     trial.check("pkg-config: its version", status_of_version == 0 and version[:1].isdigit(), version)
     program, source = prefix / "header_test", str(TOP / "examples/header_test.c")
     words = ["cc", "-std=c11", *WARNINGS, source, *flags.split(), "-o", str(program)]
