@@ -47,6 +47,7 @@ def rule_of(octets: bytes, ours: bytes | None, theirs: bytes | None, differs: Mi
 
 CERTAIN = ("counts", "free memory", "row checksum", "checksum", "blank checksum", "priority", "fits now")
 UNTIMED = ("get", "rows", "validation", "priorities", "sizes")  # chapters that are about no durations
+SETTLING = ("settled", "statuses", "one validates")  # rules that say when a row is valid or in error, and not which
 GENERAL = ("ber", "communities", "set", "getnext")  # chapters whose steps touch objects that others are about
 
 
@@ -57,7 +58,7 @@ def better(named: Rule | None, octets: bytes, ours: bytes | None, theirs: bytes 
         return found
     if found.key == "too big":
         return named if named.chapter == "sizes" else found
-    if found.key == "error reply" and differs.kind is Kind.STATUS:
+    if found.key == "error reply" and differs.kind is Kind.STATUS or found.key == "set reply":
         return found
     request = spelled(octets)
     if request is None or ours is None or theirs is None or differs.kind is Kind.SPELLING:
@@ -66,7 +67,7 @@ def better(named: Rule | None, octets: bytes, ours: bytes | None, theirs: bytes 
         return named if named.chapter == "getnext" else found
     if named.chapter in ("durations", "silence", "defaults") and found.key in ("priority", "fits now"):
         return named
-    if found.key == "minutes" and named.chapter in UNTIMED:
+    if found.key == "minutes" and named.chapter in UNTIMED or found.key == "verdicts" and named.key in SETTLING:
         return found
     if differs.kind is Kind.VALUE and named.chapter != found.chapter:
         return found if found.key in CERTAIN or named.chapter in GENERAL else named
@@ -97,9 +98,9 @@ def key_of(octets: bytes, ours: bytes | None, theirs: bytes | None, differs: Mis
         return by_request(request) if request.kind != wire.SET else by_refusal(request, want, have)
     if want.status:
         return "error reply"
-    if request.kind == wire.GET_NEXT and differs.kind is Kind.BINDINGS:
-        return "getnext"
-    return by_value(want, have, differs.names) if differs.names else by_request(request)
+    if request.kind == wire.SET:
+        return "set reply"
+    return by_value(want, have, differs.names) if differs.kind is Kind.VALUE else by_request(request)
 
 
 def spelled_otherwise(octets: bytes, request: wire.Message) -> str | None:

@@ -135,8 +135,19 @@ def gaps(context: Context) -> list[Sample]:
     one = context.character()
     for gap in range(10):
         if context.fault(one + b"[nl%d]" % gap + one) is not None:
-            return made("room", [one + b"[nl%d]" % (gap + more) + one for more in (-1, 0) if gap + more >= 0], 2)
+            return made("room", [one + b"[nl%d]" % (gap + more) + one for more in (-1, 0) if gap + more >= 0], 1)
     return []
+
+
+def fonts_at_closing(context: Context) -> list[Sample]:
+    """A line that is closed without a character in another font, above one of the default's."""
+    one, found = context.character(), []
+    for font in context.described.face.fonts:
+        texts = [b"[fo%d][nl%d][fo]" % (font.number, gap) + one for gap in range(10)]
+        first = next((at for at, text in enumerate(texts) if context.fault(text) is not None), None)
+        if font.number != context.defaults[4] and first:
+            found += [*texts[first - 1 : first + 1], b"[fo%d][nl][fo]" % font.number + one]
+    return made("room", found, 0)
 
 
 def closed(context: Context) -> list[Sample]:

@@ -1,6 +1,6 @@
 """A test from its beginning to its report."""
 
-from dataclasses import dataclass, field
+from dataclasses import dataclass, field, replace
 from typing import Sequence
 
 from . import classify
@@ -80,19 +80,21 @@ class Session:
                 run = self.runner.steps(block.steps)
         except Unreachable as fault:
             self.beginning.tell_unreached(fault.unreached)
-            return self.again(result, block) if not self.is_enough() else None
+            return self.again(result, block, history) if not self.is_enough() else None
         except Inconclusive:
             self.pair.is_dirty = True
-            return self.again(result, block) if history is not None and not block.is_fresh else self.cannot_tell(result)
+            is_first = history is not None and not block.is_fresh
+            return self.again(result, block, history) if is_first else self.cannot_tell(result)
         result.told += datagrams(block.steps if run is None else run.steps)
         if run is None:
             return [*history, *block.steps]
         self.difference(result, block, Run(run.exchange, [*history, *run.steps], run.sent), run.steps)
         return None
 
-    def again(self, result: ChapterResult, block: Block) -> list[Step] | None:
-        """A block that could not be told in its place, from the known state."""
-        return self.block(result, block, None)
+    def again(self, result: ChapterResult, block: Block, history: list[Step] | None) -> list[Step] | None:
+        """A block that could not be told in its place, from the known state, with what was done before it."""
+        before = [] if history is None or block.is_fresh else history
+        return self.block(result, replace(block, steps=[*before, *block.steps], is_fresh=True), None)
 
     def cannot_tell(self, result: ChapterResult) -> None:
         result.untold += 1

@@ -12,6 +12,7 @@ import sys
 import time
 import traceback
 
+from .kept import keep
 from .mutants.__main__ import BENCH, tried
 from .mutants.table import MUTANTS
 
@@ -54,7 +55,7 @@ def main() -> int:
     asked = words.parse_args()
     until = time.monotonic() + asked.seconds
     counts = {"passed": 0, "failed": 0, "skipped": 0}
-    with concurrent.futures.ProcessPoolExecutor(asked.jobs) as pool:
+    with concurrent.futures.ProcessPoolExecutor(asked.jobs, initializer=keep) as pool:
         waiting = [pool.submit(run, *test) for test in names()] + [
             pool.submit(mutant, at, until) for at in range(len(MUTANTS))
         ]

@@ -3,7 +3,7 @@
 import random
 
 from .context import Context
-from .rooms import Sample, closed, gaps, heights, longest, made, mixed, rooms, touching
+from .rooms import Sample, closed, fonts_at_closing, gaps, heights, longest, made, mixed, rooms, touching
 
 MARKUP = [  # each with one fault of the markup, by the rule that it breaks
     ("markup code", [b"[zz]", b"[", b"]", b"[ nl]", b"[]", b"[nl", b"A]", b"[/f]", b"[/FLx", b"[n]", b"[[]"]),
@@ -38,13 +38,20 @@ MARKUP = [  # each with one fault of the markup, by the rule that it breaks
             b"[nl-1]",
             b"[pt1o2o3]",
             b"[flo1o2]",
+            b"[NL10]",
+            b"[fo1,12345]",
+            b"[flt1o100]",
+            b"[flt1o2t3]",
+            b"[fl5]",
+            b"[ptx]",
+            b"[nl[[2]",
         ],
     ),
 ]
-FIRST_MARKUP, OTHERS = 4, 2
+FIRST_MARKUP, OTHERS = 3, 2
 GOOD_MARKUP = [  # the last three have no place behind the others
     b"[cf][cf9][cb0][pb][pb9][cf00009][pb04]",
-    b"[fl][FLt][flo][flt99o99][flo0t0][/fl][/FL]",
+    b"[fl][FLt][flo][flt99o99][flo0t0][flto][flot][flt5][flo5][flt1o][flo1t][/fl][/FL]",
     b"[pt][pt255o255][pto][pt1o][PTO5][pt007o00255]",
     b"[jl][jl2][JL3][jl4]",
     b"[NL][nl9][nl00009]",
@@ -66,7 +73,7 @@ def fonts(context: Context) -> list[Sample]:
     found.insert(2, one + b"[fo%d,0001]" % missing)
     for font in context.described.face.fonts:
         found += [b"[fo%d]" % font.number + one, b"[fo%d,%04X]" % (font.number, font.version ^ 0x0100)]
-    return made("fonts", [*found, b"[fo%d]" % missing, b"[fo255]"], 3)
+    return made("fonts", [*found, b"[fo%d]" % missing, b"[fo255]", b"[fo%d,ABCD]" % numbers[0]], 3)
 
 
 def characters(context: Context) -> list[Sample]:
@@ -107,6 +114,7 @@ def parts(context: Context) -> list[Sample]:
         b"[jl4][nl0]%s[jl3]%s",
         b"[jl4][np]%s[jl3]%s",
         b"[jl3][nl0]%s[jl2]%s",
+        b"[jl4]%s[nl0][jl2]%s",
     ]
     pages = [
         b"[jp3]%s[jp2]%s",
@@ -123,7 +131,7 @@ def parts(context: Context) -> list[Sample]:
         b"[jp3][np]%s[jp2]%s",
     ]
     found = made("line parts", [*[form % (one, one) for form in lines], b"[jl4]" + one + b"[jl3]"], 2)
-    return found + made("page parts", [form % (one, one) for form in pages], 4)
+    return found + made("page parts", [*[form % (one, one) for form in pages], b"[jp3][nl0][jp2]" + one], 4)
 
 
 def pages(context: Context) -> list[Sample]:
@@ -168,11 +176,10 @@ def joined(context: Context, chosen: list[Sample]) -> list[Sample]:
     """Those that fit one page after the other in one text, as long as that fits: one validation tells of all."""
     texts: list[bytes] = []
     for sample in chosen:
-        both = texts[-1] + b"[np]" + sample.text if texts else sample.text
-        if texts and len(both) <= 512 and context.fault(both) is None:
-            texts[-1] = both
-        else:
-            texts.append(sample.text)
+        longer = [(at, text + b"[np]" + sample.text) for at, text in enumerate(texts)]
+        fitting = ((at, text) for at, text in longer if len(text) <= 512 and context.fault(text) is None)
+        at, text = next(fitting, (len(texts), sample.text))
+        texts[at : at + 1] = [text]
     return made("layout", texts, 0)
 
 
@@ -185,6 +192,7 @@ def samples(context: Context) -> list[Sample]:
         + characters(context)
         + gaps(context)
         + closed(context)
+        + fonts_at_closing(context)
         + rooms(context)
         + mixed(context)
         + heights(context)

@@ -6,6 +6,7 @@ from model import wire
 
 from .. import spelling
 from ..context import Context
+from ..objects import NULL
 from ..spelling import HEIGHT, NOWHERE, PLACES, spelled
 from ..steps import Ask, Raw, fixed, get
 from .ber_contents import integers, names, values
@@ -62,6 +63,10 @@ def refused_lengths() -> Iterator[Block]:
         yield Block("lengths that are off", "sequences", offs)
     for place in INSIDE + ("community", "name"):
         yield Block("lengths that are off", "sequences", [raw("", {place: spelling.longer(-1)})])
+    another = wire.binding((HEIGHT, NULL))
+    past = [{"value": spelling.longer(by), "list": spelling.followed(another)} for by in (1, 2, len(another))]
+    steps = [raw("", changes, value=b"", tag=wire.OCTETS) for changes in past]
+    yield Block("a value that goes on in the next binding", "sequences", steps)
 
 
 def tags() -> Iterator[Block]:

@@ -64,9 +64,9 @@ def message(
 
 
 def look(*rows: Row, rule: str = "", more: Sequence[Name] = ()) -> list[Ask]:
-    """Reads of all that a command may change, and of these rows."""
-    cells = [row.cell(column) for row in rows for column in range(3, 10)]
-    return looks([*STATE_SCALARS, *SHOWN_CELLS, *cells, *more], rule=rule, share=30)
+    """Reads of these rows, their statuses first, and of all that a command may change."""
+    cells = [row.cell(column) for row in rows for column in (9, 3, 4, 5, 6, 7, 8)]
+    return looks([*cells, *STATE_SCALARS, *SHOWN_CELLS, *more], rule=rule, share=30)
 
 
 def look_at(*names: Name, rule: str = "") -> Ask:

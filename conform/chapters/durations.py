@@ -6,6 +6,7 @@ from ..context import Context, activate, remaining
 from ..objects import Binding, Row, octets, scalar
 from ..steps import Step, Wait, get, put
 from .block import Block, Chapter, fill, look, message, modify, reports, validate
+from .telling import telling
 
 REMAINING = scalar(6, 4)
 
@@ -45,6 +46,15 @@ def at_once(context: Context) -> Iterator[Block]:
     yield Block("0 minutes after a refusal", "own refused", [failed, put(remaining(0)), *look()], True)
     together = put(end_code(context.message_code(Row(7, 9), 0)), remaining(0))
     yield Block("0 minutes and their code at once", "remaining", [together, *look()], True)
+
+
+def unfit(context: Context, row: Row) -> Iterator[Block]:
+    """A code of a row whose text does not fit under the defaults of now."""
+    for held in telling(context)[:1]:
+        code = put(end_code(context.message_code(row, context.crc(held.text))))
+        steps: list[Step] = [held.good, *message(row, held.text), code, held.bad, put(remaining(0)), *look()]
+        again: list[Step] = [held.good, put(remaining(0)), *look()]
+        yield Block("0 minutes: a row that does not fit", "own refused", [*steps, *again], True)
 
 
 def minutes(context: Context) -> Iterator[Block]:
@@ -114,6 +124,8 @@ def whole(context: Context) -> Iterator[Block]:
 
 def blocks(context: Context) -> Iterator[Block]:
     yield from at_once(context)
+    for row in context.rows[:1]:
+        yield from unfit(context, row)
     yield from minutes(context)
     yield from nothing_left(context)
     if context.is_slow:

@@ -1,5 +1,6 @@
 """Get: every instance, and names that are none."""
 
+from dataclasses import replace
 from typing import Iterator
 
 from model.sign import DMS, Sign
@@ -93,6 +94,8 @@ def blocks(context: Context) -> Iterator[Block]:
     for rule, names in alike(Sign(context.described).instances()):
         for step in looks(names, share=40):
             yield Block("every instance", rule, [step])
+    for step in looks(Sign(context.described).instances(), rule="reader reads"):
+        yield Block("every instance by the reader", "reader reads", [replace(step, is_writer=False)])
     for name in NO_INSTANCES + no_rows(context):
         yield Block("no instance", "get", [get(name), get(name, is_writer=False)])
     here, none = scalar(2, 3), scalar(2, 5)

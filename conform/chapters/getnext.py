@@ -66,6 +66,9 @@ def blocks(context: Context) -> Iterator[Block]:
     names = Sign(context.described).instances()
     for at in range(0, len(names) - 1, 30):
         yield Block("after every instance", "getnext", [get_next(*names[at : min(at + 30, len(names) - 1)])])
+    for at in range(0, len(names) - 1, 30):
+        step = get_next(*names[at : min(at + 30, len(names) - 1)], is_writer=False)
+        yield Block("after every instance by the reader", "reader reads", [step])
     for name in OUTSIDE:
         yield Block("before and between", "getnext", [get_next(name), get_next(name, is_writer=False)])
     around = gaps(names)

@@ -28,8 +28,9 @@ def scalars(context: Context) -> Iterator[Block]:
     ):
         yield Block("a request repeated", "repeated", [*again(ask, 3), look_at(scalar(4, 8))])
     number = next(GROUPS)
-    others = [get(scalar(2, 3)), put((scalar(4, 8), integer(9))), get(scalar(4, 8)), put((scalar(4, 8), integer(10)))]
-    shared: list[Step] = [replace(ask, group=number) for ask in (*others, get(scalar(4, 8)), get_next(scalar(4, 8)))]
+    read, writes = get(scalar(4, 8)), [put((scalar(4, 8), integer(value))) for value in (9, 10)]
+    others = [get(scalar(2, 3)), get(scalar(2, 4)), writes[0], read, writes[1], read, get_next(scalar(4, 8))]
+    shared: list[Step] = [replace(ask, group=number) for ask in others]
     yield Block("other requests with one number", "not looked at", [*shared, look_at(scalar(4, 8))], True)
     first, second = again(put((scalar(4, 8), integer(1))))[0], again(put((scalar(4, 8), integer(2))))[0]
     yield Block(

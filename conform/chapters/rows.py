@@ -33,6 +33,8 @@ def transitions(context: Context, row: Row, is_settled: bool = True) -> Iterator
     asks = {value: put(row.status(value)) for value in (6, 7, 8)}
     for status in (1, 2):
         for value, ask in asks.items():
+            if (status, value) == (2, 7):  # as the block of status 3 begins
+                continue
             yield Block(
                 f"status {status} asked {value}", "statuses", [*reaching(context, row, status), ask, *look(row)], True
             )
@@ -41,7 +43,8 @@ def transitions(context: Context, row: Row, is_settled: bool = True) -> Iterator
         )
     refused = [step for ask in (*asks.values(), *writes(row)) for step in (ask, look_at(row.cell(9)))]
     yield Block("status 3 asked and written", "statuses", [*reaching(context, row, 3), *refused, *look(row)], True)
-    for status, last in ((4, 6), (5, 8)) if is_settled else ():  # a valid row is emptied in `counts`, one in error modified in `settling`
+    # a valid row is emptied in `counts`, one in error modified in `settling`
+    for status, last in ((4, 6), (5, 8)) if is_settled else ():
         steps = [*reaching(context, row, status), *writes(row), *look(row)]
         yield Block(f"status {status}: fields", "fields", steps, True)
         steps = [asks[7], *look(row), Wait(1), *look(row), asks[last], *look(row)]

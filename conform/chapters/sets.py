@@ -2,11 +2,12 @@
 
 from typing import Iterator
 
-from ..context import Context, activation, remaining
+from ..context import Context, activate, activation, remaining
 from ..objects import Binding, Name, Row, cell, integer, octets, scalar
 from ..steps import Ask, Step, put
-from .block import Block, Chapter, alone, look, look_at, modify
+from .block import Block, Chapter, alone, look, look_at, message, modify
 from .sets_values import RANGES, cells, scalars
+from .telling import Telling, telling
 
 READ_ONLY: list[Name] = [
     scalar(2, 3),
@@ -130,6 +131,16 @@ def together(context: Context) -> Iterator[Block]:
     )
     order = [put((scalar(4, 7), integer(2)), row.status(6), (scalar(4, 6), integer(2))), *look(row)]
     yield Block("a command between", "set", order, True)
+    for held in telling(context)[:1]:
+        yield Block("a default and an activation at once", "set", under_default(context, row, held), True)
+
+
+def under_default(context: Context, row: Row, held: Telling) -> list[Step]:
+    """An activation is judged under the default that is written with it."""
+    code = activation(context.code(row, context.crc(held.text)))
+    good, bad = (put(*ask.bindings, code) for ask in (held.good, held.bad))
+    steps: list[Step] = [held.good, *message(row, held.text), held.bad, good, *look()]
+    return [*steps, activate(context.blank_code(1)), bad, *look()]
 
 
 def blocks(context: Context) -> Iterator[Block]:

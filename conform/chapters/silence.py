@@ -63,9 +63,8 @@ def blocks(context: Context) -> Iterator[Block]:
     answered: list[Step] = [get_next(scalar(2, 3)), get(scalar(2, 5)), get_next(scalar(6, 24)), put()]
     answered += [put((scalar(4, 8), integer(9)), is_writer=False), get(*[scalar(6, 3)] * 60)]
     heard: list[Step] = [step for ask in answered for step in (Wait(30), ask)]
-    yield Block(
-        "no answer is silence", "heard", [*begun(context, blank), *heard, Wait(59), reports(), Wait(60), reports()], True
-    )
+    steps = [*begun(context, blank), *heard, Wait(59), reports(), Wait(60), reports()]
+    yield Block("no answer is silence", "heard", steps, True)
     yield Block("a code that is refused", "own refused", [*begun(context, b"\6\0\1\0\0"), Wait(60), *look()], True)
     yield Block(
         "a code of the current buffer", "own current", [*begun(context, b"\5\0\1\0\0"), Wait(60), *look()], True

@@ -13,7 +13,8 @@ VERDICT = (scalar(5, 9), scalar(6, 18), scalar(6, 19))
 
 def judged(row: Row, text: bytes, beacon: int = 0, pixel: int = 0) -> list[Step]:
     """A row with this text is validated, and the verdict read."""
-    return [modify(row), fill(row, text, b"", beacon, pixel), *settle(row, rule=""), look_at(row.cell(9), *VERDICT, row.cell(5))]
+    filled = fill(row, text, b"", beacon, pixel)
+    return [modify(row), filled, *settle(row, rule=""), look_at(row.cell(9), *VERDICT, row.cell(5))]
 
 
 def verdicts(context: Context, row: Row, last: Row) -> Iterator[Block]:

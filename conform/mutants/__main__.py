@@ -13,6 +13,7 @@ from model import text
 
 from .. import bench
 from ..chapters import ALL
+from ..kept import keep
 from ..oracle import made
 from ..rules import RULES
 from .load import Mutant, sign_of, unload
@@ -34,6 +35,7 @@ def tried(mutant: Mutant, description: bytes, program: str, is_short: bool = Fal
     """The whole test of a wrong sign, up to its first difference; the short form begins with its rule's chapter."""
     wanted = RULES[mutant.rule].chapter
     description = description.replace(b"\nhas 1 0\n", b"\nhas " + mutant.has + b"\n")
+    description = description.replace(b"\norder high\n", b"\norder " + mutant.order + b"\n")
     oracle = made(program, description)
     sign = sign_of([mutant], description)
     try:
@@ -65,7 +67,7 @@ def main() -> int:
     description = asked.sign.read_bytes() if asked.sign else BENCH
     chosen = [mutant for mutant in MUTANTS if not asked.only or any(part in mutant.name for part in asked.only)]
     passed = failed = 0
-    with concurrent.futures.ProcessPoolExecutor(asked.jobs) as pool:
+    with concurrent.futures.ProcessPoolExecutor(asked.jobs, initializer=keep) as pool:
         for outcome in pool.map(tried, chosen, [description] * len(chosen), [asked.signtool] * len(chosen)):
             passed, failed = passed + outcome.is_found, failed + (not outcome.is_found)
             if asked.loud or not outcome.is_found:

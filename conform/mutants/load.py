@@ -1,5 +1,6 @@
 """A wrong sign: tools/model with one edit, loaded beside the right one."""
 
+import importlib
 import sys
 import types
 from dataclasses import dataclass
@@ -11,6 +12,15 @@ from .. import TOP
 from ..simulated import SomeSign
 
 FOLDER = TOP / "tools/model"
+IMPORTS = {  # the files in the order in which they are loaded, and which of them each imports
+    "wire": (),
+    "multi": (),
+    "codes": (),
+    "layout": ("multi",),
+    "sign": ("wire", "codes", "layout"),
+    "centre": ("wire", "codes", "sign"),
+    "text": ("layout", "centre", "codes", "sign"),
+}
 
 
 @dataclass(frozen=True)
@@ -26,6 +36,7 @@ class Mutant:
     old: str
     new: str
     has: bytes = b"1 0"  # whether the sign that is tried has beacons and pixel services
+    order: bytes = b"high"  # of the checksums' octets of the sign that is tried
 
 
 def edited(mutant: Mutant, source: str | None = None) -> str:
@@ -46,16 +57,29 @@ def module_of(package: str, stem: str, source: str) -> None:
     setattr(sys.modules[package], stem, module)
 
 
+def share(package: str, stem: str) -> None:
+    """What no edit reaches is the right sign's own."""
+    module = importlib.import_module(f"model.{stem}")
+    sys.modules[f"{package}.{stem}"] = module
+    setattr(sys.modules[package], stem, module)
+
+
 def sign_of(mutants: Sequence[Mutant], description: bytes) -> SomeSign:
     """The sign with all of these edits, as it begins."""
     package = package_of(mutants)
     holder = types.ModuleType(package)
     holder.__path__ = []  # a package without files: its modules are put into it
     sys.modules[package] = holder
-    for stem in ("wire", "multi", "codes", "layout", "sign", "centre", "text"):
+    anew: set[str] = set()
+    for stem, imports in IMPORTS.items():
+        edits = [mutant for mutant in mutants if mutant.file == f"{stem}.py"]
+        if not edits and anew.isdisjoint(imports):
+            share(package, stem)
+            continue
+        anew.add(stem)
         held = (FOLDER / f"{stem}.py").read_text(encoding="utf-8")
-        for mutant in mutants:
-            held = edited(mutant, held) if mutant.file == f"{stem}.py" else held
+        for mutant in edits:
+            held = edited(mutant, held)
         module_of(package, stem, held)
     described: Description = sys.modules[f"{package}.text"].described(description)
     sign: SomeSign = sys.modules[f"{package}.sign"].Sign(described)

@@ -68,7 +68,7 @@ def not_tested(context: Context, results: Results, chapters: list[Chapter]) -> l
         )
     untold = sum(held.untold for held in results.chapters)
     if untold:
-        found.append(f"{untold} sequences of which it could not be told what the sign did: replies were lost")
+        found.append(f"{untold} sequences of which it could not be told what the sign did: replies were lost or late")
     return found
 
 

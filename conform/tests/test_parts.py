@@ -4,8 +4,9 @@ import random
 
 from model import text, wire
 
-from conform import bench
+from conform import bench, kept
 from conform.chapters import ALL
+from conform.classify import rule_of
 from conform.clock import SimulatedClock
 from conform.compare import Kind, fields, mismatch
 from conform.context import Context
@@ -126,3 +127,24 @@ def test_random_requests_are_the_same_for_a_seed() -> None:
         if number == 1:
             first = octets
     assert octets == first
+
+
+def test_a_reply_with_other_names_is_named_by_its_request() -> None:
+    asked = get(HEIGHT).octets(7, (b"public", b"admin"))
+    other = wire.written(wire.Message(wire.RESPONSE, b"admin", 7, 0, 0, [(scalar(2, 4), integer(9))]))
+    same = wire.written(wire.Message(wire.RESPONSE, b"admin", 7, 0, 0, [(HEIGHT, integer(9))]))
+    differs = mismatch(same, other)
+    assert differs is not None and differs.kind is Kind.BINDINGS
+    assert rule_of(asked, same, other, differs).key == "get"
+
+
+def test_names_that_are_kept_are_read_the_same() -> None:
+    for content in (wire.name_content(HEIGHT), b"\x2b", b"\x81\0", wire.name_content(HEIGHT)):
+        assert kept.name(wire.Reader(content, 0, len(content))) == kept.READ_NAME(wire.Reader(content, 0, len(content)))
+    for _ in range(2):
+        try:
+            kept.name(wire.Reader(b"..\x80\1", 2, 4))
+        except wire.Fault as fault:
+            assert (fault.kind, fault.offset) == ("BadName", 2)
+        else:
+            raise AssertionError("octets that spell no name")

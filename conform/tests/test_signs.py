@@ -2,7 +2,7 @@
 
 from model import text
 
-from conform import SIGNTOOL, TOP, bench
+from conform import SIGNTOOL, TOP, bench, soak
 from conform.mutants.__main__ import BENCH, tried
 from conform.mutants.table import MUTANTS
 from conform.oracle import made
@@ -39,6 +39,14 @@ def test_the_program_beside_the_model_shows_nothing() -> None:
         finally:
             oracle.end()
         assert results.is_clean(), [difference.title for difference in results.differences()]
+
+
+def test_a_soak_counts_what_it_told() -> None:
+    entry = {"under_test": "model", "signtool": "model", "sign": "bench", "requests": 150, "commit": ""}
+    for faulty in (0.0, 0.3):
+        held = soak.run(entry | {"seed": 5, "faulty": faulty}, text.BENCH)
+        assert held["clean"] and held["cases"] == 3 and (held["not_told"] == 0 or faulty), held
+        assert held["told_requests"] >= 150 or held["not_told"], held
 
 
 def test_wrong_signs_are_found() -> None:
