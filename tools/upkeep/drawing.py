@@ -11,6 +11,8 @@ PICTURE = "docs/pictures/houses.svg"
 PAGE = "docs/ARCHITECTURE.md"
 EDGE = re.compile(r"<title>([\w]+)->([\w]+)</title>")
 NODE = re.compile(r"<title>([a-z]\w+)</title>")
+LIVE = ("signtool", "dms_sign_lines", "dms_sign")
+MOST_CROSSED = 7
 SHADES = ("#dbe9f6", "#eef4d9")
 
 
@@ -82,3 +84,23 @@ def told(tree: Tree) -> list[str]:
         for crate, lowers in nearest(tree).items()
         if crate in rows and set(re.findall(r"\w+", rows[crate])) != lowers
     ]
+
+
+def longest(lowers: dict[str, set[str]], upper: str, lower: str) -> int | None:
+    """How many steps down the longest way from one crate to another has, if there is any."""
+    if upper == lower:
+        return 0
+    ways = [way for next_one in lowers.get(upper, set()) if (way := longest(lowers, next_one, lower)) is not None]
+    return 1 + max(ways) if ways else None
+
+
+def crossed(tree: Tree) -> list[str]:
+    """Whether a line to a live sign crosses few crates, from the program to the sign, and the page says how many."""
+    lowers = nearest(tree)
+    ways = [longest(lowers, upper, lower) for upper, lower in zip(LIVE, LIVE[1:])]
+    if None in ways:
+        return [f"{crates.LIST}: no way from {' by '.join(LIVE)}"]
+    count = sum(way for way in ways if way is not None)
+    found = [f"{crates.LIST}: a line to a live sign crosses {count} crates"] if count > MOST_CROSSED else []
+    words = f"crosses {count} crates before `Sign::receive`"
+    return found if words in tree.text(PAGE) else [*found, f"{PAGE}: does not say that a line to a live sign {words}"]

@@ -2,7 +2,7 @@
 use Rattle.std.specs.Prelude.{ℕ, List, ◌++◌, codes}
 use Rattle.dms_codes.specs.declared.codes.Order.{Order}
 use Rattle.dms_codes.specs.declared.codes.Activation.{Activation}
-use Rattle.dms_replay.specs.Report.{ended, code_text}
+use Rattle.dms_description.specs.ShownLine.{ended, code_text}
 
 -- its twelve octets in small hexadecimal digits, a checksum with its octets in this order
 abbrev pub code_line : Order → Activation → List ℕ

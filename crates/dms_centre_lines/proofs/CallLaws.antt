@@ -9,12 +9,15 @@ use Rattle.dms_text.specs.Reading.{same_octets, word_at}
 use Rattle.dms_text.proofs.WordLaws.{begun, word_found, same_found}
 use Rattle.dms_codes.specs.declared.codes.Order.{Order}
 use Rattle.dms_centre.specs.Commands.{CommandModel, Publish, Blank, Activate}
-use Rattle.dms_world.specs.Event as event
-use Rattle.dms_replay.specs.EventLine.{SpellsOne, SpellsCommand, SpellsEventWords}
-use Rattle.dms_replay.specs.EventReading.{alone, last_octets_at, event_of}
-use Rattle.dms_replay.proofs.EventLaws.{made_of, alone_found, last_octets_found, last_octets_only, event_found, event_only}
+use Rattle.dms_description.specs.Fields.{SpellsOne}
+use Rattle.dms_description.specs.FieldsReading.{if_last, last_octets_at}
+use Rattle.dms_description.proofs.WordReading.{last_found}
+use Rattle.dms_description.proofs.FieldLaws.{made_of, last_octets_found, last_octets_only}
+use Rattle.dms_commands.specs.CommandLine.{SpellsCommand}
+use Rattle.dms_commands.specs.CommandReading.{command_of}
+use Rattle.dms_commands.proofs.CommandLaws.{command_found, command_only}
 use Rattle.dms_centre_lines.specs.Calls.{CentreCall, command, datagram, tick, restart, status}
-use Rattle.dms_centre_lines.specs.CallReading.{call_after, plain_call_at, command_of, or_command, call_of}
+use Rattle.dms_centre_lines.specs.CallReading.{call_after, plain_call_at, or_command, call_of}
 use Rattle.dms_centre_lines.specs.SpelledCalls.{SpellsCallWords, SpellsCentreCall, SpellsNoCall}
 
 -- ---- what is read is spelled
@@ -28,10 +31,10 @@ hit_or word keyword this others call e =
       | inr other ↦ inr (ap (λ b. cond b this others) (sym other) ∙ e)
     ]
 
-bare_found : (order : Order) (keyword word : List ℕ) (bare call : CentreCall) (words : List (List ℕ)) → word ≡ keyword → alone bare words ≡ Some call
+bare_found : (order : Order) (keyword word : List ℕ) (bare call : CentreCall) (words : List (List ℕ)) → word ≡ keyword → if_last bare words ≡ Some call
     → SpellsCallWords order bare (keyword ∷ []) → SpellsCallWords order call (word ∷ words)
 bare_found order keyword word bare call words is e spelled =
-    let end = alone_found bare call words e in
+    let end = last_found bare words call e in
     let line : word ∷ words ≡ keyword ∷ [] = ap (λ w. w ∷ words) is ∙ ap (λ rest. keyword ∷ rest) end.0 in
     subst (λ call. SpellsCallWords order call (word ∷ words)) end.1 (subst (λ words. SpellsCallWords order bare words) (sym line) spelled)
 
@@ -68,23 +71,11 @@ plain_found order words call e =
     let read = begun _ _ _ e in
     subst (λ words. SpellsCallWords order call words) (sym (word_found words read.0 read.1).0) (after_found order read.0.0 read.0.1 call read.2)
 
-command_found : (order : Order) (spelled : event.EventModel) (words : List (List ℕ)) (call : CentreCall) → command_of spelled ≡ Some call
-    → SpellsEventWords order spelled words → SpellsCallWords order call words
-command_found order (event.command asked) words call e is = subst (λ call. SpellsCallWords order call words) (same_Some _ _ e) is
-command_found order event.sign_tick words call e is = absurd (let none : None ≡ Some call = e in cc)
-command_found order event.centre_tick words call e is = absurd (let none : None ≡ Some call = e in cc)
-command_found order (event.to_sign place) words call e is = absurd (let none : None ≡ Some call = e in cc)
-command_found order (event.to_centre place) words call e is = absurd (let none : None ≡ Some call = e in cc)
-command_found order event.power_lost words call e is = absurd (let none : None ≡ Some call = e in cc)
-command_found order (event.power_back seconds) words call e is = absurd (let none : None ≡ Some call = e in cc)
-command_found order event.centre_restart words call e is = absurd (let none : None ≡ Some call = e in cc)
-command_found order (event.forge_sign octets) words call e is = absurd (let none : None ≡ Some call = e in cc)
-command_found order (event.forge_centre octets) words call e is = absurd (let none : None ≡ Some call = e in cc)
-
-found_in : (order : Order) (line : List ℕ) (call : CentreCall) (plain : Option CentreCall) (spelled : Option event.EventModel)
-    → plain_call_at (words_of line) ≡ plain → event_of order line ≡ spelled → or_command plain spelled ≡ Some call → SpellsCentreCall order call line
+found_in : (order : Order) (line : List ℕ) (call : CentreCall) (plain : Option CentreCall) (spelled : Option CommandModel)
+    → plain_call_at (words_of line) ≡ plain → command_of order line ≡ spelled → or_command plain spelled ≡ Some call → SpellsCentreCall order call line
 found_in order line call (Some own) spelled is read e = plain_found order (words_of line) call (is ∙ e)
-found_in order line call None (Some spelled) is read e = command_found order spelled (words_of line) call e (event_found order line spelled read)
+found_in order line call None (Some asked) is read e =
+    subst (λ call. SpellsCallWords order call (words_of line)) (same_Some _ _ e) (command_found order line asked read)
 found_in order line call None None is read e = absurd (let none : None ≡ Some call = e in cc)
 
 pub call_found : (order : Order) (line : List ℕ) (call : CentreCall) → call_of order line ≡ Some call → SpellsCentreCall order call line
@@ -101,13 +92,13 @@ no_plain order (Activate code) words spelled = ap plain_call_at spelled.words_ar
 
 plain_only : (order : Order) (line : List ℕ) (call : CentreCall) → plain_call_at (words_of line) ≡ Some call → call_of order line ≡ Some call
 unfolding call_of
-plain_only order line call e = ap (λ plain. or_command plain (event_of order line)) e
+plain_only order line call e = ap (λ plain. or_command plain (command_of order line)) e
 
 pub call_only : (order : Order) (line : List ℕ) (call : CentreCall) → SpellsCentreCall order call line → call_of order line ≡ Some call
 unfolding call_of plain_call_at word_at
 call_only order line (command asked) spelled =
-    ap (λ plain. or_command plain (event_of order line)) (no_plain order asked (words_of line) spelled)
-    ∙ ap (or_command None) (event_only order line (event.command asked) spelled)
+    ap (λ plain. or_command plain (command_of order line)) (no_plain order asked (words_of line) spelled)
+    ∙ ap (or_command None) (command_only order line asked spelled)
 call_only order line (datagram octets) spelled =
     plain_only order line (datagram octets) (ap plain_call_at spelled.words_are ∙ ap (option_map datagram) (last_octets_only octets spelled.word spelled.spelled))
 call_only order line tick spelled = plain_only order line tick (ap plain_call_at spelled)

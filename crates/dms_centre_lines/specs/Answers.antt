@@ -9,7 +9,8 @@ use Rattle.dms_centre.specs.State.{CentreState, is_busy}
 use Rattle.dms_centre.specs.Commands.{CommandModel, refusal_of, commanded}
 use Rattle.dms_centre.specs.Inputs.{received, ticked, restarted}
 use Rattle.dms_centre.specs.Texts.{command_fault_text, ended_text}
-use Rattle.dms_replay.specs.Report.{ended, ledger_line}
+use Rattle.dms_description.specs.ShownLine.{ended}
+use Rattle.dms_commands.specs.LedgerLine.{ledger_line}
 use Rattle.dms_centre_lines.specs.Calls.{CentreCall, command, datagram, tick, restart, status}
 use Rattle.dms_centre_lines.specs.CallReading.{call_of}
 

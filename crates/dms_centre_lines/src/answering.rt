@@ -4,7 +4,7 @@ ghost use Rattle.std.specs.Prelude.{◌≡◌, IfOk, OnOk, OnErr, Some, None};
 ghost use Rattle.dms_centre.specs.CodeView.{command_model};
 ghost use Rattle.dms_centre.specs.Commands.{commanded, refusal_of};
 ghost use Rattle.dms_centre.specs.Inputs.{received, ticked, restarted};
-ghost use Rattle.dms_replay.specs.EventReading.{event_of};
+ghost use Rattle.dms_commands.specs.CommandReading.{command_of};
 ghost use Rattle.dms_centre_lines.specs.Answers.{answer_text, after_line, call_answer, after_call, command_line, ok_line, sent_line};
 ghost use Rattle.dms_centre_lines.specs.CallReading.{or_command};
 ghost use Rattle.dms_centre_lines.specs.CodeView.{call_model};
@@ -13,9 +13,8 @@ use crate::reading::{Call, plain_call};
 use crate::status::status;
 use crate::text::{bad, ok, put_sent, refused, room};
 use dms_centre::{Centre, Command};
-use dms_replay::event_line::read_event;
+use dms_commands::read_command;
 use dms_wire::Out;
-use dms_world::Event;
 use std::alloc::{AllocError, Global};
 
 /// Does what a line asks of the central system, and answers it: one line or more, each with a newline at its end. The line comes without
@@ -57,16 +56,13 @@ fn answer_call(alloc: Global, centre: &mut Centre, call: Call) -> Result<Vec<u8>
 
 /// A line that is a command, or a bad line.
 fn answer_command(alloc: Global, centre: &mut Centre, line: &[u8]) -> Result<Vec<u8>, AllocError>
-    ensures text { IfOk result (λ text. text.items ≡ call_answer centre.old.state (or_command None (event_of centre.old.state.settings.order line.now))) }
-    ensures state { OnOk result (centre.new.state ≡ after_call centre.old.state (or_command None (event_of centre.old.state.settings.order line.now))) }
+    ensures text { IfOk result (λ text. text.items ≡ call_answer centre.old.state (or_command None (command_of centre.old.state.settings.order line.now))) }
+    ensures state { OnOk result (centre.new.state ≡ after_call centre.old.state (or_command None (command_of centre.old.state.settings.order line.now))) }
     ensures unchanged { OnErr result (centre.new.state ≡ centre.old.state) }
 {
-    let Some(event) = read_event(alloc, centre.order(), line)? else {
-        return bad(alloc);
-    };
-    match event.lent() {
-        Event::Command(asked) => give(alloc, centre, asked),
-        _ => bad(alloc),
+    match read_command(alloc, centre.order(), line)? {
+        Some(asked) => give(alloc, centre, asked.lent()),
+        None => bad(alloc),
     }
 }
 

@@ -1,13 +1,12 @@
 //! The lines that are no commands.
 
 ghost use Rattle.std.specs.Prelude.{◌≡◌, IfOk, option_map};
-ghost use Rattle.dms_text.specs.Reading.{same_octets};
 ghost use Rattle.dms_text.specs.Words.{words_of};
-ghost use Rattle.dms_replay.specs.EventReading.{alone};
+ghost use Rattle.dms_description.specs.FieldsReading.{if_last};
 ghost use Rattle.dms_centre_lines.specs.CallReading.{plain_call_at};
 ghost use Rattle.dms_centre_lines.specs.CodeView.{call_model};
 
-use dms_replay::fields::last_octets;
+use dms_description::fields::{are_same, last_octets};
 use dms_text::Words;
 use std::alloc::{AllocError, Global};
 
@@ -32,13 +31,13 @@ pub(crate) fn plain_call(alloc: Global, line: &[u8]) -> Result<Option<Call>, All
     let Some((word, words)) = Words::of(line).next_word() else {
         return Ok(None);
     };
-    if is(word, b"datagram") {
+    if are_same(word, b"datagram") {
         Ok(last_octets(alloc, words)?.map(Call::Datagram))
-    } else if is(word, b"tick") {
+    } else if are_same(word, b"tick") {
         Ok(alone(words, Call::Tick))
-    } else if is(word, b"restart") {
+    } else if are_same(word, b"restart") {
         Ok(alone(words, Call::Restart))
-    } else if is(word, b"status") {
+    } else if are_same(word, b"status") {
         Ok(alone(words, Call::Status))
     } else {
         Ok(None)
@@ -47,13 +46,7 @@ pub(crate) fn plain_call(alloc: Global, line: &[u8]) -> Result<Option<Call>, All
 
 /// The call, where no words are left.
 fn alone(words: Words<'_>, call: Call) -> Option<Call>
-    ensures { result ≡ alone call words.entry }
+    ensures { result ≡ if_last call words.entry }
 {
     if words.is_empty() { Some(call) } else { None }
-}
-
-fn is(word: &[u8], keyword: &[u8]) -> bool
-    ensures { result ≡ same_octets word.now keyword.now }
-{
-    word == keyword
 }

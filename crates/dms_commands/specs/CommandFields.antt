@@ -1,4 +1,4 @@
--- What single words of an event's line spell (this profile).
+-- What single words of a command's line spell (this profile).
 use Rattle.std.specs.Prelude.{◌≡◌, ℕ, ◌==◌, ◌≤◌, List, length, Ok}
 use Rattle.std.specs.List.{slice_split}
 use Rattle.hex.specs.Hex.{decode_of}

@@ -11,3 +11,6 @@ pub mod DescriptionLaws
 pub mod SetupLaws
 pub mod BenchRead
 mod LastFont
+pub mod FieldLaws
+mod TextsDescribed
+pub mod ShownParts

@@ -10,7 +10,8 @@ use Rattle.dms_text.proofs.NumberLaws.{number_found, number_only, within_found, 
 use Rattle.dms_codes.specs.declared.codes.Order.{Order}
 use Rattle.dms_codes.specs.declared.codes.Order.TheVariants.{High, Swapped}
 use Rattle.dms_description.specs.Fields.{SpellsFlag, SpellsOrder, SpellsFourOctets}
-use Rattle.dms_description.specs.DescriptionReading.{if_last, order_named}
+use Rattle.dms_description.specs.DescriptionReading.{order_named}
+use Rattle.dms_description.specs.FieldsReading.{if_last}
 
 -- ---- the end of a line
 

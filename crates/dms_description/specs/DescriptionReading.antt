@@ -1,7 +1,7 @@
 -- Reading a description from its beginning: its parts, and the lines after them (this profile).
 use Rattle.std.specs.Prelude.{ℕ, ◌==◌, if◌then◌else◌, List, [], ◌∷◌, ◌++◌, codes, replicate, Option, Some, None, Result, Ok, Err}
 use Rattle.dms_text.specs.Words.{words_of}
-use Rattle.dms_text.specs.Reading.{word_at, keyword_at, decimal_at, is_end, same_octets, octets_of, ◌>>=◌}
+use Rattle.dms_text.specs.Reading.{word_at, keyword_at, decimal_at, same_octets, octets_of, ◌>>=◌}
 use Rattle.dms_font.specs.Font.{FontModel}
 use Rattle.dms_font.specs.FontReading.{header_of, glyph_added}
 use Rattle.dms_font.specs.declared.fault.FontFaultKind.{FontFaultKind}
@@ -15,10 +15,7 @@ use Rattle.dms_description.specs.declared.head.Size.{Size}
 use Rattle.dms_description.specs.declared.head.RowCounts.{RowCounts}
 use Rattle.dms_description.specs.declared.head.FirstDefaults.{FirstDefaults}
 use Rattle.dms_description.specs.Description.{Description}
-
--- a value, where no words are left after it
-abbrev pub if_last : {A : Type 0} → A → List (List ℕ) → Option A
-if_last value words = if is_end words then Some value else None
+use Rattle.dms_description.specs.FieldsReading.{if_last, octet_at}
 
 -- ---- the words of the first lines
 
@@ -67,9 +64,6 @@ services_of words = do
   beacon ← decimal_at 5 0 1 after
   pixel ← decimal_at 5 0 1 beacon.1
   if_last (record { beacon = beacon.0 == 1; pixel = pixel.0 == 1 }) pixel.1
-
-abbrev pub octet_at : List (List ℕ) → Option (ℕ × List (List ℕ))
-octet_at words = decimal_at 5 0 255 words
 
 -- the four defaults that stand first, and the words after them
 unfoldable pub first_defaults_at : List (List ℕ) → Option (FirstDefaults × List (List ℕ))

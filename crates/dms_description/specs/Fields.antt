@@ -1,4 +1,4 @@
--- What single words of a sign's description and of a script spell (this profile).
+-- What single words of a sign's description, of a command and of a script spell (this profile).
 use Rattle.std.specs.Prelude.{◌≡◌, ℕ, ◌<◌, ◌^◌, Bool, true, false, List, [], ◌∷◌, codes}
 use Rattle.dms_text.specs.Numbers.{SpellsNumber, SpellsDecimal}
 use Rattle.dms_codes.specs.declared.codes.Order.{Order}
@@ -30,3 +30,9 @@ SpellsFlag true word = SpellsDecimal 1 1 1 word
 abbrev pub SpellsOrder : Order → List ℕ → Type 0
 SpellsOrder High word = word ≡ codes "high"
 SpellsOrder Swapped word = word ≡ codes "swapped"
+
+-- a keyword, and one word after it that spells something
+pub record SpellsOne (keyword : List ℕ) (Spelled : List ℕ → Type 0) (words : List (List ℕ)) : Type 0 where
+  pub word : List ℕ
+  pub words_are : words ≡ keyword ∷ word ∷ []
+  pub spelled : Spelled word

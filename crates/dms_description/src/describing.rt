@@ -1,22 +1,61 @@
-//! The description that stands before a conversation.
+//! Descriptions that are read: an input to its end, or its lines up to the line `end`, before a conversation.
 
-ghost use Rattle.std.specs.Prelude.{◌≡◌, ◌≢◌, ◌<◌, ℕ, length, Err, IfOk, IfSome};
+ghost use Rattle.std.specs.Prelude.{◌≡◌, ◌≢◌, ◌≤◌, ◌<◌, ℕ, length, Err, IfOk, IfSome};
 ghost use Rattle.dms_streams.specs.Calls.{one_more};
 ghost use Rattle.dms_streams.specs.Lines.{left};
 ghost use Rattle.dms_streams.specs.DescriptionText.{TakesDescription};
-ghost use Rattle.dms_text.specs.Lines.{kept_lines};
-ghost use Rattle.dms_description.specs.Description.{Description, SpellsSign};
+ghost use Rattle.dms_description.specs.Before.{Describes, NotDescribed};
+ghost use Rattle.dms_description.specs.Description.{Description, SpellsDescription, longest_input};
 ghost use Rattle.dms_description.specs.Setups.{IsMade};
-ghost use Rattle.dms_parties.specs.Before.{Describes, NotDescribed};
-ghost use Rattle.dms_replay.specs.declared.fault.ReplayFault.TheVariants as faults;
+ghost use Rattle.dms_description.specs.declared.reading_fault.ReplayFault.TheVariants as faults;
 
-use dms_description::{DescriptionFault, Setup, description};
-use dms_replay::ReplayFault;
-use dms_streams::{Input, Source, description_text};
+use crate::fault::DescriptionFault;
+use crate::reader::description;
+use crate::reading_fault::ReplayFault;
+use crate::setup::Setup;
+use dms_streams::{Input, Source, description_text, read_whole};
 use std::alloc::Global;
 
+/// The most octets that an input has.
+pub const LONGEST_INPUT: usize = 1_048_576;
+
+/// Reads a sign's description to its end.
+pub fn described<R: Source>(alloc: Global, reader: &mut R) -> Result<Setup, ReplayFault>
+    ensures sign { IfOk result (λ setup. IfSome (R.remaining reader.old) (λ octets. (it : Description) × SpellsDescription octets it × IsMade it setup)) }
+    ensures line { (number : ℕ) → result ≡ Err (faults.Line number) → IfSome (R.remaining reader.old) (λ octets.
+        (length octets ≤ longest_input) × ((it : Description) → SpellsDescription octets it → ⊥)) }
+    ensures too_long { result ≡ Err faults.TooLong → IfSome (R.remaining reader.old) (λ octets. longest_input < length octets) }
+    ensures read { result ≡ Err faults.Read → R.failed reader.new ≡ one_more (R.failed reader.old) }
+    ensures all_read { result ≢ Err faults.Read → R.failed reader.new ≡ R.failed reader.old }
+    ensures no_write { result ≢ Err faults.Write }
+{
+    let octets = whole_input(alloc, reader)?;
+    match description(alloc, octets.as_slice()) {
+        Ok(setup) => Ok(setup),
+        Err(DescriptionFault::Line(number)) => Err(ReplayFault::Line(number)),
+        Err(DescriptionFault::Memory) => Err(ReplayFault::Memory),
+    }
+}
+
+/// All octets of the reader.
+pub fn whole_input<R: Source>(alloc: Global, reader: &mut R) -> Result<Vec<u8>, ReplayFault>
+    ensures whole { IfOk result (λ octets. IfSome (R.remaining reader.old) (λ all. octets.items ≡ all)) }
+    ensures short { IfOk result (λ octets. length octets.items ≤ longest_input) }
+    ensures too_long { result ≡ Err faults.TooLong → IfSome (R.remaining reader.old) (λ all. longest_input < length all) }
+    ensures failed { result ≡ Err faults.Read → R.failed reader.new ≡ one_more (R.failed reader.old) }
+    ensures unfailed { result ≢ Err faults.Read → R.failed reader.new ≡ R.failed reader.old }
+    ensures no_write { result ≢ Err faults.Write }
+    ensures no_line { (number : ℕ) → result ≢ Err (faults.Line number) }
+{
+    let octets = read_whole(alloc, reader, LONGEST_INPUT)?;
+    Ok(octets)
+}
+
 /// Reads the description of a sign up to its line `end`: at most 1,048,576 octets. The lines after it are left.
-pub fn described<S: Source>(alloc: Global, input: &mut Input<S>) -> Result<Setup, ReplayFault>
+pub fn described_before<S: Source>(
+    alloc: Global,
+    input: &mut Input<S>,
+) -> Result<Setup, ReplayFault>
     ensures sign { IfOk result (λ setup. Describes (left S.remaining input.old) setup (left S.remaining input.new)) }
     ensures line { (number : ℕ) → result ≡ Err (faults.Line number) → NotDescribed (left S.remaining input.old) }
     ensures too_long { result ≡ Err faults.TooLong → IfSome (left S.remaining input.old) (λ octets. 1048576 < length octets) }
@@ -27,12 +66,12 @@ pub fn described<S: Source>(alloc: Global, input: &mut Input<S>) -> Result<Setup
     let text = text(alloc, input)?;
     match description(alloc, text.as_slice()) {
         Ok(setup) => Ok(setup),
-        Err(DescriptionFault::Line(number)) => Err(ReplayFault::Line(number)),
+        Err(DescriptionFault::Line(line)) => Err(ReplayFault::Line(line)),
         Err(DescriptionFault::Memory) => Err(ReplayFault::Memory),
     }
 }
 
-/// The text of the description.
+/// The text of the description before a conversation.
 fn text<S: Source>(alloc: Global, input: &mut Input<S>) -> Result<Vec<u8>, ReplayFault>
     ensures text { IfOk result (λ text. TakesDescription (left S.remaining input.old) text.items (left S.remaining input.new)) }
     ensures too_long { result ≡ Err faults.TooLong → IfSome (left S.remaining input.old) (λ octets. 1048576 < length octets) }

@@ -2,12 +2,12 @@
 
 ghost use Rattle.std.specs.Prelude.{◌≡◌, ◌∷◌, [], Some, None, option_map, IfOk, IfErr, IfSome};
 ghost use Rattle.dms_text.specs.Words.{words_of};
-ghost use Rattle.dms_text.specs.Reading.{same_octets};
 ghost use Rattle.dms_description.specs.Setups.{octets_left};
 ghost use Rattle.dms_description.specs.Views.{communities_seen, beginning_seen, head_seen};
-ghost use Rattle.dms_description.specs.DescriptionReading.{size_of, communities_of, row_counts_of, order_named, order_of, services_of, octet_at, first_defaults_at, all_defaults, defaults_of, first_of, beginning_at, head_at};
+ghost use Rattle.dms_description.specs.DescriptionReading.{size_of, communities_of, row_counts_of, order_named, order_of, services_of, first_defaults_at, all_defaults, defaults_of, first_of, beginning_at, head_at};
 
 use crate::fault::DescriptionFault;
+use crate::fields::{are_same, octet};
 use dms_codes::Order;
 use dms_face::Defaults;
 use dms_table::Services;
@@ -110,21 +110,6 @@ fn row_counts_of(line: &[u8]) -> Option<RowCounts>
     } else {
         None
     }
-}
-
-/// A number of one octet, and the words after it.
-pub(crate) fn octet(words: Words<'_>) -> Option<(u8, Words<'_>)>
-    ensures { result ≡ octet_at words.entry }
-{
-    let (number, words) = words.decimal(5, 0, 255)?;
-    Some((number as u8, words))
-}
-
-/// Whether these are the same octets.
-pub(crate) fn are_same(word: &[u8], other: &[u8]) -> bool
-    ensures { result ≡ same_octets word.now other.now }
-{
-    word == other
 }
 
 fn order_named(word: &[u8]) -> Option<Order>

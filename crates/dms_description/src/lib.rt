@@ -1,4 +1,4 @@
-//! Signs as text: a description, a line for each part, in this order:
+//! Signs as text, and what a sign shows as a line. A description is a line for each part, in this order:
 //!
 //! ```text
 //! size WIDTH HEIGHT
@@ -16,21 +16,28 @@
 
 pub mod bench_sign;
 mod body_word;
+pub mod describing;
 pub mod fault;
+pub mod fields;
 mod fonts;
 mod forms;
 mod head;
 pub mod laws;
 mod making;
 pub mod reader;
+pub mod reading_fault;
 pub mod reasons;
 mod rows;
 pub mod setup;
+pub mod shown_text;
 mod sign_reasons;
 mod upcoming;
 
 pub use bench_sign::{BENCH, bench};
+pub use describing::{LONGEST_INPUT, described, described_before};
 pub use fault::DescriptionFault;
 pub use reader::{description, sign_of_lines};
+pub use reading_fault::ReplayFault;
 pub use reasons::{first_cause, why};
 pub use setup::Setup;
+pub use shown_text::put_shown;

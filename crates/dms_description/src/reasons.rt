@@ -9,9 +9,10 @@ ghost use Rattle.dms_description.specs.Causes.{head_cause, form_cause, glyph_cau
 
 use crate::body_word::BodyWord;
 use crate::fault::DescriptionFault;
+use crate::fields::are_same;
 use crate::fonts::fonts;
 use crate::forms::Form;
-use crate::head::{Head, are_same};
+use crate::head::Head;
 use crate::reader::description;
 use crate::rows::{OwnedRow, rows};
 use crate::sign_reasons::sign_cause;

@@ -1,8 +1,7 @@
-//! A sign and a centre as parties to a conversation by lines, and the description that may stand before it.
+//! A sign and a centre as parties to a conversation by lines.
 #![tactic(auto)]
 
-pub mod before;
 pub mod parties;
 
-pub use before::described;
+pub use dms_description::described_before as described;
 pub use parties::{LiveCentre, LiveSign};

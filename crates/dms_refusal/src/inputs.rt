@@ -2,10 +2,9 @@
 
 use crate::kept::Kept;
 use crate::refusal::Refusal;
-use dms_description::Setup;
+use dms_description::{LONGEST_INPUT, ReplayFault, Setup, described};
 use dms_replay::reasons::ScriptCause;
-use dms_replay::replaying::LONGEST_INPUT;
-use dms_replay::{ReplayFault, described, replay};
+use dms_replay::replay;
 use dms_streams::{Input, Sink, Source, description_text};
 use std::alloc::Global;
 

@@ -1,6 +1,6 @@
 //! Why an input is refused.
 
-use dms_replay::ReplayFault;
+use dms_description::ReplayFault;
 use dms_replay::reasons::ScriptCause;
 use std::io::Write;
 

@@ -3,9 +3,9 @@ use Rattle.std.proofs.Common.{◌≡◌, ℕ, List, [], ◌∷◌, ◌++◌, Som
 use Rattle.std.proofs.lemmas.List.{append-nil}
 use Rattle.std.specs.Prelude.{◌⊎◌}
 use Rattle.std.proofs.Common.{inl, inr}
-use Rattle.dms_replay.specs.declared.fault.ReplayFault.{ReplayFault}
-use Rattle.dms_replay.specs.declared.fault.ReplayFault.TheVariants.{Memory}
-use Rattle.dms_replay.specs.Faults.{IsLine}
+use Rattle.dms_description.specs.declared.reading_fault.ReplayFault.{ReplayFault}
+use Rattle.dms_description.specs.declared.reading_fault.ReplayFault.TheVariants.{Memory}
+use Rattle.dms_description.specs.ReadingFaults.{IsLine}
 use Rattle.std.proofs.lemmas.List.{map-append}
 use Rattle.dms_text.specs.declared.lines.Line.{Line}
 use Rattle.dms_text.specs.Lines.{NumberedLine}

@@ -26,8 +26,9 @@ use Rattle.dms_description.specs.Fields.{SpellsEach, SpellsOctet, SpellsTwoOctet
 use Rattle.dms_description.proofs.BenchValue.{bench_sign}
 use Rattle.dms_description.proofs.BenchText.{spells_the_bench_sign}
 use Rattle.dms_description.proofs.DescriptionLaws.{one_sign}
-use Rattle.dms_replay.specs.EventFields.{SpellsAddress, SpellsAddressPart}
-use Rattle.dms_replay.specs.EventLine.{SpellsPublication, SpellsBlank, SpellsCommand, SpellsEvent, SpellsEventWords}
+use Rattle.dms_commands.specs.CommandFields.{SpellsAddress, SpellsAddressPart}
+use Rattle.dms_commands.specs.CommandLine.{SpellsPublication, SpellsBlank, SpellsCommand}
+use Rattle.dms_replay.specs.EventLine.{SpellsEvent, SpellsEventWords}
 use Rattle.dms_replay.specs.Script.{NamesSign, the_bench, described, SpellsScript, beginning_of}
 use Rattle.dms_replay.proofs.BenchFresh.{bench_is_fresh}
 use Rattle.dms_replay.proofs.SpelledOctets.{lines_are_octets, words_are_octets, spelled_octets}

@@ -14,18 +14,18 @@ use Rattle.dms_centre.specs.State as centre
 use Rattle.dms_world.specs.Event.{EventModel}
 use Rattle.dms_world.specs.World.{WorldModel, beginning, world_after}
 use Rattle.dms_description.specs.BenchSign.{bench_text}
-use Rattle.dms_description.specs.Description.{Description, SpellsSign, SpellsDescription, longest_input}
+use Rattle.dms_description.specs.Description.{Description, SpellsSign, longest_input}
 use Rattle.dms_description.specs.Fields.{SpellsEach}
 use Rattle.dms_description.specs.Setups.{octets_left, BeginsWith, IsMade}
 use Rattle.dms_description.specs.declared.setup.Setup.{Setup}
 use Rattle.dms_description.proofs.DescriptionLaws.{one_prefix, one_sign}
 use Rattle.dms_replay.specs.EventLine.{SpellsEvent}
-use Rattle.dms_replay.specs.Faults.{IsLine}
+use Rattle.dms_description.specs.ReadingFaults.{IsLine}
 use Rattle.dms_replay.specs.Script.{NamesSign, the_bench, described, NamesPrefix, SpellsScript, beginning_of}
-use Rattle.dms_replay.specs.declared.fault.ReplayFault.{ReplayFault}
+use Rattle.dms_description.specs.declared.reading_fault.ReplayFault.{ReplayFault}
 use Rattle.dms_replay.specs.declared.script_event.ScriptEvent.{ScriptEvent}
 use Rattle.dms_replay.specs.EventView.{script_event_model, script_events_model}
-use Rattle.dms_replay.specs.declared.fault.ReplayFault.TheVariants.{Memory, Line as LineFault}
+use Rattle.dms_description.specs.declared.reading_fault.ReplayFault.TheVariants.{Memory, Line as LineFault}
 use Rattle.dms_replay.specs.Report.{report_of}
 use Rattle.dms_replay.specs.Replayed.{IsReport, IsLawful, RunsLawfully, HasNoRoom, NoScript}
 use Rattle.dms_streams.specs.Room.{HasRoom, IsWrittenWithinRoom}
@@ -163,15 +163,6 @@ no_events octets rest setup order fault named is_order (inr bad) = inr (
 )
 
 -- ---- what a replay answers
-
-pub not_described : (slice octets : List ℕ) (all : Option (List ℕ)) → slice ≡ octets → length octets ≤ longest_input → IfSome all (λ whole. octets ≡ whole)
-    → ((it : Description) → SpellsSign (kept_lines slice) it → ⊥)
-    → IfSome all (λ whole. (length whole ≤ longest_input) × ((it : Description) → SpellsDescription whole it → ⊥))
-not_described slice octets None lent short same bad = tt
-not_described slice octets (Some whole) lent short same bad = (
-  subst (λ xs. length xs ≤ longest_input) same short,
-  λ it spelled. bad it (subst (λ xs. SpellsSign (kept_lines xs) it) (sym (lent ∙ same)) spelled.lines),
-)
 
 -- of a fault of the reader of scripts
 pub no_script : (slice octets : List ℕ) (all : Option (List ℕ)) (fault : ReplayFault) (number : ℕ) → slice ≡ octets → length octets ≤ longest_input

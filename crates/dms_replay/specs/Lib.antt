@@ -1,5 +1,4 @@
 -- what a reader must believe: scripts of events, and reports of runs, as text
-pub mod EventFields
 pub mod EventLine
 pub mod Script
 pub mod Report
@@ -7,6 +6,4 @@ pub mod Replayed
 -- what the calls say of themselves
 pub mod EventReading
 pub mod EventView
-pub mod Faults
-pub mod FaultsOfInputs
 pub mod Reasons

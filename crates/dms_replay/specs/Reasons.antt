@@ -12,6 +12,7 @@ use Rattle.dms_forms.specs.declared.wanted.Wanted.{Wanted}
 use Rattle.dms_forms.specs.declared.wanted.Wanted.TheVariants as wanted
 use Rattle.dms_causes.specs.Texts.{cause_text}
 use Rattle.dms_description.specs.Causes.{first_cause}
+use Rattle.dms_commands.specs.declared.command_word.CommandWord.TheVariants as asked
 use Rattle.dms_replay.specs.declared.keyword.Keyword.{Keyword}
 use Rattle.dms_replay.specs.declared.keyword.Keyword.TheVariants as key
 use Rattle.dms_replay.specs.declared.reasons.EventCause.{EventCause}
@@ -24,9 +25,9 @@ use Rattle.dms_replay.specs.EventReading.{keyword_of}
 
 -- what the words of an event's line are to be
 abbrev pub event_form : Keyword → List Wanted
-event_form key.Publish = wanted.Keyword keywords.Publish ∷ wanted.Number 0 255 ∷ wanted.Number 0 65535 ∷ wanted.Octets names.Text ∷ wanted.Octets names.Owner ∷ wanted.Number 0 255 ∷ wanted.Number 0 255 ∷ wanted.Number 0 255 ∷ wanted.Number 0 65535 ∷ wanted.Number 0 255 ∷ wanted.Address ∷ []
-event_form key.Blank = wanted.Keyword keywords.Blank ∷ wanted.Number 0 65535 ∷ wanted.Number 0 65535 ∷ wanted.Number 0 255 ∷ wanted.Address ∷ []
-event_form key.Activate = wanted.Keyword keywords.Activate ∷ wanted.Code ∷ []
+event_form (key.Command asked.Publish) = wanted.Keyword keywords.Publish ∷ wanted.Number 0 255 ∷ wanted.Number 0 65535 ∷ wanted.Octets names.Text ∷ wanted.Octets names.Owner ∷ wanted.Number 0 255 ∷ wanted.Number 0 255 ∷ wanted.Number 0 255 ∷ wanted.Number 0 65535 ∷ wanted.Number 0 255 ∷ wanted.Address ∷ []
+event_form (key.Command asked.Blank) = wanted.Keyword keywords.Blank ∷ wanted.Number 0 65535 ∷ wanted.Number 0 65535 ∷ wanted.Number 0 255 ∷ wanted.Address ∷ []
+event_form (key.Command asked.Activate) = wanted.Keyword keywords.Activate ∷ wanted.Code ∷ []
 event_form key.SignTick = wanted.Keyword keywords.SignTick ∷ []
 event_form key.CentreTick = wanted.Keyword keywords.CentreTick ∷ []
 event_form key.ToSign = wanted.Keyword keywords.ToSign ∷ wanted.FourOctets ∷ []

@@ -3,15 +3,15 @@
 ghost use Rattle.std.specs.Prelude.{◌≡◌, IfOk, IfSome, IfNone, option_map};
 ghost use Rattle.dms_world.specs.Event.{EventModel};
 ghost use Rattle.dms_replay.specs.EventLine.{SpellsEvent};
-ghost use Rattle.dms_replay.specs.EventReading.{alone, publication_at, blank_at, event_of};
-ghost use Rattle.dms_replay.specs.EventView.{publication_model, script_event_model};
+ghost use Rattle.dms_description.specs.FieldsReading.{if_last};
+ghost use Rattle.dms_replay.specs.EventReading.{event_of};
+ghost use Rattle.dms_replay.specs.EventView.{script_event_model};
 
-use crate::fields::{
-    Terms, last_code, last_number, last_octets, last_terms, next_octets, octet, two_octets,
-};
 use crate::keyword::Keyword;
-use crate::script_event::{Publication, ScriptEvent};
+use crate::script_event::ScriptEvent;
 use dms_codes::Order;
+use dms_commands::command_after;
+use dms_description::fields::{last_number, last_octets};
 use dms_text::Words;
 use std::alloc::{AllocError, Global};
 
@@ -40,9 +40,9 @@ pub fn read_event(
         return Ok(None);
     };
     match keyword {
-        Keyword::Publish => Ok(publication(alloc, words)?.map(ScriptEvent::Publish)),
-        Keyword::Blank => Ok(blank(words)),
-        Keyword::Activate => Ok(last_code(alloc, order, words)?.map(ScriptEvent::Activate)),
+        Keyword::Command(asked) => {
+            Ok(command_after(alloc, order, asked, words)?.map(ScriptEvent::Command))
+        }
         Keyword::SignTick => Ok(alone(words, ScriptEvent::SignTick)),
         Keyword::CentreTick => Ok(alone(words, ScriptEvent::CentreTick)),
         Keyword::ToSign => Ok(last_number(words).map(ScriptEvent::ToSign)),
@@ -57,72 +57,7 @@ pub fn read_event(
 
 /// The event, where no words are left.
 fn alone(words: Words<'_>, event: ScriptEvent) -> Option<ScriptEvent>
-    ensures { result ≡ alone event words.entry }
+    ensures { result ≡ if_last event words.entry }
 {
     if words.is_empty() { Some(event) } else { None }
-}
-
-#[tactic(auto, unfolding(crate::specs::EventReading::publication_at))]
-fn publication(alloc: Global, words: Words<'_>) -> Result<Option<Publication>, AllocError>
-    ensures { IfOk result (λ found. option_map publication_model found ≡ publication_at words.entry) }
-{
-    let Some((memory, words)) = octet(words) else {
-        return Ok(None);
-    };
-    let Some((number, words)) = two_octets(words) else {
-        return Ok(None);
-    };
-    let Some((text, words)) = next_octets(alloc, words)? else {
-        return Ok(None);
-    };
-    let Some((owner, words)) = next_octets(alloc, words)? else {
-        return Ok(None);
-    };
-    let Some((beacon, words)) = octet(words) else {
-        return Ok(None);
-    };
-    let Some((pixel, words)) = octet(words) else {
-        return Ok(None);
-    };
-    let Some((run_priority, words)) = octet(words) else {
-        return Ok(None);
-    };
-    let Some(terms) = last_terms(words) else {
-        return Ok(None);
-    };
-    let Terms {
-        minutes,
-        priority,
-        address,
-    } = terms;
-    Ok(Some(Publication {
-        memory,
-        number,
-        text,
-        owner,
-        beacon,
-        pixel,
-        run_priority,
-        minutes,
-        priority,
-        address,
-    }))
-}
-
-#[tactic(auto, unfolding(crate::specs::EventReading::blank_at))]
-fn blank(words: Words<'_>) -> Option<ScriptEvent>
-    ensures { option_map script_event_model result ≡ blank_at words.entry }
-{
-    let (number, words) = two_octets(words)?;
-    let Terms {
-        minutes,
-        priority,
-        address,
-    } = last_terms(words)?;
-    Some(ScriptEvent::Blank {
-        number,
-        minutes,
-        priority,
-        address,
-    })
 }

@@ -8,13 +8,13 @@ ghost use Rattle.dms_description.specs.Fields.{SpellsEach};
 ghost use Rattle.dms_replay.specs.EventLine.{SpellsEvent};
 ghost use Rattle.dms_replay.specs.EventView.{script_event_model, script_events_model};
 ghost use Rattle.dms_replay.specs.EventReading.{event_of};
-ghost use Rattle.dms_replay.specs.Faults.{IsLine};
-ghost use Rattle.dms_replay.specs.declared.fault.ReplayFault.TheVariants as faults;
+ghost use Rattle.dms_description.specs.ReadingFaults.{IsLine};
+ghost use Rattle.dms_description.specs.declared.reading_fault.ReplayFault.TheVariants as faults;
 
 use crate::event_line::read_event;
-use crate::fault::ReplayFault;
 use crate::script_event::ScriptEvent;
 use dms_codes::Order;
+use dms_description::ReplayFault;
 use dms_text::{Line, Lines};
 use std::alloc::Global;
 

@@ -13,7 +13,7 @@ pub mod report;
 mod script;
 pub mod script_event;
 
-pub use fault::ReplayFault;
-pub use fields::address;
+pub use dms_commands::address;
+pub use dms_description::{LONGEST_INPUT, ReplayFault, described};
 pub use reasons::why;
-pub use replaying::{LONGEST_INPUT, bench, described, replay};
+pub use replaying::{bench, replay};

@@ -6,11 +6,11 @@ ghost use Rattle.dms_description.specs.Description.{longest_input};
 ghost use Rattle.dms_replay.specs.Replayed.{NoScript};
 ghost use Rattle.dms_replay.specs.Reasons.{event_form, event_cause, line_numbered, line_found, event_cause_at, IsCauseOf};
 
-use crate::fault::ReplayFault;
 use crate::keyword::Keyword;
 use crate::script::{named_sign, read_script};
 use dms_causes::Cause;
-use dms_description::first_cause;
+use dms_commands::CommandWord;
+use dms_description::{ReplayFault, first_cause};
 use dms_forms::{Name, Wanted, WordFault, word_fault};
 use dms_text::{Lines, Words};
 use std::alloc::{AllocError, Global};
@@ -138,7 +138,7 @@ fn event_form(keyword: Keyword) -> &'static [Wanted]
     ensures { result.now ≡ event_form keyword }
 {
     match keyword {
-        Keyword::Publish => &[
+        Keyword::Command(CommandWord::Publish) => &[
             Wanted::Keyword(dms_forms::Keyword::Publish),
             Wanted::Number(0, 255),
             Wanted::Number(0, 65535),
@@ -151,14 +151,16 @@ fn event_form(keyword: Keyword) -> &'static [Wanted]
             Wanted::Number(0, 255),
             Wanted::Address,
         ],
-        Keyword::Blank => &[
+        Keyword::Command(CommandWord::Blank) => &[
             Wanted::Keyword(dms_forms::Keyword::Blank),
             Wanted::Number(0, 65535),
             Wanted::Number(0, 65535),
             Wanted::Number(0, 255),
             Wanted::Address,
         ],
-        Keyword::Activate => &[Wanted::Keyword(dms_forms::Keyword::Activate), Wanted::Code],
+        Keyword::Command(CommandWord::Activate) => {
+            &[Wanted::Keyword(dms_forms::Keyword::Activate), Wanted::Code]
+        }
         Keyword::SignTick => &[Wanted::Keyword(dms_forms::Keyword::SignTick)],
         Keyword::CentreTick => &[Wanted::Keyword(dms_forms::Keyword::CentreTick)],
         Keyword::ToSign => &[

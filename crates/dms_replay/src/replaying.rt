@@ -10,27 +10,25 @@ ghost use Rattle.dms_world.specs.Event.{EventModel};
 ghost use Rattle.dms_world.specs.World.{beginning, world_after};
 ghost use Rattle.dms_world.specs.CodeView.{events_model, seen};
 ghost use Rattle.dms_description.specs.BenchSign.{bench_text};
-ghost use Rattle.dms_description.specs.Description.{Description, SpellsSign, SpellsDescription, longest_input};
+ghost use Rattle.dms_description.specs.Description.{Description, SpellsSign, longest_input};
 ghost use Rattle.dms_description.specs.Setups.{IsMade};
 ghost use Rattle.dms_replay.specs.EventView.{script_events_model};
-ghost use Rattle.dms_replay.specs.Faults.{IsLine};
+ghost use Rattle.dms_description.specs.ReadingFaults.{IsLine};
 ghost use Rattle.dms_replay.specs.Replayed.{IsReport, Replayed, ReplayedPrefix, RunsLawfully, HasNoRoom, NoScript};
 ghost use Rattle.dms_replay.specs.Script.{SpellsScript};
-ghost use Rattle.dms_replay.specs.declared.fault.ReplayFault.TheVariants as faults;
+ghost use Rattle.dms_description.specs.declared.reading_fault.ReplayFault.TheVariants as faults;
 
-use crate::fault::ReplayFault;
 use crate::laws::scripts_run_lawfully;
 use crate::report::report;
 use crate::script::{Script, read_script};
 use crate::script_event::ScriptEvent;
 use dms_centre::{Centre, Settings};
-use dms_description::{DescriptionFault, Setup, description};
-use dms_streams::{Sink, Source, read_whole, write_whole};
+use dms_description::describing::whole_input;
+pub use dms_description::{LONGEST_INPUT, described};
+use dms_description::{ReplayFault, Setup};
+use dms_streams::{Sink, Source, write_whole};
 use dms_world::{Event, World, run};
 use std::alloc::Global;
-
-/// The most octets that an input has.
-pub const LONGEST_INPUT: usize = 1_048_576;
 
 /// Reads a script to its end, runs its events, and writes the report. Nothing is written before the whole report is there. What holds of
 /// every run of events holds of the script's; and to a writer that has room for the report, no write fails.
@@ -52,7 +50,7 @@ pub fn replay<R: Source, W: Sink>(
     ensures no_room { result ≡ Err faults.Write → IfSome (R.remaining reader.old) (λ octets. HasNoRoom octets (W.room writer.old)) }
     ensures all_written { result ≢ Err faults.Write → W.failed writer.new ≡ W.failed writer.old }
 {
-    let octets = input(alloc, reader)?;
+    let octets = whole_input(alloc, reader)?;
     let report = match script_report(alloc, octets.as_slice()) {
         Ok(report) => report,
         Err(fault) => return Err(fault),
@@ -61,20 +59,6 @@ pub fn replay<R: Source, W: Sink>(
         Ok(()) => Ok(()),
         Err(_) => Err(ReplayFault::Write),
     }
-}
-
-/// All octets of the reader.
-fn input<R: Source>(alloc: Global, reader: &mut R) -> Result<Vec<u8>, ReplayFault>
-    ensures whole { IfOk result (λ octets. IfSome (R.remaining reader.old) (λ all. octets.items ≡ all)) }
-    ensures short { IfOk result (λ octets. length octets.items ≤ longest_input) }
-    ensures too_long { result ≡ Err faults.TooLong → IfSome (R.remaining reader.old) (λ all. longest_input < length all) }
-    ensures failed { result ≡ Err faults.Read → R.failed reader.new ≡ one_more (R.failed reader.old) }
-    ensures unfailed { result ≢ Err faults.Read → R.failed reader.new ≡ R.failed reader.old }
-    ensures no_write { result ≢ Err faults.Write }
-    ensures no_line { (number : ℕ) → result ≢ Err (faults.Line number) }
-{
-    let octets = read_whole(alloc, reader, LONGEST_INPUT)?;
-    Ok(octets)
 }
 
 /// The report of the script that a text spells.
@@ -148,24 +132,6 @@ fn add<'a>(lent: &mut Vec<Event<'a>>, event: Event<'a>) -> Result<(), ReplayFaul
     match lent.push(event) {
         Ok(()) => Ok(()),
         Err(_) => Err(ReplayFault::Memory),
-    }
-}
-
-/// Reads a sign's description to its end.
-pub fn described<R: Source>(alloc: Global, reader: &mut R) -> Result<Setup, ReplayFault>
-    ensures sign { IfOk result (λ setup. IfSome (R.remaining reader.old) (λ octets. (it : Description) × SpellsDescription octets it × IsMade it setup)) }
-    ensures line { (number : ℕ) → result ≡ Err (faults.Line number) → IfSome (R.remaining reader.old) (λ octets.
-        (length octets ≤ longest_input) × ((it : Description) → SpellsDescription octets it → ⊥)) }
-    ensures too_long { result ≡ Err faults.TooLong → IfSome (R.remaining reader.old) (λ octets. longest_input < length octets) }
-    ensures read { result ≡ Err faults.Read → R.failed reader.new ≡ one_more (R.failed reader.old) }
-    ensures all_read { result ≢ Err faults.Read → R.failed reader.new ≡ R.failed reader.old }
-    ensures no_write { result ≢ Err faults.Write }
-{
-    let octets = input(alloc, reader)?;
-    match description(alloc, octets.as_slice()) {
-        Ok(setup) => Ok(setup),
-        Err(DescriptionFault::Line(number)) => Err(ReplayFault::Line(number)),
-        Err(DescriptionFault::Memory) => Err(ReplayFault::Memory),
     }
 }
 

@@ -6,14 +6,13 @@ ghost use Rattle.dms_world.specs.Event.{EventModel};
 ghost use Rattle.dms_description.specs.Description.{Description, longest_input};
 ghost use Rattle.dms_description.specs.Setups.{octets_left, IsMade};
 ghost use Rattle.dms_replay.specs.EventView.{script_events_model};
-ghost use Rattle.dms_replay.specs.Faults.{IsLine};
+ghost use Rattle.dms_description.specs.ReadingFaults.{IsLine};
 ghost use Rattle.dms_replay.specs.Script.{NamesPrefix, SpellsScript};
-ghost use Rattle.dms_replay.specs.declared.fault.ReplayFault.TheVariants as faults;
+ghost use Rattle.dms_description.specs.declared.reading_fault.ReplayFault.TheVariants as faults;
 
 use crate::events::events;
-use crate::fault::ReplayFault;
 use crate::script_event::ScriptEvent;
-use dms_description::{DescriptionFault, Setup, sign_of_lines};
+use dms_description::{DescriptionFault, ReplayFault, Setup, sign_of_lines};
 use dms_text::Lines;
 use std::alloc::Global;
 

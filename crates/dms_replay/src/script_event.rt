@@ -1,52 +1,13 @@
 //! Events as they are read, which own their octets.
 
-use dms_centre::Command;
-use dms_codes::Activation;
+pub use dms_commands::{OwnedCommand, Publication};
 use dms_world::Event;
-
-/// A message to be written into a row and activated.
-#[derive(Debug, Drop)]
-pub struct Publication {
-    /// The type of memory.
-    pub memory: u8,
-    /// The row's number there.
-    pub number: u16,
-    /// A MULTI text.
-    pub text: Vec<u8>,
-    /// Who the message is from.
-    pub owner: Vec<u8>,
-    /// 1 with the sign's beacons, else 0.
-    pub beacon: u8,
-    /// 1 with the sign's pixel service, else 0.
-    pub pixel: u8,
-    /// The message's priority while it is shown.
-    pub run_priority: u8,
-    /// How long it is shown; 65535 is without end.
-    pub minutes: u16,
-    /// The priority with which it is activated.
-    pub priority: u8,
-    /// The network address of the one who puts it up.
-    pub address: [u8; 4],
-}
 
 /// What a line of a script says.
 #[derive(Debug, Drop)]
 pub enum ScriptEvent {
-    /// The operator orders that a message be written and activated.
-    Publish(Publication),
-    /// The operator orders a blank message.
-    Blank {
-        /// Its number.
-        number: u16,
-        /// How long it is shown; 65535 is without end.
-        minutes: u16,
-        /// The priority with which it is activated.
-        priority: u8,
-        /// The network address of the one who puts it up.
-        address: [u8; 4],
-    },
-    /// The operator orders that a message be activated which the sign has.
-    Activate(Activation),
+    /// The operator gives a command.
+    Command(OwnedCommand),
     /// A second passes at the sign.
     SignTick,
     /// A second passes at the centre.
@@ -67,32 +28,6 @@ pub enum ScriptEvent {
     ForgeCentre(Vec<u8>),
 }
 
-impl Publication {
-    ghost use Rattle.std.specs.Prelude.{◌≡◌};
-    ghost use Rattle.dms_centre.specs.CodeView.{command_model};
-    ghost use Rattle.dms_centre.specs.Commands.{Publish};
-    ghost use Rattle.dms_replay.specs.EventView.{publication_model};
-
-    /// The command, which borrows the octets.
-    fn lent(&self) -> Command<'_>
-        ensures { command_model result ≡ Publish (publication_model self.now) }
-    {
-        let address = self.address;
-        Command::Publish {
-            memory: self.memory,
-            number: self.number,
-            text: self.text.as_slice(),
-            owner: self.owner.as_slice(),
-            beacon: self.beacon,
-            pixel: self.pixel,
-            run_priority: self.run_priority,
-            minutes: self.minutes,
-            priority: self.priority,
-            address,
-        }
-    }
-}
-
 impl ScriptEvent {
     ghost use Rattle.std.specs.Prelude.{◌≡◌};
     ghost use Rattle.dms_world.specs.CodeView.{event_model};
@@ -103,19 +38,7 @@ impl ScriptEvent {
         ensures { event_model result ≡ script_event_model self.now }
     {
         match self {
-            ScriptEvent::Publish(publication) => Event::Command(publication.lent()),
-            ScriptEvent::Blank {
-                number,
-                minutes,
-                priority,
-                address,
-            } => Event::Command(Command::Blank {
-                number: *number,
-                minutes: *minutes,
-                priority: *priority,
-                address: *address,
-            }),
-            ScriptEvent::Activate(code) => Event::Command(Command::Activate(*code)),
+            ScriptEvent::Command(asked) => Event::Command(asked.lent()),
             ScriptEvent::SignTick => Event::SignTick,
             ScriptEvent::CentreTick => Event::CentreTick,
             ScriptEvent::ToSign(place) => Event::ToSign(*place),

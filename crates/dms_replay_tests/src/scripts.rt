@@ -1,6 +1,7 @@
 //! The lines of events by their values, and where scripts are at fault.
 
 use dms_codes::{Activation, MessageId, Order};
+use dms_commands::OwnedCommand;
 use dms_replay::event_line::event;
 use dms_replay::fault::ReplayFault;
 use dms_replay::fields::address;
@@ -144,7 +145,7 @@ fn lines_that_spell_events(rt: HostRuntime) -> Result<(), Fail> {
 
 fn code_of(alloc: Global, order: Order, line: &[u8]) -> Result<Option<Activation>, AllocError> {
     match event(alloc, order, line)? {
-        Some(ScriptEvent::Activate(code)) => Ok(Some(code)),
+        Some(ScriptEvent::Command(OwnedCommand::Activate(code))) => Ok(Some(code)),
         _ => Ok(None),
     }
 }

@@ -7,8 +7,9 @@ use Rattle.dms_text.specs.Words.{words_of}
 use Rattle.dms_text.specs.Reading.{same_octets, word_at}
 use Rattle.dms_text.proofs.WordLaws.{begun, goes_on, word_found, word_only, same_found}
 use Rattle.dms_sign.specs.State.{SignState}
-use Rattle.dms_replay.specs.EventReading.{alone}
-use Rattle.dms_replay.proofs.EventLaws.{alone_found, last_number_found, last_number_only, last_octets_found, last_octets_only, made_of}
+use Rattle.dms_description.specs.FieldsReading.{if_last}
+use Rattle.dms_description.proofs.WordReading.{last_found}
+use Rattle.dms_description.proofs.FieldLaws.{last_number_found, last_number_only, last_octets_found, last_octets_only, made_of}
 use Rattle.dms_sign_lines.specs.SignCall.{SignCall, datagram, tick, ticks, heard, power_lost, power_back, show, state}
 use Rattle.dms_sign_lines.specs.SignLine.{SpellsCallWords, SpellsSignCall, SpellsNoSignCall}
 use Rattle.dms_sign_lines.specs.SignReading.{asking_keyword, keyword_of, call_after, call_of}
@@ -93,10 +94,10 @@ keyword_found word keyword e =
 
 -- ---- calls
 
-bare_found : (keyword : List ℕ) (bare call : SignCall) (words : List (List ℕ)) → alone bare words ≡ Some call
+bare_found : (keyword : List ℕ) (bare call : SignCall) (words : List (List ℕ)) → if_last bare words ≡ Some call
     → SpellsCallWords bare (keyword ∷ []) → SpellsCallWords call (keyword ∷ words)
 bare_found keyword bare call words e spelled =
-    let end = alone_found bare call words e in
+    let end = last_found bare words call e in
     subst (λ call. SpellsCallWords call (keyword ∷ words)) end.1 (subst (λ rest. SpellsCallWords bare (keyword ∷ rest)) (sym end.0) spelled)
 
 after_found : (keyword : Keyword) (words : List (List ℕ)) (call : SignCall) → call_after keyword words ≡ Some call

@@ -2,7 +2,7 @@
 use Rattle.std.specs.Prelude.{ℕ, if◌then◌else◌, List, codes, Option, Some, None, option_map}
 use Rattle.dms_text.specs.Words.{words_of}
 use Rattle.dms_text.specs.Reading.{same_octets, word_at, ◌>>=◌}
-use Rattle.dms_replay.specs.EventReading.{alone, last_number_at, last_octets_at}
+use Rattle.dms_description.specs.FieldsReading.{if_last, last_number_at, last_octets_at}
 use Rattle.dms_sign_lines.specs.SignCall.{SignCall, datagram, tick, ticks, heard, power_lost, power_back, show, state}
 use Rattle.dms_sign_lines.specs.declared.keyword.Keyword.{Keyword}
 use Rattle.dms_sign_lines.specs.declared.keyword.Keyword.TheVariants as key
@@ -27,13 +27,13 @@ keyword_of word =
 -- what stands after a keyword
 abbrev pub call_after : Keyword → List (List ℕ) → Option SignCall
 call_after key.Datagram words = option_map datagram (last_octets_at words)
-call_after key.Tick words = alone tick words
+call_after key.Tick words = if_last tick words
 call_after key.Ticks words = option_map ticks (last_number_at words)
-call_after key.Heard words = alone heard words
-call_after key.PowerLost words = alone power_lost words
+call_after key.Heard words = if_last heard words
+call_after key.PowerLost words = if_last power_lost words
 call_after key.PowerBack words = option_map power_back (last_number_at words)
-call_after key.Show words = alone show words
-call_after key.State words = alone state words
+call_after key.Show words = if_last show words
+call_after key.State words = if_last state words
 
 -- the call of a line
 unfoldable pub call_of : List ℕ → Option SignCall

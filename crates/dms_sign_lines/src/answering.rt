@@ -6,7 +6,7 @@ ghost use Rattle.hex.specs.Hex.{encode_lower};
 ghost use Rattle.dms_ber.specs.Limits.{longest_datagram};
 ghost use Rattle.dms_sign.specs.Reply.{received};
 ghost use Rattle.dms_sign.specs.ReplyView.{sent, accepted_by};
-ghost use Rattle.dms_replay.specs.Report.{ended, shown_line};
+ghost use Rattle.dms_description.specs.ShownLine.{ended, shown_line};
 ghost use Rattle.dms_sign_lines.specs.PageText.{pages_text};
 ghost use Rattle.dms_sign_lines.specs.CallView.{call_model};
 ghost use Rattle.dms_sign_lines.specs.Answer.{answer_text, after_line, call_text, after_ticks, after_call, done};
@@ -15,8 +15,8 @@ ghost use Rattle.dms_sign_lines.specs.Answer.{receipt_line, received_line, longe
 use crate::page_text::put_pages;
 use crate::sign_call::{SignCall, call};
 use dms_codes::Order;
+use dms_description::put_shown;
 use dms_pages::{Page, PagesFault, pages_with};
-use dms_replay::report::put_shown;
 use dms_sign::{Receipt, Sign};
 use dms_wire::{MAX_DATAGRAM, Out};
 use std::alloc::{AllocError, Global};

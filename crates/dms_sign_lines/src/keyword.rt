@@ -1,7 +1,6 @@
 //! The words with which the lines to a live sign begin.
 
-ghost use Rattle.std.specs.Prelude.{◌≡◌};
-ghost use Rattle.dms_text.specs.Reading.{same_octets};
+use dms_description::fields::are_same;
 
 /// The word with which a line begins.
 #[derive(Clone, Copy, Debug, PartialEq, Eq)]
@@ -25,17 +24,17 @@ impl Keyword {
     pub(crate) fn of(word: &[u8]) -> Option<Keyword>
         ensures { result ≡ keyword_of word.now }
     {
-        if is(word, b"datagram") {
+        if are_same(word, b"datagram") {
             Some(Keyword::Datagram)
-        } else if is(word, b"tick") {
+        } else if are_same(word, b"tick") {
             Some(Keyword::Tick)
-        } else if is(word, b"ticks") {
+        } else if are_same(word, b"ticks") {
             Some(Keyword::Ticks)
-        } else if is(word, b"heard") {
+        } else if are_same(word, b"heard") {
             Some(Keyword::Heard)
-        } else if is(word, b"power-lost") {
+        } else if are_same(word, b"power-lost") {
             Some(Keyword::PowerLost)
-        } else if is(word, b"power-back") {
+        } else if are_same(word, b"power-back") {
             Some(Keyword::PowerBack)
         } else {
             Keyword::asking(word)
@@ -46,18 +45,12 @@ impl Keyword {
     fn asking(word: &[u8]) -> Option<Keyword>
         ensures { result ≡ asking_keyword word.now }
     {
-        if is(word, b"show") {
+        if are_same(word, b"show") {
             Some(Keyword::Show)
-        } else if is(word, b"state") {
+        } else if are_same(word, b"state") {
             Some(Keyword::State)
         } else {
             None
         }
     }
-}
-
-fn is(word: &[u8], keyword: &[u8]) -> bool
-    ensures { result ≡ same_octets word.now keyword.now }
-{
-    word == keyword
 }

@@ -1,12 +1,12 @@
 //! What a line asks of a live sign.
 
 ghost use Rattle.std.specs.Prelude.{◌≡◌, IfOk, option_map};
-ghost use Rattle.dms_replay.specs.EventReading.{alone};
+ghost use Rattle.dms_description.specs.FieldsReading.{if_last};
 ghost use Rattle.dms_sign_lines.specs.SignReading.{call_of};
 ghost use Rattle.dms_sign_lines.specs.CallView.{call_model};
 
 use crate::keyword::Keyword;
-use dms_replay::fields::{last_number, last_octets};
+use dms_description::fields::{last_number, last_octets};
 use dms_text::Words;
 use std::alloc::{AllocError, Global};
 
@@ -56,7 +56,7 @@ pub(crate) fn call(alloc: Global, line: &[u8]) -> Result<Option<SignCall>, Alloc
 
 /// The call, where no words are left.
 fn alone(words: Words<'_>, call: SignCall) -> Option<SignCall>
-    ensures { result ≡ alone call words.entry }
+    ensures { result ≡ if_last call words.entry }
 {
     if words.is_empty() { Some(call) } else { None }
 }

@@ -12,7 +12,7 @@ use Rattle.dms_centre.specs.declared.ended.Why.TheVariants as reasons
 use Rattle.dms_centre.specs.State.{CentreState, Entry, is_busy}
 use Rattle.dms_centre.specs.Room.{CentreModel}
 use Rattle.dms_centre.specs.Commands.{CommandModel, commanded, refusal_of}
-use Rattle.dms_replay.specs.EventReading.{event_of}
+use Rattle.dms_commands.specs.CommandReading.{command_of}
 use Rattle.dms_centre_lines.specs.Calls.{CentreCall, command}
 use Rattle.dms_centre_lines.specs.CallReading.{or_command}
 use Rattle.wisangub_c.specs.declared.code_calls.CodeParts.{CodeParts}
@@ -34,7 +34,7 @@ IsPlaced state place = (spare : ℕ) × (place ≡ Some (record { state = state;
 
 -- the command that a line spells, as in a script
 abbrev pub command_in : CentreState → List ℕ → Option CentreCall
-command_in state line = or_command None (event_of state.settings.order line)
+command_in state line = or_command None (command_of state.settings.order line)
 
 -- why a command is not taken
 abbrev pub refusal_answer : CommandFault → ℕ

@@ -21,9 +21,8 @@ use dms_centre::{
     Centre, CentreFault, Command, CommandFault, Ended, Entry, Outcome, Settings, Why,
 };
 use dms_codes::Activation;
-use dms_replay::event_line::read_event;
+use dms_commands::read_command;
 use dms_wire::{MAX_DATAGRAM, Out};
-use dms_world::Event;
 use std::alloc::Global;
 
 /// A code that was sent, the number of its request, and what became of it.
@@ -176,14 +175,10 @@ fn command(
     ensures size { size.new ≡ unless_memory result size.old (command_size centre.old.state (command_in centre.old.state line.now) size.old) }
     ensures request { request.new ≡ unless_memory result request.old (command_buffer centre.old.state (command_in centre.old.state line.now) request.old) }
 {
-    let event = match read_event(alloc, centre.order(), line) {
-        Ok(Some(event)) => event,
-        Ok(None) => return AT_FAULT,
-        Err(_) => return NO_MEMORY,
-    };
-    match event.lent() {
-        Event::Command(asked) => give_command(centre, asked, request, size),
-        _ => AT_FAULT,
+    match read_command(alloc, centre.order(), line) {
+        Ok(Some(asked)) => give_command(centre, asked.lent(), request, size),
+        Ok(None) => AT_FAULT,
+        Err(_) => NO_MEMORY,
     }
 }
 

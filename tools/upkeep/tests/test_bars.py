@@ -99,6 +99,20 @@ def test_stands_on(made) -> None:
     assert drawing.told(tree) == ["docs/ARCHITECTURE.md: second stands on first"]
 
 
+def test_crossed(made) -> None:
+    short = "dms_sign:\ndms_low: dms_sign\ndms_sign_lines: dms_sign dms_low\nsigntool: dms_sign_lines\n"
+    page = "It crosses 3 crates before `Sign::receive`."
+    assert drawing.crossed(made(crates_txt=short, docs__ARCHITECTURE_md=page)) == []
+    between = [f"c{number}" for number in range(6)]
+    chain = "".join(f"{upper}: {lower}\n" for upper, lower in zip(between, [*between[1:], "dms_sign_lines"]))
+    long = short.replace("signtool: dms_sign_lines\n", f"{chain}signtool: c0\n")
+    assert drawing.crossed(made(crates_txt=long, docs__ARCHITECTURE_md=page)) == [
+        "crates.txt: a line to a live sign crosses 9 crates",
+        "docs/ARCHITECTURE.md: does not say that a line to a live sign crosses 9 crates before `Sign::receive`",
+    ]
+    assert len(drawing.crossed(made(crates_txt="dms_sign:\nsigntool: dms_sign\n", docs__ARCHITECTURE_md=page))) == 1
+
+
 def test_tools(made, tmp_path: pathlib.Path) -> None:
     script = "#!/usr/bin/env python3\n"
     texts = {"tools__first_py": f"{script}argparse.ArgumentParser()\n", "tools__second_py": script}

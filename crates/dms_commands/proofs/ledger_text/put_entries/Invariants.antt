@@ -2,8 +2,8 @@ use Rattle.std.proofs.Common.{◌≡◌, ◌++◌, ℕ, map, flat_map}
 use Rattle.std.specs.Map.Iter.{deref_pair}
 use Rattle.dms_centre.specs.CodeView.{entry_model}
 use Rattle.dms_centre.specs.declared.ledger.Entry.{Entry}
-use Rattle.dms_replay.specs.Report.{ledger_line}
-use Rattle.dms_replay.proofs.report.put_entries.Given as goal
+use Rattle.dms_commands.specs.LedgerLine.{ledger_line}
+use Rattle.dms_commands.proofs.ledger_text.put_entries.Given as goal
 
 abbrev pub invariant-loop-number : goal.invariant-loop-number
 invariant-loop-number l =

@@ -1,9 +1,9 @@
 use Rattle.std.proofs.Common.{◌++◌, flat_map, ap, ◌∙◌}
 use Rattle.indexmap.proofs.MapLemmas.{OnOk-map}
 use Rattle.dms_centre.specs.CodeView.{entry_model}
-use Rattle.dms_replay.specs.Report.{ledger_line}
-use Rattle.dms_replay.proofs.ReportLines.{flat_seen}
-use Rattle.dms_replay.proofs.report.put_ledger.Goals as goal
+use Rattle.dms_commands.specs.LedgerLine.{ledger_line}
+use Rattle.dms_commands.proofs.LedgerLines.{flat_seen}
+use Rattle.dms_commands.proofs.ledger_text.put_ledger.Goals as goal
 
 pub returns : goal.returns
 returns c =

@@ -1,6 +1,6 @@
 use Rattle.std.proofs.Common.{inl, inr}
-use Rattle.dms_replay.proofs.ScriptRead.{not_described}
-use Rattle.dms_replay.proofs.replaying.described.Goals as goal
+use Rattle.dms_description.proofs.TextsDescribed.{not_described}
+use Rattle.dms_description.proofs.describing.described.Goals as goal
 
 pub returns-in-Err-Line-clause-line : goal.returns-in-Err-Line-clause-line
 returns-in-Err-Line-clause-line c d number is = elim d.in-Err-Line.ensures.line [

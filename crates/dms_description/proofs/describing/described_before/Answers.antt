@@ -1,8 +1,8 @@
 use Rattle.std.proofs.Common.{inl, inr, sym, subst}
 use Rattle.dms_streams.specs.Lines.{left}
 use Rattle.dms_streams.specs.DescriptionText.{TakesDescription}
-use Rattle.dms_parties.proofs.Descriptions.{describes_not}
-use Rattle.dms_parties.proofs.before.described.Goals as goal
+use Rattle.dms_description.proofs.TextsDescribed.{describes_not}
+use Rattle.dms_description.proofs.describing.described_before.Goals as goal
 
 pub returns-in-Err-Line-clause-line : goal.returns-in-Err-Line-clause-line
 returns-in-Err-Line-clause-line g c number is = elim c.in-Err-Line.ensures.line [

@@ -1,0 +1,75 @@
+//! What words of a command alone spell: an address, a code, and the terms on which a message is activated.
+
+ghost use Rattle.std.specs.Prelude.{◌≡◌, IfOk, option_map};
+ghost use Rattle.dms_commands.specs.CommandReading.{address_of, last_code_at, last_terms_at};
+ghost use Rattle.dms_commands.specs.CommandView.{terms_model};
+
+use dms_codes::{Activation, Order};
+use dms_description::fields::{octet, two_octets};
+use dms_text::Words;
+use hex::FromHexError;
+use std::alloc::{AllocError, Global};
+
+/// How long, with which priority and for whom a message is activated.
+#[derive(Clone, Copy, Debug)]
+pub(crate) struct Terms {
+    pub minutes: u16,
+    pub priority: u8,
+    pub address: [u8; 4],
+}
+
+/// Four numbers with a dot between two.
+#[tactic(auto, unfolding(crate::specs::CommandReading::address_at))]
+pub fn address(word: &[u8]) -> Option<[u8; 4]>
+    ensures { result ≡ address_of word.now }
+{
+    let (first, parts) = Words::split(word, b'.').decimal(3, 0, 255)?;
+    let (second, parts) = parts.decimal(3, 0, 255)?;
+    let (third, parts) = parts.decimal(3, 0, 255)?;
+    let (fourth, parts) = parts.decimal(3, 0, 255)?;
+    if parts.is_empty() {
+        Some([first as u8, second as u8, third as u8, fourth as u8])
+    } else {
+        None
+    }
+}
+
+/// The terms on which a message is activated, and nothing after them.
+#[tactic(auto, unfolding(crate::specs::CommandReading::last_terms_at))]
+pub(crate) fn last_terms(words: Words<'_>) -> Option<Terms>
+    ensures { option_map terms_model result ≡ last_terms_at words.entry }
+{
+    let (minutes, words) = two_octets(words)?;
+    let (priority, words) = octet(words)?;
+    let (word, words) = words.next_word()?;
+    let address = address(word)?;
+    if words.is_empty() {
+        Some(Terms {
+            minutes,
+            priority,
+            address,
+        })
+    } else {
+        None
+    }
+}
+
+/// A code of twenty-four hexadecimal digits, and nothing after it.
+#[tactic(auto, unfolding(crate::specs::CommandReading::last_code_at))]
+pub(crate) fn last_code(
+    alloc: Global,
+    order: Order,
+    words: Words<'_>,
+) -> Result<Option<Activation>, AllocError>
+    ensures { IfOk result (λ found. found ≡ last_code_at order words.entry) }
+{
+    let Some((word, rest)) = words.next_word() else {
+        return Ok(None);
+    };
+    match hex::decode(alloc, word) {
+        Ok(octets) if rest.is_empty() => Ok(Activation::from_bytes(order, octets.as_slice())),
+        Ok(_) => Ok(None),
+        Err(FromHexError::OutOfMemory) => Err(AllocError),
+        Err(_) => Ok(None),
+    }
+}

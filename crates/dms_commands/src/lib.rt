@@ -1,0 +1,27 @@
+//! An operator's commands as text, a line each, and the ledger of what became of them:
+//!
+//! ```text
+//! publish MEMORY NUMBER TEXT OWNER BEACON PIXEL RUN MINUTES PRIORITY ADDRESS
+//! blank NUMBER MINUTES PRIORITY ADDRESS
+//! activate CODE
+//! ```
+//!
+//! ```
+//! let line = b"blank 1 65535 255 10.0.0.1".as_slice();
+//! let asked = read_command(alloc, Order::High, line)?;
+//! assert!(rt; matches!(asked, Some(OwnedCommand::Blank { number: 1, minutes: 65535, .. })));
+//! ```
+#![tactic(auto)]
+
+pub mod command_word;
+pub mod fields;
+pub mod laws;
+pub mod ledger_text;
+pub mod owned_command;
+pub mod reading;
+
+pub use command_word::CommandWord;
+pub use fields::address;
+pub use ledger_text::put_ledger;
+pub use owned_command::{OwnedCommand, Publication};
+pub use reading::{command_after, read_command};

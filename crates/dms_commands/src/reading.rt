@@ -1,0 +1,112 @@
+//! The lines of commands.
+
+ghost use Rattle.std.specs.Prelude.{◌≡◌, IfOk, option_map};
+ghost use Rattle.dms_commands.specs.CommandReading.{publication_at, blank_at, command_after, command_of};
+ghost use Rattle.dms_commands.specs.CommandView.{publication_model, owned_command_model};
+
+use crate::command_word::CommandWord;
+use crate::fields::{Terms, last_code, last_terms};
+use crate::owned_command::{OwnedCommand, Publication};
+use dms_codes::Order;
+use dms_description::fields::{next_octets, octet, two_octets};
+use dms_text::Words;
+use std::alloc::{AllocError, Global};
+
+/// The command that a line spells, or none where it spells none. A code is in this order.
+#[tactic(auto, unfolding(crate::specs::CommandReading::command_of))]
+pub fn read_command(
+    alloc: Global,
+    order: Order,
+    line: &[u8],
+) -> Result<Option<OwnedCommand>, AllocError>
+    ensures { IfOk result (λ found. option_map owned_command_model found ≡ command_of order line.now) }
+{
+    let Some((word, words)) = Words::of(line).next_word() else {
+        return Ok(None);
+    };
+    let Some(keyword) = CommandWord::of(word) else {
+        return Ok(None);
+    };
+    command_after(alloc, order, keyword, words)
+}
+
+/// The command that begins with this word and goes on with these, or none.
+pub fn command_after(
+    alloc: Global,
+    order: Order,
+    keyword: CommandWord,
+    words: Words<'_>,
+) -> Result<Option<OwnedCommand>, AllocError>
+    ensures { IfOk result (λ found. option_map owned_command_model found ≡ command_after order keyword words.entry) }
+{
+    match keyword {
+        CommandWord::Publish => Ok(publication(alloc, words)?.map(OwnedCommand::Publish)),
+        CommandWord::Blank => Ok(blank(words)),
+        CommandWord::Activate => Ok(last_code(alloc, order, words)?.map(OwnedCommand::Activate)),
+    }
+}
+
+#[tactic(auto, unfolding(crate::specs::CommandReading::publication_at))]
+fn publication(alloc: Global, words: Words<'_>) -> Result<Option<Publication>, AllocError>
+    ensures { IfOk result (λ found. option_map publication_model found ≡ publication_at words.entry) }
+{
+    let Some((memory, words)) = octet(words) else {
+        return Ok(None);
+    };
+    let Some((number, words)) = two_octets(words) else {
+        return Ok(None);
+    };
+    let Some((text, words)) = next_octets(alloc, words)? else {
+        return Ok(None);
+    };
+    let Some((owner, words)) = next_octets(alloc, words)? else {
+        return Ok(None);
+    };
+    let Some((beacon, words)) = octet(words) else {
+        return Ok(None);
+    };
+    let Some((pixel, words)) = octet(words) else {
+        return Ok(None);
+    };
+    let Some((run_priority, words)) = octet(words) else {
+        return Ok(None);
+    };
+    let Some(terms) = last_terms(words) else {
+        return Ok(None);
+    };
+    let Terms {
+        minutes,
+        priority,
+        address,
+    } = terms;
+    Ok(Some(Publication {
+        memory,
+        number,
+        text,
+        owner,
+        beacon,
+        pixel,
+        run_priority,
+        minutes,
+        priority,
+        address,
+    }))
+}
+
+#[tactic(auto, unfolding(crate::specs::CommandReading::blank_at))]
+fn blank(words: Words<'_>) -> Option<OwnedCommand>
+    ensures { option_map owned_command_model result ≡ blank_at words.entry }
+{
+    let (number, words) = two_octets(words)?;
+    let Terms {
+        minutes,
+        priority,
+        address,
+    } = last_terms(words)?;
+    Some(OwnedCommand::Blank {
+        number,
+        minutes,
+        priority,
+        address,
+    })
+}

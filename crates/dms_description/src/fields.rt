@@ -1,0 +1,73 @@
+//! What words of a line spell: numbers of one, two and four octets, and octets.
+
+ghost use Rattle.std.specs.Prelude.{◌≡◌, IfOk, option_map};
+ghost use Rattle.dms_text.specs.Reading.{same_octets};
+ghost use Rattle.dms_description.specs.FieldsReading.{octet_at, two_octets_at, last_number_at, octets_at, last_octets_at};
+ghost use Rattle.dms_description.specs.Views.{octets_and_rest, octets_found};
+
+use dms_text::{Words, octets};
+use std::alloc::{AllocError, Global};
+
+/// Whether these are the same octets.
+pub fn are_same(word: &[u8], other: &[u8]) -> bool
+    ensures { result ≡ same_octets word.now other.now }
+{
+    word == other
+}
+
+/// A number of one octet, and the words after it.
+pub fn octet(words: Words<'_>) -> Option<(u8, Words<'_>)>
+    ensures { result ≡ octet_at words.entry }
+{
+    let (number, rest) = words.decimal(5, 0, 255)?;
+    Some((number as u8, rest))
+}
+
+/// A number of two octets, and the words after it.
+pub fn two_octets(words: Words<'_>) -> Option<(u16, Words<'_>)>
+    ensures { result ≡ two_octets_at words.entry }
+{
+    let (number, rest) = words.decimal(5, 0, 65535)?;
+    Some((number as u16, rest))
+}
+
+/// A number of four octets, and nothing after it.
+#[tactic(auto, unfolding(crate::specs::FieldsReading::last_number_at))]
+pub fn last_number(words: Words<'_>) -> Option<u32>
+    ensures { result ≡ last_number_at words.entry }
+{
+    let (number, rest) = words.decimal(10, 0, 4_294_967_295)?;
+    if rest.is_empty() {
+        Some(number as u32)
+    } else {
+        None
+    }
+}
+
+/// Octets as pairs of hexadecimal digits, and the words after them.
+#[tactic(auto, unfolding(crate::specs::FieldsReading::octets_at))]
+pub fn next_octets(
+    alloc: Global,
+    words: Words<'_>,
+) -> Result<Option<(Vec<u8>, Words<'_>)>, AllocError>
+    ensures { IfOk result (λ found. option_map octets_and_rest found ≡ octets_at words.entry) }
+{
+    let Some((word, rest)) = words.next_word() else {
+        return Ok(None);
+    };
+    match octets(alloc, word)? {
+        Some(octets) => Ok(Some((octets, rest))),
+        None => Ok(None),
+    }
+}
+
+/// Octets as pairs of hexadecimal digits, and nothing after them.
+#[tactic(auto, unfolding(crate::specs::FieldsReading::last_octets_at))]
+pub fn last_octets(alloc: Global, words: Words<'_>) -> Result<Option<Vec<u8>>, AllocError>
+    ensures { IfOk result (λ found. octets_found found ≡ last_octets_at words.entry) }
+{
+    match next_octets(alloc, words)? {
+        Some((octets, rest)) if rest.is_empty() => Ok(Some(octets)),
+        _ => Ok(None),
+    }
+}

@@ -1,0 +1,54 @@
+//! Why an input gives no sign, and a script no report.
+
+ghost use Rattle.std.specs.Prelude.{◌≡◌};
+ghost use Rattle.dms_description.specs.declared.reading_fault.ReplayFault.TheVariants as faults;
+
+use dms_streams::InputFault;
+use std::alloc::AllocError;
+use thiserror::Error;
+
+/// Why there is no report, or none of a sign's description.
+#[derive(Clone, Copy, Debug, PartialEq, Eq, Error)]
+pub enum ReplayFault {
+    /// A call of the reader failed.
+    #[error("read")]
+    Read,
+    /// A call of the writer failed, or took nothing. A prefix of the report was written, perhaps none of it.
+    #[error("write")]
+    Write,
+    /// The line of this number, from 1, is not as it should be, or is missing. Lines that are skipped count too.
+    #[error("line {0}")]
+    Line(usize),
+    /// The input has more than 1,048,576 octets.
+    #[error("too long")]
+    TooLong,
+    /// No memory.
+    #[error("memory")]
+    Memory,
+}
+
+impl From<AllocError> for ReplayFault {
+    ghost use Rattle.std.specs.Prelude.{◌≡◌};
+    ghost use Rattle.dms_description.specs.declared.reading_fault.ReplayFault.TheVariants as faults;
+
+    fn from(_: AllocError) -> ReplayFault
+        ensures { result ≡ faults.Memory }
+    {
+        ReplayFault::Memory
+    }
+}
+
+impl From<InputFault> for ReplayFault {
+    ghost use Rattle.std.specs.Prelude.{◌≡◌};
+    ghost use Rattle.dms_description.specs.ReadingFaults.{replay_fault};
+
+    ghost from_gives = { λ fault made. made ≡ replay_fault fault };
+
+    fn from(fault: InputFault) -> ReplayFault {
+        match fault {
+            InputFault::Read => ReplayFault::Read,
+            InputFault::TooLong => ReplayFault::TooLong,
+            InputFault::Memory => ReplayFault::Memory,
+        }
+    }
+}
