@@ -48,7 +48,7 @@ MARKUP = [  # each with one fault of the markup, by the rule that it breaks
         ],
     ),
 ]
-FIRST_MARKUP, OTHERS = 3, 2
+FIRST_MARKUP, OTHERS = 3, 1
 GOOD_MARKUP = [  # the last three have no place behind the others
     b"[cf][cf9][cb0][pb][pb9][cf00009][pb04]",
     b"[fl][FLt][flo][flt99o99][flo0t0][flto][flot][flt5][flo5][flt1o][flo1t][/fl][/FL]",

@@ -133,7 +133,7 @@ def sizes() -> Iterator[Block]:
     yield Block("the longest datagram", "datagrams", [padded(1471), padded(1472)])
     yield Block("a datagram that is too long", "datagrams", [padded(1473), padded(1474), fixed(bytes(1473))])
     yield Block("no bindings", "messages", [Ask(kind, ()) for kind in (wire.GET, wire.GET_NEXT, wire.SET)])
-    yield Block("many bindings", "datagrams", [get(*[HEIGHT] * 70)])
+    yield Block("many bindings", "datagrams", [get(*[HEIGHT] * 70), get(*[(0, 0)] * 200)])
 
 
 def blocks(context: Context) -> Iterator[Block]:

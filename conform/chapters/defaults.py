@@ -1,5 +1,6 @@
 """Defaults: what they decide on, what was copied of them, and what does not follow."""
 
+import itertools
 from typing import Iterator
 
 from ..context import Context, activate
@@ -26,7 +27,7 @@ def decide(context: Context, row: Row) -> Iterator[Block]:
         ]
         yield Block(f"an activation under default {held.member}", "fits now", steps, True)
         if at == 0 or context.is_slow:
-            yield from while_validating(row, held)
+            yield from itertools.islice(while_validating(row, held), 2 if context.is_slow else 1)
 
 
 def while_validating(row: Row, held: Telling) -> Iterator[Block]:

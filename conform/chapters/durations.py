@@ -61,7 +61,8 @@ def minutes(context: Context) -> Iterator[Block]:
     for value in (1, 2, 1000, 65534, 65535):
         yield Block(f"{value} minutes", "remaining", [put(remaining(value)), *look()], True)
     for value in (1, 2, 65534) if context.is_slow else (2,):
-        steps: list[Step] = [put(remaining(value)), get(REMAINING), Wait(1), get(REMAINING), Wait(1), get(REMAINING)]
+        steps: list[Step] = [put(remaining(value)), get(REMAINING), Wait(1), get(REMAINING)]
+        steps += [Wait(1), get(REMAINING)] if context.is_slow else []
         yield Block("minutes after seconds", "minutes", steps, True)
     for value in (1, 255, 65534):
         yield Block(

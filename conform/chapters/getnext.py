@@ -81,6 +81,8 @@ def blocks(context: Context) -> Iterator[Block]:
             "getnext",
             [get_next(name), get_next(here, name), get_next(name, here), get_next(here, name, name)],
         )
+    many = [get_next(*[(0, 0)] * count, (2, 100)) for count in (126, 127, 128, 199)]
+    yield Block("past the last at a high index", "getnext", many)
     yield Block("several names", "getnext", [get_next(), get_next(here, here), get_next(*[here] * 30)])
     yield Block("the greatest name", "getnext", [get_next((2, 5) + (2**32 - 1,) * 20)])
 

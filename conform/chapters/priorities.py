@@ -57,7 +57,7 @@ def order(context: Context) -> Iterator[Block]:
 
 def rows(context: Context, row: Row) -> Iterator[Block]:
     text = context.character()
-    for priority in (1, 120, 255):
+    for priority in (1, 120, 255) if context.is_slow else (1, 255):
         steps = [
             *message(row, text, b"", 0, 0, priority),
             *against(context, row, context.crc(text), priority),

@@ -99,9 +99,10 @@ def counts(context: Context) -> Iterator[Block]:
 
 
 def settling(context: Context, row: Row) -> Iterator[Block]:
+    """The tick at which a row settles; with --slow the next one too, at which nothing happens."""
     begun: list[Step] = [modify(row), fill(row, BAD_TEXT), Wait(0), validate(row), *look(row), Wait(1), *look(row)]
     yield Block("a row settles at a tick", "settled", begun, True)
-    yield Block("nothing settles twice", "settled", [Wait(1), *look(row), modify(row), *look(row)])
+    yield Block("nothing settles twice", "settled", [Wait(int(context.is_slow)), *look(row), modify(row), *look(row)])
 
 
 def blocks(context: Context) -> Iterator[Block]:
