@@ -101,15 +101,32 @@ def test_tab_leads_to_every_control(tmp_path: pathlib.Path) -> None:
             assert not missing, (path, missing)
 
 
-def test_what_has_the_focus_keeps_it_where_it_is_made_anew(tmp_path: pathlib.Path) -> None:
+def test_what_has_the_focus_keeps_it_as_the_page_changes(tmp_path: pathlib.Path) -> None:
     with standing(tmp_path) as (made, url), Browser(url) as one:
         one.log_in("operator")
-        for path, part, change in (("/", f"#sign-{made.two} a", lambda: made.read(made.two, -9, text=b"NEW".hex())),
-                                   (f"/signs/{made.one}/table", "#table [tabindex]", lambda: made.table(made.one, -9, 7))):
+        made.table(made.one, -4, number=7)
+        card, table = f"#sign-{made.two}", "#table"
+        for path, part, focus, change, words in (
+                ("/", card, f"{card} a", lambda: made.read(made.two, -9, minutes=7), "7 min"),
+                (f"/signs/{made.one}/table", table, f"{table} [tabindex]", lambda: made.table(made.one, -9, 77), "77"),
+                (f"/signs/{made.one}/table", table, "a[href$='number=7']", lambda: made.table(made.one, -10, number=5),
+                 "changeable 5")):
             one.get(path)
             one.says(FOLLOWS, "footer")
-            before = one.find(part)
-            one.script("arguments[0].focus()", before)
+            one.script("arguments[0].focus()", one.find(focus))
             change()
-            until(lambda: one.find(part) != before, f"{part} is made anew")
-            assert one.script("return document.activeElement") == one.find(part)
+            one.says(words, part)
+            assert one.script("return document.activeElement") == one.find(focus), focus
+
+
+def test_a_picture_that_is_the_same_stays_where_it_is(tmp_path: pathlib.Path) -> None:
+    with standing(tmp_path) as (made, url), Browser(url) as one:
+        one.log_in("operator")
+        one.get("/")
+        one.says(FOLLOWS, "footer")
+        picture = one.find(f"#sign-{made.one} img")
+        made.read(made.one, -9, text=b"FOG".hex())
+        until(lambda: "464f47" in str(picture.get_attribute("src")), "the picture of FOG")
+        made.read(made.one, -10, priority=55)
+        one.says("priority 55", f"#sign-{made.one}")
+        assert one.find(f"#sign-{made.one} img") == picture, "it is not drawn anew"

@@ -92,18 +92,18 @@ class Bench:
         self.rows = {sign.name: row for row, sign in self.room.signs.items()}
         self.one, self.two, self.gantry = (self.rows[name] for name in NAMES)
 
-    def read(self, row: int, number: int = -1, **changed: Any) -> None:
+    def read(self, row: int, number: int = -1, minutes: int = 65535, **changed: Any) -> None:
         """A sign says what it shows."""
-        self.store.read([Said(row, number, 65535, json.dumps({**SHOWN, **changed}))])
+        self.store.read([Said(row, number, minutes, json.dumps({**SHOWN, **changed}))])
 
     def silent(self, row: int, number: int = -2) -> None:
         self.store.read([Said(row, number, fault="no reply")])
 
-    def table(self, row: int, reading: int = -3, priority: int = 9) -> None:
+    def table(self, row: int, reading: int = -3, priority: int = 9, number: int = 1) -> None:
         """A sign says a row of its table."""
         held = {"text": b"FOG".hex(), "owner": b"me".hex(), "checksum": 0x9A66, "beacon": 0, "pixel": 0,
                 "priority": priority}
-        self.store.read_rows([RowSaid(row, 3, 1, reading, 4, json.dumps(held))])
+        self.store.read_rows([RowSaid(row, 3, number, reading, 4, json.dumps(held))])
 
     @contextlib.asynccontextmanager
     async def standing(self) -> AsyncIterator[Visitors]:

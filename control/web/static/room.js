@@ -20,7 +20,7 @@ function tellAges() {
   }
 }
 
-// ---- pictures: of two that are the same the old one stays, so that it goes on where it is
+// ---- pictures
 
 const still = document.getElementById("still");
 
@@ -42,28 +42,39 @@ function setStill(on) {
   hold(document);
 }
 
-// what has the focus keeps it where it is made anew
+// A link that leads elsewhere is another link: nothing that has the focus comes to mean something else.
 function nameOf(one) {
-  return one.localName + " " + (one.getAttribute("href") || one.getAttribute("aria-label"));
+  return one.nodeName === "A" ? one.getAttribute("href") : "";
+}
+
+// Makes an element as another one is, and leaves alone what is the same: the focus, and pictures, which take a while to
+// draw, stay where they are.
+function become(old, fresh) {
+  if (old.isEqualNode(fresh)) return;
+  if (old.nodeName !== fresh.nodeName || nameOf(old) !== nameOf(fresh)) { old.replaceWith(fresh); return; }
+  if (old.nodeType !== Node.ELEMENT_NODE) { old.data = fresh.data; return; }
+  for (const name of old.getAttributeNames()) if (!fresh.hasAttribute(name)) old.removeAttribute(name);
+  for (const name of fresh.getAttributeNames()) {
+    if (old.getAttribute(name) !== fresh.getAttribute(name)) old.setAttribute(name, fresh.getAttribute(name));
+  }
+  const before = [...old.childNodes], after = [...fresh.childNodes];
+  before.slice(after.length).forEach((one) => one.remove());
+  after.forEach((one, at) => { if (at < before.length) become(before[at], one); else old.append(one); });
 }
 
 function replace(name, html) {
   const old = document.getElementById(name);
-  if (!old) return;
   const made = document.createElement("template");
   made.innerHTML = html;
   const fresh = made.content.firstElementChild;
-  if (!fresh) return;
+  if (!old || !fresh) return;
   hold(fresh);
-  for (const image of fresh.querySelectorAll("picture")) {
-    const address = image.querySelector("img").getAttribute("src");
-    const same = [...old.querySelectorAll("picture")].find((one) => one.querySelector("img").getAttribute("src") === address);
-    if (same) { same.querySelector("img").alt = image.querySelector("img").alt; image.replaceWith(same); }
+  const had = old.contains(document.activeElement) ? nameOf(document.activeElement) : "";
+  become(old, fresh);
+  if (had && document.activeElement === body) {
+    const again = [...document.getElementById(name).querySelectorAll("a")].find((one) => nameOf(one) === had);
+    if (again) again.focus();
   }
-  const had = old.contains(document.activeElement) ? nameOf(document.activeElement) : null;
-  old.replaceWith(fresh);
-  const again = had && [...fresh.querySelectorAll("a, [tabindex]")].find((one) => nameOf(one) === had);
-  if (again) again.focus();
 }
 
 // ---- events
