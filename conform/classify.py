@@ -90,7 +90,7 @@ def key_of(octets: bytes, ours: bytes | None, theirs: bytes | None, differs: Mis
         return spelled_otherwise(octets, request) or by_request(request)
     if differs.kind is Kind.HEAD:
         return "same community"
-    if wire.TOO_BIG in (want.status, have.status) and want.status != have.status:
+    if wire.TOO_BIG in (want.status, have.status):
         return "too big"
     if differs.kind is Kind.STATUS:
         if want.status == have.status and len(request.bindings) == 1:
