@@ -67,7 +67,9 @@ def better(named: Rule | None, octets: bytes, ours: bytes | None, theirs: bytes 
         return named if named.chapter == "getnext" else found
     if named.chapter in ("durations", "silence", "defaults") and found.key in ("priority", "fits now"):
         return named
-    if found.key == "minutes" and named.chapter in UNTIMED or found.key == "verdicts" and named.key in SETTLING:
+    if found.key == "minutes" and named.chapter in UNTIMED:
+        return found
+    if found.key == "verdicts" and named.key in SETTLING and column_of(differs.names[0]) == 9:
         return found
     if differs.kind is Kind.VALUE and named.chapter != found.chapter:
         return found if found.key in CERTAIN or named.chapter in GENERAL else named

@@ -8,7 +8,7 @@ from .. import spelling
 from ..context import Context
 from ..objects import NULL
 from ..spelling import HEIGHT, NOWHERE, PLACES, spelled
-from ..steps import Ask, Raw, fixed, get
+from ..steps import Ask, Raw, fixed, get, get_next
 from .ber_contents import integers, names, values
 from .ber_forms import BAD_TAGS, of_kind, raw, whole_changed
 from .block import Block, Chapter
@@ -133,7 +133,7 @@ def sizes() -> Iterator[Block]:
     yield Block("the longest datagram", "datagrams", [padded(1471), padded(1472)])
     yield Block("a datagram that is too long", "datagrams", [padded(1473), padded(1474), fixed(bytes(1473))])
     yield Block("no bindings", "messages", [Ask(kind, ()) for kind in (wire.GET, wire.GET_NEXT, wire.SET)])
-    yield Block("many bindings", "datagrams", [get(*[HEIGHT] * 70), get(*[(0, 0)] * 200)])
+    yield Block("many bindings", "datagrams", [get(*[HEIGHT] * 70), get_next(*[(0, 0)] * 200)])
 
 
 def blocks(context: Context) -> Iterator[Block]:
