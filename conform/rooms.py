@@ -13,6 +13,7 @@ class Sample:
     text: bytes
     rule: str
     is_first: bool = False  # looked at without --slow too
+    parts: tuple["Sample", ...] = ()  # of which it is joined
 
 
 def made(rule: str, texts: list[bytes], first: int) -> list[Sample]:

@@ -133,10 +133,21 @@ class Session:
         """Whether no answer came on a way that loses some, be it three times."""
         return run.signature.kind is Kind.NO_ANSWER and (run.exchange.is_lost or self.pair.port.is_lossy())
 
+    def differs_in_part(self, result: ChapterResult, block: Block) -> bool:
+        """Whether a part of the block differs, which is told then."""
+        told = self.count()
+        for part in block.parts:
+            if not self.is_enough():
+                self.block(result, part, None)
+        return self.count() > told
+
+    def count(self) -> int:
+        return sum(1 + held.alike for held in self.results.differences())
+
     def difference(self, result: ChapterResult, block: Block, run: Run, steps: list[Step]) -> None:
         """A difference is made small and told; one like it is counted."""
         self.pair.is_dirty = True
-        if self.is_told(result, self.rule_of(block, run), run):
+        if self.differs_in_part(result, block) or self.is_told(result, self.rule_of(block, run), run):
             return
         is_shrunk = sum(held.is_shrunk for held in result.differences) < MOST_SHRUNK
         run, is_repeated = self.made_small(run, steps, is_shrunk)

@@ -1,6 +1,7 @@
 """Texts for the chapters: good ones, and one for each fault, made for the faces that a sign has."""
 
 import random
+from dataclasses import replace
 
 from .context import Context
 from .rooms import Sample, closed, fonts_at_closing, gaps, heights, longest, made, mixed, rooms, touching
@@ -174,13 +175,14 @@ def both(context: Context) -> list[Sample]:
 
 def joined(context: Context, chosen: list[Sample]) -> list[Sample]:
     """Those that fit one page after the other in one text, as long as that fits: one validation tells of all."""
-    texts: list[bytes] = []
+    found: list[Sample] = []
     for sample in chosen:
-        longer = [(at, text + b"[np]" + sample.text) for at, text in enumerate(texts)]
-        fitting = ((at, text) for at, text in longer if len(text) <= 512 and context.fault(text) is None)
-        at, text = next(fitting, (len(texts), sample.text))
-        texts[at : at + 1] = [text]
-    return made("layout", texts, 0)
+        longer = [replace(held, text=held.text + b"[np]" + sample.text) for held in found]
+        fitting = (at for at, held in enumerate(longer) if len(held.text) <= 512 and context.fault(held.text) is None)
+        at = next(fitting, len(found))
+        text, parts = (longer[at].text, found[at].parts) if at < len(found) else (sample.text, ())
+        found[at : at + 1] = [Sample(text, sample.rule, parts=(*parts, sample))]
+    return found
 
 
 def samples(context: Context) -> list[Sample]:

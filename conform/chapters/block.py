@@ -19,6 +19,7 @@ class Block:
     rule: str
     steps: Sequence[Step]
     is_fresh: bool = False
+    parts: Sequence["Block"] = ()  # what tells it more closely where this block differs
 
 
 @dataclass

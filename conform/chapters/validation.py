@@ -5,6 +5,7 @@ from typing import Iterator
 from ..context import Context
 from ..objects import Row, scalar
 from ..steps import Step
+from ..rooms import Sample
 from ..texts import samples
 from .block import Block, Chapter, fill, look, look_at, modify, settle
 
@@ -46,8 +47,14 @@ def blocks(context: Context) -> Iterator[Block]:
     row = context.rows[0]
     yield from verdicts(context, row, context.rows[-1])
     for sample in samples(context):
-        rule = rule_of(context, sample.text, sample.rule)
-        yield Block(f"the text {sample.text[:60].decode('latin-1')!r}", rule, judged(row, sample.text))
+        yield told(context, row, sample)
+
+
+def told(context: Context, row: Row, sample: Sample) -> Block:
+    """A text's block; where one of joined texts differs, each of them tells."""
+    rule = rule_of(context, sample.text, sample.rule)
+    parts = [told(context, row, part) for part in sample.parts] if len(sample.parts) > 1 else []
+    return Block(f"the text {sample.text[:60].decode('latin-1')!r}", rule, judged(row, sample.text), parts=parts)
 
 
 CHAPTER = Chapter("validation", "Validation", blocks)
