@@ -3,7 +3,7 @@
 from model import wire
 
 from .compare import Kind, Mismatch
-from .messages import spelled
+from .messages import spelled, status_of
 from .objects import Name, Value, column_of, row_of, scalar_of
 from .rules import RULES, Rule
 
@@ -69,6 +69,8 @@ def better(named: Rule | None, octets: bytes, ours: bytes | None, theirs: bytes 
         return named
     if found.key == "minutes" and named.chapter in UNTIMED:
         return found
+    if differs.kind is Kind.STATUS and status_of(ours) == status_of(theirs) and named.chapter == "communities":
+        return found  # both refuse for the same cause, and name another binding
     if found.key == "verdicts" and named.key in SETTLING and column_of(differs.names[0]) == 9:
         return found
     if differs.kind is Kind.VALUE and named.chapter != found.chapter:

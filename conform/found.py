@@ -3,7 +3,7 @@
 from dataclasses import dataclass, field
 
 from .compare import Kind, Mismatch, fields
-from .messages import spelled
+from .messages import spelled, status_of
 from .objects import Name, after_dms, spoken
 from .pair import Exchange
 from .rules import Rule
@@ -29,11 +29,6 @@ class Signature:
             other.theirs,
         )
         return same and (self.objects == other.objects or bool(set(self.objects) & set(other.objects)))
-
-
-def status_of(octets: bytes | None) -> int | None:
-    message = spelled(octets) if octets is not None else None
-    return None if message is None else message.status
 
 
 def object_of(name: Name) -> tuple[int, ...]:

@@ -30,3 +30,8 @@ def written(message: wire.Message) -> bytes:
             KEPT.clear()
         KEPT[octets] = message
     return octets
+
+
+def status_of(octets: bytes | None) -> int | None:
+    message = spelled(octets) if octets is not None else None
+    return None if message is None else message.status
