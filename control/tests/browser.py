@@ -85,7 +85,7 @@ class Browser:
 
     def __init__(self, url: str, width: int = 1280, height: int = 900, words: tuple[str, ...] = ()) -> None:
         options = webdriver.ChromeOptions()
-        for word in (*WORDS, f"--window-size={width},{height}", *words):
+        for word in (*WORDS, *words):
             options.add_argument(word)
         options.binary_location = shutil.which("chromium") or ""
         options.page_load_strategy = "eager"
@@ -93,6 +93,7 @@ class Browser:
         self.driver = begun(options)
         self.driver.set_page_load_timeout(PATIENCE)
         self.driver.set_script_timeout(PATIENCE)
+        self.driver.set_window_size(width, height)  # as an option it would be 500 wide at least
         self.url = url
 
     def __enter__(self) -> "Browser":

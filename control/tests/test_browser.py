@@ -13,8 +13,9 @@ needs.programs("chromium", "chromedriver")
 from control.tests.browser import Browser, lamps_of, until
 from control.tests.browsing import FACES, FOLLOWS, NAMES, Place, away_and_back, place
 
+SMALL = (320, 740)  # the narrowest screen that WCAG 2.2 names, in pixels of CSS (1.4.10, Reflow)
 PAGES = ("/", "/signs/1", "/signs/1/table", "/signs/1/ledger", "/signs/1/shown", "/signs/1/log", "/history",
-         "/compose?sign=1&sign=3", "/blank?sign=1&sign=3", "/users", "/audit", "/account")
+         "/compose?sign=1&sign=3", "/blank?sign=1&sign=3", "/batches/1", "/users", "/audit", "/account", "/login")
 BLANK = {"kind": "blank", "sign": "1", "number": "1", "confirmation": "x" * 24}
 
 
@@ -142,8 +143,9 @@ def test_no_script_of_a_page_runs_inline(at: Place) -> None:
 
 
 def test_pages_fit_a_small_screen_and_say_nothing_wrong(at: Place) -> None:
-    with at.browser("administrator", 360, 740) as one:
+    with at.browser("administrator", *SMALL) as one:
         one.driver.get_log("browser")
+        assert one.script("return innerWidth") == SMALL[0]
         for path in PAGES:
             one.get(path)
             until(lambda: one.script("return document.readyState") == "complete", f"{path} and its pictures")
