@@ -13,6 +13,8 @@ import re
 import subprocess
 import sys
 
+from door.places import SIGNTOOL, program
+
 TOP = pathlib.Path(__file__).resolve().parent.parent
 
 
@@ -177,17 +179,16 @@ def difference(program, call, stdin, wanted):
 
 def main():
     words = argparse.ArgumentParser(description=__doc__, formatter_class=argparse.RawDescriptionHelpFormatter)
-    words.add_argument("--program", default=str(TOP / "crates/signtool/out/signtool"))
+    words.add_argument("--program", type=program, default=str(SIGNTOOL))
     words.add_argument("--count", type=int, help="the cases that are taken of each file")
     asked = words.parse_args()
-    program = asked.program
     passed = failed = 0
     for path in sorted((TOP / "vectors").glob("*.jsonl")):
         for line in path.read_text(encoding="ascii").splitlines()[:asked.count]:
             case = json.loads(line)
             for call, stdin, output, status in calls(path.stem, case):
                 for words in [call, *with_json(call)]:
-                    fault = difference(program, words, stdin, (output, status))
+                    fault = difference(asked.program, words, stdin, (output, status))
                     passed, failed = (passed, failed + 1) if fault else (passed + 1, failed)
                     if fault:
                         print(f"{path.stem}, {case['name']}: {fault}")

@@ -18,7 +18,7 @@ import sys
 
 import cause_rows
 from cause_cases import Cases
-from door.places import SIGNTOOL
+from door.places import SIGNTOOL, program
 from model import causes, text
 
 EMPTY = "the standard input is empty: < FILE gives it one"
@@ -82,7 +82,7 @@ def main() -> int:
     options = argparse.ArgumentParser(description="what the program says of a refused line, beside the model")
     options.add_argument("--count", type=int, default=2000)
     options.add_argument("--seed", type=int, default=1)
-    options.add_argument("--program", default=str(SIGNTOOL))
+    options.add_argument("--program", type=program, default=str(SIGNTOOL))
     asked = options.parse_args()
     cases, (rows, failed) = Cases(asked.seed), by_hand(asked.program)
     kinds: collections.Counter[str] = collections.Counter()

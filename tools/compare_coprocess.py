@@ -15,7 +15,7 @@ import re
 import sys
 
 from door import description
-from door.places import TOP
+from door.places import SIGNTOOL, TOP, program
 from door.process import CoProcess
 
 WORDS = ["tick", "ticks", "heard", "state", "show", "status", "restart", "datagram", "power-lost", "power-back", "publish", "-", "", "0",
@@ -79,7 +79,7 @@ def begun(program, end, sign):
 
 def main():
     words = argparse.ArgumentParser(description="random lines to signtool's co-processes and to the model's")
-    words.add_argument("--signtool", default=str(TOP / "crates/signtool/out/signtool"))
+    words.add_argument("--signtool", type=program, default=str(SIGNTOOL))
     words.add_argument("--count", type=int, default=4000)
     words.add_argument("--seed", type=int, default=1)
     words.add_argument("--sign", help="a description, as in signs/; else the bench sign")

@@ -7,17 +7,16 @@ It prints each case that differs, and last `N passed, M failed`. The same seed m
 """
 
 import argparse
-import pathlib
 import random
 import subprocess
 import sys
 
 import program_model
+from door.places import SIGNTOOL, program
 from model import text, wire
 from model.codes import Activation, MessageId, checksum
 from model.sign import DMS, Sign
 
-TOP = pathlib.Path(__file__).resolve().parent.parent
 NUMBERS = [0, 1, 2, 3, 4, 5, 6, 7, 8, 9, 10, 60, 255, 256, 65535, 65536, -1, 2 ** 31 - 1, 2 ** 32 - 1]
 
 
@@ -182,7 +181,7 @@ def main():
     words = argparse.ArgumentParser(description="the program beside the model")
     words.add_argument("--count", type=int, default=300)
     words.add_argument("--seed", type=int, default=1)
-    words.add_argument("--program", default=str(TOP / "crates/signtool/out/signtool"))
+    words.add_argument("--program", type=program, default=str(SIGNTOOL))
     asked = words.parse_args()
     cases, failed = Cases(asked.seed), 0
     for number in range(asked.count):

@@ -14,6 +14,7 @@ import sys
 import tempfile
 import zlib
 
+from door.places import SIGNTOOL, program
 from model import layout, text
 
 TOP = pathlib.Path(__file__).resolve().parent.parent
@@ -125,7 +126,7 @@ def compare(rows, shades):
 
 def main():
     words = argparse.ArgumentParser(description="the program's pictures in a browser")
-    words.add_argument("--program", default=str(TOP / "crates/signtool/out/signtool"))
+    words.add_argument("--program", type=program, default=str(SIGNTOOL))
     words.add_argument("--keep", help="a folder for the PNG files")
     words = words.parse_args()
     passed = failed = 0

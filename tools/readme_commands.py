@@ -17,6 +17,8 @@ import subprocess
 import sys
 import tempfile
 
+from door.places import SIGNTOOL, program
+
 TOP = pathlib.Path(__file__).resolve().parent.parent
 
 
@@ -74,7 +76,7 @@ def runs(block, after, folder):
 
 def main():
     words = argparse.ArgumentParser(description=__doc__, formatter_class=argparse.RawDescriptionHelpFormatter)
-    words.add_argument("--program", default=str(TOP / "crates/signtool/out/signtool"))
+    words.add_argument("--program", type=program, default=str(SIGNTOOL))
     words.add_argument("--short", action="store_true", help="without the block of the SNMP tools")
     asked = words.parse_args()
     text = (TOP / "README.md").read_text(encoding="utf-8")

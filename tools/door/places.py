@@ -1,5 +1,6 @@
 """Where the program stands, and what the command that runs is called: in the repository, or in a release of it."""
 
+import argparse
 import pathlib
 import re
 import sys
@@ -14,6 +15,13 @@ SIGNTOOL = BUILT if (TOP / "crates").is_dir() else RELEASED
 def is_released() -> bool:
     """Whether it is a command of a release that runs."""
     return pathlib.PurePath(sys.argv[0]).name.startswith("wisangub-")
+
+
+def program(path: str) -> str:
+    """The program at this place: the type of an option, so that a tool says that there is none, and ends with 2."""
+    if not pathlib.Path(path).is_file():
+        raise argparse.ArgumentTypeError(f"no program at {path}: tools/build.py builds it")
+    return path
 
 
 def called(module: str) -> str:

@@ -1,6 +1,10 @@
 """What commands are called, in the repository and in a release."""
 
+import argparse
+import pathlib
 from unittest import mock
+
+import pytest
 
 from door import places
 
@@ -21,3 +25,11 @@ def test_in_a_release() -> None:
                 "wisangub-centre, wisangub-conform mutants.door and wisangub-control worker."
             )
             assert places.in_words_of_command(None) is None
+
+
+def test_a_program_is_there(tmp_path: pathlib.Path) -> None:
+    place = tmp_path / "signtool"
+    with pytest.raises(argparse.ArgumentTypeError, match="no program at .*: tools/build.py builds it"):
+        places.program(str(place))
+    place.touch()
+    assert places.program(str(place)) == str(place)
