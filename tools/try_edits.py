@@ -74,7 +74,10 @@ def checked(crate, edits):
     finally:
         for file, text in saved.items():
             file.write_text(text, encoding="utf-8")
-    return heard(crate, (ran.stdout + ran.stderr).splitlines())
+    said = heard(crate, (ran.stdout + ran.stderr).splitlines())
+    if ran.returncode and not (said.goals or said.unknown or said.bad):
+        said.unknown.append(f"the check ended with {ran.returncode} and said nothing")
+    return said
 
 
 def are_apart(edits):

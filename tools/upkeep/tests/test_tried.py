@@ -1,6 +1,7 @@
 """What a check says of an edit, as tools/try_edits.py hears it."""
 
 import pathlib
+import subprocess
 
 import try_edits
 from upkeep.edits import edits_of
@@ -22,6 +23,12 @@ def test_an_open_goal_refuses_an_edit():
 
 def test_a_goal_beside_a_proof_file_that_does_not_read_says_nothing():
     assert goals([RENAMED, OPEN]) == []
+
+
+def test_a_check_that_was_ended_tells_nothing_of_an_edit(monkeypatch):
+    ended = subprocess.CompletedProcess([], -9, "so far: 0 of 26 functions checked\n", "")
+    monkeypatch.setattr(subprocess, "run", lambda *_, **__: ended)
+    assert try_edits.checked(CRATE, []).unknown == ["the check ended with -9 and said nothing"]
 
 
 def test_edits_go_together_where_none_makes_a_text_twice(tmp_path):
