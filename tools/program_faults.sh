@@ -8,7 +8,7 @@ top=$(cd "$(dirname "$0")/.." && pwd)
 short=
 if [ "${1:-}" = --short ]; then short=1; shift; fi
 program=${1:-$top/crates/signtool/out/signtool}
-[ -x "$program" ] || { echo "no program at $program: (cd crates/signtool && rt run -- --help) builds it" >&2; exit 2; }
+[ -x "$program" ] || { echo "no program at $program: tools/build.py builds it" >&2; exit 2; }
 folder=$(mktemp -d)
 trap 'rm -rf "$folder"' EXIT
 passed=0
