@@ -1,11 +1,14 @@
 """The rule that a difference breaks, where no chapter says it: of random requests and of the known state."""
 
+from typing import Sequence
+
 from model import wire
 
 from .compare import Kind, Mismatch
 from .messages import spelled, status_of
 from .objects import Name, Value, column_of, row_of, scalar_of
 from .rules import RULES, Rule
+from .steps import Ask, Step
 
 BY_FAULT = {
     "BadTag": "messages",
@@ -79,6 +82,16 @@ def better(named: Rule | None, octets: bytes, ours: bytes | None, theirs: bytes 
     return found if is_alone and named.chapter == "set" and found.key != "order of causes" else named
 
 
+def is_of_the_sets(named: Rule, found: Rule, steps: Sequence[Step]) -> bool:
+    """Whether values differ for SETs that are to change nothing, or that activate nothing though the reports differ."""
+    sets = [step for step in steps[:-1] if isinstance(step, Ask) and step.kind == wire.SET]
+    if named.chapter == "communities":
+        return any(not step.is_writer or step.community is not None for step in sets)
+    names = [scalar_of(name) for step in sets for name, _ in step.bindings]
+    is_report = found.chapter in ("activation", "priorities") or found.key == "fits now"
+    return named.chapter == "set" and is_report and bool(sets) and not {(6, 3), (6, 4)} & set(names)
+
+
 def key_of(octets: bytes, ours: bytes | None, theirs: bytes | None, differs: Mismatch) -> str:
     try:
         request = wire.read(octets)
@@ -97,7 +110,7 @@ def key_of(octets: bytes, ours: bytes | None, theirs: bytes | None, differs: Mis
     if wire.TOO_BIG in (want.status, have.status):
         return "too big"
     if differs.kind is Kind.STATUS:
-        if want.status == have.status and len(request.bindings) == 1:
+        if want.status and want.status == have.status and len(request.bindings) == 1:
             return "error reply"
         return by_request(request) if request.kind != wire.SET else by_refusal(request, want, have)
     if want.status:

@@ -28,6 +28,12 @@ class Context:
         return changeable + [Row(4, number + 1) for number in range(self.described.volatile)]
 
     @functools.cached_property
+    def outermost(self) -> list[Row]:
+        """The first and the last row of each memory that may be written."""
+        memories = [[row for row in self.rows if row.memory == memory] for memory in (3, 4)]
+        return list(dict.fromkeys(row for rows in memories for row in (*rows[:1], *rows[-1:])))
+
+    @functools.cached_property
     def permanent(self) -> list[Row]:
         return [Row(2, number + 1) for number in range(len(self.described.permanent))]
 

@@ -3,6 +3,8 @@
 import itertools
 from dataclasses import dataclass
 
+from model import layout
+
 from .context import Context
 
 
@@ -113,21 +115,73 @@ def mixed(context: Context) -> list[Sample]:
     return made("room", found, 1)
 
 
-def heights(context: Context) -> list[Sample]:
-    """A line whose first character is lower than its second, above as many others as fit, and one row more."""
-    face = context.described.face
-    units = {}
+def mixtures(context: Context, font: layout.Font) -> list[tuple[int, bytes]]:
+    """Characters of the default's font and of another in turn, begun with either, with their widths."""
+    own, found = context.described.face.font(context.defaults[4]), []
+    other = next((number for number in font.glyphs if number < 256 and number not in b"[]"), None)
+    for unit in context.characters[:1] + context.characters[-1:] if other is not None else []:
+        pair = [unit, b"[fo%d]" % font.number + bytes([other]) + b"[fo]"]
+        widths = own.glyphs[unit[0]][0] + font.glyphs[other][0]
+        for turns in (1, 2, 3):
+            width = turns * widths + (2 * turns - 1) * layout.average(own.space, font.space)
+            found += [(width, b"".join(pair) * turns), (width, b"".join(pair[::-1]) * turns)]
+    return found
+
+
+def mixed_parts(context: Context) -> list[Sample]:
+    """Two parts of a line that touch, and that overlap by one column, of characters of two fonts in each order."""
+    face, found = context.described.face, []
     for font in face.fonts:
+        both = mixtures(context, font) if font.number != context.defaults[4] else []
+        rows = [*both, *[held for unit in context.characters[:1] for held in spread(context, unit, face.width)]]
+        for order, total in itertools.product((0, 1), (face.width, face.width + 1)):
+            pairs = (left + b"[jl4]" + right for a, left in both[order::2] for b, right in rows if a + b == total)
+            found += [b"[jl2]" + text for text in itertools.islice(pairs, 1)]
+    return made("room", found, 0)
+
+
+def units(context: Context) -> list[tuple[int, bytes]]:
+    """A character of each font that has one, with the font's height."""
+    found = []
+    for font in context.described.face.fonts:
         number = next((number for number in font.glyphs if number < 256 and number not in b"[]"), None)
         if number is not None:
-            units[font.height] = b"[fo%d]" % font.number + bytes([number])
-    found = []
-    for low, high in itertools.combinations(sorted(units), 2):
-        front = units[low] + units[high] + (b"[nl0]" + units[high]) * (face.height // high - 2)
-        texts = [front + b"[nl%d]" % gap + units[high] for gap in range(10)]
+            found.append((font.height, b"[fo%d]" % font.number + bytes([number])))
+    return found
+
+
+def heights(context: Context) -> list[Sample]:
+    """A line of two heights, in each order, above as many others as fit, and one row more."""
+    face, found = context.described.face, []
+    for (low, lower), (high, higher) in itertools.combinations(sorted(dict(units(context)).items()), 2):
+        for line in (lower + higher, higher + lower):
+            front = line + (b"[nl0]" + higher) * (face.height // high - 2)
+            texts = [front + b"[nl%d]" % gap + higher for gap in range(10)]
+            first = next((at for at, text in enumerate(texts) if context.fault(text) is not None), None)
+            if first is not None:
+                found += texts[max(0, first - 1) : first + 1]
+    return made("room", found, 0)
+
+
+def edge(context: Context, front: bytes) -> list[bytes]:
+    """This text above a last line that stands as low as it may, and above one that stands a row lower."""
+    one = context.character()
+    for between, count in itertools.product((9, 3, 0), range(8)):
+        above = front + (b"[nl%d]" % between + one) * count
+        texts = [above + b"[nl%d]" % gap + one for gap in range(10)]
         first = next((at for at, text in enumerate(texts) if context.fault(text) is not None), None)
-        if first is not None:
-            found += texts[max(0, first - 1) : first + 1]
+        if first:
+            return texts[first - 1 : first + 1]
+    return []
+
+
+def spacings(context: Context) -> list[Sample]:
+    """Lines of two fonts, and lines without a character, with the gap of their spacings above and below."""
+    one, found = context.character(), []
+    for (_, first), (_, second) in itertools.permutations(units(context), 2):
+        for line in (first + second, first[:-1]):
+            below = one + b"[nl]" + line + b"[nl0][fo]" + one
+            found += edge(context, line + b"[nl][fo]" + one) + edge(context, below)
     return made("room", found, 0)
 
 
@@ -151,11 +205,17 @@ def fonts_at_closing(context: Context) -> list[Sample]:
     return made("room", found, 0)
 
 
+def full(context: Context) -> bytes:
+    """Lines of one character that fill the matrix; nothing where the text ends first."""
+    one = context.character()
+    return b"[nl0]".join([one] * longest(context, one, b"[nl0]"))
+
+
 def closed(context: Context) -> list[Sample]:
     """Lines that fill the matrix, and an open one, which is too much as soon as something closes it."""
-    one = context.character()
-    full = b"[nl0]".join([one] * longest(context, one, b"[nl0]"))
-    if not full:
+    one, lines = context.character(), full(context)
+    if not lines:
         return []
-    found = [full + b"[nl0][np]" + one, b"[jp2]" + full + b"[nl0][jp3]", full + b"[nl0][nl0]" + one, full + b"[nl0]"]
+    texts = [b"[nl0][np]" + one, b"[nl0][nl0]" + one, b"[nl0]"]
+    found = [lines + texts[0], b"[jp2]" + lines + b"[nl0][jp3]", *[lines + text for text in texts[1:]]]
     return made("room", found, 1)

@@ -100,14 +100,16 @@ class Session:
         result.untold += 1
         return None
 
-    def rule_of(self, block: Block, run: Run) -> Rule:
+    def rule_of(self, block: Block, run: Run, is_small: bool = False) -> Rule:
         exchange = run.exchange
         assert exchange.mismatch is not None
         if exchange.mismatch.kind is Kind.SPELLING:
             return RULES["shortest form"]
         key = run.steps[-1].rule or block.rule
         named = RULES[key] if key else None
-        return classify.better(named, exchange.octets, exchange.ours, exchange.theirs, exchange.mismatch)
+        found = classify.better(named, exchange.octets, exchange.ours, exchange.theirs, exchange.mismatch)
+        is_values = is_small and exchange.mismatch.kind is Kind.VALUE
+        return named if named and is_values and classify.is_of_the_sets(named, found, run.steps) else found
 
     def made_small(self, run: Run, steps: list[Step], is_shrunk: bool) -> tuple[Run, bool]:
         """The difference in few datagrams, and whether it was seen again, with ticks that were learnt anew."""
@@ -154,7 +156,8 @@ class Session:
         if not is_repeated and self.is_loss(run):
             result.untold += 1
             return
-        found = Difference.of(self.rule_of(block, run), result.chapter.name, run.exchange, run.steps, run.sent)
+        rule = self.rule_of(block, run, is_repeated and is_shrunk)
+        found = Difference.of(rule, result.chapter.name, run.exchange, run.steps, run.sent)
         found.is_repeated, found.is_shrunk = is_repeated, is_shrunk
         if not is_repeated:
             self.seen_once(result, found)

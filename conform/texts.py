@@ -4,7 +4,21 @@ import random
 from dataclasses import replace
 
 from .context import Context
-from .rooms import Sample, closed, fonts_at_closing, gaps, heights, longest, made, mixed, rooms, touching
+from .rooms import (
+    Sample,
+    closed,
+    fonts_at_closing,
+    full,
+    gaps,
+    heights,
+    longest,
+    made,
+    mixed,
+    mixed_parts,
+    rooms,
+    spacings,
+    touching,
+)
 
 MARKUP = [  # each with one fault of the markup, by the rule that it breaks
     ("markup code", [b"[zz]", b"[", b"]", b"[ nl]", b"[]", b"[nl", b"A]", b"[/f]", b"[/FLx", b"[n]", b"[[]"]),
@@ -45,6 +59,9 @@ MARKUP = [  # each with one fault of the markup, by the rule that it breaks
             b"[flt1o2t3]",
             b"[fl5]",
             b"[ptx]",
+            b"[pt1t2]",
+            b"[fo1o0001]",
+            b"[cf1,2]",
             b"[nl[[2]",
         ],
     ),
@@ -116,6 +133,8 @@ def parts(context: Context) -> list[Sample]:
         b"[jl4][np]%s[jl3]%s",
         b"[jl3][nl0]%s[jl2]%s",
         b"[jl4]%s[nl0][jl2]%s",
+        b"[jp2][jl4][jp3]%s[jl3]%s",
+        b"[jp2][jl4]%s[jp4]%s[jl3]",
     ]
     pages = [
         b"[jp3]%s[jp2]%s",
@@ -132,24 +151,24 @@ def parts(context: Context) -> list[Sample]:
         b"[jp3][np]%s[jp2]%s",
     ]
     found = made("line parts", [*[form % (one, one) for form in lines], b"[jl4]" + one + b"[jl3]"], 2)
-    return found + made("page parts", [*[form % (one, one) for form in pages], b"[jp3][nl0][jp2]" + one], 4)
+    both = b"[jp3]" + full(context) + b"[nl0][jp2]"
+    return found + made("page parts", [*[form % (one, one) for form in pages], b"[jp3][nl0][jp2]" + one, both], 4)
 
 
 def pages(context: Context) -> list[Sample]:
-    one = context.character()
-    return made(
-        "pages", [one + b"[np]" * 5 + one, b"[np]" * 6, b"[np]" * 5, one + b"[np]" * 6 + one, (one + b"[np]") * 7], 2
-    )
+    one, last = context.character(), b"[np]" * 5 + full(context) + b"[nl0][np]"
+    found = [one + b"[np]" * 5 + one, b"[np]" * 6, b"[np]" * 5, one + b"[np]" * 6 + one, (one + b"[np]") * 7, last]
+    return made("pages", found, 2)
 
 
 def kept(context: Context) -> list[Sample]:
-    """The font stays over a new page, and over a new line: as many of its characters as fit, and one more."""
+    """The font stays over a new page, line and part: as many of its characters as fit, and one more."""
     face, found = context.described.face, []
     for font in face.fonts:
         unit = next((bytes([number]) for number in font.glyphs if number < 256 and number not in b"[]"), b"")
         if font.number == context.defaults[4] or not unit:
             continue
-        for between in (b"[np]", b"[nl0]"):
+        for between in (b"[np]", b"[nl0]", b"[jp2][jp3]"):
             front = b"[fo%d]" % font.number + between
             count = longest(context, unit, front=front)
             found += [front + unit * (count + more) for more in (0, 1)] if count else []
@@ -197,10 +216,12 @@ def samples(context: Context) -> list[Sample]:
         + fonts_at_closing(context)
         + rooms(context)
         + mixed(context)
+        + mixed_parts(context)
         + heights(context)
         + kept(context)
         + touching(context)
         + both(context)
+        + (spacings(context) if context.is_slow else [])
     )
     found += made("markup", [b"".join(GOOD_MARKUP[:-3]), *GOOD_MARKUP], 1)
     for rule, texts in MARKUP:

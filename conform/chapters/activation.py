@@ -6,6 +6,7 @@ from ..context import ADDRESS, Context, activate, activation, remaining
 from ..objects import Row, integer, scalar
 from ..steps import Step, Wait, get, put
 from .block import Block, Chapter, fill, look, message, modify, reports, unuse, validate
+from .telling import telling
 
 
 def tried(
@@ -91,6 +92,14 @@ def errors(context: Context, row: Row) -> Iterator[Block]:
     yield Block("a row that is modified, and one that validates", "deciding", begun, True)
 
 
+def unfit(context: Context, row: Row) -> Iterator[Block]:
+    """A row whose text does not fit under the defaults of now, by a code with another checksum."""
+    for held in telling(context)[:1]:
+        steps: list[Step] = [held.good, *message(row, held.text), held.bad]
+        steps += tried(context, row, context.crc(held.text) ^ 1)
+        yield Block("another checksum of a text that does not fit", "deciding", steps, True)
+
+
 def order(context: Context) -> Iterator[Block]:
     """Codes with more than one cause."""
     several = [Row(9, 0), Row(3, 0), Row(0, 65535)]
@@ -128,6 +137,7 @@ def blocks(context: Context) -> Iterator[Block]:
         yield from changeable(context, row)
     for row in context.rows[:1]:
         yield from errors(context, row)
+        yield from unfit(context, row)
 
 
 CHAPTER = Chapter("activation", "Activation", blocks)

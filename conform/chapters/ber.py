@@ -6,7 +6,7 @@ from model import wire
 
 from .. import spelling
 from ..context import Context
-from ..objects import NULL
+from ..objects import NULL, scalar
 from ..spelling import HEIGHT, NOWHERE, PLACES, spelled
 from ..steps import Ask, Raw, fixed, get, get_next
 from .ber_contents import integers, names, values
@@ -14,6 +14,7 @@ from .ber_forms import BAD_TAGS, of_kind, raw, whole_changed
 from .block import Block, Chapter
 
 INSIDE = ("message", "pdu", "list", "binding")
+WRITE = {"kind": wire.SET, "name": wire.name_content(scalar(4, 8)), "value": b"\7", "tag": wire.INTEGER}
 FITTING = {
     "message": (0x30,),
     "version": (0x02,),
@@ -34,6 +35,9 @@ def accepted_lengths() -> Iterator[Block]:
             yield Block("lengths that are accepted", "", [raw("needless octets", {place: spelling.length_of(octets)})])
     everywhere = {place: spelling.length_of(4) for place in PLACES}
     yield Block("lengths that are accepted", "", [raw("needless octets", everywhere)])
+    for more in ({"kind": wire.GET_NEXT}, WRITE):
+        steps = [raw("needless octets", {place: spelling.length_of(2)}, **more) for place in PLACES]
+        yield Block("lengths that are accepted", "", [*steps, raw("needless octets", everywhere, **more)])
     long_value = {"value": spelling.length_of(2)}
     for size in (0, 127, 128, 255, 256, 700):
         nowhere = wire.name_content(NOWHERE)

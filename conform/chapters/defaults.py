@@ -7,7 +7,7 @@ from ..context import Context, activate
 from ..objects import Row
 from ..steps import Step, Wait, put
 from .block import Block, Chapter, fill, look, message, modify, reports, unuse, validate
-from .telling import Telling, default, telling
+from .telling import Telling, default, spoiling, telling
 from .validation import judged
 
 
@@ -19,8 +19,9 @@ def decide(context: Context, row: Row) -> Iterator[Block]:
         )
         crc = context.crc(held.text)
         code, low = activate(context.code(row, crc)), activate(context.code(row, crc, 5))
+        later = Wait(int(at == 0 or context.is_slow))
         steps: list[Step] = [
-            *[held.good, *judged(row, held.text), held.bad, *look(row, rule="not followed"), code, *look(row)],
+            *[held.good, *judged(row, held.text), held.bad, later, *look(row, rule="not followed"), code, *look(row)],
             *[held.good, code, *look(row), held.bad, *look(rule="copied")],
             *[activate(context.code(Row(5, 1), crc)), *look(rule="current buffer"), code, *look()],
             *[activate(context.blank_code(200)), low, reports()],
@@ -28,6 +29,23 @@ def decide(context: Context, row: Row) -> Iterator[Block]:
         yield Block(f"an activation under default {held.member}", "fits now", steps, True)
         if at == 0 or context.is_slow:
             yield from itertools.islice(while_validating(row, held), 2 if context.is_slow else 1)
+
+
+def last_row(context: Context, row: Row) -> Iterator[Block]:
+    """The last row, of the other memory where there is one, a tick after the default has changed."""
+    for held in telling(context)[:1]:
+        code = activate(context.code(row, context.crc(held.text)))
+        steps: list[Step] = [held.good, *judged(row, held.text), held.bad, Wait(1), *look(row, rule="not followed")]
+        steps += [code, *look(row), held.good, code, *look()]
+        yield Block("the last row under a default", "fits now", steps, True)
+
+
+def permanent(context: Context) -> Iterator[Block]:
+    """Permanent messages are judged under the defaults of now too."""
+    for row, held in zip(context.permanent, context.described.permanent):
+        code = activate(context.code(row, context.crc(held.text, held.beacon, held.pixel)))
+        for spoils in spoiling(context, held.text)[:1]:
+            yield Block("a permanent message under a default", "fits now", [spoils, code, *look()], True)
 
 
 def while_validating(row: Row, held: Telling) -> Iterator[Block]:
@@ -72,6 +90,9 @@ def kept(context: Context) -> Iterator[Block]:
 
 def blocks(context: Context) -> Iterator[Block]:
     yield from kept(context)
+    yield from permanent(context)
+    for row in context.rows[1:][-1:]:
+        yield from last_row(context, row)
     for row in context.rows[:1]:
         yield from decide(context, row)
         yield from copied(context, row)

@@ -3,11 +3,12 @@
 from dataclasses import replace
 from typing import Iterator
 
+from model import wire
 from model.sign import DMS, Sign
 
 from ..context import Context
-from ..objects import Name, Row, cell, column_of, row_of, scalar
-from ..steps import get, looks
+from ..objects import NULL, Name, Row, cell, column_of, integer, octets, row_of, scalar
+from ..steps import Ask, get, looks
 from .block import Block, Chapter, look, message
 
 NO_INSTANCES: list[Name] = [
@@ -110,6 +111,9 @@ def blocks(context: Context) -> Iterator[Block]:
     ]
     for names in lists:
         yield Block("several names", "get", [get(*names)])
+    values = [integer(7), octets(b"A"), (wire.ADDRESS, bytes(4)), (wire.NAME, (1, 3))]
+    asks = [Ask(wire.GET, ((here, value), (here, NULL))) for value in values]
+    yield Block("values of a request", "get", asks)
     if context.rows:
         row = context.rows[0]
         yield Block(

@@ -2,11 +2,12 @@
 
 from typing import Iterator
 
+from model import wire
 from model.sign import DMS, Sign
 
 from ..context import Context
-from ..objects import Name, scalar
-from ..steps import get_next
+from ..objects import NULL, Name, integer, octets, scalar
+from ..steps import Ask, get_next
 from .block import Block, Chapter
 
 
@@ -84,6 +85,9 @@ def blocks(context: Context) -> Iterator[Block]:
     many = [get_next(*[(0, 0)] * count, (2, 100)) for count in (126, 127, 128, 199)]
     yield Block("past the last at a high index", "getnext", many)
     yield Block("several names", "getnext", [get_next(), get_next(here, here), get_next(*[here] * 30)])
+    values = [integer(7), octets(b"A"), (wire.ADDRESS, bytes(4)), (wire.NAME, (1, 3))]
+    asks = [Ask(wire.GET_NEXT, ((here, value), (here, NULL))) for value in values]
+    yield Block("values of a request", "getnext", asks)
     yield Block("the greatest name", "getnext", [get_next((2, 5) + (2**32 - 1,) * 20)])
 
 

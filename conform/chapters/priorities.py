@@ -66,11 +66,22 @@ def rows(context: Context, row: Row) -> Iterator[Block]:
         yield Block(f"a row of priority {priority} is shown", "priority", steps, True)
 
 
+def of_a_row(context: Context, row: Row) -> Iterator[Block]:
+    """A row is activated with priorities around what is shown."""
+    text = context.character()
+    crc = context.crc(text)
+    steps: list[Step] = [*message(row, text, b"", 0, 0, 50), activate(context.blank_code(200))]
+    steps += [step for value in (49, 199, 200) for step in (activate(context.code(row, crc, value)), reports())]
+    yield Block("a code of a row", "priority", steps, True)
+
+
 def blocks(context: Context) -> Iterator[Block]:
     yield from blanks(context)
     yield from order(context)
     for row in context.rows[:1]:
         yield from rows(context, row)
+    for row in dict.fromkeys((*context.rows[:1], *context.rows[-1:])):
+        yield from of_a_row(context, row)
 
 
 CHAPTER = Chapter("priorities", "Priorities", blocks)

@@ -86,15 +86,26 @@ def emptied(context: Context, row: Row) -> Iterator[Block]:
     yield Block("a valid row that is modified", "statuses", kept, True)
 
 
+def apart(context: Context, row: Row, other: Row) -> Iterator[Block]:
+    """What one row is asked leaves another as it is."""
+    text = context.character()
+    begun: list[Step] = [modify(row), fill(row, text, b"me"), modify(other), fill(other, text, b"you")]
+    asked: list[Step] = [unuse(other), *look(row, other), modify(other), unuse(row), *look(row, other)]
+    yield Block("one of two rows is emptied", "statuses", [*begun, *look(row, other), *asked], True)
+
+
 def counts(context: Context) -> Iterator[Block]:
     for memory in (3, 4):
         rows = [row for row in context.rows if row.memory == memory]
         if not rows:
             continue
         used = list(dict.fromkeys((*rows[:2], *rows[-1:])))
-        steps: list[Step] = [step for row in used for step in (modify(row), look_at(*COUNTS, rule="free memory"))]
+        steps: list[Step] = []
+        for row in used:
+            steps += [modify(row), look_at(row.cell(9), rule="statuses"), look_at(*COUNTS, rule="free memory")]
         steps += [fill(used[0], context.character()), *settle(used[0]), look_at(*COUNTS, rule="counts")]
-        steps += [unuse(used[0]), look_at(*COUNTS, rule="free memory"), *look(*used)]
+        steps += [unuse(used[0]), look_at(used[0].cell(9), rule="statuses"), look_at(*COUNTS, rule="free memory")]
+        steps += look(*used)
         yield Block("how many rows there are", "counts", steps, True)
 
 
@@ -115,6 +126,7 @@ def blocks(context: Context) -> Iterator[Block]:
     if last != first:
         yield from transitions(context, last, context.is_slow)
         yield from two_rows(context, first, last)
+        yield from apart(context, first, last)
     if len(rows) > 2 and context.is_slow:
         yield from two_rows(context, first, rows[1])
     yield from counts(context)

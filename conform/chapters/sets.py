@@ -3,7 +3,7 @@
 from typing import Iterator
 
 from ..context import Context, activate, activation, remaining
-from ..objects import Binding, Name, Row, cell, integer, octets, scalar
+from ..objects import OWN_CODES, Binding, Name, Row, cell, integer, octets, scalar
 from ..steps import Ask, Step, put
 from .block import Block, Chapter, alone, look, look_at, message, modify
 from .sets_values import RANGES, cells, scalars
@@ -45,6 +45,8 @@ def refused_names(context: Context) -> Iterator[Block]:
             for column in range(1, 10)
         ]
         yield Block("rows that are not written", "written rows", alone(cells))
+    steps: list[Step] = [step for row in context.outermost for step in (put(row.status(6)), put(row.priority(7)))]
+    yield Block("rows that are written", "written rows", [*steps, *look(*context.outermost)], True)
     if context.rows:
         row = context.rows[0]
         fixed: list[Binding] = [(row.cell(column), integer(1)) for column in (1, 2, 5)]
@@ -102,9 +104,21 @@ def twice(context: Context) -> Iterator[Block]:
     yield Block("two commands", "twice", [*[put(*bound) for bound in commands], *look(*context.rows[:1])])
 
 
+def everything(context: Context) -> list[Step]:
+    """All that may be written and the fields of some rows, with a command, in one SET."""
+    rows = context.rows[:4]
+    bound: list[Binding] = [(name, integer(least)) for name, least, _ in RANGES]
+    bound += [(scalar(4, 5), integer(context.defaults[4]))]
+    bound += [(scalar(6, member), octets(context.message_code(Row(7, member), 0))) for member in OWN_CODES]
+    for at, row in enumerate(rows, 1):
+        bound += [row.text(b"A" * at), row.owner(b"B" * at), row.beacon(at % 2), row.pixel(at % 2), row.priority(at)]
+    return [*[modify(row) for row in rows], put(*bound, remaining(9)), *look(*rows)]
+
+
 def together(context: Context) -> Iterator[Block]:
     many: list[Binding] = [(name, integer(least)) for name, least, _ in RANGES if name != scalar(6, 13)]
     yield Block("all at once", "set", [put(*many), *look()], True)
+    yield Block("as much as may be written at once", "set", everything(context), True)
     bad: list[Binding] = [(name, integer(most)) for name, _, most in RANGES] + [(scalar(4, 1), integer(10))]
     yield Block("all or nothing", "order of causes", [put(*bad), *look()], True)
     refused = activation(context.code(Row(9, 1), 0))

@@ -96,6 +96,11 @@ def at_one_tick(context: Context, blank: bytes) -> Iterator[Block]:
         *look(),
     ]
     yield Block("an end and a silence at one tick", "silence", ends, True)
+    shown = context.blank_code(200, 255, 3)
+    for row, held in zip(context.permanent[:1], context.described.permanent):
+        shown = context.code(row, context.crc(held.text, held.beacon, held.pixel), 255, 3)
+    before: list[Step] = [put((scalar(6, 12), octets(blank))), Wait(1), put((scalar(6, 3), octets(shown)), limit(1))]
+    yield Block("a silence before an end", "silence", [*before, Wait(59), reports(), Wait(60), *look()], True)
 
 
 CHAPTER = Chapter("silence", "Silence", blocks, is_slow=True)

@@ -45,6 +45,14 @@ def beginning(context: Context) -> list[bytes]:
     return texts
 
 
+def spoiling(context: Context, text: bytes) -> list[Ask]:
+    """SETs of a default each under which a text that fits does not."""
+    values = [(5, font.number) for font in context.described.face.fonts]
+    values += [(member, value) for member in (6, 7) for value in (2, 3, 4)]
+    deciding = [pair for pair in values if context.fault(text, with_default(context, *pair)) is not None]
+    return [put(default(*pair)) for pair in deciding]
+
+
 def told_by(context: Context, member: int, value: int, texts: list[bytes]) -> list[Telling]:
     """The first of the texts that fits under one of the sign's own default and this one."""
     changed = with_default(context, member, value)
