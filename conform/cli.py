@@ -46,7 +46,7 @@ def arguments() -> argparse.ArgumentParser:
         help=f"one of {', '.join(NAMES)}; may be given again",
     )
     parser.add_argument(
-        "--slow", action="store_true", help="whole minutes of durations and silence too: half an hour more"
+        "--slow", action="store_true", help="whole minutes of durations and silence too: about forty minutes"
     )
     parser.add_argument("--html", type=pathlib.Path, metavar="FILE", help="the report as a page")
     parser.add_argument("--junit", type=pathlib.Path, metavar="FILE")
