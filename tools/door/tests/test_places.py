@@ -2,9 +2,8 @@
 
 import argparse
 import pathlib
+import tempfile
 from unittest import mock
-
-import pytest
 
 from door import places
 
@@ -27,9 +26,12 @@ def test_in_a_release() -> None:
             assert places.in_words_of_command(None) is None
 
 
-def test_a_program_is_there(tmp_path: pathlib.Path) -> None:
-    place = tmp_path / "signtool"
-    with pytest.raises(argparse.ArgumentTypeError, match="no program at .*: tools/build.py builds it"):
-        places.program(str(place))
-    place.touch()
-    assert places.program(str(place)) == str(place)
+def test_a_program_is_there() -> None:
+    with tempfile.TemporaryDirectory() as folder:
+        place = pathlib.Path(folder) / "signtool"
+        try:
+            raise AssertionError(places.program(str(place)))
+        except argparse.ArgumentTypeError as fault:
+            assert str(fault) == f"no program at {place}: tools/build.py builds it"
+        place.touch()
+        assert places.program(str(place)) == str(place)
