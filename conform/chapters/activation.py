@@ -44,8 +44,8 @@ def without_rows(context: Context) -> Iterator[Block]:
         yield Block("the current buffer while it is blank", "deciding", [*tried(context, Row(5, 1), crc)], True)
     named: list[Step] = [activate(context.code(Row(7, 9), 0x1234)), *tried(context, Row(5, 1), 0x1234)]
     yield Block("the current buffer while it is blank", "deciding", [*named, *tried(context, Row(5, 1), 0)], True)
-    ended = put(remaining(0))
-    kept: list[Step] = [ended, *tried(context, Row(5, 1), 0, minutes=9), *look()]
+    ended: list[Step] = [put(remaining(0), rule="remaining"), reports(rule="own activation")]
+    kept: list[Step] = [*ended, *tried(context, Row(5, 1), 0, minutes=9), *look()]
     yield Block("the current buffer after an end", "current buffer", kept, True)
 
 

@@ -152,7 +152,7 @@ def together(context: Context) -> Iterator[Block]:
 def under_default(context: Context, row: Row, held: Telling) -> list[Step]:
     """An activation is judged under the default that is written with it."""
     code = activation(context.code(row, context.crc(held.text)))
-    good, bad = (put(*ask.bindings, code) for ask in (held.good, held.bad))
+    good, bad = put(*held.good.bindings, code), put(*held.bad.bindings, code, rule="fits now")
     steps: list[Step] = [held.good, *message(row, held.text), held.bad, good, *look()]
     return [*steps, activate(context.blank_code(1)), bad, *look()]
 
