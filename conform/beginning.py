@@ -98,7 +98,8 @@ class Beginning:
 
     def shown_by(self, held: Unreached) -> tuple[Exchange, Difference]:
         """The requests that are to bring the object there, once more at both, up to the first that differs."""
-        steps, sent = held.steps(self.context.rows[0] if self.context.rows else None), []
+        steps = held.steps(self.context.rows[0] if self.context.rows else None)
+        sent: list[bytes | None] = []
         exchange: Exchange | None = None
         for step in steps:
             if isinstance(step, Wait):
@@ -118,8 +119,10 @@ class Beginning:
         """A request to both; the one under test may be asked again only where it reads."""
         number = self.pair.port.new_number()
         octets = step.octets(number, self.pair.communities)
-        ask = self.pair.port.ask_once if step.kind == wire.SET else self.pair.port.ask
-        theirs = ask(octets, number).reply
+        if step.kind == wire.SET:
+            theirs = self.pair.port.ask_once(octets, number).reply
+        else:
+            theirs = self.pair.port.ask(octets, number).reply
         ours = self.pair.hand(octets)
         return Exchange(step, octets, ours, theirs, mismatch(ours, theirs))
 

@@ -96,7 +96,7 @@ def about_of(asked: argparse.Namespace) -> words.About:
     oracle = "tools/model" if asked.signtool == "model" else asked.signtool
     program = "" if asked.signtool == str(SIGNTOOL) else asked.signtool
     when = datetime.datetime.now().astimezone().isoformat(" ", "seconds")
-    communities = tuple(asked.communities) if asked.communities else None
+    communities = (asked.communities[0], asked.communities[1]) if asked.communities else None
     return words.About(
         asked.to, str(asked.sign), oracle, communities, asked.seed, asked.requests, asked.slow, when, program
     )

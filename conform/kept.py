@@ -37,8 +37,8 @@ def itself(shown: sign.Shown, _memo: dict[int, Any]) -> sign.Shown:
 
 def keep() -> None:
     """From here on, in this process."""
-    wire.Reader.name = name
+    setattr(wire.Reader, "name", name)
     wire.spelled = functools.lru_cache(4096)(wire.spelled)
     wire.name = functools.lru_cache(16384)(wire.name)
-    sign.Row.__deepcopy__ = copied_row
-    sign.Shown.__deepcopy__ = itself
+    setattr(sign.Row, "__deepcopy__", copied_row)
+    setattr(sign.Shown, "__deepcopy__", itself)

@@ -109,7 +109,10 @@ def is_validation(name: Name, value: Value) -> bool:
 def scalar_of(name: Name) -> tuple[int, int] | None:
     """Group and member of an instance .0 that is in the table above."""
     rest = after_dms(name)
-    return rest[:2] if rest and len(rest) == 3 and rest[2] == 0 and rest[:2] in SCALARS else None
+    if not rest or len(rest) != 3 or rest[2] != 0:
+        return None
+    place = (rest[0], rest[1])
+    return place if place in SCALARS else None
 
 
 def spoken(name: Name) -> str:
@@ -117,8 +120,8 @@ def spoken(name: Name) -> str:
     rest = after_dms(name)
     if rest is None:
         return ".".join(map(str, name))
-    if rest[:2] in SCALARS:
-        return ".".join([SCALARS[rest[:2]], *map(str, rest[2:])])
+    if len(rest) > 1 and (rest[0], rest[1]) in SCALARS:
+        return ".".join([SCALARS[rest[0], rest[1]], *map(str, rest[2:])])
     if rest[:3] == (5, 8, 1) and len(rest) > 3 and rest[3] in COLUMNS:
         return ".".join([COLUMNS[rest[3]], *map(str, rest[4:])])
     return ".".join(["dms", *map(str, rest)])

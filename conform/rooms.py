@@ -117,9 +117,12 @@ def mixed(context: Context) -> list[Sample]:
 
 def mixtures(context: Context, font: layout.Font) -> list[tuple[int, bytes]]:
     """Characters of the default's font and of another in turn, begun with either, with their widths."""
-    own, found = context.described.face.font(context.defaults[4]), []
+    own = context.described.face.font(context.defaults[4])
+    found: list[tuple[int, bytes]] = []
     other = next((number for number in font.glyphs if number < 256 and number not in b"[]"), None)
-    for unit in context.characters[:1] + context.characters[-1:] if other is not None else []:
+    if other is None:
+        return []
+    for unit in context.characters[:1] + context.characters[-1:]:
         pair = [unit, b"[fo%d]" % font.number + bytes([other]) + b"[fo]"]
         widths = own.glyphs[unit[0]][0] + font.glyphs[other][0]
         for turns in (1, 2, 3):

@@ -84,7 +84,10 @@ class Session:
         except Inconclusive:
             self.pair.is_dirty = True
             is_first = history is not None and not block.is_fresh
-            return self.again(result, block, history) if is_first else self.cannot_tell(result)
+            if is_first:
+                return self.again(result, block, history)
+            self.cannot_tell(result)
+            return None
         result.told += datagrams(block.steps if run is None else run.steps)
         if run is None:
             return [*history, *block.steps]
@@ -98,7 +101,6 @@ class Session:
 
     def cannot_tell(self, result: ChapterResult) -> None:
         result.untold += 1
-        return None
 
     def rule_of(self, block: Block, run: Run, is_small: bool = False) -> Rule:
         exchange = run.exchange

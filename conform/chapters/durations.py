@@ -88,7 +88,7 @@ def nothing_left(context: Context) -> Iterator[Block]:
             activate(context.blank_code(1, 255, 0)),
         ]
         yield Block("an end that shows a row", "own activation", [*begun, Wait(1), *look(row)], True)
-        together = [
+        together: list[Step] = [
             modify(row),
             fill(row, text, b"", 0, 0, 255),
             put(end_code(context.message_code(row, context.crc(text)))),

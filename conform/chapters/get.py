@@ -79,8 +79,9 @@ def rule_for(name: Name) -> str:
         return "blank checksum" if column_of(name) == 5 else "blank rows"
     if row is not None:
         return "checksum" if column_of(name) == 5 else "the table's rows"
-    place = name[len(DMS) : len(DMS) + 2]
-    return {(5, 2): "counts", (5, 5): "counts", (5, 4): "free memory", (5, 7): "free memory"}.get(place, "values")
+    place = tuple(name[len(DMS) : len(DMS) + 2])
+    rules: dict[Name, str] = {(5, 2): "counts", (5, 5): "counts", (5, 4): "free memory", (5, 7): "free memory"}
+    return rules.get(place, "values")
 
 
 def alike(names: list[Name]) -> list[tuple[str, list[Name]]]:
@@ -100,7 +101,7 @@ def blocks(context: Context) -> Iterator[Block]:
     for name in NO_INSTANCES + no_rows(context):
         yield Block("no instance", "get", [get(name), get(name, is_writer=False)])
     here, none = scalar(2, 3), scalar(2, 5)
-    lists = [
+    lists: list[list[Name]] = [
         [],
         [here, here],
         [none, here],

@@ -48,7 +48,7 @@ class Requests(Values):
         """Octets of tools/hostile_datagrams.py, with a request number of this run."""
         state = self.chance.randrange(2**32)
 
-        def make(number: int, _: tuple[bytes, bytes]) -> bytes:
+        def make(number: int, _communities: tuple[bytes, bytes]) -> bytes:
             made: bytes
             self.maker.random.seed(state)
             self.maker.rate = self.maker.one([0.0, 0.005, 0.02, 0.1])

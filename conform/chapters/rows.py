@@ -54,7 +54,7 @@ def transitions(context: Context, row: Row, is_settled: bool = True) -> Iterator
 def two_rows(context: Context, row: Row, other: Row) -> Iterator[Block]:
     text = context.character()
     begun: list[Step] = [modify(row), fill(row, text), modify(other), fill(other, text), Wait(0), validate(row)]
-    tried = [
+    tried: list[Step] = [
         put(other.status(7)),
         look_at(row.cell(9), other.cell(9)),
         put(other.status(8)),

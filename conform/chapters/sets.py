@@ -39,9 +39,9 @@ def refused_names(context: Context) -> Iterator[Block]:
         (3, context.described.changeable + 1),
         (4, context.described.volatile + 1),
     ]
-    for row in rows:
+    for memory, number in rows:
         cells: list[Binding] = [
-            (cell(column, *row), octets(b"") if column in (3, 4) else integer(6 if column == 9 else 1))
+            (cell(column, memory, number), octets(b"") if column in (3, 4) else integer(6 if column == 9 else 1))
             for column in range(1, 10)
         ]
         yield Block("rows that are not written", "written rows", alone(cells))

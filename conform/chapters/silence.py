@@ -44,7 +44,7 @@ def blocks(context: Context) -> Iterator[Block]:
     blank = context.message_code(Row(7, 7), 0)
     short: list[Step] = [*begun(context, blank), Wait(59), reports(), Wait(59), reports(), Wait(60), reports(), *look()]
     yield Block("a minute of silence", "silence", short, True)
-    quiet = [dropped(b"nobody"), replace(fixed(b"\x30\0"), is_quiet=True), response(), dropped(b"")]
+    quiet: list[Step] = [dropped(b"nobody"), replace(fixed(b"\x30\0"), is_quiet=True), response(), dropped(b"")]
     waits: list[Step] = [step for ask in quiet for step in (Wait(12), ask)]
     yield Block(
         "a datagram that is dropped is silence", "heard", [*begun(context, blank), *waits, Wait(12), *look()], True
