@@ -1,14 +1,13 @@
 //! A call, carried out.
 
-ghost use Rattle.std.specs.Prelude.{◌<◌};
-
 use crate::codes::{activation, code};
 use crate::lacking::what_lacks;
 use crate::reading::{decode, list_items, tell_hex_fault};
 use dms_calls::{Call, Drawing, Form, SignWanted};
 use dms_description::Setup;
 use dms_face::{Face, MultiFault, check};
-use dms_pages::{Page, PagesFault, pages};
+use dms_lines::{numbered_page, pages_text};
+use dms_pages::{PagesFault, pages};
 use dms_parties::{LiveCentre, LiveSign};
 use dms_picture::{picture, still};
 use dms_refusal::{Refusal, described_before, described_whole, replayed};
@@ -138,7 +137,7 @@ fn talk<P: Party + Drop, S: Source, W: Write>(
 fn setup<R: Read>(alloc: Global, sign: SignWanted, reader: &mut R) -> Result<Setup, Refusal> {
     match sign {
         SignWanted::Bench => bench(alloc).map_err(Refusal::from),
-        SignWanted::Described => described_whole(alloc, Counted::new(&mut *reader)),
+        SignWanted::Described => described_whole(alloc, &mut Counted::new(&mut *reader)),
     }
 }
 
@@ -150,7 +149,7 @@ fn print_report<R: Read, W: Write, E: Write>(
     errors: &mut E,
 ) -> u8 {
     let mut sink = Counted::new(&mut *writer);
-    match replayed(alloc, Counted::new(&mut *reader), &mut sink) {
+    match replayed(alloc, &mut Counted::new(&mut *reader), &mut sink) {
         Ok(()) => 0,
         Err(refusal) if refusal.fault == ReplayFault::Write => 1,
         Err(refusal) => tell_refusal(writer, errors, refusal),
@@ -201,7 +200,7 @@ fn check_text<R: Read, W: Write, E: Write>(
         Err(refusal) => match form {
             Form::Lines => tell_refusal(writer, errors, refusal),
             Form::Json => {
-                refusal.tell(&mut Vec::new(alloc), errors);
+                let _ = refusal.say(errors);
                 status_after(1, writeln!(writer, "{{\"refused\":\"{}\"}}", refusal.fault))
             }
         },
@@ -258,16 +257,18 @@ fn print_pages<W: Write, E: Write>(
             let document = picture(alloc, face.width(), face.height(), pages.as_slice());
             print_document(document, writer)
         }
-        None => status(write_pages(pages.as_slice(), writer)),
+        None => print_document(pages_text(alloc, pages.as_slice()), writer),
         Some(number) => match pages.get(usize::from(number).saturating_sub(1)) {
             Some(page) if drawing.svg => print_document(still(alloc, page), writer),
-            Some(page) => status(write_page(usize::from(number), page, writer)),
+            Some(page) => {
+                print_document(numbered_page(alloc, usize::from(number), page), writer)
+            }
             None => tell(writer, "no such page", 1),
         },
     }
 }
 
-/// Prints a picture.
+/// Prints a picture, or the text of pages.
 fn print_document<W: Write>(document: Result<Vec<u8>, AllocError>, writer: &mut W) -> u8 {
     match document {
         Ok(document) => status(writer.write_all(document.as_slice())),
@@ -302,44 +303,6 @@ pub(crate) fn status(written: io::Result<()>) -> u8 {
     }
 }
 
-/// Writes each page.
-fn write_pages<W: Write>(pages: &[Page], writer: &mut W) -> io::Result<()> {
-    for (index, page) in pages.iter().enumerate() {
-        write_page(index + 1, page, writer)?;
-    }
-    Ok(())
-}
-
-/// Writes a page: a line that says its number, its times and its background, and a line for each row of the matrix.
-fn write_page<W: Write>(number: usize, page: &Page, writer: &mut W) -> io::Result<()> {
-    writeln!(
-        writer,
-        "page {number} on {} off {} back {}",
-        page.on(),
-        page.off(),
-        page.back()
-    )?;
-    for y in 0..page.height() {
-        write_row(page, y, writer)?;
-    }
-    Ok(())
-}
-
-/// Writes a row of a page: a dot for each cell that is unlit, else the digit of its colour.
-fn write_row<W: Write>(page: &Page, y: u16, writer: &mut W) -> io::Result<()>
-    requires { y < page.now.height }
-{
-    for x in 0..page.width() {
-        let cell = page.cell(x, y);
-        if cell.lit {
-            write!(writer, "{}", cell.colour)?;
-        } else {
-            write!(writer, ".")?;
-        }
-    }
-    writeln!(writer)
-}
-
 /// Prints the fault of a text, which is refused, and says it in words.
 fn tell_fault<W: Write, E: Write>(
     alloc: Global,
@@ -364,7 +327,7 @@ fn say_fault<E: Write>(alloc: Global, text: &str, face: &Face, fault: MultiFault
 
 /// Prints what is wrong with a script or a description on the standard input, or that there is no memory.
 fn tell_refusal<W: Write, E: Write>(writer: &mut W, errors: &mut E, refusal: Refusal) -> u8 {
-    refusal.tell(writer, errors);
+    let _ = refusal.tell(writer, errors);
     1
 }
 

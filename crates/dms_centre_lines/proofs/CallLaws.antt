@@ -1,42 +1,25 @@
 -- The call that is read of a line is the one that the line spells.
-use Rattle.std.proofs.Common.{◌≡◌, ℕ, true, false, cond, List, [], ◌∷◌, Option, Some, None, option_map, refl, sym, ap, subst, ◌∙◌, inl, inr}
-use Rattle.std.specs.Prelude.{codes, ◌⊎◌}
-use Rattle.std.proofs.lemmas.Bool.{cases_Bool}
+use Rattle.std.proofs.Common.{◌≡◌, ℕ, List, ◌∷◌, Option, Some, None, option_map, refl, sym, ap, subst, ◌∙◌, inl, inr}
+use Rattle.std.specs.Prelude.{codes}
 use Rattle.std.proofs.lemmas.Option.{same_Some}
 use Rattle.dms_text.specs.Words.{words_of}
 use Rattle.dms_text.specs.Octets.{SpellsOctets}
-use Rattle.dms_text.specs.Reading.{same_octets, word_at}
-use Rattle.dms_text.proofs.WordLaws.{begun, word_found, same_found}
+use Rattle.dms_text.specs.Reading.{word_at}
+use Rattle.dms_text.proofs.WordLaws.{begun, word_found}
 use Rattle.dms_codes.specs.declared.codes.Order.{Order}
 use Rattle.dms_centre.specs.Commands.{CommandModel, Publish, Blank, Activate}
 use Rattle.dms_description.specs.Fields.{SpellsOne}
-use Rattle.dms_description.specs.FieldsReading.{if_last, last_octets_at}
-use Rattle.dms_description.proofs.WordReading.{last_found}
+use Rattle.dms_description.specs.FieldsReading.{last_octets_at}
 use Rattle.dms_description.proofs.FieldLaws.{made_of, last_octets_found, last_octets_only}
 use Rattle.dms_commands.specs.CommandLine.{SpellsCommand}
 use Rattle.dms_commands.specs.CommandReading.{command_of}
 use Rattle.dms_commands.proofs.CommandLaws.{command_found, command_only}
+use Rattle.dms_lines.proofs.CallReading.{hit_or, bare_found, nothing_found}
 use Rattle.dms_centre_lines.specs.Calls.{CentreCall, command, datagram, tick, restart, status}
 use Rattle.dms_centre_lines.specs.CallReading.{call_after, plain_call_at, or_command, call_of}
 use Rattle.dms_centre_lines.specs.SpelledCalls.{SpellsCallWords, SpellsCentreCall, SpellsNoCall}
 
 -- ---- what is read is spelled
-
--- the word is this keyword, or another one is found
-hit_or : (word keyword : List ℕ) (this others : Option CentreCall) (call : CentreCall) → cond (same_octets word keyword) this others ≡ Some call
-    → ((word ≡ keyword) × (this ≡ Some call)) ⊎ (others ≡ Some call)
-hit_or word keyword this others call e =
-    elim (cases_Bool (same_octets word keyword)) [
-      | inl same ↦ inl (same_found _ _ same, ap (λ b. cond b this others) (sym same) ∙ e)
-      | inr other ↦ inr (ap (λ b. cond b this others) (sym other) ∙ e)
-    ]
-
-bare_found : (order : Order) (keyword word : List ℕ) (bare call : CentreCall) (words : List (List ℕ)) → word ≡ keyword → if_last bare words ≡ Some call
-    → SpellsCallWords order bare (keyword ∷ []) → SpellsCallWords order call (word ∷ words)
-bare_found order keyword word bare call words is e spelled =
-    let end = last_found bare words call e in
-    let line : word ∷ words ≡ keyword ∷ [] = ap (λ w. w ∷ words) is ∙ ap (λ rest. keyword ∷ rest) end.0 in
-    subst (λ call. SpellsCallWords order call (word ∷ words)) end.1 (subst (λ words. SpellsCallWords order bare words) (sym line) spelled)
 
 datagram_found : (order : Order) (word : List ℕ) (call : CentreCall) (words : List (List ℕ)) → word ≡ codes "datagram"
     → option_map datagram (last_octets_at words) ≡ Some call → SpellsCallWords order call (word ∷ words)
@@ -52,13 +35,13 @@ after_found order word words call e =
       | inl hit ↦ datagram_found order word call words hit.0 hit.1
       | inr e ↦
           elim (hit_or word (codes "tick") _ _ call e) [
-            | inl hit ↦ bare_found order (codes "tick") word tick call words hit.0 hit.1 refl
+            | inl hit ↦ bare_found (SpellsCallWords order) (codes "tick") word tick call words hit.0 hit.1 refl
             | inr e ↦
                 elim (hit_or word (codes "restart") _ _ call e) [
-                  | inl hit ↦ bare_found order (codes "restart") word restart call words hit.0 hit.1 refl
+                  | inl hit ↦ bare_found (SpellsCallWords order) (codes "restart") word restart call words hit.0 hit.1 refl
                   | inr e ↦
                       elim (hit_or word (codes "status") _ _ call e) [
-                        | inl hit ↦ bare_found order (codes "status") word status call words hit.0 hit.1 refl
+                        | inl hit ↦ bare_found (SpellsCallWords order) (codes "status") word status call words hit.0 hit.1 refl
                         | inr e ↦ absurd (let none : None ≡ Some call = e in cc)
                       ]
                 ]
@@ -110,9 +93,5 @@ call_only order line status spelled = plain_only order line status (ap plain_cal
 pub one_call : (order : Order) (line : List ℕ) (call other : CentreCall) → SpellsCentreCall order call line → SpellsCentreCall order other line → call ≡ other
 one_call order line call other this that = same_Some _ _ (sym (call_only order line call this) ∙ call_only order line other that)
 
-nothing_read : (order : Order) (line : List ℕ) (read : Option CentreCall) → call_of order line ≡ read → SpellsNoCall order line → read ≡ None
-nothing_read order line None is none = refl
-nothing_read order line (Some call) is none = absurd (none call (call_found order line call is))
-
 pub none_read : (order : Order) (line : List ℕ) → SpellsNoCall order line → call_of order line ≡ None
-none_read order line none = nothing_read order line _ refl none
+none_read order line none = nothing_found (call_of order line) (λ call e. none call (call_found order line call e))

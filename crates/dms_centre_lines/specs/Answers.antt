@@ -11,16 +11,11 @@ use Rattle.dms_centre.specs.Inputs.{received, ticked, restarted}
 use Rattle.dms_centre.specs.Texts.{command_fault_text, ended_text}
 use Rattle.dms_description.specs.ShownLine.{ended}
 use Rattle.dms_commands.specs.LedgerLine.{ledger_line}
+use Rattle.dms_lines.specs.AnswerLines.{ok_line, bad_line}
 use Rattle.dms_centre_lines.specs.Calls.{CentreCall, command, datagram, tick, restart, status}
 use Rattle.dms_centre_lines.specs.CallReading.{call_of}
 
 -- ---- lines
-
-abbrev pub ok_line : List ℕ
-ok_line = ended (codes "ok")
-
-abbrev pub bad_line : List ℕ
-bad_line = ended (codes "bad line")
 
 -- the datagram that goes out, in small digits; or `ok`
 abbrev pub sent_line : Option (List ℕ) → List ℕ

@@ -5,15 +5,17 @@ ghost use Rattle.dms_centre.specs.CodeView.{command_model};
 ghost use Rattle.dms_centre.specs.Commands.{commanded, refusal_of};
 ghost use Rattle.dms_centre.specs.Inputs.{received, ticked, restarted};
 ghost use Rattle.dms_commands.specs.CommandReading.{command_of};
-ghost use Rattle.dms_centre_lines.specs.Answers.{answer_text, after_line, call_answer, after_call, command_line, ok_line, sent_line};
+ghost use Rattle.dms_lines.specs.AnswerLines.{ok_line};
+ghost use Rattle.dms_centre_lines.specs.Answers.{answer_text, after_line, call_answer, after_call, command_line, sent_line};
 ghost use Rattle.dms_centre_lines.specs.CallReading.{or_command};
 ghost use Rattle.dms_centre_lines.specs.CodeView.{call_model};
 
 use crate::reading::{Call, plain_call};
 use crate::status::status;
-use crate::text::{bad, ok, put_sent, refused, room};
+use crate::text::{put_sent, refused, room};
 use dms_centre::{Centre, Command};
 use dms_commands::read_command;
+use dms_lines::{bad_line, ok_line};
 use dms_wire::Out;
 use std::alloc::{AllocError, Global};
 
@@ -62,7 +64,7 @@ fn answer_command(alloc: Global, centre: &mut Centre, line: &[u8]) -> Result<Vec
 {
     match read_command(alloc, centre.order(), line)? {
         Some(asked) => give(alloc, centre, asked.lent()),
-        None => bad(alloc),
+        None => bad_line(alloc),
     }
 }
 
@@ -123,7 +125,7 @@ fn restart(alloc: Global, centre: &mut Centre) -> Result<Vec<u8>, AllocError>
     ensures state { OnOk result (centre.new.state ≡ restarted centre.old.state) }
     ensures unchanged { OnErr result (centre.new.state ≡ centre.old.state) }
 {
-    let text = ok(alloc)?;
+    let text = ok_line(alloc)?;
     centre.restart();
     Ok(text)
 }

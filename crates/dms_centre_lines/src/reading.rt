@@ -2,11 +2,11 @@
 
 ghost use Rattle.std.specs.Prelude.{◌≡◌, IfOk, option_map};
 ghost use Rattle.dms_text.specs.Words.{words_of};
-ghost use Rattle.dms_description.specs.FieldsReading.{if_last};
 ghost use Rattle.dms_centre_lines.specs.CallReading.{plain_call_at};
 ghost use Rattle.dms_centre_lines.specs.CodeView.{call_model};
 
 use dms_description::fields::{are_same, last_octets};
+use dms_lines::alone;
 use dms_text::Words;
 use std::alloc::{AllocError, Global};
 
@@ -42,11 +42,4 @@ pub(crate) fn plain_call(alloc: Global, line: &[u8]) -> Result<Option<Call>, All
     } else {
         Ok(None)
     }
-}
-
-/// The call, where no words are left.
-fn alone(words: Words<'_>, call: Call) -> Option<Call>
-    ensures { result ≡ if_last call words.entry }
-{
-    if words.is_empty() { Some(call) } else { None }
 }

@@ -1,32 +1,17 @@
 //! The lines of answers.
 
-ghost use Rattle.std.specs.Prelude.{◌≡◌, ◌≤◌, ◌+◌, ◌*◌, [], IfOk, length, codes, vec_len, vec_capacity, ◌++◌};
-ghost use Rattle.hex.specs.Hex.{encode_lower};
+ghost use Rattle.std.specs.Prelude.{◌≡◌, ◌≤◌, [], IfOk, vec_capacity};
 ghost use Rattle.dms_centre.specs.CodeView.{sent_in};
-ghost use Rattle.dms_ber.specs.Limits.{longest_datagram};
-ghost use Rattle.dms_centre_lines.specs.Answers.{ok_line, bad_line, refused_line, sent_line, longest_sent};
+ghost use Rattle.dms_centre_lines.specs.Answers.{refused_line, sent_line, longest_sent};
 
 use dms_centre::CommandFault;
+use dms_lines::{put, put_digits};
 use dms_wire::{MAX_DATAGRAM, Out};
 use std::alloc::{AllocError, Global};
 use std::io::Write;
 
 /// The most octets of a line that says what is sent.
 const LONGEST_SENT: usize = 2 * MAX_DATAGRAM + 6;
-
-/// `ok`
-pub(crate) fn ok(alloc: Global) -> Result<Vec<u8>, AllocError>
-    ensures { IfOk result (λ text. text.items ≡ ok_line) }
-{
-    Vec::from_slice(alloc, b"ok\n")
-}
-
-/// `bad line`
-pub(crate) fn bad(alloc: Global) -> Result<Vec<u8>, AllocError>
-    ensures { IfOk result (λ text. text.items ≡ bad_line) }
-{
-    Vec::from_slice(alloc, b"bad line\n")
-}
 
 /// Why a command is not taken.
 pub(crate) fn refused(alloc: Global, fault: CommandFault) -> Result<Vec<u8>, AllocError>
@@ -60,28 +45,4 @@ pub(crate) fn put_sent(text: &mut Vec<u8>, datagram: &Out)
         put_digits(text, datagram.as_slice());
         put(text, b"\n");
     }
-}
-
-/// Appends octets as pairs of hexadecimal digits, where there is room for them.
-fn put_digits(text: &mut Vec<u8>, octets: &[u8])
-    requires short { length octets.now ≤ longest_datagram }
-    requires room { vec_len text.old + 2 * length octets.now ≤ vec_capacity text.old }
-    ensures items { text.new.items ≡ text.old.items ++ encode_lower octets.now }
-    ensures len { vec_len text.new ≡ vec_len text.old + 2 * length octets.now }
-    ensures capacity { vec_capacity text.old ≤ vec_capacity text.new }
-{
-    let mut digits = [0; 2 * MAX_DATAGRAM];
-    let digits = &mut digits[..2 * octets.len()];
-    hex::encode_to_slice(octets, digits).unwrap();
-    put(text, digits);
-}
-
-/// Appends octets, where there is room for them.
-fn put(text: &mut Vec<u8>, octets: &[u8])
-    requires { vec_len text.old + length octets.now ≤ vec_capacity text.old }
-    ensures items { text.new.items ≡ text.old.items ++ octets.now }
-    ensures len { vec_len text.new ≡ vec_len text.old + length octets.now }
-    ensures capacity { vec_capacity text.old ≤ vec_capacity text.new }
-{
-    text.extend_from_slice(octets).unwrap();
 }

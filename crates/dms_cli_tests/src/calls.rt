@@ -764,6 +764,19 @@ fn printed_or_out_of_memory(rt: HostRuntime) {
             0,
         ),
         (
+            Call::Pages {
+                text: "[pt2o0][np]A",
+                sign,
+                drawing: Drawing {
+                    svg: false,
+                    page: Some(2),
+                },
+            },
+            SMALL_SIGN,
+            "page 2 on 2 off 0 back 0\n.111.\n1...1\n1...1\n11111\n1...1\n1...1\n1...1\n",
+            0,
+        ),
+        (
             Call::Answer {
                 hex: "301802010004067075626c6963a00b0201010201000201003000",
                 sign: bench,

@@ -1,19 +1,18 @@
 -- The call of a line is the one that the line spells, and the answer is the one of the call.
 use Rattle.std.proofs.Common.{◌≡◌, ℕ, ◌<◌, cond, List, [], ◌∷◌, length, Option, Some, None, option_map, refl, sym, ap, subst, ◌∙◌, arith, inl, inr}
 use Rattle.std.specs.Prelude.{codes, ◌⊎◌}
-use Rattle.std.proofs.lemmas.Bool.{cases_Bool}
 use Rattle.std.proofs.lemmas.Option.{same_Some}
 use Rattle.dms_text.specs.Words.{words_of}
 use Rattle.dms_text.specs.Reading.{same_octets, word_at}
-use Rattle.dms_text.proofs.WordLaws.{begun, goes_on, word_found, word_only, same_found}
+use Rattle.dms_text.proofs.WordLaws.{begun, goes_on, word_found, word_only}
 use Rattle.dms_sign.specs.State.{SignState}
-use Rattle.dms_description.specs.FieldsReading.{if_last}
-use Rattle.dms_description.proofs.WordReading.{last_found}
 use Rattle.dms_description.proofs.FieldLaws.{last_number_found, last_number_only, last_octets_found, last_octets_only, made_of}
+use Rattle.dms_lines.specs.AnswerLines.{bad_line}
+use Rattle.dms_lines.proofs.CallReading.{hit_or, bare_found, nothing_found}
 use Rattle.dms_sign_lines.specs.SignCall.{SignCall, datagram, tick, ticks, heard, power_lost, power_back, show, state}
 use Rattle.dms_sign_lines.specs.SignLine.{SpellsCallWords, SpellsSignCall, SpellsNoSignCall}
 use Rattle.dms_sign_lines.specs.SignReading.{asking_keyword, keyword_of, call_after, call_of}
-use Rattle.dms_sign_lines.specs.Answer.{answer_text, after_line, call_text, after_call, text_if, after_if, bad_line}
+use Rattle.dms_sign_lines.specs.Answer.{answer_text, after_line, call_text, after_call, text_if, after_if}
 use Rattle.dms_sign_lines.specs.declared.keyword.Keyword.{Keyword}
 use Rattle.dms_sign_lines.specs.declared.keyword.Keyword.TheVariants as key
 
@@ -51,41 +50,39 @@ keyword_only key.Show = refl
 keyword_only key.State = refl
 
 -- the word is this keyword's, or another one is found
-hit_or : (word : List ℕ) (keyword found : Keyword) (others : Option Keyword)
+is_word_or : (word : List ℕ) (keyword found : Keyword) (others : Option Keyword)
     → cond (same_octets word (keyword_text keyword)) (Some keyword) others ≡ Some found → (word ≡ keyword_text found) ⊎ (others ≡ Some found)
-hit_or word keyword found others e =
-    elim (cases_Bool (same_octets word (keyword_text keyword))) [
-      | inl same ↦
-          let this : Some keyword ≡ Some found = ap (λ b. cond b (Some keyword) others) (sym same) ∙ e in
-          inl (same_found _ _ same ∙ ap keyword_text (same_Some _ _ this))
-      | inr other ↦ inr (ap (λ b. cond b (Some keyword) others) (sym other) ∙ e)
+is_word_or word keyword found others e =
+    elim (hit_or word (keyword_text keyword) (Some keyword) others found e) [
+      | inl hit ↦ inl (hit.0 ∙ ap keyword_text (same_Some _ _ hit.1))
+      | inr e ↦ inr e
     ]
 
 asking_found : (word : List ℕ) (keyword : Keyword) → asking_keyword word ≡ Some keyword → word ≡ keyword_text keyword
 asking_found word keyword e =
-    elim (hit_or word key.Show keyword _ e) [
+    elim (is_word_or word key.Show keyword _ e) [
       | inl hit ↦ hit
-      | inr e ↦ elim (hit_or word key.State keyword _ e) [ inl hit ↦ hit | inr e ↦ absurd (let none : None ≡ Some keyword = e in cc) ]
+      | inr e ↦ elim (is_word_or word key.State keyword _ e) [ inl hit ↦ hit | inr e ↦ absurd (let none : None ≡ Some keyword = e in cc) ]
     ]
 
 keyword_found : (word : List ℕ) (keyword : Keyword) → keyword_of word ≡ Some keyword → word ≡ keyword_text keyword
 unfolding keyword_of
 keyword_found word keyword e =
-    elim (hit_or word key.Datagram keyword _ e) [
+    elim (is_word_or word key.Datagram keyword _ e) [
       | inl hit ↦ hit
       | inr e ↦
-          elim (hit_or word key.Tick keyword _ e) [
+          elim (is_word_or word key.Tick keyword _ e) [
             | inl hit ↦ hit
             | inr e ↦
-                elim (hit_or word key.Ticks keyword _ e) [
+                elim (is_word_or word key.Ticks keyword _ e) [
                   | inl hit ↦ hit
                   | inr e ↦
-                      elim (hit_or word key.Heard keyword _ e) [
+                      elim (is_word_or word key.Heard keyword _ e) [
                         | inl hit ↦ hit
                         | inr e ↦
-                            elim (hit_or word key.PowerLost keyword _ e) [
+                            elim (is_word_or word key.PowerLost keyword _ e) [
                               | inl hit ↦ hit
-                              | inr e ↦ elim (hit_or word key.PowerBack keyword _ e) [ inl hit ↦ hit | inr e ↦ asking_found word keyword e ]
+                              | inr e ↦ elim (is_word_or word key.PowerBack keyword _ e) [ inl hit ↦ hit | inr e ↦ asking_found word keyword e ]
                             ]
                       ]
                 ]
@@ -94,25 +91,19 @@ keyword_found word keyword e =
 
 -- ---- calls
 
-bare_found : (keyword : List ℕ) (bare call : SignCall) (words : List (List ℕ)) → if_last bare words ≡ Some call
-    → SpellsCallWords bare (keyword ∷ []) → SpellsCallWords call (keyword ∷ words)
-bare_found keyword bare call words e spelled =
-    let end = last_found bare words call e in
-    subst (λ call. SpellsCallWords call (keyword ∷ words)) end.1 (subst (λ rest. SpellsCallWords bare (keyword ∷ rest)) (sym end.0) spelled)
-
 after_found : (keyword : Keyword) (words : List (List ℕ)) (call : SignCall) → call_after keyword words ≡ Some call
     → SpellsCallWords call (keyword_text keyword ∷ words)
 after_found key.Datagram words call e =
     let made = made_of _ _ _ e in subst (λ call. SpellsCallWords call (codes "datagram" ∷ words)) made.2 (last_octets_found (codes "datagram") words made.0 made.1)
-after_found key.Tick words call e = bare_found (codes "tick") tick call words e refl
+after_found key.Tick words call e = bare_found SpellsCallWords (codes "tick") (codes "tick") tick call words refl e refl
 after_found key.Ticks words call e =
     let made = made_of _ _ _ e in subst (λ call. SpellsCallWords call (codes "ticks" ∷ words)) made.2 (last_number_found (codes "ticks") words made.0 made.1)
-after_found key.Heard words call e = bare_found (codes "heard") heard call words e refl
-after_found key.PowerLost words call e = bare_found (codes "power-lost") power_lost call words e refl
+after_found key.Heard words call e = bare_found SpellsCallWords (codes "heard") (codes "heard") heard call words refl e refl
+after_found key.PowerLost words call e = bare_found SpellsCallWords (codes "power-lost") (codes "power-lost") power_lost call words refl e refl
 after_found key.PowerBack words call e =
     let made = made_of _ _ _ e in subst (λ call. SpellsCallWords call (codes "power-back" ∷ words)) made.2 (last_number_found (codes "power-back") words made.0 made.1)
-after_found key.Show words call e = bare_found (codes "show") show call words e refl
-after_found key.State words call e = bare_found (codes "state") state call words e refl
+after_found key.Show words call e = bare_found SpellsCallWords (codes "show") (codes "show") show call words refl e refl
+after_found key.State words call e = bare_found SpellsCallWords (codes "state") (codes "state") state call words refl e refl
 
 -- what is read of a line is what it spells
 pub call_found : (line : List ℕ) (call : SignCall) → call_of line ≡ Some call → SpellsSignCall call line
@@ -148,12 +139,8 @@ call_only line state spelled = line_read key.State line [] spelled
 pub one_call : (line : List ℕ) (one other : SignCall) → SpellsSignCall one line → SpellsSignCall other line → one ≡ other
 one_call line one other this that = same_Some _ _ (sym (call_only line one this) ∙ call_only line other that)
 
-nothing : {A : Type 0} (found : Option A) → ((x : A) → found ≡ Some x → ⊥) → found ≡ None
-nothing None never = refl
-nothing (Some x) never = absurd (never x refl)
-
 none_read : (line : List ℕ) → SpellsNoSignCall line → call_of line ≡ None
-none_read line none = nothing (call_of line) (λ call e. none call (call_found line call e))
+none_read line none = nothing_found (call_of line) (λ call e. none call (call_found line call e))
 
 -- ---- answers
 

@@ -1,4 +1,3 @@
-pub mod TextRuns
 pub mod GoodTexts
 pub mod CallLaws
 pub mod Seconds

@@ -13,9 +13,10 @@ use Rattle.dms_sign.specs.State.{SignState}
 use Rattle.dms_sign.specs.Reply.{Received, received, after_get}
 use Rattle.dms_sign.specs.Events.{after_tick, after_power_loss, after_power_return}
 use Rattle.dms_description.specs.ShownLine.{ended, code_text, shown_line}
+use Rattle.dms_lines.specs.PageText.{pages_text}
+use Rattle.dms_lines.specs.AnswerLines.{ok_line, bad_line}
 use Rattle.dms_sign_lines.specs.SignCall.{SignCall, datagram, tick, ticks, heard, power_lost, power_back, show, state}
 use Rattle.dms_sign_lines.specs.SignReading.{call_of}
-use Rattle.dms_sign_lines.specs.PageText.{pages_text}
 
 -- ---- what comes of a datagram
 
@@ -51,18 +52,15 @@ shown_pages s =
 
 -- ---- calls
 
-abbrev pub done : List ℕ
-done = ended (codes "ok")
-
 abbrev pub call_text : SignState → SignCall → List ℕ
 call_text s (datagram octets) = received_line s.table.order (received s octets)
-call_text s tick = done
-call_text s (ticks seconds) = done
-call_text s heard = done
-call_text s power_lost = done
-call_text s (power_back seconds) = done
-call_text s show = pages_text (shown_pages s) ++ done
-call_text s state = shown_line s.shown ++ done
+call_text s tick = ok_line
+call_text s (ticks seconds) = ok_line
+call_text s heard = ok_line
+call_text s power_lost = ok_line
+call_text s (power_back seconds) = ok_line
+call_text s show = pages_text (shown_pages s) ++ ok_line
+call_text s state = shown_line s.shown ++ ok_line
 
 -- so many seconds, one after another
 unfoldable pub after_ticks : ℕ → SignState → SignState
@@ -80,9 +78,6 @@ after_call s show = s
 after_call s state = s
 
 -- ---- lines
-
-abbrev pub bad_line : List ℕ
-bad_line = ended (codes "bad line")
 
 abbrev pub text_if : SignState → Option SignCall → List ℕ
 text_if s None = bad_line

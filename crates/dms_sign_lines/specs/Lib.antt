@@ -1,7 +1,6 @@
--- what a reader must believe: the lines to a live sign, their answers, and pages as text
+-- what a reader must believe: the lines to a live sign, and their answers
 pub mod SignCall
 pub mod SignLine
-pub mod PageText
 pub mod Answer
 pub mod GoodTexts
 -- what the calls say of themselves

@@ -1,21 +1,22 @@
 //! The answer of a live sign to a line.
 
-ghost use Rattle.std.specs.Prelude.{◌≡◌, ◌++◌, ◌+◌, ◌*◌, ◌≤◌, codes, length, vec_len, vec_capacity};
+ghost use Rattle.std.specs.Prelude.{◌≡◌, ◌++◌, ◌+◌, ◌≤◌, codes, length, vec_len, vec_capacity};
 ghost use Rattle.std.specs.Prelude.{IfOk, OnOk, OnErr};
 ghost use Rattle.hex.specs.Hex.{encode_lower};
 ghost use Rattle.dms_ber.specs.Limits.{longest_datagram};
 ghost use Rattle.dms_sign.specs.Reply.{received};
 ghost use Rattle.dms_sign.specs.ReplyView.{sent, accepted_by};
 ghost use Rattle.dms_description.specs.ShownLine.{ended, shown_line};
-ghost use Rattle.dms_sign_lines.specs.PageText.{pages_text};
+ghost use Rattle.dms_lines.specs.PageText.{pages_text};
+ghost use Rattle.dms_lines.specs.AnswerLines.{ok_line};
 ghost use Rattle.dms_sign_lines.specs.CallView.{call_model};
-ghost use Rattle.dms_sign_lines.specs.Answer.{answer_text, after_line, call_text, after_ticks, after_call, done};
+ghost use Rattle.dms_sign_lines.specs.Answer.{answer_text, after_line, call_text, after_ticks, after_call};
 ghost use Rattle.dms_sign_lines.specs.Answer.{receipt_line, received_line, longest_receipt_line, shown_pages};
 
-use crate::page_text::put_pages;
 use crate::sign_call::{SignCall, call};
 use dms_codes::Order;
 use dms_description::put_shown;
+use dms_lines::{bad_line, ok_line, put, put_digits, put_pages};
 use dms_pages::{Page, PagesFault, pages_with};
 use dms_sign::{Receipt, Sign};
 use dms_wire::{MAX_DATAGRAM, Out};
@@ -50,7 +51,7 @@ pub fn answer(alloc: Global, sign: &mut Sign, line: &[u8]) -> Result<Vec<u8>, Al
 {
     match call(alloc, line)? {
         Some(call) => carry_out(alloc, sign, &call),
-        None => text_of(alloc, b"bad line\n"),
+        None => bad_line(alloc),
     }
 }
 
@@ -63,42 +64,33 @@ fn carry_out(alloc: Global, sign: &mut Sign, call: &SignCall) -> Result<Vec<u8>,
     match call {
         SignCall::Datagram(octets) => receive(alloc, sign, octets.as_slice()),
         SignCall::Tick => {
-            let done = text_of(alloc, b"ok\n")?;
+            let done = ok_line(alloc)?;
             sign.tick();
             Ok(done)
         }
         SignCall::Ticks(seconds) => {
-            let done = text_of(alloc, b"ok\n")?;
+            let done = ok_line(alloc)?;
             pass(sign, *seconds);
             Ok(done)
         }
         SignCall::Heard => {
-            let done = text_of(alloc, b"ok\n")?;
+            let done = ok_line(alloc)?;
             sign.heard();
             Ok(done)
         }
         SignCall::PowerLost => {
-            let done = text_of(alloc, b"ok\n")?;
+            let done = ok_line(alloc)?;
             sign.power_lost();
             Ok(done)
         }
         SignCall::PowerBack(seconds) => {
-            let done = text_of(alloc, b"ok\n")?;
+            let done = ok_line(alloc)?;
             sign.power_back(*seconds);
             Ok(done)
         }
         SignCall::Show => show(alloc, sign),
         SignCall::State => state(alloc, sign),
     }
-}
-
-/// A text of these octets.
-fn text_of(alloc: Global, octets: &[u8]) -> Result<Vec<u8>, AllocError>
-    ensures { IfOk result (λ text. text.items ≡ octets.now) }
-{
-    let mut text = Vec::new(alloc);
-    text.extend_from_slice(octets)?;
-    Ok(text)
 }
 
 /// So many seconds pass.
@@ -160,33 +152,9 @@ fn put_accepted(text: &mut Vec<u8>, code: &[u8], reply: &[u8])
     put(text, b"\n");
 }
 
-/// Appends octets, for which there is room.
-fn put(text: &mut Vec<u8>, octets: &[u8])
-    requires { vec_len text.old + length octets.now ≤ vec_capacity text.old }
-    ensures items { text.new.items ≡ text.old.items ++ octets.now }
-    ensures len { vec_len text.new ≡ vec_len text.old + length octets.now }
-    ensures capacity { vec_capacity text.old ≤ vec_capacity text.new }
-{
-    let _ = text.extend_from_slice(octets);
-}
-
-/// Appends octets as pairs of lower case hexadecimal digits, for which there is room.
-fn put_digits(text: &mut Vec<u8>, octets: &[u8])
-    requires short { length octets.now ≤ longest_datagram }
-    requires room { vec_len text.old + 2 * length octets.now ≤ vec_capacity text.old }
-    ensures items { text.new.items ≡ text.old.items ++ encode_lower octets.now }
-    ensures len { vec_len text.new ≡ vec_len text.old + 2 * length octets.now }
-    ensures capacity { vec_capacity text.old ≤ vec_capacity text.new }
-{
-    let mut digits = [0; 2 * MAX_DATAGRAM];
-    let digits = &mut digits[..2 * octets.len()];
-    let _ = hex::encode_to_slice(octets, digits);
-    put(text, digits);
-}
-
 /// The pages of what is shown.
 fn show(alloc: Global, sign: &Sign) -> Result<Vec<u8>, AllocError>
-    ensures { IfOk result (λ text. text.items ≡ pages_text (shown_pages sign.now) ++ done) }
+    ensures { IfOk result (λ text. text.items ≡ pages_text (shown_pages sign.now) ++ ok_line) }
 {
     let pages = shown_pages(alloc, sign)?;
     let mut text = Vec::new(alloc);
@@ -212,7 +180,7 @@ pub fn shown_pages(alloc: Global, sign: &Sign) -> Result<Vec<Page>, AllocError>
 }
 
 fn put_show(text: &mut Vec<u8>, pages: &[Page]) -> io::Result<()>
-    ensures { OnOk result (text.new.items ≡ text.old.items ++ (pages_text pages.now ++ done)) }
+    ensures { OnOk result (text.new.items ≡ text.old.items ++ (pages_text pages.now ++ ok_line)) }
 {
     put_pages(text, pages)?;
     writeln!(text, "ok")
@@ -220,7 +188,7 @@ fn put_show(text: &mut Vec<u8>, pages: &[Page]) -> io::Result<()>
 
 /// The line of what is shown.
 fn state(alloc: Global, sign: &Sign) -> Result<Vec<u8>, AllocError>
-    ensures { IfOk result (λ text. text.items ≡ shown_line sign.now.shown ++ done) }
+    ensures { IfOk result (λ text. text.items ≡ shown_line sign.now.shown ++ ok_line) }
 {
     let mut text = Vec::new(alloc);
     match put_state(alloc, &mut text, sign) {
@@ -230,7 +198,7 @@ fn state(alloc: Global, sign: &Sign) -> Result<Vec<u8>, AllocError>
 }
 
 fn put_state(alloc: Global, text: &mut Vec<u8>, sign: &Sign) -> io::Result<()>
-    ensures { OnOk result (text.new.items ≡ text.old.items ++ (shown_line sign.now.shown ++ done)) }
+    ensures { OnOk result (text.new.items ≡ text.old.items ++ (shown_line sign.now.shown ++ ok_line)) }
 {
     put_shown(alloc, text, sign.shown())?;
     writeln!(text, "ok")

@@ -1,4 +1,4 @@
-//! The lines to a live sign, each with its answer, and pages as text.
+//! The lines to a live sign, each with its answer.
 //!
 //! ```
 //! let mut setup = bench(alloc)?;

@@ -1,12 +1,12 @@
 //! What a line asks of a live sign.
 
 ghost use Rattle.std.specs.Prelude.{◌≡◌, IfOk, option_map};
-ghost use Rattle.dms_description.specs.FieldsReading.{if_last};
 ghost use Rattle.dms_sign_lines.specs.SignReading.{call_of};
 ghost use Rattle.dms_sign_lines.specs.CallView.{call_model};
 
 use crate::keyword::Keyword;
 use dms_description::fields::{last_number, last_octets};
+use dms_lines::alone;
 use dms_text::Words;
 use std::alloc::{AllocError, Global};
 
@@ -52,11 +52,4 @@ pub(crate) fn call(alloc: Global, line: &[u8]) -> Result<Option<SignCall>, Alloc
         Keyword::Show => Ok(alone(words, SignCall::Show)),
         Keyword::State => Ok(alone(words, SignCall::State)),
     }
-}
-
-/// The call, where no words are left.
-fn alone(words: Words<'_>, call: SignCall) -> Option<SignCall>
-    ensures { result ≡ if_last call words.entry }
-{
-    if words.is_empty() { Some(call) } else { None }
 }

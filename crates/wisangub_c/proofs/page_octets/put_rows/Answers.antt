@@ -1,5 +1,5 @@
 use Rattle.wisangub_c.specs.Pages.{row_octets}
-use Rattle.dms_sign_lines.proofs.TextRuns.{number_more}
+use Rattle.dms_lines.proofs.TextRuns.{number_more}
 use Rattle.wisangub_c.proofs.page_octets.put_rows.Goals as goal
 
 pub loop-y-preserved : goal.loop-y-preserved

@@ -1,6 +1,7 @@
 //! The bench sign line by line, and the text of its pages.
 
 use dms_description::Setup;
+use dms_lines::numbered_page;
 use dms_pages::pages;
 use dms_replay::bench;
 use dms_replay::fault::ReplayFault;
@@ -295,6 +296,26 @@ fn text_of_pages(alloc: Global, text: &[u8]) -> Option<Vec<u8>> {
 fn two_pages(rt: HostRuntime) -> Result<(), Fail> {
     let found = text_of_pages(rt.alloc(), b"[cb3][pt5o2]1[np][fo2][cf1]A").ok_or("no pages")?;
     assert!(rt; found.as_slice() == TWO_PAGES.as_bytes());
+    Ok(())
+}
+
+/// The text of the second page of a text on the bench sign.
+fn text_of_second_page(alloc: Global, text: &[u8]) -> Option<Vec<u8>> {
+    let setup = bench(alloc).ok()?;
+    let shown = pages(alloc, setup.sign.face(), text).ok()?;
+    numbered_page(alloc, 2, shown.get(1)?).ok()
+}
+
+/// A page alone is what the text of all pages has of it.
+#[test]
+fn second_page(rt: HostRuntime) -> Result<(), Fail> {
+    let text = b"[cb3][pt5o2]1[np][fo2][cf1]A";
+    let found = text_of_second_page(rt.alloc(), text).ok_or("no page")?;
+    let (found, all) = (found.as_slice(), TWO_PAGES.as_bytes());
+    assert_eq!(rt;
+        (found.starts_with(b"page 2 "), all.ends_with(found)),
+        (true, true)
+    );
     Ok(())
 }
 

@@ -1,8 +1,8 @@
 use Rattle.std.proofs.Common.{◌++◌, ap, ◌∙◌}
 use Rattle.dms_pages.specs.Drawn.{cell_at}
-use Rattle.dms_sign_lines.specs.PageText.{cell_text}
-use Rattle.dms_sign_lines.proofs.TextRuns.{number_more}
-use Rattle.dms_sign_lines.proofs.page_text.put_cells.Goals as goal
+use Rattle.dms_lines.specs.PageText.{cell_text}
+use Rattle.dms_lines.proofs.TextRuns.{number_more}
+use Rattle.dms_lines.proofs.page_text.put_cells.Goals as goal
 
 pub loop-x-preserved : goal.loop-x-preserved
 loop-x-preserved c =

@@ -1,6 +1,6 @@
-use Rattle.dms_sign_lines.specs.PageText.{page_text}
-use Rattle.dms_sign_lines.proofs.TextRuns.{thing_more}
-use Rattle.dms_sign_lines.proofs.page_text.put_pages.Goals as goal
+use Rattle.dms_lines.specs.PageText.{page_text}
+use Rattle.dms_lines.proofs.TextRuns.{thing_more}
+use Rattle.dms_lines.proofs.page_text.put_pages.Goals as goal
 
 pub loop-index-preserved : goal.loop-index-preserved
 loop-index-preserved c =

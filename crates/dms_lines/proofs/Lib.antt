@@ -1,0 +1,2 @@
+pub mod TextRuns
+pub mod CallReading

@@ -1,0 +1,3 @@
+-- what a reader must believe: pages as text, and the lines with which both ends answer alike
+pub mod PageText
+pub mod AnswerLines
