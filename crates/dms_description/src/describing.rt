@@ -63,7 +63,7 @@ pub fn described_before<S: Source>(
     ensures all_read { result ≢ Err faults.Read → S.failed input.new.source ≡ S.failed input.old.source }
     ensures no_write { result ≢ Err faults.Write }
 {
-    let text = text(alloc, input)?;
+    let text = text_before(alloc, input)?;
     match description(alloc, text.as_slice()) {
         Ok(setup) => Ok(setup),
         Err(DescriptionFault::Line(line)) => Err(ReplayFault::Line(line)),
@@ -72,7 +72,7 @@ pub fn described_before<S: Source>(
 }
 
 /// The text of the description before a conversation.
-fn text<S: Source>(alloc: Global, input: &mut Input<S>) -> Result<Vec<u8>, ReplayFault>
+pub fn text_before<S: Source>(alloc: Global, input: &mut Input<S>) -> Result<Vec<u8>, ReplayFault>
     ensures text { IfOk result (λ text. TakesDescription (left S.remaining input.old) text.items (left S.remaining input.new)) }
     ensures too_long { result ≡ Err faults.TooLong → IfSome (left S.remaining input.old) (λ octets. 1048576 < length octets) }
     ensures read { result ≡ Err faults.Read → S.failed input.new.source ≡ one_more (S.failed input.old.source) }

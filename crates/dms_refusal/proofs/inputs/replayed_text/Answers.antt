@@ -1,0 +1,6 @@
+use Rattle.dms_refusal.proofs.Carried.{same_line}
+use Rattle.dms_refusal.proofs.inputs.replayed_text.Goals as goal
+
+pub returns-in-Err-clause-line : goal.returns-in-Err-clause-line
+returns-in-Err-clause-line g c number is =
+    (c.in-Err.ensures.line number (same_line c.script_refusal.result.fault c.in-Err.fault number c.script_refusal.ensures.fault is)).1

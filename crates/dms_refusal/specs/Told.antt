@@ -1,0 +1,25 @@
+-- What is printed of a refusal (this profile).
+use Rattle.std.specs.Prelude.{ℕ, Bool, true, false, List, [], ◌++◌, codes, Option, None, Some}
+use Rattle.dms_description.specs.FaultTexts.{replay_fault_text}
+use Rattle.dms_description.specs.declared.reading_fault.ReplayFault.{ReplayFault}
+use Rattle.dms_replay.specs.Reasons.{script_cause_text}
+use Rattle.dms_replay.specs.declared.reasons.ScriptCause.{ScriptCause}
+use Rattle.dms_refusal.specs.declared.refusal.Refusal.{Refusal}
+
+-- the line of the fault
+abbrev pub fault_line : ReplayFault → List ℕ
+fault_line fault = replay_fault_text fault ++ codes "\n"
+
+-- why the line that the fault names is refused
+abbrev pub cause_line : ReplayFault → Option ScriptCause → List ℕ
+cause_line fault None = []
+cause_line fault (Some cause) = (replay_fault_text fault ++ (codes ": " ++ script_cause_text cause)) ++ codes "\n"
+
+-- what may help where there is nothing
+abbrev pub empty_line : Bool → List ℕ
+empty_line false = []
+empty_line true = codes "the standard input is empty: < FILE gives it one\n"
+
+-- what is said of the line
+abbrev pub said : Refusal → List ℕ
+said refusal = cause_line refusal.fault refusal.cause ++ empty_line refusal.is_empty
