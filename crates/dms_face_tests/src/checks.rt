@@ -1,6 +1,6 @@
 //! Texts by their answers on a sign of 23 by 14 with two fonts, and a long text on the largest matrix.
 
-use crate::bench::{DEFAULTS, SMALL, TALL, bench, defaults_of, fonts_of};
+use dms_bench_sign::{DEFAULTS, SMALL, TALL, defaults_of, face, fonts_of};
 use dms_face::{Face, MultiFault, MultiFaultCode, check, check_with};
 use std::alloc::{AllocError, Global};
 use std::process::Abort;
@@ -22,7 +22,7 @@ fn check_text(rt: &impl Abort, face: &Face, text: &str, expected: Answer) {
 
 #[test]
 fn texts_on_the_bench_sign(rt: HostRuntime) -> Result<(), Fail> {
-    let face = bench(rt.alloc())?;
+    let face = face(rt.alloc())?;
     for (text, pages) in [
         ("", 1),
         ("[[A]]", 1),
@@ -75,7 +75,7 @@ fn check_text_with(rt: &impl Abort, face: &Face, defaults: [u8; 9], text: &str, 
 
 #[test]
 fn other_defaults(rt: HostRuntime) -> Result<(), Fail> {
-    let face = bench(rt.alloc())?;
+    let face = face(rt.alloc())?;
     let small = [0, 9, 5, 5, 2, 3, 2, 30, 0];
     let right = [0, 9, 5, 5, 1, 4, 4, 30, 0];
     for (defaults, text, expected) in [
@@ -94,7 +94,7 @@ fn other_defaults(rt: HostRuntime) -> Result<(), Fail> {
 /// One of the defaults is another: a text's answers under the sign's own and under these.
 #[test]
 fn each_default(rt: HostRuntime) -> Result<(), Fail> {
-    let face = bench(rt.alloc())?;
+    let face = face(rt.alloc())?;
     for (defaults, text, own, expected) in [
         ([1, 9, 5, 5, 1, 3, 2, 30, 0], "[cb]A", Ok(1), Ok(1)),
         ([0, 4, 5, 5, 1, 3, 2, 30, 0], "[cf]A", Ok(1), Ok(1)),

@@ -1,6 +1,6 @@
 //! Faces by their values, and each fault of a face.
 
-use crate::bench::{DEFAULTS, TALL, bench, defaults_of, fonts_of};
+use dms_bench_sign::{DEFAULTS, TALL, defaults_of, face, fonts_of};
 use dms_face::{
     Defaults, Face, FaceFault, Font, FontFault, FontFaultKind, MultiFault, MultiFaultCode, check,
 };
@@ -104,7 +104,7 @@ fn check_fits(rt: &impl Abort, face: &Face, defaults: [u8; 9], fits: bool) {
 
 #[test]
 fn defaults_that_fit(rt: HostRuntime) -> Result<(), Fail> {
-    let face = bench(rt.alloc())?;
+    let face = face(rt.alloc())?;
     for (defaults, fits) in [
         ([0, 9, 5, 5, 1, 3, 2, 30, 0], true),
         ([0, 9, 5, 5, 2, 4, 4, 30, 0], true),

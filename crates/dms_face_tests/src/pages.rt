@@ -1,29 +1,12 @@
 //! Pages of a sign of 23 by 14 with two fonts, drawn.
 
-use crate::bench::{DEFAULTS, TALL, bench, defaults_of};
-use dms_face::{Cell, Face, Flash, Font, MultiFault, check, check_with};
+use dms_bench_sign::{PICTURE_OF_A, defaults_of, drawing, face};
+use dms_face::{Cell, Face, Flash, MultiFault, check, check_with};
 use dms_multi::Lead;
 use dms_pages::{Page, PagesFault, pages, pages_with};
-use std::alloc::{AllocError, Global};
+use std::alloc::Global;
 use std::process::Abort;
 use std::test::Fail;
-
-/// A page's rows: the digit of a lit cell's colour, and a point where nothing is lit.
-fn drawing(alloc: Global, page: &Page) -> Result<String, AllocError> {
-    let mut text = String::new(alloc);
-    for y in 0..page.height() {
-        for x in 0..page.width() {
-            let cell = page.cell(x, y);
-            if cell.lit {
-                text.push(char::from(b'0' + cell.colour % 10))?;
-            } else {
-                text.push('.')?;
-            }
-        }
-        text.push('\n')?;
-    }
-    Ok(text)
-}
 
 /// The column and the row of the first lit cell, and that cell.
 fn first_lit(page: &Page) -> Option<((u16, u16), Cell)> {
@@ -41,7 +24,7 @@ fn first_lit(page: &Page) -> Option<((u16, u16), Cell)> {
 /// The example of the crate's page.
 #[test]
 fn example(rt: HostRuntime) -> Result<(), Fail> {
-    let shown = pages(rt.alloc(), &bench(rt.alloc())?, b"A[np]A")?;
+    let shown = pages(rt.alloc(), &face(rt.alloc())?, b"A[np]A")?;
     let page = shown.get(1).ok_or("no page")?;
     let lit = Cell {
         lit: true,
@@ -58,13 +41,6 @@ fn example(rt: HostRuntime) -> Result<(), Fail> {
         (2, (30, 0, 0), lit)
     );
     Ok(())
-}
-
-/// A face, where there is memory for it.
-fn face_of_one_font(alloc: Global) -> Option<Face> {
-    let mut fonts = Vec::new(alloc);
-    fonts.push(Font::from_text(alloc, TALL).ok()?).ok()?;
-    Face::new(23, 14, fonts, DEFAULTS).ok()
 }
 
 const TWO_PAGES: &[u8] = b"A[nl0]A[np]A[jp4]A";
@@ -102,7 +78,7 @@ fn lit_cells(page: &Page) -> u32 {
 /// With any allocation of the call refused it answers that memory is out, and the same call with memory gives the pages.
 #[test]
 fn pages_or_out_of_memory(rt: HostRuntime) {
-    let Some(face) = face_of_one_font(rt.alloc()) else {
+    let Ok(face) = face(rt.alloc()) else {
         return;
     };
     let made = match pages(rt.alloc(), &face, TWO_PAGES) {
@@ -117,7 +93,7 @@ fn pages_or_out_of_memory(rt: HostRuntime) {
 
 #[test]
 fn pages_with_or_out_of_memory(rt: HostRuntime) {
-    let Some(face) = face_of_one_font(rt.alloc()) else {
+    let Ok(face) = face(rt.alloc()) else {
         return;
     };
     let defaults = face.defaults();
@@ -133,30 +109,13 @@ fn pages_with_or_out_of_memory(rt: HostRuntime) {
 
 #[test]
 fn a_letter(rt: HostRuntime) -> Result<(), Fail> {
-    let shown = pages(rt.alloc(), &bench(rt.alloc())?, b"A")?;
+    let shown = pages(rt.alloc(), &face(rt.alloc())?, b"A")?;
     let page = shown.get(0).ok_or("no page")?;
     assert_eq!(rt;
         (shown.len(), (page.on(), page.off(), page.back())),
         (1, (30, 0, 0))
     );
-    assert_eq!(rt;
-        drawing(rt.alloc(), page)?.as_str(),
-        "..........999..........
-.........9...9.........
-.........9...9.........
-.........99999.........
-.........9...9.........
-.........9...9.........
-.........9...9.........
-.......................
-.......................
-.......................
-.......................
-.......................
-.......................
-.......................
-"
-    );
+    assert_eq!(rt; drawing(rt.alloc(), page)?.as_str(), PICTURE_OF_A);
     Ok(())
 }
 
@@ -177,7 +136,7 @@ fn check_cell(rt: &impl Abort, found: Option<Cell>, cell: Cell) {
 
 #[test]
 fn cells(rt: HostRuntime) -> Result<(), Fail> {
-    let face = bench(rt.alloc())?;
+    let face = face(rt.alloc())?;
     let flash = Some(Flash {
         first: Lead::Lit,
         lit: 5,
@@ -209,7 +168,7 @@ fn is_fault_of_check(alloc: Global, face: &Face, text: &[u8]) -> bool {
 
 #[test]
 fn faults_are_those_of_check(rt: HostRuntime) -> Result<(), Fail> {
-    let face = bench(rt.alloc())?;
+    let face = face(rt.alloc())?;
     for text in ["[nl]A", "AAA[[1", "[fo3]A", "C", "A]", "[jp4]A[jp2]A"] {
         assert!(rt;
             is_fault_of_check(rt.alloc(), &face, text.as_bytes()),
@@ -253,7 +212,7 @@ fn look_under(
 /// Where a text says nothing, and where its tags have no values, the defaults hold.
 #[test]
 fn each_default(rt: HostRuntime) -> Result<(), Fail> {
-    let face = bench(rt.alloc())?;
+    let face = face(rt.alloc())?;
     for (defaults, at, colour, (lit, dark), page) in [
         ([0, 9, 5, 5, 1, 3, 2, 30, 0], (10, 0), 9, (5, 5), (0, 30, 0)),
         ([1, 9, 5, 5, 1, 3, 2, 30, 0], (10, 0), 9, (5, 5), (1, 30, 0)),

@@ -1,6 +1,7 @@
 //! Pictures of a sign of 4 by 3 with one character, whole.
 
-use dms_face::{Defaults, Face, Font};
+use dms_bench_sign::{DEFAULTS, fonts_of};
+use dms_face::Face;
 use dms_pages::pages;
 use dms_picture::{picture, still};
 use std::alloc::Global;
@@ -9,18 +10,6 @@ use std::test::Fail;
 const FONT: &[u8] = b"font 1 height 2 space 1 line 1 version 0001
 glyph 65 2 90
 ";
-
-const DEFAULTS: Defaults = Defaults {
-    background: 0,
-    foreground: 9,
-    flash_on: 5,
-    flash_off: 5,
-    font: 1,
-    line: 3,
-    page: 2,
-    on: 30,
-    off: 0,
-};
 
 const HEAD: &str =
     r##"<svg xmlns="http://www.w3.org/2000/svg" viewBox="-1 -1 5 4" fill="none" stroke-linecap="round" stroke-width="0.8">
@@ -53,9 +42,7 @@ const TURNS: &str =
 "##;
 
 fn face(alloc: Global) -> Result<Face, Fail> {
-    let mut fonts = Vec::new(alloc);
-    fonts.push(Font::from_text(alloc, FONT)?)?;
-    Ok(Face::new(4, 3, fonts, DEFAULTS)?)
+    Ok(Face::new(4, 3, fonts_of(alloc, &[FONT])?, DEFAULTS)?)
 }
 
 fn is_document(document: &[u8], groups: &str) -> bool {
