@@ -5,6 +5,7 @@
 
 pub mod access;
 pub mod cells;
+pub mod laws;
 pub mod met_names;
 pub mod reports;
 pub mod settings;

@@ -1,2 +1,3 @@
 pub mod SubIdentifiers
 pub mod NameLaws
+pub mod Table

@@ -1,3 +1,4 @@
--- what a reader must believe: the names of the objects of a sign, as numbers and as octets
+-- what a reader must believe: the objects of a sign in one table, and their names, as numbers and as octets
+pub mod Objects
 pub mod Names
 pub mod NameOctets

@@ -1,4 +1,5 @@
-//! The objects of a sign (NTCIP 1203, dms): the columns of dmsMessageTable and the objects with one instance, and their names.
+//! The objects of a sign (NTCIP 1203, dms), one table: the columns of dmsMessageTable and the objects with one instance; and the
+//! names of their instances.
 //!
 //! ```
 //! let name = Name::of(Instance::The(Scalar::ActivateMessage));
@@ -10,9 +11,11 @@ pub mod column;
 pub mod instance;
 pub mod laws;
 pub mod name;
+pub mod objects;
 pub mod scalar;
 
 pub use column::Column;
 pub use instance::Instance;
 pub use name::Name;
+pub use objects::{Access, Group, Instances, OBJECTS, Object, Syntax};
 pub use scalar::Scalar;

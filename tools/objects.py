@@ -1,0 +1,213 @@
+#!/usr/bin/env python3
+"""Writes what is made of the table of objects: the objects of mibs/DMS-PROFILE-MIB, and the tables of docs/PROFILE.md.
+
+The table is crates/dms_objects/specs/Objects.antt. What is made stands between two marks; all else in a file is kept.
+With --check nothing is written, and the status is 1 where a file is not up to date."""
+
+import argparse
+import pathlib
+import re
+import sys
+import textwrap
+from dataclasses import dataclass
+
+TOP = pathlib.Path(__file__).resolve().parent.parent
+TABLE = "crates/dms_objects/specs/Objects.antt"
+MIB, PROFILE = "mibs/DMS-PROFILE-MIB", "docs/PROFILE.md"
+WIDTH = 120
+ROW = re.compile(r'row \(codes "(\w+)"\) (\w+) (\d+) (\w+) (\w+|\(.*\)) \((\w+) \w+\)')
+WORD = re.compile(r"(\w+) (\d+)")
+NODE = re.compile(r"(?m)^group_numbers (\w+) = (.*) ∷ \[\]$")
+ACCESS = {"Read": "read-only", "Write": "read-write", "Command": "read-write"}
+MARKS = {"Read": "", "Write": "w", "Command": "c"}
+CELLS = "| 5.8.1.c.t.n | dmsMessageTable | | | column c of row n of memory type t, below |"
+HEAD = """\
+dmsMessageTable OBJECT-TYPE
+    SYNTAX  SEQUENCE OF DmsMessageEntry
+    ACCESS  not-accessible
+    STATUS  mandatory
+    DESCRIPTION
+        "The messages: permanent, changeable and volatile rows, the one that is shown, and 255 blank ones."
+    ::= { dmsMessage 8 }
+
+dmsMessageEntry OBJECT-TYPE
+    SYNTAX  DmsMessageEntry
+    ACCESS  not-accessible
+    STATUS  mandatory
+    DESCRIPTION
+        "A message, by its kind of memory and its number."
+    INDEX   { dmsMessageMemoryType, dmsMessageNumber }
+    ::= { dmsMessageTable 1 }
+
+DmsMessageEntry ::= SEQUENCE {
+%s
+}"""
+
+
+class BadTable(Exception):
+    """A table, or a file that is made of it, that is not as it should be."""
+
+
+@dataclass(frozen=True)
+class Syntax:
+    """A type with its bounds in the MIB, and the range that a page says."""
+
+    type: str
+    bounds: str = ""
+    said: str = ""
+
+    @staticmethod
+    def read(text: str) -> "Syntax":
+        kind, *numbers = text.strip("()").split()
+        match kind, [int(number) for number in numbers]:
+            case "Whole", []:
+                return Syntax("INTEGER")
+            case "Address", []:
+                return Syntax("IpAddress", said="address")
+            case "Range", [low, high]:
+                return Syntax("INTEGER", f"({low}..{high})", f"{low} to {high}")
+            case "Asks", [low, high, least, most]:
+                return Syntax("INTEGER", f"({low}..{most})", f"{low} to {high}, written {least} to {most}")
+            case "Octets", [low, high] if low == high:
+                return Syntax("OCTET STRING", f"(SIZE ({low}))", f"{low} octets")
+            case "Octets", [low, high]:
+                return Syntax("OCTET STRING", f"(SIZE ({low}..{high}))", f"{low} to {high} octets")
+        raise BadTable(f"{TABLE}: no syntax {text}")
+
+
+@dataclass(frozen=True)
+class Object:
+    name: str
+    node: str
+    place: str
+    number: int
+    access: str
+    syntax: Syntax
+    is_column: bool
+    said: str
+    words: list[tuple[str, str]]
+
+    def in_mib(self) -> str:
+        said = self.said.replace(" (own)", "")
+        choices = ", ".join(f"{word}({number})" for word, number in self.words)
+        values = f"{{ {choices} }}" if choices else self.syntax.bounds
+        return f"""\
+{self.name} OBJECT-TYPE
+{wrapped(f"{self.syntax.type} {values}", "    SYNTAX  ")}
+    ACCESS  {ACCESS[self.access]}
+    STATUS  mandatory
+    DESCRIPTION
+{wrapped(f'"{said}"', "        ")}
+    ::= {{ {self.node[0].lower()}{self.node[1:]} {self.number} }}"""
+
+    def in_profile(self) -> str:
+        place = f"{self.number}" if self.is_column else f"{self.place}.{self.number}"
+        cells = [place, self.name, self.syntax.said, MARKS[self.access], self.said]
+        return "|" + "|".join(f" {cell} " if cell else " " for cell in cells) + "|"
+
+    def words_in_profile(self) -> str:
+        words = ", ".join(f"{word}\0{number}" for word, number in self.words)
+        return wrapped(f"{words}.", f"- {self.name}: ", 2).replace("\0", " ")
+
+
+def wrapped(text: str, begin: str, spaces: int = 8) -> str:
+    """A text whose first line begins with this, and its further ones with so many spaces."""
+    return textwrap.fill(text, WIDTH, initial_indent=begin, subsequent_indent=" " * spaces, break_on_hyphens=False)
+
+
+def read_table(text: str) -> list[Object]:
+    """The rows of `objects`, each with the comment above it."""
+    nodes = {node: numbers.replace(" ∷ ", ".") for node, numbers in NODE.findall(text)}
+    body = text.partition("\nobjects =\n")[2].partition("\n    ∷ []")[0]
+    objects: list[Object] = []
+    said: list[str] = []
+    row = ""
+    for line in [*map(str.strip, body.splitlines()), "--"]:
+        if not line.startswith("--"):
+            row += " " + line
+            continue
+        if row:
+            objects.append(read_row(row, " ".join(said), nodes))
+            said, row = [], ""
+        said.append(line.removeprefix("--").strip())
+    return objects
+
+
+def read_row(row: str, said: str, nodes: dict[str, str]) -> Object:
+    """An object of a row, what is said above it, and the numbers of the nodes."""
+    found = ROW.fullmatch(row.strip().removeprefix("∷").strip())
+    if not found:
+        raise BadTable(f"{TABLE}: no row: {row.strip()}")
+    name, node, number, access, syntax, instances = found.groups()
+    if node not in nodes or access not in ACCESS:
+        raise BadTable(f"{TABLE}: {name} has no such node or access")
+    if not said or '"' in said or "|" in said:
+        raise BadTable(f"{TABLE}: {name} wants a comment above it, without the signs \" and |")
+    said, _, rest = said.partition(" Words: ")
+    words, values = WORD.findall(rest), Syntax.read(syntax)
+    if words and values.bounds != f"({words[0][1]}..{words[-1][1]})":
+        raise BadTable(f"{TABLE}: {name} has words for other numbers than {values.bounds}")
+    return Object(name, node, nodes[node], int(number), access, values, instances == "EachRow", said, words)
+
+
+def mib_objects(objects: list[Object]) -> str:
+    """Each object, and the message table before its columns."""
+    columns = [entry for entry in objects if entry.is_column]
+    sequence = ",\n".join(f"    {column.name}  {column.syntax.type}" for column in columns)
+    blocks = [entry.in_mib() for entry in objects]
+    blocks.insert(objects.index(columns[0]), HEAD % sequence)
+    return "\n\n".join(blocks)
+
+
+def profile_objects(objects: list[Object]) -> str:
+    """The rows of objects that have one instance, and one row for the message table."""
+    rows = [CELLS if entry.is_column else entry.in_profile() for entry in objects]
+    return "\n".join(["| after dms | object | range | | value |", "|---|---|---|---|---|", *dict.fromkeys(rows)])
+
+
+def profile_columns(objects: list[Object]) -> str:
+    """The rows of columns, and the words of numbers."""
+    rows = [entry.in_profile() for entry in objects if entry.is_column]
+    words = [entry.words_in_profile() for entry in objects if entry.words]
+    head = ["| column | object | range | | value |", "|---|---|---|---|---|"]
+    return "\n".join([*head, *rows, "", "Numbers that stand for words:", "", *words])
+
+
+PARTS = (
+    (MIB, "-- the objects, made by tools/objects.py:", "-- the end of what is made", mib_objects),
+    (PROFILE, "<!-- objects, made by tools/objects.py -->", "<!-- the end of objects -->", profile_objects),
+    (PROFILE, "<!-- columns, made by tools/objects.py -->", "<!-- the end of columns -->", profile_columns),
+)
+
+
+def filled(text: str, begin: str, end: str, made: str, name: str) -> str:
+    """A file's text with what is made between these marks."""
+    if text.count(begin) != 1 or text.count(end) != 1:
+        raise BadTable(f"{name}: wants the marks `{begin}` and `{end}` once")
+    before, _, rest = text.partition(begin)
+    return f"{before}{begin}\n\n{made}\n\n{end}{rest.partition(end)[2]}"
+
+
+def main() -> int:
+    words = argparse.ArgumentParser(description=__doc__, formatter_class=argparse.RawDescriptionHelpFormatter)
+    words.add_argument("--check", action="store_true", help="writes nothing, and says what is not up to date")
+    only_checks = words.parse_args().check
+    objects = read_table((TOP / TABLE).read_text(encoding="utf-8"))
+    texts = {name: (TOP / name).read_text(encoding="utf-8") for name in (MIB, PROFILE)}
+    new = dict(texts)
+    for name, begin, end, make in PARTS:
+        new[name] = filled(new[name], begin, end, make(objects), name)
+    old = [name for name in texts if texts[name] != new[name]]
+    for name in old:
+        if only_checks:
+            print(f"{name} is not what tools/objects.py makes of {TABLE}; run it")
+        else:
+            (TOP / name).write_text(new[name], encoding="utf-8")
+    return 1 if only_checks and old else 0
+
+
+if __name__ == "__main__":
+    try:
+        sys.exit(main())
+    except BadTable as fault:
+        sys.exit(str(fault))
