@@ -1,11 +1,15 @@
 //! Measures of the proved libraries beside the same by hand, in one program.
 //!
 //!     measure [TOPIC ..]                      the times of all measures, or of those of these topics
+//!     measure --compare [TOPIC ..]            compares what both answer, octet by octet, and measures nothing
 //!     measure --list [TOPIC ..]               their topics and names
-//!     measure --count TOPIC NAME SIDE TIMES   does a measure so many times, `proved` or `by-hand`, for who counts instructions
+//!     measure --instructions [TOPIC ..]       what measured.py has callgrind count: a part for no calls and one for some
+//!     measure --count TOPIC NAME SIDE TIMES   does a measure so many times, `proved` or `by-hand`, for a profiler
 //!
-//! Each line has the topic, the name, the nanoseconds of a proved call and of one by hand, with tabs between them.
+//! Each line has the topic, the name, the nanoseconds of a proved call and of one by hand, with tabs between them. A measure is taken
+//! after both answered the same.
 
+mod answers;
 mod measure_replay;
 mod measure_sign;
 mod peer;
@@ -15,6 +19,7 @@ mod peer_sign;
 mod peer_text;
 
 use peer_text::Face;
+use std::ffi::{CString, c_char};
 use std::hint::black_box;
 use std::rc::Rc;
 use std::time::Instant;
@@ -26,35 +31,50 @@ const PASSES: usize = 40;
 /// The most calls whose sums are compared before the passes: the sign's measures sum up another octet of the reply in each.
 const COMPARED: u32 = 1_472;
 
-/// How long a pass takes at least, in nanoseconds.
+/// How long the calls of a pass take at least, in nanoseconds, and how many times as long as what is done once before them.
 const PASS_NANOSECONDS: f64 = 2e6;
+const TIMES_WHAT_IS_DONE_ONCE: f64 = 4.0;
+
+/// How long the calls whose instructions are counted take at least, in nanoseconds under callgrind.
+const PASS_COUNTED_NANOSECONDS: f64 = 2e7;
 
 /// Does one thing so many times, and sums what came out.
 pub type Call = Box<dyn Fn(u32) -> u64>;
 
+/// What one thing answers, each octet of it in one number.
+pub type Answer = Box<dyn Fn() -> u64>;
+
 /// A proved call beside the same by hand.
 pub struct Measure {
-    pub topic: &'static str,
-    pub name: String,
-    pub proved: Call,
-    pub by_hand: Call,
+    name: String,
+    proved: Call,
+    by_hand: Call,
+    answers: Option<[Answer; 2]>,
 }
 
 impl Measure {
-    pub fn new(topic: &'static str, name: String, proved: impl Fn(u32) -> u64 + 'static, by_hand: impl Fn(u32) -> u64 + 'static) -> Measure {
-        Measure { topic, name, proved: Box::new(proved), by_hand: Box::new(by_hand) }
+    pub fn new(name: String, proved: impl Fn(u32) -> u64 + 'static, by_hand: impl Fn(u32) -> u64 + 'static) -> Measure {
+        Measure { name, proved: Box::new(proved), by_hand: Box::new(by_hand), answers: None }
+    }
+
+    /// The same, with what the proved call and that by hand answer.
+    pub fn answering(self, proved: impl Fn() -> u64 + 'static, by_hand: impl Fn() -> u64 + 'static) -> Measure {
+        Measure { answers: Some([Box::new(proved), Box::new(by_hand)]), ..self }
+    }
+
+    /// Ends the program where the two sides differ.
+    fn compare(&self, rounds: u32) {
+        if let Some([proved, by_hand]) = &self.answers {
+            assert_eq!(proved(), by_hand(), "what is answered: {}", self.name);
+        }
+        assert_eq!((self.proved)(rounds), (self.by_hand)(rounds), "what is summed: {}", self.name);
     }
 
     /// The nanoseconds of a proved call and of one by hand, without what is done once a pass.
     fn best(&self) -> [f64; 2] {
         let calls = [&self.proved, &self.by_hand];
-        let once = |call: &Call| {
-            let least = |times| (0..5).map(|_| pass(call, times)).fold(f64::INFINITY, f64::min);
-            ((least(20) - least(0)) / 20.0).max(2.0)
-        };
-        let times = calls.map(|call| (PASS_NANOSECONDS / once(call)).ceil() as u32);
-        let rounds = times[0].clamp(3, COMPARED);
-        assert_eq!((self.proved)(rounds), (self.by_hand)(rounds), "{}: {}", self.topic, self.name);
+        let times = calls.map(|call| calls_of_a_pass(call, PASS_NANOSECONDS, TIMES_WHAT_IS_DONE_ONCE));
+        self.compare(times[0].clamp(3, COMPARED));
         let mut best = [[f64::INFINITY; 2]; 2];
         for _ in 0..PASSES {
             for side in 0..2 {
@@ -63,6 +83,21 @@ impl Measure {
             }
         }
         [0, 1].map(|side| (best[side][1] - best[side][0]) / f64::from(times[side]))
+    }
+}
+
+/// How many calls take so long at least, and so many times as long as what is done once before them.
+fn calls_of_a_pass(call: &Call, nanoseconds: f64, times_once: f64) -> u32 {
+    let least = |times| (0..3).map(|_| pass(call, times)).fold(f64::INFINITY, f64::min);
+    let once = least(0);
+    let wanted = nanoseconds.max(times_once * once);
+    let mut times = 4;
+    loop {
+        let took = least(times) - once;
+        if took >= wanted / 8.0 {
+            return (f64::from(times) * wanted / took).ceil() as u32;
+        }
+        times *= 4;
     }
 }
 
@@ -77,25 +112,39 @@ fn pass(call: &Call, times: u32) -> f64 {
 pub type Exported = unsafe extern "C" fn(datagram: *const u8, size: usize, times: u32) -> u64;
 pub type Plain = fn(datagram: &[u8], times: u32) -> u64;
 
-/// A measure over octets.
-pub fn over_octets(topic: &'static str, name: String, octets: Vec<u8>, exported: Exported, plain: Plain) -> Measure {
+/// What is answered over octets.
+pub type AnswerExported = unsafe extern "C" fn(octets: *const u8, size: usize) -> u64;
+pub type AnswerPlain = fn(octets: &[u8]) -> u64;
+
+/// A measure over octets, and what is answered over them.
+pub fn over_octets(name: String, octets: Vec<u8>, (exported, plain): (Exported, Plain), (answer, answer_by_hand): (AnswerExported, AnswerPlain)) -> Measure {
     let octets: Rc<[u8]> = octets.into();
-    let same = octets.clone();
+    let [first, second, third] = [octets.clone(), octets.clone(), octets.clone()];
     // The exports take a slice as its pointer and its length.
     let proved = move |times| unsafe { exported(octets.as_ptr(), octets.len(), times) };
-    Measure::new(topic, name, proved, move |times| plain(&same, times))
+    let measure = Measure::new(name, proved, move |times| plain(&first, times));
+    measure.answering(move || unsafe { answer(second.as_ptr(), second.len()) }, move || answer_by_hand(&third))
 }
 
 /// Does one thing `times` times over a text, on the largest matrix with these fonts, and sums what came out.
 type ExportedOfText = unsafe extern "C" fn(fonts: *const u8, fonts_size: usize, text: *const u8, size: usize, times: u32) -> u64;
+type AnswerOfText = unsafe extern "C" fn(fonts: *const u8, fonts_size: usize, text: *const u8, size: usize) -> u64;
 
-#[link(name = "crc", kind = "static")]
+#[link(name = "counted", kind = "static")]
 unsafe extern "C" {
-    fn bit_by_bit_crc(text: *const u8, size: usize, times: u32) -> u64;
+    fn count_from_here();
+    fn count_to_here(name: *const c_char);
 }
 
 #[link(name = "dms_measures", kind = "static")]
 unsafe extern "C" {
+    fn dms_answers_check(fonts: *const u8, fonts_size: usize, text: *const u8, size: usize) -> u64;
+    fn dms_answers_foreign(datagram: *const u8, size: usize) -> u64;
+    fn dms_answers_pages(fonts: *const u8, fonts_size: usize, text: *const u8, size: usize) -> u64;
+    fn dms_answers_publication(text: *const u8, size: usize) -> u64;
+    fn dms_answers_read(datagram: *const u8, size: usize) -> u64;
+    fn dms_answers_waits(text: *const u8, size: usize, ticks: u32) -> u64;
+    fn dms_answers_write(datagram: *const u8, size: usize) -> u64;
     fn dms_measures_cells(fonts: *const u8, fonts_size: usize, text: *const u8, size: usize, times: u32) -> u64;
     fn dms_measures_centre_command(text: *const u8, size: usize, times: u32) -> u64;
     fn dms_measures_centre_foreign(datagram: *const u8, size: usize, times: u32) -> u64;
@@ -204,103 +253,212 @@ fn foreign() -> [(&'static str, Vec<u8>); 4] {
     ]
 }
 
+/// A call, that by hand, and what both answer, over octets.
+type OverOctets = (&'static str, (Exported, Plain), (AnswerExported, AnswerPlain));
+
+/// What is read of a datagram, and of those that differ from it in an octet or end before it does.
+fn read_changed(datagram: &[u8], read: impl Fn(&[u8]) -> u64) -> u64 {
+    let mut octets = datagram.to_vec();
+    let mut sum = read(datagram);
+    for at in 0..octets.len() {
+        for change in [1, 2, 4, 8, 16, 32, 64, 128, 255] {
+            octets[at] ^= change;
+            sum = answers::noted(sum, read(&octets));
+            octets[at] ^= change;
+        }
+        sum = answers::noted(sum, read(&octets[..at]));
+    }
+    sum
+}
+
+unsafe extern "C" fn read_changed_proved(datagram: *const u8, size: usize) -> u64 {
+    let datagram = unsafe { std::slice::from_raw_parts(datagram, size) };
+    read_changed(datagram, |octets| unsafe { dms_answers_read(octets.as_ptr(), octets.len()) })
+}
+
+fn read_changed_by_hand(datagram: &[u8]) -> u64 {
+    read_changed(datagram, answers::read_noted)
+}
+
 /// Datagrams are read, read and walked, and written.
 fn datagrams() -> Vec<Measure> {
-    let calls: [(&str, Exported, Plain); 3] = [
-        ("read", dms_measures_read, peer::read_times),
-        ("read and walk", dms_measures_walk, peer::walk_times),
-        ("write", dms_measures_write, peer::write_times),
+    let calls: [OverOctets; 3] = [
+        ("read", (dms_measures_read, peer::read_times), (read_changed_proved, read_changed_by_hand)),
+        ("read and walk", (dms_measures_walk, peer::walk_times), (dms_answers_read, answers::read_noted)),
+        ("write", (dms_measures_write, peer::write_times), (dms_answers_write, answers::written)),
     ];
     let all = [("a Get of one binding, 48 octets", GET), ("a GetNext of 205 bindings, 1,472 octets", FULL)];
     let measures = all.iter().flat_map(|(of, digits)| {
-        calls.map(|(call, exported, plain)| over_octets("datagrams", format!("{call}, {of}"), octets_of(digits), exported, plain))
+        calls.map(|(call, timed, answer)| over_octets(format!("{call}, {of}"), octets_of(digits), timed, answer))
     });
     measures.collect()
 }
 
-/// The checksum of texts of several sizes, beside the bit-by-bit form in C.
+/// The checksum of texts of several sizes: what is summed are the checksums.
 fn checksums() -> Vec<Measure> {
-    let by_bits = |text: &[u8], times| unsafe { bit_by_bit_crc(text.as_ptr(), text.len(), times) };
     let sizes = [64, 128, 256, 512];
     let measures = sizes.map(|size| {
-        let text = (0..size).map(|at| (at * 7 + 13) as u8).collect();
-        over_octets("checksum, beside bit by bit in C", format!("{size} octets"), text, dms_measures_crc, by_bits)
+        let text: Rc<[u8]> = (0..size).map(|at| (at * 7 + 13) as u8).collect();
+        let same = text.clone();
+        let proved = move |times| unsafe { dms_measures_crc(text.as_ptr(), text.len(), times) };
+        let by_hand = move |times| (0..times).map(|time| u64::from(peer_sign::crc(black_box(&same), (time % 2) as u8, 0))).sum();
+        Measure::new(format!("{size} octets"), proved, by_hand)
     });
     measures.into()
 }
 
-/// Each text is checked, and its pages made; then every cell of these pages is looked up.
-fn texts() -> Vec<Measure> {
-    let calls: [(&'static str, ExportedOfText, fn(&Face, &[u8], u32) -> u64); 3] = [
-        ("check", dms_measures_check, peer_text::check_times),
-        ("pages", dms_measures_pages, peer_text::pages_times),
-        ("cells of these pages", dms_measures_cells, peer_text::cells_times),
-    ];
+/// A call over each text, that by hand, and what both answer.
+struct OfTexts {
+    exported: ExportedOfText,
+    by_hand: fn(&Face, &[u8], u32) -> u64,
+    answer: AnswerOfText,
+    answer_by_hand: fn(&Face, &[u8]) -> u64,
+    /// Whether texts with a fault are left out.
+    good: bool,
+}
+
+fn texts(call: OfTexts) -> Vec<Measure> {
     let mut measures = Vec::new();
-    for (topic, exported, by_hand) in calls {
-        for Case { name, fonts, text } in cases() {
-            let face = Face::largest(&fonts).expect("fonts");
-            if topic != "check" && peer_text::check(&face, &text).is_err() {
-                continue;
-            }
-            let same = text.clone();
-            let proved = move |times| unsafe { exported(fonts.as_ptr(), fonts.len(), text.as_ptr(), text.len(), times) };
-            measures.push(Measure::new(topic, name, proved, move |times| by_hand(&face, &same, times)));
+    for Case { name, fonts, text } in cases() {
+        let face = Rc::new(Face::largest(&fonts).expect("fonts"));
+        if call.good && peer_text::check(&face, &text).is_err() {
+            continue;
         }
+        let OfTexts { exported, by_hand, answer, answer_by_hand, .. } = call;
+        let octets: Rc<(String, Vec<u8>)> = Rc::new((fonts, text));
+        let [first, second, third] = [octets.clone(), octets.clone(), octets.clone()];
+        let same = face.clone();
+        let proved = move |times| unsafe {
+            let (fonts, text) = &*octets;
+            exported(fonts.as_ptr(), fonts.len(), text.as_ptr(), text.len(), times)
+        };
+        let answered = move || unsafe {
+            let (fonts, text) = &*second;
+            answer(fonts.as_ptr(), fonts.len(), text.as_ptr(), text.len())
+        };
+        let measure = Measure::new(name, proved, move |times| by_hand(&face, &first.1, times));
+        measures.push(measure.answering(answered, move || answer_by_hand(&same, &third.1)));
     }
     measures
+}
+
+/// Each text is checked.
+fn checks() -> Vec<Measure> {
+    let (exported, answer) = (dms_measures_check as ExportedOfText, dms_answers_check as AnswerOfText);
+    texts(OfTexts { exported, by_hand: peer_text::check_times, answer, answer_by_hand: answers::checked, good: false })
+}
+
+/// The pages of each text are made.
+fn pages() -> Vec<Measure> {
+    let (exported, answer) = (dms_measures_pages as ExportedOfText, dms_answers_pages as AnswerOfText);
+    texts(OfTexts { exported, by_hand: peer_text::pages_times, answer, answer_by_hand: answers::drawn, good: true })
+}
+
+/// Each cell of these pages is looked up.
+fn cells() -> Vec<Measure> {
+    let (exported, answer) = (dms_measures_cells as ExportedOfText, dms_answers_pages as AnswerOfText);
+    texts(OfTexts { exported, by_hand: peer_text::cells_times, answer, answer_by_hand: answers::drawn, good: true })
+}
+
+/// What a central system sends while a publication waits for so many ticks.
+fn waits(name: String, text: String, (exported, plain): (Exported, Plain), ticks: u32) -> Measure {
+    let octets: Rc<str> = text.into();
+    let [first, second, third] = [octets.clone(), octets.clone(), octets.clone()];
+    let proved = move |times| unsafe { exported(octets.as_ptr(), octets.len(), times) };
+    let measure = Measure::new(name, proved, move |times| plain(first.as_bytes(), times));
+    let answered = move || unsafe { dms_answers_waits(second.as_ptr(), second.len(), ticks) };
+    measure.answering(answered, move || answers::waited(third.as_bytes(), ticks))
 }
 
 /// The central system: publications, commands with and without ticks, and datagrams that do not answer what waits.
 fn centre() -> Vec<Measure> {
-    let calls: [(&str, Exported, Plain); 4] = [
-        ("a publication", dms_measures_centre_publication, peer_centre::publication_times),
-        ("a command and a restart", dms_measures_centre_command, peer_centre::command_times),
-        ("the same with 2 ticks", dms_measures_centre_ticks, peer_centre::ticks_times),
-        ("the same with a third, which sends again", dms_measures_centre_resend, peer_centre::resend_times),
+    let publication: (Exported, Plain) = (dms_measures_centre_publication, peer_centre::publication_times);
+    let published: (AnswerExported, AnswerPlain) = (dms_answers_publication, answers::published);
+    let calls: [(&str, (Exported, Plain), u32); 3] = [
+        ("a command and a restart", (dms_measures_centre_command, peer_centre::command_times), 0),
+        ("the same with 2 ticks", (dms_measures_centre_ticks, peer_centre::ticks_times), 2),
+        ("the same with a third, which sends again", (dms_measures_centre_resend, peer_centre::resend_times), 3),
     ];
     let of = |call: &str, pieces| format!("{call}, {} octets", text_of(pieces).len());
-    let mut measures = Vec::new();
-    for (call, exported, plain) in calls {
-        measures.extend([0, 1, 2, 4, 8].map(|pieces| over_octets("centre", of(call, pieces), text_of(pieces).into_bytes(), exported, plain)));
+    let sizes = [0, 1, 2, 4, 8];
+    let mut measures: Vec<Measure> =
+        sizes.map(|pieces| over_octets(of("a publication", pieces), text_of(pieces).into_bytes(), publication, published)).into();
+    for (call, timed, ticks) in calls {
+        measures.extend(sizes.map(|pieces| waits(of(call, pieces), text_of(pieces), timed, ticks)));
     }
-    let foreign = foreign().map(|(name, octets)| {
-        over_octets("centre", format!("no answer: {name}"), octets, dms_measures_centre_foreign, peer_centre::foreign_times)
-    });
-    measures.extend(foreign);
+    let timed: (Exported, Plain) = (dms_measures_centre_foreign, peer_centre::foreign_times);
+    let answer: (AnswerExported, AnswerPlain) = (dms_answers_foreign, answers::foreign);
+    measures.extend(foreign().map(|(name, octets)| over_octets(format!("no answer: {name}"), octets, timed, answer)));
     measures
 }
 
-fn measures() -> Vec<Measure> {
-    let text = text_of(8).into_bytes();
-    let texts_of_sign = [1, 2, 4, 8].map(|pieces| text_of(pieces).into_bytes());
-    let signs = [measure_sign::signs(&fonts(), &text), measure_sign::growth(&fonts(), &texts_of_sign)];
-    let ends = [centre(), measure_replay::scripts(&fonts())];
-    [datagrams(), checksums(), texts()].into_iter().chain(signs).chain(ends).flatten().collect()
+/// A topic, and what is measured of it.
+type Topic = (&'static str, fn() -> Vec<Measure>);
+
+const TOPICS: [Topic; 10] = [
+    ("datagrams", datagrams),
+    ("checksum", checksums),
+    ("check", checks),
+    ("pages", pages),
+    ("cells of these pages", cells),
+    ("sign with 1, 2 and 1 rows", || measure_sign::few(&fonts(), text_of(8).as_bytes())),
+    ("sign with 16, 64 and 16 rows", || measure_sign::most(&fonts(), text_of(8).as_bytes())),
+    ("growth of the sign with 1, 2 and 1 rows", || {
+        measure_sign::growth(&fonts(), &[1, 2, 4, 8].map(|pieces| text_of(pieces).into_bytes()))
+    }),
+    ("centre", centre),
+    ("scripts", || measure_replay::scripts(&fonts())),
+];
+
+/// The measures of these topics, or of all.
+fn of_topics(topics: &[&str]) -> impl Iterator<Item = (&'static str, Measure)> {
+    let asked = TOPICS.iter().filter(|(topic, _)| topics.is_empty() || topics.contains(topic));
+    asked.flat_map(|(topic, measures)| measures().into_iter().map(move |measure| (*topic, measure)))
+}
+
+/// Has callgrind count a measure: no calls, and some. It prints how many, for each side.
+fn count_instructions(topic: &str, measure: &Measure) {
+    measure.compare(3);
+    print!("{topic}\t{}", measure.name);
+    for call in [&measure.proved, &measure.by_hand] {
+        let times = calls_of_a_pass(call, PASS_COUNTED_NANOSECONDS, 0.0);
+        for times in [0, times] {
+            let name = CString::new(format!("{topic}/{}/{times}", measure.name)).expect("a name");
+            unsafe { count_from_here() };
+            black_box(call(times));
+            unsafe { count_to_here(name.as_ptr()) };
+        }
+        print!("\t{times}");
+    }
+    println!();
+}
+
+/// Does a measure so many times.
+fn count(topic: &str, name: &str, side: &str, times: &str) {
+    let times = times.parse().expect("a number");
+    let Some((_, measure)) = of_topics(&[topic]).find(|(_, measure)| measure.name == name) else {
+        eprintln!("no such measure: --list names them");
+        process::exit(2);
+    };
+    let call = if side == "by-hand" { measure.by_hand } else { measure.proved };
+    println!("{}", call(times));
 }
 
 fn main() {
     let words: Vec<String> = env::args().skip(1).collect();
     let words: Vec<&str> = words.iter().map(String::as_str).collect();
-    let of_topics = |topics: &[&str]| {
-        let is_asked = |measure: &Measure| topics.is_empty() || topics.contains(&measure.topic);
-        measures().into_iter().filter(is_asked).collect::<Vec<_>>()
-    };
     match words.as_slice() {
-        ["--count", topic, name, side, times] => {
-            let times = times.parse().expect("a number");
-            let Some(measure) = measures().into_iter().find(|measure| measure.topic == *topic && measure.name == *name) else {
-                eprintln!("no such measure: --list names them");
-                process::exit(2);
-            };
-            let call = if *side == "by-hand" { measure.by_hand } else { measure.proved };
-            println!("{}", call(times));
+        ["--count", topic, name, side, times] => count(topic, name, side, times),
+        ["--list", topics @ ..] => of_topics(topics).for_each(|(topic, measure)| println!("{topic}\t{}", measure.name)),
+        ["--instructions", topics @ ..] => of_topics(topics).for_each(|(topic, measure)| count_instructions(topic, &measure)),
+        ["--compare", topics @ ..] => {
+            let compared = of_topics(topics).map(|(_, measure)| measure.compare(3)).count();
+            println!("{compared} measures answer the same");
         }
-        ["--list", topics @ ..] => of_topics(topics).iter().for_each(|measure| println!("{}\t{}", measure.topic, measure.name)),
         topics => {
-            for measure in of_topics(topics) {
+            for (topic, measure) in of_topics(topics) {
                 let [proved, by_hand] = measure.best();
-                println!("{}\t{}\t{proved:.1}\t{by_hand:.1}", measure.topic, measure.name);
+                println!("{topic}\t{}\t{proved:.1}\t{by_hand:.1}", measure.name);
             }
         }
     }

@@ -3,7 +3,7 @@
 use std::fmt::Write;
 
 use crate::peer_sign::crc;
-use crate::{Exported, Measure, Plain, over_octets, peer_replay};
+use crate::{AnswerExported, AnswerPlain, Exported, Measure, Plain, answers, over_octets, peer_replay};
 
 /// How many events a script has.
 const EVENTS: [usize; 4] = [2_500, 5_000, 10_000, 20_000];
@@ -15,6 +15,7 @@ const TEXT: &[u8] = b"ROAD CLOSED";
 
 #[link(name = "dms_measures", kind = "static")]
 unsafe extern "C" {
+    fn dms_answers_replay(script: *const u8, size: usize) -> u64;
     fn dms_measures_script_read(script: *const u8, size: usize, times: u32) -> u64;
     fn dms_measures_script_report(script: *const u8, size: usize, times: u32) -> u64;
     fn dms_measures_script_replay(script: *const u8, size: usize, times: u32) -> u64;
@@ -64,7 +65,8 @@ pub fn scripts(fonts: &str) -> Vec<Measure> {
     let measures = EVENTS.iter().flat_map(|events| {
         let script = script_of(fonts, *events);
         MEASURES.map(|(call, exported, plain)| {
-            over_octets("scripts", format!("{call}, {events} events"), script.clone().into_bytes(), exported, plain)
+            let answer = (dms_answers_replay as AnswerExported, answers::replayed as AnswerPlain);
+            over_octets(format!("{call}, {events} events"), script.clone().into_bytes(), (exported, plain), answer)
         })
     });
     measures.collect()

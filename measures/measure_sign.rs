@@ -1,5 +1,6 @@
 //! Measures of the sign, beside the same of `peer_sign`: scripts of datagrams and seconds, on a sign with few rows and on one with the most.
 
+use crate::answers;
 use crate::peer::{Bind, Kind, MessageParts, Oid, Out, Value, read, write};
 use crate::peer_sign::{Sign, crc, sign_times};
 use crate::peer_text::Face;
@@ -9,10 +10,21 @@ use std::rc::Rc;
 const PERMANENT_TEXT: &[u8] = b"ROAD CLOSED";
 
 /// The numbers of permanent, changeable and volatile rows of the two signs.
-const ROWS: [(usize, usize, usize); 2] = [(1, 2, 1), (16, 64, 16)];
+const FEW: (usize, usize, usize) = (1, 2, 1);
+const MOST: (usize, usize, usize) = (16, 64, 16);
 
 #[link(name = "dms_measures", kind = "static")]
 unsafe extern "C" {
+    fn dms_answers_sign(
+        fonts: *const u8,
+        fonts_size: usize,
+        before: *const u8,
+        before_size: usize,
+        script: *const u8,
+        script_size: usize,
+        changeable: u32,
+    ) -> u64;
+
     #[allow(clippy::too_many_arguments)]
     fn dms_measures_sign(
         fonts: *const u8,
@@ -192,19 +204,36 @@ fn sign_of(fonts: &str, (permanent, changeable, volatile): (usize, usize, usize)
     Sign::new(face, PERMANENT_TEXT, permanent, changeable, volatile)
 }
 
+/// A script for a sign with so many rows: what it is handed once, and then each time.
+struct Script {
+    fonts: String,
+    before: Vec<u8>,
+    each: Vec<u8>,
+    rows: (usize, usize, usize),
+}
+
 /// The measure of a script on a sign with so many rows, the proved one and that by hand.
-fn compared(topic: &'static str, measure: Measure, fonts: &str, rows: (usize, usize, usize)) -> crate::Measure {
-    assert_eq!(measure.last_status(&mut sign_of(fonts, rows)), measure.status, "{} with {rows:?}", measure.name);
-    let scripts: Rc<[Vec<u8>; 2]> = Rc::new([script_of(&measure.before), script_of(&measure.script)]);
-    let (same, fonts): (_, Rc<str>) = (scripts.clone(), fonts.into());
-    let text = fonts.clone();
+fn compared(measure: Measure, fonts: &str, rows: (usize, usize, usize)) -> crate::Measure {
+    let [before, each] = [script_of(&measure.before), script_of(&measure.script)];
+    let script = Rc::new(Script { fonts: fonts.to_string(), before, each, rows });
+    let [first, second, third] = [script.clone(), script.clone(), script.clone()];
     let proved = move |times| unsafe {
-        let [before, script] = &*scripts;
-        let (before, before_size, script, script_size) = (before.as_ptr(), before.len(), script.as_ptr(), script.len());
-        dms_measures_sign(text.as_ptr(), text.len(), before, before_size, script, script_size, rows.1 as u32, times)
+        let Script { fonts, before, each, rows } = &*script;
+        let changeable = rows.1 as u32;
+        dms_measures_sign(fonts.as_ptr(), fonts.len(), before.as_ptr(), before.len(), each.as_ptr(), each.len(), changeable, times)
     };
-    let by_hand = move |times| sign_times(sign_of(&fonts, rows), &same[0], &same[1], times);
-    crate::Measure::new(topic, measure.name, proved, by_hand)
+    let by_hand = move |times| sign_times(sign_of(&first.fonts, first.rows), &first.before, &first.each, times);
+    let answered = move || unsafe {
+        let Script { fonts, before, each, rows } = &*second;
+        dms_answers_sign(fonts.as_ptr(), fonts.len(), before.as_ptr(), before.len(), each.as_ptr(), each.len(), rows.1 as u32)
+    };
+    let name = measure.name.clone();
+    let answered_by_hand = move || {
+        let sign = || sign_of(&third.fonts, third.rows);
+        assert_eq!(measure.last_status(&mut sign()), measure.status, "{} with {:?}", measure.name, third.rows);
+        answers::answered(sign(), &third.before, &third.each)
+    };
+    crate::Measure::new(name, proved, by_hand).answering(answered, answered_by_hand)
 }
 
 /// What is measured at four sizes: of texts, of requests, and of the numbers of rows.
@@ -235,15 +264,17 @@ fn grown(texts: &[Vec<u8>; 4]) -> Vec<Measure> {
 
 /// How the times of the bench sign grow.
 pub fn growth(fonts: &str, texts: &[Vec<u8>; 4]) -> Vec<crate::Measure> {
-    grown(texts).into_iter().map(|measure| compared("growth of the sign with 1, 2 and 1 rows", measure, fonts, ROWS[0])).collect()
+    grown(texts).into_iter().map(|measure| compared(measure, fonts, FEW)).collect()
 }
 
-/// The sign with few rows and with the most.
-pub fn signs(fonts: &str, text: &[u8]) -> Vec<crate::Measure> {
-    let mut all = Vec::new();
-    for (topic, rows) in ["sign with 1, 2 and 1 rows", "sign with 16, 64 and 16 rows"].into_iter().zip(ROWS) {
-        let measures = measures(text, rows == ROWS[1], &mut sign_of(fonts, rows));
-        all.extend(measures.into_iter().map(|measure| compared(topic, measure, fonts, rows)));
-    }
-    all
+/// The sign with few rows.
+pub fn few(fonts: &str, text: &[u8]) -> Vec<crate::Measure> {
+    let measures = measures(text, false, &mut sign_of(fonts, FEW));
+    measures.into_iter().map(|measure| compared(measure, fonts, FEW)).collect()
+}
+
+/// The sign with the most.
+pub fn most(fonts: &str, text: &[u8]) -> Vec<crate::Measure> {
+    let measures = measures(text, true, &mut sign_of(fonts, MOST));
+    measures.into_iter().map(|measure| compared(measure, fonts, MOST)).collect()
 }

@@ -4,22 +4,19 @@
     measures/measured.py [--instructions] [--times] [TOPIC ..]
 
 It runs the program that measures/run.sh builds, crates/dms_measures/out/measure; its `--list` names the topics. Times are the least of
-interleaved passes of two milliseconds. Instructions are counted by callgrind (Debian's package valgrind): those of a run of no
-calls are taken from those of a run of some. They are the same whatever else the machine does. With neither option both are printed.
+interleaved passes of two milliseconds or more. Instructions are counted by callgrind (Debian's package valgrind): those of no calls
+are taken from those of some. They are the same whatever else the machine does. With neither option both are printed.
 """
 
 import argparse
-import concurrent.futures
-import itertools
+import os
 import pathlib
 import re
 import subprocess
+import tempfile
 from dataclasses import dataclass
 
 MEASURE = pathlib.Path(__file__).resolve().parent.parent / "crates/dms_measures/out/measure"
-SIDES = ("proved", "by-hand")
-MOST_CALLS = 400
-ENOUGH = 20_000_000  # instructions of all calls that are counted
 
 
 @dataclass
@@ -35,26 +32,24 @@ def lines(*words: str) -> list[list[str]]:
     return [line.split("\t") for line in ran.stdout.splitlines()]
 
 
-def collected(row: Row, side: str, calls: int) -> int:
-    """The instructions of the whole program with so many calls."""
-    program = [MEASURE, "--count", row.topic, row.name, side, str(calls)]
-    command = ["valgrind", "--tool=callgrind", "--callgrind-out-file=/dev/null", *program]
-    ran = subprocess.run(command, capture_output=True, text=True, check=True)
-    return int(re.search(r"Collected : (\d+)", ran.stderr)[1])
+def parts(folder: pathlib.Path) -> list[int]:
+    """The instructions of each part that callgrind counted, in their order."""
+    files = sorted(folder.glob("out.*.*"), key=lambda file: int(file.name.rsplit(".", 1)[1]))
+    totals = (re.search(r"^(?:totals|summary): (\d+)", file.read_text(encoding="utf-8"), re.M) for file in files)
+    return [int(total[1]) for total in totals if total]
 
 
-def a_call(row: Row, side: str) -> float:
-    """The instructions of a call: of many where they are few."""
-    none = collected(row, side, 0)
-    one = max(1, collected(row, side, 1) - none)
-    calls = max(2, min(MOST_CALLS, ENOUGH // one))
-    return (collected(row, side, calls) - none) / calls
-
-
-def counted(rows: list[Row], at_once: int) -> None:
-    with concurrent.futures.ThreadPoolExecutor(at_once) as pool:
-        for row, *both in zip(rows, *(pool.map(a_call, rows, itertools.repeat(side)) for side in SIDES)):
-            row.instructions = tuple(both)
+def counted(rows: list[Row], topics: list[str]) -> None:
+    """Counts the instructions of a call of each: a part for no calls and one for some, of both sides."""
+    with tempfile.TemporaryDirectory() as folder:
+        options = ["--tool=callgrind", f"--callgrind-out-file={folder}/out.%p", "--dump-line=no"]
+        ran = subprocess.run(["valgrind", *options, MEASURE, "--instructions", *topics], capture_output=True, text=True, check=True)
+        totals = iter(parts(pathlib.Path(folder)))
+        for row, line in zip(rows, ran.stdout.splitlines(), strict=True):
+            _, _, *times = line.split("\t")
+            none_and_some = [(next(totals), next(totals)) for _ in times]
+            proved, by_hand = ((some - none) / int(often) for (none, some), often in zip(none_and_some, times))
+            row.instructions = (proved, by_hand)
 
 
 def cells(figures: tuple[float, float] | None, digits: str) -> list[str]:
@@ -80,15 +75,16 @@ def main() -> None:
     words = argparse.ArgumentParser(description=__doc__, formatter_class=argparse.RawDescriptionHelpFormatter)
     words.add_argument("--instructions", action="store_true", help="instructions alone")
     words.add_argument("--times", action="store_true", help="times alone")
-    words.add_argument("--at-once", type=int, default=2, help="runs of callgrind at once")
     words.add_argument("topics", nargs="*", metavar="TOPIC", help="these topics; else all")
     asked = words.parse_args()
     rows = [Row(topic, name) for topic, name in lines("--list", *asked.topics)]
     if asked.times or not asked.instructions:
-        for row, (_, _, proved, by_hand) in zip(rows, lines(*asked.topics)):
+        before = os.getloadavg()[0]
+        for row, (_, _, proved, by_hand) in zip(rows, lines(*asked.topics), strict=True):
             row.times = (float(proved), float(by_hand))
+        print(f"Times were taken at a load of {before:.0f} to {os.getloadavg()[0]:.0f}.\n")
     if asked.instructions or not asked.times:
-        counted(rows, asked.at_once)
+        counted(rows, asked.topics)
     for topic in dict.fromkeys(row.topic for row in rows):
         print(table(rows, topic))
 

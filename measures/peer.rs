@@ -6,7 +6,7 @@
 pub use measures::{read_times, walk_times, write_times};
 pub use message::{Bind, Binds, Kind, MAX_DATAGRAM, Message, MessageParts, Oid, Value};
 pub use reading::read;
-pub use writing::{Out, size_of_element, size_of_members, size_of_number, size_of_value, write};
+pub use writing::{Out, size_of_element, size_of_number, write};
 
 mod message {
     pub const MAX_DATAGRAM: usize = 1472;
@@ -74,6 +74,8 @@ mod message {
         pub status: i64,
         pub index: i64,
         pub binds: Binds<'a>,
+        /// Whether each length of the bindings is in its shortest form.
+        pub is_shortest: bool,
     }
 
     pub struct MessageParts<'a> {
@@ -117,7 +119,6 @@ mod reading {
             Ok(*first)
         }
 
-        #[inline]
         fn tag(&mut self, wanted: u8) -> Result<(), Fault> {
             match self.octets {
                 [first, rest @ ..] if *first == wanted => {
@@ -129,20 +130,13 @@ mod reading {
             }
         }
 
-        #[inline]
-        fn length(&mut self) -> Result<usize, Fault> {
-            match self.octets {
-                [first @ ..128, rest @ ..] => {
-                    self.octets = rest;
-                    Ok(usize::from(*first))
-                }
-                _ => self.long_length(),
-            }
-        }
-
-        fn long_length(&mut self) -> Result<usize, Fault> {
+        /// A length; `longer` where it is not in its shortest form.
+        fn length(&mut self, longer: &mut bool) -> Result<usize, Fault> {
             let place = self.place();
             let first = self.octet()?;
+            if first < 128 {
+                return Ok(usize::from(first));
+            }
             if first == 128 || first > 132 {
                 return fault(FaultKind::BadLength, place);
             }
@@ -150,13 +144,31 @@ mod reading {
                 return fault(FaultKind::Truncated, self.end);
             };
             self.octets = rest;
+            *longer |= digits[0] == 0 || matches!(digits, [..128]);
             Ok(digits.iter().fold(0, |number, digit| number << 8 | usize::from(*digit)))
         }
 
-        #[inline]
-        fn content(&mut self, past: FaultKind) -> Result<Cursor<'a>, Fault> {
+        #[inline(always)]
+        fn short_content(&mut self, octets: &'a [u8]) -> Option<Cursor<'a>> {
+            let [size @ ..128, rest @ ..] = octets else {
+                return None;
+            };
+            let (octets, rest) = rest.split_at_checked(usize::from(*size))?;
+            self.octets = rest;
+            Some(Cursor { octets, end: self.end - rest.len() })
+        }
+
+        #[inline(always)]
+        fn content(&mut self, past: FaultKind, longer: &mut bool) -> Result<Cursor<'a>, Fault> {
+            match self.short_content(self.octets) {
+                Some(content) => Ok(content),
+                None => self.long_content(past, longer),
+            }
+        }
+
+        fn long_content(&mut self, past: FaultKind, longer: &mut bool) -> Result<Cursor<'a>, Fault> {
             let before = self.place();
-            let count = self.length()?;
+            let count = self.length(longer)?;
             let place = self.place();
             let Some((octets, rest)) = self.octets.split_at_checked(count) else {
                 return fault(past, if past == FaultKind::Truncated { self.end } else { before });
@@ -165,19 +177,33 @@ mod reading {
             Ok(Cursor { octets, end: place + count })
         }
 
-        #[inline]
-        fn element(&mut self, tag: u8) -> Result<Cursor<'a>, Fault> {
-            self.tag(tag)?;
-            self.content(FaultKind::LengthPast)
+        #[inline(always)]
+        fn element(&mut self, tag: u8, longer: &mut bool) -> Result<Cursor<'a>, Fault> {
+            if let [first, rest @ ..] = self.octets
+                && *first == tag
+                && let Some(content) = self.short_content(rest)
+            {
+                return Ok(content);
+            }
+            self.long_element(tag, longer)
         }
 
-        #[inline]
-        fn integer(&mut self) -> Result<i64, Fault> {
+        fn long_element(&mut self, tag: u8, longer: &mut bool) -> Result<Cursor<'a>, Fault> {
+            self.tag(tag)?;
+            self.long_content(FaultKind::LengthPast, longer)
+        }
+
+        #[inline(always)]
+        fn integer(&mut self, longer: &mut bool) -> Result<i64, Fault> {
             if let [2, 1, number, rest @ ..] = self.octets {
                 self.octets = rest;
                 return Ok(i64::from(*number as i8));
             }
-            integer_of(self.element(2)?)
+            self.long_integer(longer)
+        }
+
+        fn long_integer(&mut self, longer: &mut bool) -> Result<i64, Fault> {
+            integer_of(self.element(2, longer)?)
         }
 
         #[inline]
@@ -186,37 +212,47 @@ mod reading {
         }
     }
 
+    /// The number of these octets, where it is in its shortest form and from -2^31 to 2^32 - 1.
     #[inline]
-    fn integer_of(content: Cursor<'_>) -> Result<i64, Fault> {
-        let octets = content.octets;
-        let shortest = match octets {
-            [] => false,
-            [0, second, ..] => *second >= 128,
-            [255, second, ..] => *second < 128,
-            _ => true,
+    fn number_in(octets: &[u8]) -> Option<i64> {
+        let (number, shortest) = match *octets {
+            [a] => return Some(i64::from(a as i8)),
+            [a, b] => {
+                let number = i16::from_be_bytes([a, b]);
+                (i64::from(number), number != i16::from(b as i8))
+            }
+            [a, b, c] => {
+                let number = i32::from_be_bytes([a, b, c, 0]) >> 8;
+                (i64::from(number), number != i32::from(number as i16))
+            }
+            [a, b, c, d] => {
+                let number = i32::from_be_bytes([a, b, c, d]);
+                (i64::from(number), number != number << 8 >> 8)
+            }
+            [0, a @ 128..=255, b, c, d] => return Some(i64::from(u32::from_be_bytes([a, b, c, d]))),
+            _ => return None,
         };
-        if !shortest || octets.len() > 5 {
-            return fault(FaultKind::BadInteger, content.place());
-        }
-        let start = if octets[0] >= 128 { -1 } else { 0 };
-        let value = octets.iter().fold(start, |number: i64, octet| number << 8 | i64::from(*octet));
-        if value < -(1 << 31) || value >= 1 << 32 {
-            return fault(FaultKind::BadInteger, content.place());
-        }
-        Ok(value)
+        shortest.then_some(number)
     }
 
     #[inline]
-    fn natural_of(content: Cursor<'_>) -> Result<u32, Fault> {
-        let value = integer_of(content)?;
-        u32::try_from(value).or(fault(FaultKind::BadInteger, content.place()))
+    fn integer_of(content: Cursor<'_>) -> Result<i64, Fault> {
+        match number_in(content.octets) {
+            Some(number) => Ok(number),
+            None => fault(FaultKind::BadInteger, content.place()),
+        }
+    }
+
+    #[inline]
+    fn natural_of(content: Cursor<'_>) -> Result<(), Fault> {
+        if integer_of(content)? >= 0 { Ok(()) } else { fault(FaultKind::BadInteger, content.place()) }
     }
 
     /// The octets that the names of a sign begin with: nine sub-identifiers.
     const DMS: [u8; 10] = [43, 6, 1, 4, 1, 137, 54, 4, 2, 3];
 
     /// How many sub-identifiers these octets are; none where they are not whole ones in the shortest form, below 2^32.
-    #[inline]
+    #[inline(always)]
     fn sub_identifiers(octets: &[u8]) -> Option<usize> {
         let mut count = 0;
         let mut number: u32 = 0;
@@ -233,89 +269,85 @@ mod reading {
         (number == 0).then_some(count)
     }
 
-    #[inline]
-    fn name_of(content: Cursor<'_>) -> Result<Oid<'_>, Fault> {
-        let octets = content.octets;
+    #[inline(always)]
+    fn is_name(octets: &[u8]) -> bool {
         let count = match octets.strip_prefix(&DMS) {
             Some(rest) => sub_identifiers(rest).map(|count| count + 9),
             None => sub_identifiers(octets),
         };
-        match count {
-            Some(1..=127) => Ok(Oid { content: octets }),
-            _ => fault(FaultKind::BadName, content.place()),
-        }
+        matches!(count, Some(1..=127))
     }
 
-    #[inline]
-    fn value_of<'a>(cursor: &mut Cursor<'a>) -> Result<Value<'a>, Fault> {
-        if let [5, 0] = cursor.octets {
-            cursor.octets = &[];
-            return Ok(Value::Null);
-        }
+    #[inline(always)]
+    fn name_of(content: Cursor<'_>) -> Result<(), Fault> {
+        if is_name(content.octets) { Ok(()) } else { fault(FaultKind::BadName, content.place()) }
+    }
+
+    fn value(cursor: &mut Cursor<'_>, longer: &mut bool) -> Result<(), Fault> {
         let place = cursor.place();
         let tag = cursor.octet()?;
         if !matches!(tag, 2 | 4 | 5 | 6 | 64..=68) {
             return fault(FaultKind::BadTag, place);
         }
         let before = cursor.place();
-        let content = cursor.content(FaultKind::LengthPast)?;
-        Ok(match tag {
-            2 => Value::Integer(integer_of(content)?),
-            4 => Value::Octets(content.octets),
-            5 => match content.octets {
-                [] => Value::Null,
-                _ => return fault(FaultKind::BadLength, before),
-            },
-            6 => Value::Name(name_of(content)?),
-            64 => match content.octets {
-                [a, b, c, d] => Value::Address([*a, *b, *c, *d]),
-                _ => return fault(FaultKind::BadLength, before),
-            },
-            65 => Value::Counter(natural_of(content)?),
-            66 => Value::Gauge(natural_of(content)?),
-            67 => Value::Ticks(natural_of(content)?),
-            _ => Value::Opaque(content.octets),
-        })
+        let content = cursor.content(FaultKind::LengthPast, longer)?;
+        match tag {
+            2 => integer_of(content).map(drop),
+            5 if !content.octets.is_empty() => fault(FaultKind::BadLength, before),
+            6 => name_of(content),
+            64 if content.octets.len() != 4 => fault(FaultKind::BadLength, before),
+            65..=67 => natural_of(content),
+            _ => Ok(()),
+        }
     }
 
-    #[inline]
-    fn binding<'a>(cursor: &mut Cursor<'a>) -> Result<Bind<'a>, Fault> {
-        let mut content = cursor.element(48)?;
-        let name = name_of(content.element(6)?)?;
-        let value = value_of(&mut content)?;
-        content.ended()?;
-        Ok(Bind { name, value })
+    /// The name of a binding with short lengths and no value, and what follows the binding.
+    #[inline(always)]
+    fn null_binding(octets: &[u8]) -> Option<(&[u8], &[u8])> {
+        let [48, members @ ..128, 6, size @ ..128, rest @ ..] = octets else {
+            return None;
+        };
+        let (name, rest) = rest.split_at_checked(usize::from(*size))?;
+        match rest {
+            [5, 0, rest @ ..] if *members == *size + 4 => Some((name, rest)),
+            _ => None,
+        }
+    }
+
+    fn binding(cursor: &mut Cursor<'_>, longer: &mut bool) -> Result<(), Fault> {
+        let mut content = cursor.element(48, longer)?;
+        name_of(content.element(6, longer)?)?;
+        value(&mut content, longer)?;
+        content.ended()
     }
 
     /// The content of the element that the octets begin with, and what follows it: they were read before.
     #[inline]
     fn cut(octets: &[u8]) -> (&[u8], &[u8]) {
-        let first = octets[1] as usize;
-        if first < 128 {
-            return octets[2..].split_at(first);
+        match octets {
+            [_, first @ ..128, rest @ ..] => rest.split_at(usize::from(*first)),
+            _ => long_cut(octets),
         }
-        let (digits, rest) = octets[2..].split_at(first - 128);
-        rest.split_at(digits.iter().fold(0, |number, digit| number << 8 | *digit as usize))
     }
 
-    #[inline]
-    fn number_of(octets: &[u8]) -> i64 {
-        let start = if octets[0] >= 128 { -1 } else { 0 };
-        octets.iter().fold(start, |number: i64, octet| number << 8 | i64::from(*octet))
+    fn long_cut(octets: &[u8]) -> (&[u8], &[u8]) {
+        let (digits, rest) = octets[2..].split_at(usize::from(octets[1] - 128));
+        rest.split_at(digits.iter().fold(0, |number, digit| number << 8 | usize::from(*digit)))
     }
 
     #[inline]
     fn known_value(octets: &[u8]) -> Value<'_> {
         let (content, _) = cut(octets);
+        let number = || number_in(content).unwrap_or(0);
         match octets[0] {
-            2 => Value::Integer(number_of(content)),
+            2 => Value::Integer(number()),
             4 => Value::Octets(content),
             5 => Value::Null,
             6 => Value::Name(Oid { content }),
             64 => Value::Address([content[0], content[1], content[2], content[3]]),
-            65 => Value::Counter(number_of(content) as u32),
-            66 => Value::Gauge(number_of(content) as u32),
-            67 => Value::Ticks(number_of(content) as u32),
+            65 => Value::Counter(number() as u32),
+            66 => Value::Gauge(number() as u32),
+            67 => Value::Ticks(number() as u32),
             _ => Value::Opaque(content),
         }
     }
@@ -323,6 +355,7 @@ mod reading {
     impl<'a> Iterator for Binds<'a> {
         type Item = Bind<'a>;
 
+        #[inline]
         fn next(&mut self) -> Option<Bind<'a>> {
             if self.content.is_empty() {
                 return None;
@@ -334,12 +367,20 @@ mod reading {
         }
     }
 
-    fn bindings(mut cursor: Cursor<'_>) -> Result<Binds<'_>, Fault> {
-        let content = cursor.octets;
-        while !cursor.octets.is_empty() {
-            binding(&mut cursor)?;
+    impl<'a> Binds<'a> {
+        /// The content octets of the names.
+        #[inline]
+        pub fn names(self) -> impl Iterator<Item = &'a [u8]> {
+            let mut rest = self.content;
+            std::iter::from_fn(move || {
+                if rest.is_empty() {
+                    return None;
+                }
+                let (members, more) = cut(rest);
+                rest = more;
+                Some(cut(members).0)
+            })
         }
-        Ok(Binds { content })
     }
 
     fn kind_of(tag: u8) -> Option<Kind> {
@@ -356,39 +397,55 @@ mod reading {
         if octets.len() > MAX_DATAGRAM {
             return fault(FaultKind::TooLong, MAX_DATAGRAM);
         }
+        let (mut longer, mut bindings_longer) = (false, false);
         let mut datagram = Cursor { octets, end: octets.len() };
         datagram.tag(48)?;
-        let mut inside = datagram.content(FaultKind::Truncated)?;
-        let version = inside.element(2)?;
-        if integer_of(version)? != 0 {
-            return fault(FaultKind::BadVersion, version.place());
+        let mut inside = datagram.content(FaultKind::Truncated, &mut longer)?;
+        if let [2, 1, 0, rest @ ..] = inside.octets {
+            inside.octets = rest;
+        } else {
+            let version = inside.element(2, &mut longer)?;
+            if integer_of(version)? != 0 {
+                return fault(FaultKind::BadVersion, version.place());
+            }
         }
-        let community = inside.element(4)?.octets;
+        let community = inside.element(4, &mut longer)?.octets;
         let place = inside.place();
         let Some(kind) = kind_of(inside.octet()?) else {
             return fault(FaultKind::BadTag, place);
         };
-        let mut pdu = inside.content(FaultKind::LengthPast)?;
-        let request = pdu.integer()?;
-        let status = pdu.integer()?;
-        let index = pdu.integer()?;
-        let binds = bindings(pdu.element(48)?)?;
+        let mut pdu = inside.content(FaultKind::LengthPast, &mut longer)?;
+        let request = pdu.integer(&mut longer)?;
+        let status = pdu.integer(&mut longer)?;
+        let index = pdu.integer(&mut longer)?;
+        let mut bindings = pdu.element(48, &mut longer)?;
+        let binds = Binds { content: bindings.octets };
+        while !bindings.octets.is_empty() {
+            match null_binding(bindings.octets) {
+                Some((name, rest)) if is_name(name) => bindings.octets = rest,
+                _ => binding(&mut bindings, &mut bindings_longer)?,
+            }
+        }
         pdu.ended()?;
         inside.ended()?;
         datagram.ended()?;
-        Ok(Message { community, kind, request, status, index, binds })
+        Ok(Message { community, kind, request, status, index, binds, is_shortest: !bindings_longer })
     }
 }
 
 mod writing {
     use super::message::*;
 
-    /// The most octets by which a head of short lengths is shorter than the room that is left for it.
-    const SHORTER: usize = 6;
+    /// The room before the bindings: that of the longest heads and three numbers, and of most communities.
+    const BEFORE: usize = 96;
 
-    /// A datagram to send, from `start` to `end`.
+    /// The room for the octets of a number that are written at once with those that count.
+    const BEHIND: usize = 8;
+
+    /// A datagram to send, from `start` to `end`: its bindings are written one behind the other, and then what stands before them
+    /// from the last octet to the first, so that each length is known when it is written.
     pub struct Out {
-        octets: [u8; MAX_DATAGRAM + SHORTER],
+        octets: [u8; BEFORE + MAX_DATAGRAM + BEHIND],
         start: usize,
         end: usize,
     }
@@ -397,31 +454,17 @@ mod writing {
 
     impl Out {
         pub fn new() -> Out {
-            Out { octets: [0; MAX_DATAGRAM + SHORTER], start: 0, end: 0 }
+            Out { octets: [0; BEFORE + MAX_DATAGRAM + BEHIND], start: BEFORE, end: BEFORE }
         }
 
+        #[inline]
         pub fn as_slice(&self) -> &[u8] {
             &self.octets[self.start..self.end]
         }
 
+        #[inline]
         pub fn clear(&mut self) {
-            (self.start, self.end) = (0, 0);
-        }
-
-        /// Leaves room for a head of so many octets: what is written next stands behind it.
-        #[inline]
-        pub fn leave_head(&mut self, octets: usize) {
-            (self.start, self.end) = (octets, octets);
-        }
-
-        /// Writes a head of so many octets before what stands here.
-        #[inline]
-        pub fn put_head(&mut self, octets: usize, write: impl FnOnce(&mut Out)) {
-            let end = self.end;
-            self.start -= octets;
-            self.end = self.start;
-            write(self);
-            self.end = end;
+            (self.start, self.end) = (BEFORE, BEFORE);
         }
 
         /// Holds these octets, which are a datagram's.
@@ -443,7 +486,7 @@ mod writing {
         }
 
         #[inline]
-        pub fn head(&mut self, tag: u8, size: usize) {
+        fn head(&mut self, tag: u8, size: usize) {
             match size {
                 0..128 => self.put([tag, size as u8]),
                 128..256 => self.put([tag, 129, size as u8]),
@@ -452,27 +495,26 @@ mod writing {
         }
 
         #[inline]
-        pub fn element(&mut self, tag: u8, content: &[u8]) {
+        fn element(&mut self, tag: u8, content: &[u8]) {
             self.head(tag, content.len());
             self.extend(content);
         }
 
         #[inline]
-        pub fn number(&mut self, tag: u8, number: i64) {
+        fn number(&mut self, tag: u8, number: i64) {
             let size = size_of_number(number);
-            if size == 1 {
-                return self.put([tag, 1, number as u8]);
-            }
             self.put([tag, size as u8]);
-            self.extend(&number.to_be_bytes()[8 - size..]);
+            let shifted = (number << (64 - 8 * size)).to_be_bytes();
+            self.octets[self.end..self.end + 8].copy_from_slice(&shifted);
+            self.end += size;
         }
 
         #[inline]
-        pub fn value(&mut self, value: &Value<'_>) {
+        fn value(&mut self, value: &Value<'_>) {
             match value {
                 Value::Integer(number) => self.number(2, *number),
                 Value::Octets(octets) => self.element(4, octets),
-                Value::Null => self.head(5, 0),
+                Value::Null => self.put([5, 0]),
                 Value::Name(name) => self.element(6, name.content),
                 Value::Address(octets) => self.element(64, octets),
                 Value::Counter(number) => self.number(65, i64::from(*number)),
@@ -481,12 +523,82 @@ mod writing {
                 Value::Opaque(octets) => self.element(68, octets),
             }
         }
+
+        /// Writes a binding behind the others, where at most so many octets of bindings are written then; whether they are.
+        #[inline]
+        pub fn push(&mut self, name: &[u8], value: &Value<'_>, most: usize) -> bool {
+            let members = size_of_element(name.len()) + size_of_value(value);
+            if self.end + size_of_element(members) > BEFORE + most {
+                return false;
+            }
+            self.head(48, members);
+            self.element(6, name);
+            self.value(value);
+            true
+        }
+
+        #[inline]
+        fn put_before<const N: usize>(&mut self, octets: [u8; N]) {
+            self.start -= N;
+            self.octets[self.start..self.start + N].copy_from_slice(&octets);
+        }
+
+        /// Writes the head of an element of so many octets before them.
+        #[inline]
+        fn head_before(&mut self, tag: u8, size: usize) {
+            match size {
+                0..128 => self.put_before([tag, size as u8]),
+                128..256 => self.put_before([tag, 129, size as u8]),
+                _ => self.put_before([tag, 130, (size >> 8) as u8, size as u8]),
+            }
+        }
+
+        #[inline]
+        fn number_before(&mut self, number: i64) {
+            let size = size_of_number(number);
+            self.octets[self.start - 8..self.start].copy_from_slice(&number.to_be_bytes());
+            self.start -= size;
+            self.put_before([2, size as u8]);
+        }
+
+        /// Moves what is written to the end of the room, as a long community wants it.
+        #[cold]
+        fn move_back(&mut self) {
+            let start = BEFORE + MAX_DATAGRAM - (self.end - self.start);
+            self.octets.copy_within(self.start..self.end, start);
+            (self.start, self.end) = (start, BEFORE + MAX_DATAGRAM);
+        }
+
+        /// Writes what stands before the bindings of a message, which are written; whether it is a datagram.
+        pub fn finish(&mut self, community: &[u8], tag: u8, request: i64, status: i64, index: i64) -> bool {
+            self.head_before(48, self.end - self.start);
+            if let (0..128, 0..128) = (status, index) {
+                self.put_before([2, 1, status as u8, 2, 1, index as u8]);
+            } else {
+                self.number_before(index);
+                self.number_before(status);
+            }
+            self.number_before(request);
+            self.head_before(tag, self.end - self.start);
+            if self.start < 12 + community.len() {
+                self.move_back();
+                if self.start < 12 + community.len() {
+                    return false;
+                }
+            }
+            self.start -= community.len();
+            self.octets[self.start..self.start + community.len()].copy_from_slice(community);
+            self.head_before(4, community.len());
+            self.put_before([2, 1, 0]);
+            self.head_before(48, self.end - self.start);
+            self.end - self.start <= MAX_DATAGRAM
+        }
     }
 
     /// How many octets a number takes in two's complement.
     #[inline]
     pub fn size_of_number(number: i64) -> usize {
-        let bits = 64 - (if number < 0 { !number } else { number }).leading_zeros() as usize;
+        let bits = 64 - (number ^ number >> 63).leading_zeros() as usize;
         bits / 8 + 1
     }
 
@@ -502,7 +614,7 @@ mod writing {
     }
 
     #[inline]
-    pub fn size_of_value(value: &Value<'_>) -> usize {
+    fn size_of_value(value: &Value<'_>) -> usize {
         size_of_element(match value {
             Value::Integer(number) => size_of_number(*number),
             Value::Octets(octets) | Value::Opaque(octets) => octets.len(),
@@ -515,49 +627,16 @@ mod writing {
         })
     }
 
-    #[inline]
-    pub fn size_of_members(bind: &Bind<'_>) -> usize {
-        size_of_element(bind.name.content.len()) + size_of_value(&bind.value)
-    }
-
     pub fn write(parts: &MessageParts<'_>, out: &mut Out) -> Result<(), TooBig> {
         out.clear();
-        let mut list = 0;
-        for bind in parts.binds {
-            list += size_of_element(size_of_members(bind));
-            if list > MAX_DATAGRAM {
-                return Err(TooBig);
-            }
-        }
-        let numbers = [parts.request, parts.status, parts.index];
-        let pdu = numbers.iter().map(|number| size_of_element(size_of_number(*number))).sum::<usize>()
-            + size_of_element(list);
-        let inside = 3 + size_of_element(parts.community.len()) + size_of_element(pdu);
-        if size_of_element(inside) > MAX_DATAGRAM {
-            return Err(TooBig);
-        }
-        out.head(48, inside);
-        out.number(2, 0);
-        out.element(4, parts.community);
-        out.head(
-            match parts.kind {
-                Kind::Get => 160,
-                Kind::GetNext => 161,
-                Kind::Response => 162,
-                Kind::Set => 163,
-            },
-            pdu,
-        );
-        for number in numbers {
-            out.number(2, number);
-        }
-        out.head(48, list);
-        for bind in parts.binds {
-            out.head(48, size_of_members(bind));
-            out.element(6, bind.name.content);
-            out.value(&bind.value);
-        }
-        Ok(())
+        let tag = match parts.kind {
+            Kind::Get => 160,
+            Kind::GetNext => 161,
+            Kind::Response => 162,
+            Kind::Set => 163,
+        };
+        let fit = parts.binds.iter().all(|bind| out.push(bind.name.content, &bind.value, MAX_DATAGRAM));
+        if fit && out.finish(parts.community, tag, parts.request, parts.status, parts.index) { Ok(()) } else { Err(TooBig) }
     }
 }
 

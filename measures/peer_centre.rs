@@ -4,8 +4,9 @@
 
 #![forbid(unsafe_code)]
 
-pub use centre::{Centre, Command, Outcome, Publication};
+pub use centre::{Centre, Command, Ended, Outcome, Publication};
 pub use codes::{Activation, Order};
+pub use measures::{REQUESTS, new_centre, publication, replies_to};
 pub use measures::{command_times, foreign_times, publication_times, resend_times, ticks_times};
 
 mod codes {
@@ -478,16 +479,19 @@ mod centre {
         }
 
         fn give_up(&mut self, outcome: Outcome) {
-            for entry in &mut self.ledger {
-                if entry.outcome == Outcome::Waiting {
-                    entry.outcome = outcome;
-                }
+            // At most one entry waits, and it is the last.
+            if let Some(entry) = self.ledger.last_mut()
+                && entry.outcome == Outcome::Waiting
+            {
+                entry.outcome = outcome;
             }
         }
 
         fn decide(&mut self, outcome: Outcome) {
-            if let Ok(at) = self.ledger.binary_search_by_key(&self.pending.number, |entry| entry.number) {
-                self.ledger[at].outcome = outcome;
+            if let Some(entry) = self.ledger.last_mut()
+                && entry.number == self.pending.number
+            {
+                entry.outcome = outcome;
             }
         }
 
@@ -565,9 +569,9 @@ mod measures {
     use std::array;
     use std::hint::black_box;
 
-    const REQUESTS: usize = 7;
+    pub const REQUESTS: usize = 7;
 
-    fn publication(text: &[u8]) -> Command<'_> {
+    pub fn publication(text: &[u8]) -> Command<'_> {
         Command::Publish(Publication {
             memory: CHANGEABLE,
             number: 1,
@@ -582,7 +586,7 @@ mod measures {
         })
     }
 
-    fn new_centre() -> Option<Centre> {
+    pub fn new_centre() -> Option<Centre> {
         Centre::new(black_box(b"admin"), Order::High, 1)
     }
 
@@ -607,7 +611,7 @@ mod measures {
         let _ = write(&parts, reply);
     }
 
-    fn replies_to(text: &[u8]) -> Option<[Out; REQUESTS]> {
+    pub fn replies_to(text: &[u8]) -> Option<[Out; REQUESTS]> {
         let mut centre = new_centre()?;
         let mut replies = array::from_fn(|_| Out::new());
         let mut request = Out::new();

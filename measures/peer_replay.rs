@@ -4,12 +4,10 @@
 
 #![forbid(unsafe_code)]
 
-use std::fmt::Write;
-
 use crate::peer::Out;
 use crate::peer_centre::{Activation, Centre, Command, Order, Outcome, Publication};
 use crate::peer_sign::{Sign, Shows};
-use crate::peer_text::Face;
+use crate::peer_text::{Face, Fonts, digit};
 
 const LONGEST_INPUT: usize = 1_048_576;
 
@@ -41,20 +39,11 @@ struct Script {
 
 /// A number of at most so many digits, in its range.
 fn number<T: TryFrom<u64>>(word: &[u8], digits: usize) -> Option<T> {
-    if word.is_empty() || word.len() > digits || !word.iter().all(u8::is_ascii_digit) {
+    if word.is_empty() || word.len() > digits {
         return None;
     }
-    let value = word.iter().fold(0_u64, |value, digit| 10 * value + u64::from(digit - b'0'));
+    let value = word.iter().try_fold(0, |value, digit| digit.is_ascii_digit().then(|| 10 * value + u64::from(digit - b'0')))?;
     T::try_from(value).ok()
-}
-
-fn digit(octet: u8) -> Option<u8> {
-    match octet {
-        b'0'..=b'9' => Some(octet - b'0'),
-        b'a'..=b'f' => Some(octet - b'a' + 10),
-        b'A'..=b'F' => Some(octet - b'A' + 10),
-        _ => None,
-    }
 }
 
 fn pairs(word: &[u8]) -> Option<Vec<u8>> {
@@ -88,33 +77,51 @@ fn code(word: &[u8]) -> Option<Activation> {
     Some(Activation { minutes: two(0), priority: code[2], memory: code[3], number: two(4), crc: two(6), address })
 }
 
-fn event(line: &[u8]) -> Option<Event> {
-    let mut words: [&[u8]; 12] = [&[]; 12];
-    let mut count = 0;
-    for word in line.split(|octet| *octet == b' ') {
-        *words.get_mut(count)? = word;
-        count += 1;
+/// The words of a line's rest, as many as there have to be.
+fn words<const N: usize>(rest: &[u8]) -> Option<[&[u8]; N]> {
+    let mut found: [&[u8]; N] = [&[]; N];
+    let mut words = rest.split(|octet| *octet == b' ');
+    for word in &mut found {
+        *word = words.next()?;
     }
-    match words[..count] {
-        [b"publish", memory, row, text, owner, beacon, pixel, run, minutes, priority, address] => Some(Event::Publish {
-            memory: number(memory, 5)?,
-            number: number(row, 5)?,
-            text: octets(text)?,
-            owner: octets(owner)?,
-            beacon: number(beacon, 5)?,
-            pixel: number(pixel, 5)?,
-            run_priority: number(run, 5)?,
-            terms: terms([minutes, priority, address])?,
-        }),
-        [b"blank", row, minutes, priority, address] => {
-            Some(Event::Blank { number: number(row, 5)?, terms: terms([minutes, priority, address])? })
-        }
-        [b"activate", word] => Some(Event::Activate(code(word)?)),
-        [b"sign-tick"] => Some(Event::SignTick),
-        [b"centre-tick"] => Some(Event::CentreTick),
-        [b"to-sign", place] => Some(Event::ToSign(number(place, 10)?)),
-        [b"to-centre", place] => Some(Event::ToCentre(number(place, 10)?)),
-        [b"centre-restart"] => Some(Event::CentreRestart),
+    words.next().is_none().then_some(found)
+}
+
+fn publish(rest: &[u8]) -> Option<Event> {
+    let [memory, row, text, owner, beacon, pixel, run, minutes, priority, address] = words(rest)?;
+    Some(Event::Publish {
+        memory: number(memory, 5)?,
+        number: number(row, 5)?,
+        text: octets(text)?,
+        owner: octets(owner)?,
+        beacon: number(beacon, 5)?,
+        pixel: number(pixel, 5)?,
+        run_priority: number(run, 5)?,
+        terms: terms([minutes, priority, address])?,
+    })
+}
+
+fn blank(rest: &[u8]) -> Option<Event> {
+    let [row, minutes, priority, address] = words(rest)?;
+    Some(Event::Blank { number: number(row, 5)?, terms: terms([minutes, priority, address])? })
+}
+
+fn event(line: &[u8]) -> Option<Event> {
+    let Some(space) = line.iter().position(|octet| *octet == b' ') else {
+        return match line {
+            b"sign-tick" => Some(Event::SignTick),
+            b"centre-tick" => Some(Event::CentreTick),
+            b"centre-restart" => Some(Event::CentreRestart),
+            _ => None,
+        };
+    };
+    let rest = &line[space + 1..];
+    match &line[..space] {
+        b"to-sign" => Some(Event::ToSign(number(rest, 10)?)),
+        b"to-centre" => Some(Event::ToCentre(number(rest, 10)?)),
+        b"publish" => publish(rest),
+        b"blank" => blank(rest),
+        b"activate" => Some(Event::Activate(code(rest)?)),
         _ => None,
     }
 }
@@ -139,7 +146,7 @@ fn script(text: &[u8]) -> Option<Script> {
         (lines.next()? == fixed.as_bytes()).then_some(())?;
     }
     let first = number(lines.next()?.strip_prefix(b"first ")?, 10)?;
-    let (mut permanent, mut text, mut fonts) = (0, Vec::new(), String::new());
+    let (mut permanent, mut text, mut fonts) = (0, Vec::new(), Fonts::default());
     loop {
         let line = lines.next()?;
         if line == b"end" {
@@ -149,11 +156,10 @@ fn script(text: &[u8]) -> Option<Script> {
             text = octets(row.split(|octet| *octet == b' ').next()?)?;
             permanent += 1;
         } else {
-            fonts.push_str(str::from_utf8(line).ok()?);
-            fonts.push('\n');
+            fonts.add_line(line)?;
         }
     }
-    let sign = Sign::new(Face::largest(&fonts)?, &text, permanent, changeable.into(), volatile.into());
+    let sign = Sign::new(Face::with(fonts), &text, permanent, changeable.into(), volatile.into());
     Some(Script { sign, first, events: lines.map(event).collect::<Option<_>>()? })
 }
 
@@ -231,49 +237,75 @@ fn run(world: &mut World, events: &[Event]) {
 
 // ---- the report
 
-fn put_octets(report: &mut String, octets: &[u8]) {
+fn put_octets(report: &mut Vec<u8>, octets: &[u8]) {
     const DIGITS: &[u8; 16] = b"0123456789abcdef";
     for octet in octets {
-        report.push(char::from(DIGITS[usize::from(octet >> 4)]));
-        report.push(char::from(DIGITS[usize::from(octet & 15)]));
+        report.extend_from_slice(&[DIGITS[usize::from(octet >> 4)], DIGITS[usize::from(octet & 15)]]);
     }
 }
 
-fn report(world: &World, events: usize) -> Result<String, std::fmt::Error> {
-    let mut report = String::new();
-    writeln!(report, "events {events}\nsent {} {}", world.to_sign.len(), world.to_centre.len())?;
-    let Shows { source: [memory, high, low, crc @ ..], mode, priority, minutes, text } = world.sign.shows();
-    write!(report, "shown {memory} {} ", u16::from_be_bytes([high, low]))?;
-    put_octets(&mut report, &crc);
-    write!(report, " mode {mode} priority {priority} remaining {minutes} text ")?;
-    if text.is_empty() {
-        report.push('-');
-    }
-    put_octets(&mut report, text);
-    report.push('\n');
-    for (number, code) in &world.accepted {
-        write!(report, "accepted {number} ")?;
-        put_octets(&mut report, code);
-        report.push('\n');
-    }
-    for entry in world.centre.ledger() {
-        write!(report, "ledger {} ", entry.number)?;
-        put_octets(&mut report, &entry.code.to_bytes(Order::High));
-        match entry.outcome {
-            Outcome::Waiting => writeln!(report, " waiting")?,
-            Outcome::Accepted => writeln!(report, " accepted")?,
-            Outcome::Refused(status) => writeln!(report, " refused {status}")?,
-            Outcome::NoReply => writeln!(report, " noreply")?,
-            Outcome::Unknown => writeln!(report, " unknown")?,
+/// Writes a word or several, and a number behind them.
+fn put_number(report: &mut Vec<u8>, words: &[u8], number: u64) {
+    report.extend_from_slice(words);
+    let mut digits = [0; 20];
+    let mut start = digits.len();
+    let mut rest = number;
+    loop {
+        start -= 1;
+        digits[start] = b'0' + (rest % 10) as u8;
+        rest /= 10;
+        if rest == 0 {
+            break;
         }
     }
-    Ok(report)
+    report.extend_from_slice(&digits[start..]);
+}
+
+fn put_outcome(report: &mut Vec<u8>, outcome: Outcome) {
+    match outcome {
+        Outcome::Waiting => report.extend_from_slice(b" waiting\n"),
+        Outcome::Accepted => report.extend_from_slice(b" accepted\n"),
+        Outcome::Refused(status) => report.extend_from_slice(format!(" refused {status}\n").as_bytes()),
+        Outcome::NoReply => report.extend_from_slice(b" noreply\n"),
+        Outcome::Unknown => report.extend_from_slice(b" unknown\n"),
+    }
+}
+
+fn report(world: &World, events: usize) -> Vec<u8> {
+    let mut report = Vec::new();
+    put_number(&mut report, b"events ", events as u64);
+    put_number(&mut report, b"\nsent ", world.to_sign.len() as u64);
+    put_number(&mut report, b" ", world.to_centre.len() as u64);
+    let Shows { source: [memory, high, low, crc @ ..], mode, priority, minutes, text } = world.sign.shows();
+    put_number(&mut report, b"\nshown ", memory.into());
+    put_number(&mut report, b" ", u16::from_be_bytes([high, low]).into());
+    report.push(b' ');
+    put_octets(&mut report, &crc);
+    put_number(&mut report, b" mode ", mode.into());
+    put_number(&mut report, b" priority ", priority.into());
+    put_number(&mut report, b" remaining ", minutes.into());
+    report.extend_from_slice(if text.is_empty() { b" text -" } else { b" text " });
+    put_octets(&mut report, text);
+    report.push(b'\n');
+    for (number, code) in &world.accepted {
+        put_number(&mut report, b"accepted ", *number as u64);
+        report.push(b' ');
+        put_octets(&mut report, code);
+        report.push(b'\n');
+    }
+    for entry in world.centre.ledger() {
+        put_number(&mut report, b"ledger ", entry.number.into());
+        report.push(b' ');
+        put_octets(&mut report, &entry.code.to_bytes(Order::High));
+        put_outcome(&mut report, entry.outcome);
+    }
+    report
 }
 
 // ---- the measures
 
-fn weight(octets: &[u8]) -> u64 {
-    octets.iter().fold(octets.len() as u64, |sum, octet| sum.wrapping_mul(3).wrapping_add(u64::from(*octet)))
+fn glance(octets: &[u8], time: u32) -> u64 {
+    octets.len() as u64 + u64::from(octets.get(time as usize % 256).copied().unwrap_or(0))
 }
 
 pub fn read_times(text: &[u8], times: u32) -> u64 {
@@ -288,21 +320,23 @@ pub fn report_times(text: &[u8], times: u32) -> u64 {
         return 0;
     };
     run(&mut world, &events);
-    let one = || report(std::hint::black_box(&world), events.len()).map_or(0, |report| weight(report.as_bytes()));
-    (0..times).fold(0_u64, |sum, _| sum.wrapping_add(one()))
+    let one = |time| glance(&report(std::hint::black_box(&world), events.len()), time);
+    (0..times).fold(0_u64, |sum, time| sum.wrapping_add(one(time)))
+}
+
+/// The report of a script that is read from a stream.
+pub fn replayed(text: &[u8]) -> Option<Vec<u8>> {
+    let mut input = Vec::new();
+    let mut reader = std::io::Read::take(std::hint::black_box(text), LONGEST_INPUT as u64 + 1);
+    std::io::Read::read_to_end(&mut reader, &mut input).ok()?;
+    let Script { sign, first, events } = script(&input)?;
+    let mut world = World::new(sign, first)?;
+    run(&mut world, &events);
+    let mut written = Vec::new();
+    std::io::Write::write_all(&mut written, &report(&world, events.len())).ok()?;
+    Some(written)
 }
 
 pub fn replay_times(text: &[u8], times: u32) -> u64 {
-    let one = || {
-        let mut input = Vec::new();
-        let mut reader = std::io::Read::take(std::hint::black_box(text), LONGEST_INPUT as u64 + 1);
-        std::io::Read::read_to_end(&mut reader, &mut input).ok()?;
-        let Script { sign, first, events } = script(&input)?;
-        let mut world = World::new(sign, first)?;
-        run(&mut world, &events);
-        let mut written = Vec::new();
-        std::io::Write::write_all(&mut written, report(&world, events.len()).ok()?.as_bytes()).ok()?;
-        Some(weight(&written))
-    };
-    (0..times).fold(0_u64, |sum, _| sum.wrapping_add(one().unwrap_or(0)))
+    (0..times).fold(0_u64, |sum, time| sum.wrapping_add(replayed(text).map_or(0, |report| glance(&report, time))))
 }

@@ -1,7 +1,7 @@
 //! A sign by hand in plain Rust: the same objects, requests, rows, activations and seconds as the proved sign, over the reader and the
 //! writer of `peer` and the texts of `peer_text`. Its defaults are those of the face; a SET of them is not among the measures.
 
-use crate::peer::{Bind, Binds, Kind, MAX_DATAGRAM, Message, Out, Value, read, size_of_element, size_of_members, size_of_number, size_of_value};
+use crate::peer::{Bind, Kind, MAX_DATAGRAM, Message, Out, Value, read, size_of_element, size_of_number};
 use crate::peer_text::{self, Code, Face};
 use std::hint::black_box;
 
@@ -18,15 +18,14 @@ const BLANK: u8 = 7;
 /// The defaults, in the order of their objects.
 const DEFAULTS: [u8; 9] = [0, 9, 5, 5, 1, 3, 2, 30, 0];
 
-/// The groups and numbers of the objects before dmsMessageTable, and after it.
-const BEFORE_TABLE: [(u8, u8); 19] = [
+/// The groups and numbers of the objects, in their order, and of dmsMessageTable, which stands among them.
+const OBJECTS: [(u16, u16); 36] = [
     (2, 3), (2, 4), (4, 1), (4, 2), (4, 3), (4, 4), (4, 5), (4, 6), (4, 7), (4, 8), (4, 9), (4, 11), (5, 1), (5, 2), (5, 3), (5, 4), (5, 5),
-    (5, 6), (5, 7),
+    (5, 6), (5, 7), (5, 9), (6, 3), (6, 4), (6, 5), (6, 6), (6, 7), (6, 8), (6, 9), (6, 10), (6, 12), (6, 13), (6, 14), (6, 15), (6, 17),
+    (6, 18), (6, 19), (6, 24),
 ];
-const AFTER_TABLE: [(u8, u8); 17] = [
-    (5, 9), (6, 3), (6, 4), (6, 5), (6, 6), (6, 7), (6, 8), (6, 9), (6, 10), (6, 12), (6, 13), (6, 14), (6, 15), (6, 17), (6, 18), (6, 19),
-    (6, 24),
-];
+const TABLE: (u16, u16) = (5, 8);
+const BEHIND_TABLE: (u16, u16) = (5, 9);
 
 #[derive(Clone, Copy, PartialEq)]
 enum Status {
@@ -73,18 +72,6 @@ struct Row {
     under: [u8; 9],
 }
 
-/// A row as it is read.
-#[derive(Clone, Copy)]
-struct View<'a> {
-    text: &'a [u8],
-    owner: &'a [u8],
-    beacon: u8,
-    pixel: u8,
-    priority: u8,
-    status: Status,
-    checksum: u16,
-}
-
 impl Row {
     fn unused() -> Row {
         let (text, owner) = (Vec::with_capacity(512), Vec::with_capacity(127));
@@ -95,10 +82,50 @@ impl Row {
         Row { text: text.to_vec(), priority: 100, status: Status::Valid, checksum: crc(text, 0, 0), ..Row::unused() }
     }
 
-    fn view(&self) -> View<'_> {
-        let checksum = if self.status == Status::Valid { self.checksum } else { 0 };
-        let Row { beacon, pixel, priority, status, .. } = *self;
-        View { text: &self.text, owner: &self.owner, beacon, pixel, priority, status, checksum }
+    /// What a column from the third on reads.
+    #[inline]
+    fn column(&self, column: u8) -> Value<'_> {
+        match column {
+            3 => Value::Octets(&self.text),
+            4 => Value::Octets(&self.owner),
+            5 if self.status != Status::Valid => integer(0),
+            5 => integer(self.checksum.into()),
+            6 => integer(self.beacon.into()),
+            7 => integer(self.pixel.into()),
+            8 => integer(self.priority.into()),
+            _ => integer(self.status as usize),
+        }
+    }
+}
+
+/// The rows of a type of memory, and how many of them have each status.
+struct Rows {
+    rows: Vec<Row>,
+    with_status: [usize; 6],
+}
+
+impl Rows {
+    fn of(rows: Vec<Row>) -> Rows {
+        let mut with_status = [0; 6];
+        rows.iter().for_each(|row| with_status[row.status as usize] += 1);
+        Rows { rows, with_status }
+    }
+
+    fn get(&self, number: u8) -> Option<&Row> {
+        self.rows.get(usize::from(number).wrapping_sub(1))
+    }
+
+    fn count(&self, status: Status) -> usize {
+        self.with_status[status as usize]
+    }
+
+    /// Has the row enter a status.
+    fn enter(&mut self, number: u8, status: Status) {
+        if let Some(row) = self.rows.get_mut(usize::from(number).wrapping_sub(1)) {
+            self.with_status[row.status as usize] -= 1;
+            self.with_status[status as usize] += 1;
+            row.status = status;
+        }
     }
 }
 
@@ -110,26 +137,21 @@ enum Instance {
 
 /// A name's content octets.
 struct Name {
-    octets: [u8; 20],
+    octets: [u8; 17],
     len: usize,
 }
 
 impl Name {
+    #[inline]
     fn of(instance: Instance) -> Name {
-        let mut octets = [0; 20];
-        octets[..10].copy_from_slice(&DMS);
-        let len = match instance {
-            Instance::Object(group, number) => {
-                octets[10..13].copy_from_slice(&[group, number, 0]);
-                13
-            }
-            Instance::Cell(column, RowId { memory, number }) if number < 128 => {
-                octets[10..16].copy_from_slice(&[5, 8, 1, column, memory, number]);
-                16
+        let [a, b, c, d, e, f, g, h, i, j] = DMS;
+        let (octets, len) = match instance {
+            Instance::Object(group, number) => ([a, b, c, d, e, f, g, h, i, j, group, number, 0, 0, 0, 0, 0], 13),
+            Instance::Cell(column, RowId { memory, number: number @ ..128 }) => {
+                ([a, b, c, d, e, f, g, h, i, j, 5, 8, 1, column, memory, number, 0], 16)
             }
             Instance::Cell(column, RowId { memory, number }) => {
-                octets[10..17].copy_from_slice(&[5, 8, 1, column, memory, 129, number - 128]);
-                17
+                ([a, b, c, d, e, f, g, h, i, j, 5, 8, 1, column, memory, 129, number & 127], 17)
             }
         };
         Name { octets, len }
@@ -149,166 +171,106 @@ fn numbers(content: &[u8]) -> impl Iterator<Item = u32> {
     })
 }
 
-/// How many rows there are of each type of memory.
+/// How many rows there are of each type of memory that is stored.
 #[derive(Clone, Copy)]
 struct Counts {
-    permanent: usize,
-    changeable: usize,
-    volatile: usize,
+    permanent: u8,
+    changeable: u8,
+    volatile: u8,
 }
 
 impl Counts {
-    fn rows(&self) -> usize {
-        self.permanent + self.changeable + self.volatile + 256
-    }
-
-    fn places(&self) -> usize {
-        36 + 9 * self.rows()
-    }
-
-    /// The rows before those of a type of memory, and how many it has.
-    fn span(&self, memory: u8) -> Option<(usize, usize)> {
-        let stored = self.permanent + self.changeable + self.volatile;
+    /// The last number of a row of a type of memory, or 0.
+    #[inline]
+    fn last(&self, memory: u8) -> u8 {
         match memory {
-            PERMANENT => Some((0, self.permanent)),
-            CHANGEABLE => Some((self.permanent, self.changeable)),
-            VOLATILE => Some((self.permanent + self.changeable, self.volatile)),
-            CURRENT_BUFFER => Some((stored, 1)),
-            BLANK => Some((stored + 1, 255)),
-            _ => None,
+            PERMANENT => self.permanent,
+            CHANGEABLE => self.changeable,
+            VOLATILE => self.volatile,
+            CURRENT_BUFFER => 1,
+            BLANK => 255,
+            _ => 0,
         }
     }
 
-    fn cell_place(&self, column: u8, memory: u8, number: u8) -> Option<usize> {
-        let (before, count) = self.span(memory)?;
-        if !(1..=9).contains(&column) || number == 0 || usize::from(number) > count {
-            return None;
-        }
-        Some(19 + (usize::from(column) - 1) * self.rows() + before + usize::from(number) - 1)
+    #[inline]
+    fn cell(&self, column: u8, memory: u8, number: u8) -> Option<Instance> {
+        let is = (1..=9).contains(&column) && number != 0 && number <= self.last(memory);
+        is.then_some(Instance::Cell(column, RowId { memory, number }))
     }
 
-    /// The place of the instance of this name.
-    fn place(&self, content: &[u8]) -> Option<usize> {
-        match *content.strip_prefix(&DMS)? {
-            [5, 8, 1, column, memory, number] if number < 128 => self.cell_place(column, memory, number),
-            [5, 8, 1, column, memory, 129, number] if number < 128 => self.cell_place(column, memory, number + 128),
-            [group, number, 0] => {
-                let after = 19 + 9 * self.rows();
-                let number_ = usize::from(number);
-                match (group, number) {
-                    (2, 3..=4) => Some(number_ - 3),
-                    (4, 1..=9) => Some(number_ + 1),
-                    (4, 11) => Some(11),
-                    (5, 1..=7) => Some(number_ + 11),
-                    (5, 9) => Some(after),
-                    (6, 3..=10) => Some(after + number_ - 2),
-                    (6, 12..=15) => Some(after + number_ - 3),
-                    (6, 17..=19) => Some(after + number_ - 4),
-                    (6, 24) => Some(after + 16),
-                    _ => None,
-                }
-            }
-            _ => None,
-        }
-    }
-
-    fn at(&self, place: usize) -> Instance {
-        let rows = self.rows();
-        if place < 19 {
-            let (group, number) = BEFORE_TABLE[place];
-            return Instance::Object(group, number);
-        }
-        if place >= 19 + 9 * rows {
-            let (group, number) = AFTER_TABLE[place - 19 - 9 * rows];
-            return Instance::Object(group, number);
-        }
-        let column = ((place - 19) / rows + 1) as u8;
-        let row = (place - 19) % rows;
-        let changeable = self.permanent + self.changeable;
-        let stored = changeable + self.volatile;
-        let (memory, before) = if row < self.permanent {
-            (PERMANENT, 0)
-        } else if row < changeable {
-            (CHANGEABLE, self.permanent)
-        } else if row < stored {
-            (VOLATILE, changeable)
-        } else if row == stored {
-            (CURRENT_BUFFER, stored)
-        } else {
-            (BLANK, stored + 1)
-        };
-        Instance::Cell(column, RowId { memory, number: (row - before + 1) as u8 })
-    }
-
+    /// The instance of this name.
+    #[inline]
     fn named(&self, content: &[u8]) -> Option<Instance> {
-        self.place(content).map(|place| self.at(place))
-    }
-
-    /// The rows of all types of memory that come before each row with a greater type, or this type and a greater number.
-    fn rows_up_to(&self, memory: u32, number: u32) -> usize {
-        let stored = self.permanent + self.changeable + self.volatile;
-        let within = |before: usize, count: usize| before + count.min(number as usize);
-        match memory {
-            0..2 => 0,
-            2 => within(0, self.permanent),
-            3 => within(self.permanent, self.changeable),
-            4 => within(self.permanent + self.changeable, self.volatile),
-            5 => within(stored, 1),
-            6 => stored + 1,
-            7 => within(stored + 1, 255),
-            _ => stored + 256,
+        match *content.strip_prefix(&DMS)? {
+            [5, 8, 1, column, memory, number @ ..128] => self.cell(column, memory, number),
+            [5, 8, 1, column, memory, 129, number @ ..128] => self.cell(column, memory, number + 128),
+            [group, number, 0] => matches!(
+                (group, number),
+                (2, 3..=4) | (4, 1..=9 | 11) | (5, 1..=7 | 9) | (6, 3..=10 | 12..=15 | 17..=19 | 24)
+            )
+            .then_some(Instance::Object(group, number)),
+            _ => None,
         }
     }
 
-    /// How many instances of the table are not after the name with these numbers behind the table's.
-    fn cells_up_to(&self, mut rest: impl Iterator<Item = u32>) -> usize {
-        match rest.next() {
-            None | Some(0) => return 0,
-            Some(1) => {}
-            Some(_) => return 9 * self.rows(),
-        }
-        let column = rest.next().unwrap_or(0) as usize;
-        if column == 0 {
-            return 0;
-        }
-        if column > 9 {
-            return 9 * self.rows();
-        }
-        let rows = rest.next().map_or(0, |memory| self.rows_up_to(memory, rest.next().unwrap_or(0)));
-        (column - 1) * self.rows() + rows
-    }
-
-    /// The place of the first instance after a name that is none: where it first differs from the names that there are tells it.
-    fn place_after(&self, content: &[u8]) -> usize {
-        let Some(rest) = content.strip_prefix(&DMS) else {
-            return if numbers(content).lt(numbers(&DMS)) || DMS.starts_with(content) { 0 } else { self.places() };
-        };
-        let mut rest = numbers(rest);
-        let group = rest.next().unwrap_or(0).min(255) as u8;
-        let Some(number) = rest.next() else {
-            return self.objects_before((group, 0));
-        };
-        let number = number.min(255) as u8;
-        if (group, number) == (5, 8) {
-            return BEFORE_TABLE.len() + self.cells_up_to(rest);
-        }
-        let before = self.objects_before((group, number));
-        let is_object = BEFORE_TABLE.contains(&(group, number)) || AFTER_TABLE.contains(&(group, number));
-        before + usize::from(is_object && rest.next().is_some())
-    }
-
-    /// How many instances there are of objects before this one.
-    fn objects_before(&self, object: (u8, u8)) -> usize {
-        match BEFORE_TABLE.partition_point(|before| *before < object) {
-            19 if object > (5, 8) => 19 + 9 * self.rows() + AFTER_TABLE.partition_point(|before| *before < object),
-            before => before,
-        }
-    }
-
-    /// The first instance after this name.
+    /// The first instance after this name: where it first differs from the names that there are tells it.
+    #[inline]
     fn next(&self, content: &[u8]) -> Option<Instance> {
-        let place = self.place(content).map_or_else(|| self.place_after(content), |place| place + 1);
-        (place < self.places()).then(|| self.at(place))
+        let Some(rest) = content.strip_prefix(&DMS) else {
+            return self.next_of_others(content);
+        };
+        match *rest {
+            [5, 8, 1, column @ 1..=9, memory @ ..128, number @ ..128] => self.cell_after(column, memory, number),
+            [5, 8, 1, column @ 1..=9, memory @ ..128, 129, number @ ..128] => self.cell_after(column, memory, number + 128),
+            _ => self.next_below(numbers(rest)),
+        }
+    }
+
+    fn next_of_others(&self, content: &[u8]) -> Option<Instance> {
+        let is_before = numbers(content).lt(numbers(&DMS)) || DMS.starts_with(content);
+        if is_before { self.object_from((0, 0)) } else { None }
+    }
+
+    fn next_below(&self, mut rest: impl Iterator<Item = u32>) -> Option<Instance> {
+        let mut next = || rest.next().map(|number| number.min(255) as u16);
+        let group = next().unwrap_or(0);
+        let Some(number) = next() else {
+            return self.object_from((group, 0));
+        };
+        match next() {
+            None => self.object_from((group, number)),
+            Some(0) if (group, number) == TABLE => self.object_from(TABLE),
+            Some(1) if (group, number) == TABLE => match next() {
+                None | Some(0) => self.object_from(TABLE),
+                Some(column @ 1..=9) => self.cell_after(column as u8, next().unwrap_or(0) as u8, next().unwrap_or(0) as u8),
+                Some(_) => self.object_from(BEHIND_TABLE),
+            },
+            Some(_) => self.object_from((group, number + 1)),
+        }
+    }
+
+    /// The first instance of an object that is not before this one.
+    fn object_from(&self, object: (u16, u16)) -> Option<Instance> {
+        let place = OBJECTS.partition_point(|before| *before < object);
+        match OBJECTS.get(place) {
+            Some(&BEHIND_TABLE) if object <= TABLE => self.cell_after(1, 0, 0),
+            Some((group, number)) => Some(Instance::Object(*group as u8, *number as u8)),
+            None => None,
+        }
+    }
+
+    /// The first instance after that of this number in a column, whether there is a row of this number or not.
+    #[inline]
+    fn cell_after(&self, column: u8, memory: u8, number: u8) -> Option<Instance> {
+        let (mut memory, mut number) = (memory, number);
+        while memory <= BLANK {
+            if number < self.last(memory) {
+                return Some(Instance::Cell(column, RowId { memory, number: number + 1 }));
+            }
+            (memory, number) = (memory + 1, 0);
+        }
+        if column < 9 { self.cell_after(column + 1, 0, 0) } else { self.object_from(BEHIND_TABLE) }
     }
 }
 
@@ -345,9 +307,9 @@ pub struct Shows<'a> {
 pub struct Sign {
     face: Face,
     counts: Counts,
-    permanent: Vec<Row>,
-    changeable: Vec<Row>,
-    volatile: Vec<Row>,
+    permanent: Rows,
+    changeable: Rows,
+    volatile: Rows,
     validating: Option<RowId>,
     shown: Shown,
     source: [u8; 5],
@@ -388,25 +350,28 @@ struct Refusal {
     status: i64,
 }
 
-/// The names of a SET's bindings that were met, each marked by a bit of its octets.
-struct Names<'a> {
-    binds: Binds<'a>,
-    met: usize,
-    marks: [u64; 16],
-}
+/// A bit for each instance that can be set: eight for a row, in the order of the rows, and those of the objects.
+struct Marks([u64; 11]);
 
-impl Names<'_> {
-    /// Whether a name was met before. It is from now on.
-    fn had(&mut self, content: &[u8]) -> bool {
-        let slot = content.iter().rev().take(4).fold(0_usize, |slot, octet| slot * 9 + usize::from(*octet)) % 1024;
+impl Marks {
+    /// Whether an instance was met before. It is from now on.
+    #[inline]
+    fn had(&mut self, instance: Instance) -> bool {
+        let slot = match instance {
+            Instance::Object(_, number) => 640 + usize::from(number),
+            Instance::Cell(column, RowId { memory, number }) => {
+                8 * (64 * usize::from(memory == VOLATILE) + usize::from(number) - 1) + usize::from(column) - 2
+            }
+        };
         let (word, bit) = (slot / 64, 1_u64 << (slot % 64));
-        let is_marked = self.marks[word] & bit != 0;
-        let had = is_marked && self.binds.take(self.met).any(|before| before.name.content == content);
-        self.marks[word] |= bit;
-        self.met += 1;
+        let had = self.0[word] & bit != 0;
+        self.0[word] |= bit;
         had
     }
 }
+
+/// The tag of a Response.
+const RESPONSE: u8 = 162;
 
 const TOO_BIG: i64 = 1;
 const NO_SUCH_NAME: i64 = 2;
@@ -500,7 +465,8 @@ pub fn crc(text: &[u8], beacon: u8, pixel: u8) -> u16 {
     !text.iter().chain([&beacon, &pixel]).fold(u16::MAX, after)
 }
 
-fn syntax_number(code: Code) -> u8 {
+/// The number of a fault in dmsMultiSyntaxError.
+pub fn syntax_number(code: Code) -> u8 {
     match code {
         Code::Tag => 3,
         Code::Value => 4,
@@ -517,20 +483,16 @@ fn integer<'a>(number: usize) -> Value<'a> {
     Value::Integer(number as i64)
 }
 
-fn count_of(rows: &[Row], status: Status) -> usize {
-    rows.iter().filter(|row| row.status == status).count()
-}
-
 impl Sign {
     /// A sign with so many rows, each permanent one with this text.
     pub fn new(face: Face, text: &[u8], permanent: usize, changeable: usize, volatile: usize) -> Sign {
-        let rows = |count| (0..count).map(|_| Row::unused()).collect();
+        let rows = |count| Rows::of((0..count).map(|_| Row::unused()).collect());
         let (blank, owner) = (Vec::with_capacity(512), Vec::with_capacity(127));
         let code = [BLANK, 0, 1, 0, 0];
         Sign {
             face,
-            counts: Counts { permanent, changeable, volatile },
-            permanent: (0..permanent).map(|_| Row::permanent(text)).collect(),
+            counts: Counts { permanent: permanent as u8, changeable: changeable as u8, volatile: volatile as u8 },
+            permanent: Rows::of((0..permanent).map(|_| Row::permanent(text)).collect()),
             changeable: rows(changeable),
             volatile: rows(volatile),
             validating: None,
@@ -561,54 +523,63 @@ impl Sign {
         }
     }
 
-    fn rows(&self, memory: u8) -> &[Row] {
+    /// A row that is stored.
+    #[inline]
+    fn row(&self, id: RowId) -> Option<&Row> {
+        match id.memory {
+            PERMANENT => self.permanent.get(id.number),
+            CHANGEABLE => self.changeable.get(id.number),
+            VOLATILE => self.volatile.get(id.number),
+            _ => None,
+        }
+    }
+
+    /// The rows that can be written of this type of memory.
+    #[inline]
+    fn written(&mut self, memory: u8) -> Option<&mut Rows> {
         match memory {
-            PERMANENT => &self.permanent,
-            CHANGEABLE => &self.changeable,
-            VOLATILE => &self.volatile,
-            _ => &[],
+            CHANGEABLE => Some(&mut self.changeable),
+            VOLATILE => Some(&mut self.volatile),
+            _ => None,
         }
     }
 
     fn row_mut(&mut self, id: RowId) -> Option<&mut Row> {
-        let rows = match id.memory {
-            CHANGEABLE => &mut self.changeable,
-            VOLATILE => &mut self.volatile,
-            _ => return None,
-        };
-        rows.get_mut(usize::from(id.number).checked_sub(1)?)
+        self.written(id.memory)?.rows.get_mut(usize::from(id.number).wrapping_sub(1))
     }
 
-    fn view(&self, id: RowId) -> Option<View<'_>> {
-        match id.memory {
-            BLANK if id.number > 0 => {
-                Some(View { text: &[], owner: &[], beacon: 0, pixel: 0, priority: id.number, status: Status::Valid, checksum: 0 })
-            }
-            CURRENT_BUFFER if id.number == 1 => {
-                let Shown { text, owner, beacon, pixel, priority, checksum, .. } = &self.shown;
-                Some(View { text, owner, beacon: *beacon, pixel: *pixel, priority: *priority, status: Status::Valid, checksum: *checksum })
-            }
-            _ => self.rows(id.memory).get(usize::from(id.number).checked_sub(1)?).map(Row::view),
+    #[inline]
+    fn cell(&self, column: u8, id: RowId) -> Option<Value<'_>> {
+        match (column, id.memory) {
+            (1, memory) => Some(integer(memory.into())),
+            (2, _) => Some(integer(id.number.into())),
+            (_, BLANK) => Some(blank_cell(column, id.number)),
+            (_, CURRENT_BUFFER) => Some(self.shown.column(column)),
+            _ => self.row(id).map(|row| row.column(column)),
         }
     }
 
+    #[inline]
     fn value(&self, instance: Instance) -> Option<Value<'_>> {
-        let (group, number) = match instance {
-            Instance::Object(group, number) => (group, number),
-            Instance::Cell(column, id) => return Some(cell(column, id, self.view(id)?)),
-        };
+        match instance {
+            Instance::Object(group, number) => self.object(group, number),
+            Instance::Cell(column, id) => self.cell(column, id),
+        }
+    }
+
+    fn object(&self, group: u8, number: u8) -> Option<Value<'_>> {
         Some(match (group, number) {
             (2, 3) => integer(64),
             (2, 4) => integer(256),
             (4, 11) => integer(3),
             (4, number) => integer(usize::from(self.defaults[usize::from(number) - 1])),
-            (5, 1) => integer(self.permanent.len()),
-            (5, 2) => integer(count_of(&self.changeable, Status::Valid)),
-            (5, 3) => integer(self.changeable.len()),
-            (5, 4) => integer(512 * count_of(&self.changeable, Status::NotUsed)),
-            (5, 5) => integer(count_of(&self.volatile, Status::Valid)),
-            (5, 6) => integer(self.volatile.len()),
-            (5, 7) => integer(512 * count_of(&self.volatile, Status::NotUsed)),
+            (5, 1) => integer(self.permanent.rows.len()),
+            (5, 2) => integer(self.changeable.count(Status::Valid)),
+            (5, 3) => integer(self.changeable.rows.len()),
+            (5, 4) => integer(512 * self.changeable.count(Status::NotUsed)),
+            (5, 5) => integer(self.volatile.count(Status::Valid)),
+            (5, 6) => integer(self.volatile.rows.len()),
+            (5, 7) => integer(512 * self.volatile.count(Status::NotUsed)),
             (5, 9) => integer(self.validate_error.into()),
             (6, 3) => Value::Octets(&self.accepted_code),
             (6, 4) => integer(self.shown.remaining.map_or(65535, |seconds| seconds.div_ceil(60)) as usize),
@@ -664,12 +635,12 @@ impl Sign {
         true
     }
 
-    fn read_values(&mut self, message: &Message<'_>, next: bool, out: &mut Out) {
-        let room = room_before(message, 0, 0);
-        out.leave_head(room);
+    fn read_values(&self, message: &Message<'_>, next: bool, out: &mut Out) {
+        let most = MAX_DATAGRAM.saturating_sub(room_before(message));
         let mut fits = true;
-        for (bind, index) in message.binds.zip(1..) {
-            let content = bind.name.content;
+        let mut index = 0;
+        for content in message.binds.names() {
+            index += 1;
             let instance = if next { self.counts.next(content) } else { self.counts.named(content) };
             let Some(instance) = instance else {
                 return repeat(message, NO_SUCH_NAME, index, out);
@@ -681,23 +652,22 @@ impl Sign {
                 return repeat(message, NO_SUCH_NAME, index, out);
             };
             fits = if next {
-                push(out, room, Name::of(instance).content(), &value)
+                out.push(Name::of(instance).content(), &value, most)
             } else {
-                push(out, room, content, &value)
+                out.push(content, &value, most)
             };
         }
-        if fits {
-            head(message, 0, 0, out);
-        } else {
+        if !fits || !out.finish(message.community, RESPONSE, message.request, 0, 0) {
             repeat(message, TOO_BIG, 0, out);
         }
     }
 
-    fn change_at<'a>(&self, names: &mut Names<'a>, commanded: bool, bind: &Bind<'a>) -> Result<Change<'a>, i64> {
+    #[inline]
+    fn change_at<'a>(&self, marks: &mut Marks, commanded: bool, bind: &Bind<'a>) -> Result<Change<'a>, i64> {
         let instance = self.counts.named(bind.name.content).ok_or(NO_SUCH_NAME)?;
         let change = Change::of(instance, &bind.value).or(Err(NO_SUCH_NAME))?.ok_or(BAD_VALUE)?;
-        let is_among = names.had(bind.name.content);
-        let is_refused = change.row().is_some_and(|id| self.view(id).is_none_or(|row| row.status != Status::Modifying));
+        let is_among = marks.had(instance);
+        let is_refused = change.row().is_some_and(|id| self.row(id).is_none_or(|row| row.status != Status::Modifying));
         if is_among || commanded && change.is_command() || is_refused {
             return Err(GEN_ERR);
         }
@@ -707,9 +677,12 @@ impl Sign {
     fn set(&mut self, may_write: bool, message: &Message<'_>) -> Result<(), Refusal> {
         let mut command = None;
         let mut only = None;
-        let mut names = Names { binds: message.binds, met: 0, marks: [0; 16] };
-        for (bind, index) in message.binds.zip(1..) {
-            let change = if may_write { self.change_at(&mut names, command.is_some(), &bind) } else { Err(NO_SUCH_NAME) };
+        let mut marks = Marks([0; 11]);
+        let mut met = 0;
+        for bind in message.binds {
+            met += 1;
+            let index = met;
+            let change = if may_write { self.change_at(&mut marks, command.is_some(), &bind) } else { Err(NO_SUCH_NAME) };
             match change {
                 Ok(change) if change.is_command() => command = Some((index, change)),
                 Ok(change) => only = Some(change),
@@ -718,13 +691,13 @@ impl Sign {
         }
         let Some((index, command)) = command else {
             match only {
-                Some(change) if names.met == 1 => self.change(change),
+                Some(change) if met == 1 => self.change(change),
                 _ => self.assign(message),
             }
             return Ok(());
         };
         let refused = Err(Refusal { index, status: GEN_ERR });
-        let alone = names.met == 1;
+        let alone = met == 1;
         let assign = |sign: &mut Sign| {
             if !alone {
                 sign.assign(message);
@@ -732,7 +705,7 @@ impl Sign {
         };
         match command {
             Change::Ask(id, ask) => {
-                let status = self.view(id).and_then(|row| row.status.next(ask));
+                let status = self.row(id).and_then(|row| row.status.next(ask));
                 let Some(status) = status.filter(|status| *status != Status::Validating || self.validating.is_none()) else {
                     return refused;
                 };
@@ -802,11 +775,13 @@ impl Sign {
         if status == Status::Validating {
             self.validating = Some(id);
         }
-        let Some(row) = self.row_mut(id) else {
+        let Some(rows) = self.written(id.memory) else {
             return;
         };
-        row.status = status;
-        if status == Status::NotUsed {
+        rows.enter(id.number, status);
+        if status == Status::NotUsed
+            && let Some(row) = self.row_mut(id)
+        {
             row.text.clear();
             row.owner.clear();
             (row.beacon, row.pixel, row.priority) = (0, 0, 1);
@@ -819,21 +794,25 @@ impl Sign {
         if !matches!(memory, 2..=5 | 7) {
             return Err(Cause::MemoryType);
         }
+        if high != 0 || number == 0 || number > self.counts.last(memory) {
+            return Err(Cause::Number);
+        }
         let id = RowId { memory, number };
-        let row = if high == 0 { self.view(id) } else { None };
-        let row = row.ok_or(Cause::Number)?;
-        if row.status != Status::Valid {
+        let row = self.row(id);
+        if row.is_some_and(|row| row.status != Status::Valid) {
             return Err(Cause::Status);
         }
-        if memory != BLANK && u16::from_be_bytes(rest) != row.checksum {
+        let checksum = row.map_or(self.shown.checksum, |row| row.checksum);
+        if memory != BLANK && u16::from_be_bytes(rest) != checksum {
             return Err(Cause::Checksum);
         }
         if priority < self.shown.priority {
             return Err(Cause::Priority);
         }
-        let is_known = memory == BLANK || self.rows(memory).get(usize::from(number).wrapping_sub(1)).is_some_and(|row| row.under == self.defaults);
-        if memory != CURRENT_BUFFER && !is_known {
-            peer_text::check(&self.face, row.text).map_err(|(code, place)| Cause::Syntax(code, place))?;
+        if let Some(row) = row
+            && row.under != self.defaults
+        {
+            peer_text::check(&self.face, &row.text).map_err(|(code, place)| Cause::Syntax(code, place))?;
         }
         Ok(id)
     }
@@ -858,10 +837,10 @@ impl Sign {
         self.shown.mode = mode;
         self.shown.address = [0; 4];
         self.shown.remaining = None;
-        let rows = match id.memory {
-            PERMANENT => &self.permanent,
-            CHANGEABLE => &self.changeable,
-            VOLATILE => &self.volatile,
+        let row = match id.memory {
+            PERMANENT => self.permanent.get(id.number),
+            CHANGEABLE => self.changeable.get(id.number),
+            VOLATILE => self.volatile.get(id.number),
             BLANK => {
                 self.shown.text.clear();
                 self.shown.owner.clear();
@@ -871,7 +850,9 @@ impl Sign {
             }
             _ => return,
         };
-        let row = &rows[usize::from(id.number) - 1];
+        let Some(row) = row else {
+            return;
+        };
         replace(&mut self.shown.text, &row.text);
         replace(&mut self.shown.owner, &row.owner);
         (self.shown.beacon, self.shown.pixel, self.shown.priority, self.shown.checksum) = (row.beacon, row.pixel, row.priority, row.checksum);
@@ -916,36 +897,47 @@ impl Sign {
 
     /// Validates a row. (The sign has beacons and a pixel service.)
     fn settle(&mut self, id: RowId) {
-        let Some(row) = self.view(id) else {
+        let under = self.defaults;
+        let Some(row) = self.row(id) else {
             return;
         };
-        let checked = peer_text::check(&self.face, row.text);
-        let (beacon, pixel) = (row.beacon, row.pixel);
-        let checksum = if checked.is_ok() { crc(row.text, beacon, pixel) } else { 0 };
+        let checked = peer_text::check(&self.face, &row.text);
+        let checksum = if checked.is_ok() { crc(&row.text, row.beacon, row.pixel) } else { 0 };
         (self.validate_error, self.syntax_error, self.syntax_error_position) = match checked {
             Ok(_) => (2, 2, 0),
             Err((code, place)) => (5, syntax_number(code), place as u16),
         };
-        let under = self.defaults;
+        if let Some(rows) = self.written(id.memory) {
+            rows.enter(id.number, if checked.is_ok() { Status::Valid } else { Status::Error });
+        }
         if let Some(row) = self.row_mut(id) {
-            row.under = under;
-            row.status = if checked.is_ok() { Status::Valid } else { Status::Error };
-            row.checksum = checksum;
+            (row.under, row.checksum) = (under, checksum);
         }
     }
 }
 
-fn cell<'a>(column: u8, id: RowId, row: View<'a>) -> Value<'a> {
+/// What a column from the third on reads of a blank message.
+fn blank_cell<'a>(column: u8, number: u8) -> Value<'a> {
     match column {
-        1 => integer(id.memory.into()),
-        2 => integer(id.number.into()),
-        3 => Value::Octets(row.text),
-        4 => Value::Octets(row.owner),
-        5 => integer(row.checksum.into()),
-        6 => integer(row.beacon.into()),
-        7 => integer(row.pixel.into()),
-        8 => integer(row.priority.into()),
-        _ => integer(row.status as usize),
+        3 | 4 => Value::Octets(&[]),
+        8 => integer(number.into()),
+        9 => integer(Status::Valid as usize),
+        _ => integer(0),
+    }
+}
+
+impl Shown {
+    /// What a column from the third on reads of the current buffer.
+    fn column(&self, column: u8) -> Value<'_> {
+        match column {
+            3 => Value::Octets(&self.text),
+            4 => Value::Octets(&self.owner),
+            5 => integer(self.checksum.into()),
+            6 => integer(self.beacon.into()),
+            7 => integer(self.pixel.into()),
+            8 => integer(self.priority.into()),
+            _ => integer(Status::Valid as usize),
+        }
     }
 }
 
@@ -958,71 +950,30 @@ fn replace(octets: &mut Vec<u8>, by: &[u8]) {
     octets.extend_from_slice(by);
 }
 
-/// Writes a binding behind the others, where the datagram has room; `before` octets are left for what stands before them.
+/// The octets of a response to this before its bindings, where these are many.
 #[inline]
-fn push(out: &mut Out, before: usize, name: &[u8], value: &Value<'_>) -> bool {
-    let members = size_of_element(name.len()) + size_of_value(value);
-    if before + out.as_slice().len() + size_of_element(members) > MAX_DATAGRAM {
-        return false;
-    }
-    out.head(48, members);
-    out.element(6, name);
-    out.value(value);
-    true
+fn room_before(message: &Message<'_>) -> usize {
+    4 + 3 + size_of_element(message.community.len()) + 4 + size_of_element(size_of_number(message.request)) + 6 + 4
 }
 
-fn size_of_numbers(message: &Message<'_>, status: i64, index: i64) -> usize {
-    [message.request, status, index].iter().map(|number| size_of_element(size_of_number(*number))).sum()
-}
-
-/// The most octets of a response to this before its bindings.
-fn room_before(message: &Message<'_>, status: i64, index: i64) -> usize {
-    4 + 3 + size_of_element(message.community.len()) + 4 + size_of_numbers(message, status, index) + 4
-}
-
-/// Writes what stands before the bindings of a response; whether it is a datagram.
-fn head(message: &Message<'_>, status: i64, index: i64, out: &mut Out) -> bool {
-    let list = out.as_slice().len();
-    let pdu = size_of_numbers(message, status, index) + size_of_element(list);
-    let inside = 3 + size_of_element(message.community.len()) + size_of_element(pdu);
-    if size_of_element(inside) > MAX_DATAGRAM {
-        return false;
-    }
-    out.put_head(size_of_element(inside) - list, |out| {
-        out.head(48, inside);
-        out.number(2, 0);
-        out.element(4, message.community);
-        out.head(162, pdu);
-        for number in [message.request, status, index] {
-            out.number(2, number);
+/// Writes the bindings of a request: as they lie in its datagram where each length is the shortest.
+fn put_bindings(message: &Message<'_>, out: &mut Out) {
+    out.clear();
+    if message.is_shortest {
+        out.extend(message.binds.content);
+    } else {
+        for bind in message.binds {
+            out.push(bind.name.content, &bind.value, MAX_DATAGRAM);
         }
-        out.head(48, list);
-    });
-    true
+    }
 }
 
-/// A reply with the request's bindings: as they lie in the datagram where each length is the shortest.
+/// A reply with the request's bindings.
 fn repeat(message: &Message<'_>, status: i64, index: i64, out: &mut Out) {
-    let content = message.binds.content;
-    let shortest: usize = message.binds.map(|bind| size_of_element(size_of_members(&bind))).sum();
-    for (status, index) in [(status, index), (TOO_BIG, 0)] {
-        let before = room_before(message, status, index);
-        if before + shortest > MAX_DATAGRAM + 6 {
-            continue;
-        }
-        out.leave_head(before);
-        if shortest == content.len() {
-            out.extend(content);
-        } else {
-            for bind in message.binds {
-                out.head(48, size_of_members(&bind));
-                out.element(6, bind.name.content);
-                out.value(&bind.value);
-            }
-        }
-        if head(message, status, index, out) {
-            return;
-        }
+    put_bindings(message, out);
+    if !out.finish(message.community, RESPONSE, message.request, status, index) {
+        put_bindings(message, out);
+        out.finish(message.community, RESPONSE, message.request, TOO_BIG, 0);
     }
 }
 

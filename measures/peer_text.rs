@@ -1,11 +1,13 @@
 //! Texts checked and drawn by hand, in plain Rust without `unsafe`: the same rules and the same faults as the proved libraries.
 
 use std::collections::HashMap;
+use std::ops::Range;
 
 /// A character's picture: a row is a number, whose highest bit is the first column.
-struct Glyph {
+#[derive(Clone, Copy)]
+struct Glyph<'a> {
     width: u32,
-    rows: Vec<u32>,
+    rows: &'a [u32],
 }
 
 struct Font {
@@ -14,21 +16,112 @@ struct Font {
     character_spacing: u32,
     line_spacing: u32,
     version: u32,
-    glyphs: Vec<Glyph>,
-    /// The place of each character below 256 among the pictures, and of those above.
+    /// The columns of each character below 256, and its place among the pictures, and those of the characters above.
+    widths: [u16; 256],
     low: [u8; 256],
-    high: HashMap<u16, u8>,
+    high: HashMap<u16, (u16, u8)>,
+    /// The rows of all pictures, one behind the other.
+    rows: Vec<u32>,
+    glyphs: u8,
 }
 
-const NO_GLYPH: u8 = 255;
+const NO_WIDTH: u16 = u16::MAX;
 
 impl Font {
-    fn glyph(&self, character: u16) -> Option<&Glyph> {
+    #[inline(always)]
+    fn width(&self, character: u16) -> Option<u32> {
+        match self.widths.get(usize::from(character)) {
+            Some(&NO_WIDTH) => None,
+            Some(width) => Some(u32::from(*width)),
+            None => self.high.get(&character).map(|(width, _)| u32::from(*width)),
+        }
+    }
+
+    #[inline(always)]
+    fn glyph(&self, character: u16) -> Option<Glyph<'_>> {
+        let width = self.width(character)?;
         let place = match self.low.get(usize::from(character)) {
             Some(place) => *place,
-            None => *self.high.get(&character)?,
+            None => self.high.get(&character)?.1,
         };
-        self.glyphs.get(usize::from(place))
+        let height = self.height as usize;
+        Some(Glyph { width, rows: self.rows.get(usize::from(place) * height..)?.get(..height)? })
+    }
+
+    fn of(words: [&[u8]; 5]) -> Option<Font> {
+        let [number, height, character_spacing, line_spacing] = [words[0], words[1], words[2], words[3]].map(number);
+        Some(Font {
+            number: number?,
+            height: height?,
+            character_spacing: character_spacing?,
+            line_spacing: line_spacing?,
+            version: u32::from(hexadecimal(words[4])?),
+            widths: [NO_WIDTH; 256],
+            low: [0; 256],
+            high: HashMap::new(),
+            rows: Vec::new(),
+            glyphs: 0,
+        })
+    }
+
+    /// Adds a character whose bits are spelled in hexadecimal, row by row.
+    fn add(&mut self, character: u16, width: u32, bits: &[u8]) -> Option<()> {
+        if !(1..=32).contains(&width) {
+            return None;
+        }
+        let mut pairs = bits.chunks_exact(2);
+        let (mut held, mut count) = (0_u64, 0);
+        for _ in 0..self.height {
+            while count < width {
+                let [high, low] = *pairs.next()? else {
+                    return None;
+                };
+                held = held << 8 | u64::from(digit(high)? << 4 | digit(low)?);
+                count += 8;
+            }
+            count -= width;
+            self.rows.push(((held >> count) as u32) << (32 - width));
+        }
+        match self.widths.get_mut(usize::from(character)) {
+            Some(slot) => (*slot, self.low[usize::from(character)]) = (width as u16, self.glyphs),
+            None => drop(self.high.insert(character, (width as u16, self.glyphs))),
+        }
+        self.glyphs += 1;
+        Some(())
+    }
+}
+
+/// A number of at most nine digits.
+fn number(word: &[u8]) -> Option<u32> {
+    if word.is_empty() || word.len() > 9 {
+        return None;
+    }
+    word.iter().try_fold(0, |number, octet| octet.is_ascii_digit().then(|| 10 * number + u32::from(octet - b'0')))
+}
+
+/// Fonts that are read line by line.
+#[derive(Default)]
+pub struct Fonts(Vec<Font>);
+
+impl Fonts {
+    pub fn add_line(&mut self, line: &[u8]) -> Option<()> {
+        let mut words: [&[u8]; 11] = [&[]; 11];
+        let mut count = 0;
+        for word in line.split(|octet| *octet == b' ') {
+            *words.get_mut(count)? = word;
+            count += 1;
+        }
+        match words[..count] {
+            [b"glyph", character, width, bits] => {
+                let character = u16::try_from(number(character)?).ok()?;
+                self.0.last_mut()?.add(character, number(width)?, bits)
+            }
+            [b"font", number, b"height", height, b"space", character, b"line", line, b"version", version] => {
+                self.0.push(Font::of([number, height, character, line, version])?);
+                Some(())
+            }
+            _ => None,
+        }
     }
 }
 
@@ -56,42 +149,17 @@ impl Face {
         self.fonts.iter().find(|font| font.number == number)
     }
 
+    /// The largest matrix with these fonts.
+    pub fn with(Fonts(fonts): Fonts) -> Face {
+        let defaults = Defaults { background: 0, foreground: 9, flash_on: 5, flash_off: 5, font: 1, line: 3, page: 2, on: 30, off: 0 };
+        Face { width: 256, height: 64, fonts, defaults }
+    }
+
     /// The largest matrix with the fonts of these lines.
     pub fn largest(lines: &str) -> Option<Face> {
-        let mut fonts: Vec<Font> = Vec::new();
-        for line in lines.lines() {
-            let words: Vec<&str> = line.split(' ').collect();
-            match words[..] {
-                ["font", number, "height", height, "space", character, "line", line, "version", version] => fonts.push(Font {
-                    number: number.parse().ok()?,
-                    height: height.parse().ok()?,
-                    character_spacing: character.parse().ok()?,
-                    line_spacing: line.parse().ok()?,
-                    version: u32::from_str_radix(version, 16).ok()?,
-                    glyphs: Vec::new(),
-                    low: [NO_GLYPH; 256],
-                    high: HashMap::new(),
-                }),
-                ["glyph", character, width, bits] => {
-                    let font = fonts.last_mut()?;
-                    let width: u32 = width.parse().ok()?;
-                    let octets: Vec<u8> =
-                        (0..bits.len()).step_by(2).map(|at| u8::from_str_radix(bits.get(at..at + 2)?, 16).ok()).collect::<Option<_>>()?;
-                    let bit = |at: u32| u32::from(octets[at as usize / 8] >> (7 - at % 8) & 1);
-                    let row = |y: u32| (0..width).fold(0, |row, x| row | bit(y * width + x) << (31 - x));
-                    let place = font.glyphs.len() as u8;
-                    let character: u16 = character.parse().ok()?;
-                    match font.low.get_mut(usize::from(character)) {
-                        Some(slot) => *slot = place,
-                        None => drop(font.high.insert(character, place)),
-                    }
-                    font.glyphs.push(Glyph { width, rows: (0..font.height).map(row).collect() });
-                }
-                _ => return None,
-            }
-        }
-        let defaults = Defaults { background: 0, foreground: 9, flash_on: 5, flash_off: 5, font: 1, line: 3, page: 2, on: 30, off: 0 };
-        Some(Face { width: 256, height: 64, fonts, defaults })
+        let mut fonts = Fonts::default();
+        lines.lines().try_for_each(|line| fonts.add_line(line.as_bytes()))?;
+        Some(Face::with(fonts))
     }
 }
 
@@ -146,7 +214,17 @@ fn hexadecimal(text: &[u8]) -> Option<u16> {
     if text.is_empty() || text.len() > 4 {
         return None;
     }
-    text.iter().try_fold(0_u16, |number, octet| Some(number << 4 | char::from(*octet).to_digit(16)? as u16))
+    text.iter().try_fold(0_u16, |number, octet| Some(number << 4 | u16::from(digit(*octet)?)))
+}
+
+#[inline]
+pub fn digit(octet: u8) -> Option<u8> {
+    match octet {
+        b'0'..=b'9' => Some(octet - b'0'),
+        b'a'..=b'f' => Some(octet - b'a' + 10),
+        b'A'..=b'F' => Some(octet - b'A' + 10),
+        _ => None,
+    }
 }
 
 fn times(text: &[u8], letter: u8, high: u32) -> Option<(Option<u8>, Option<u8>)> {
@@ -232,6 +310,7 @@ struct Run {
 }
 
 impl Run {
+    #[inline(always)]
     fn push(&mut self, size: u32, spacing: u32, gap: Option<u32>) {
         if let Some(last) = self.spacing {
             self.size += gap.unwrap_or((last + spacing + 1) / 2);
@@ -241,20 +320,18 @@ impl Run {
     }
 }
 
+/// Those at the beginning, in the middle and at the end.
 type Runs = [Run; 3];
 
-fn overlap(one: (u32, u32), other: (u32, u32)) -> bool {
-    one.0.max(other.0) < one.1.min(other.1)
-}
-
-fn fit(runs: &Runs, whole: u32) -> bool {
-    let [first, middle, last] = [runs[0].size, runs[1].size, runs[2].size];
-    if first > whole || middle > whole || last > whole {
-        return false;
+/// The most room that a run may take, of which those behind it are empty.
+fn room(runs: &Runs, place: u8, whole: u32) -> u32 {
+    let [first, middle, _] = runs;
+    match place {
+        2 => whole,
+        3 => whole.saturating_sub(2 * first.size),
+        _ if middle.size > 0 => (whole - middle.size) - (whole - middle.size) / 2,
+        _ => whole.saturating_sub(first.size),
     }
-    let begin = (whole - middle) / 2;
-    let spans = [(0, first), (begin, begin + middle), (whole - last, whole)];
-    !(overlap(spans[0], spans[1]) || overlap(spans[0], spans[2]) || overlap(spans[1], spans[2]))
 }
 
 fn last_place(runs: &Runs) -> u8 {
@@ -264,14 +341,17 @@ fn last_place(runs: &Runs) -> u8 {
 struct Checker<'a> {
     face: &'a Face,
     pages: usize,
+    /// The lines of the page before this one, and what is above this one.
     lines: Runs,
+    part: u8,
+    gap: Option<u32>,
+    /// This line's characters, and how many columns those of this side may take.
     characters: Runs,
+    side: u8,
+    columns: u32,
     any: bool,
     height: u32,
     spacing: u32,
-    gap: Option<u32>,
-    side: u8,
-    part: u8,
     font: &'a Font,
 }
 
@@ -282,50 +362,65 @@ impl<'a> Checker<'a> {
             face,
             pages: 0,
             lines: Runs::default(),
+            part: defaults.page,
+            gap: None,
             characters: Runs::default(),
+            side: defaults.line,
+            columns: face.width,
             any: false,
             height: 0,
             spacing: 0,
-            gap: None,
-            side: defaults.line,
-            part: defaults.page,
             font: face.font(defaults.font)?,
         })
     }
 
-    fn with_open_line(&self) -> Runs {
+    /// The lines of this part of the page, with this one.
+    fn with_open_line(&self) -> Run {
         let (height, spacing) = if self.any { (self.height, self.spacing) } else { (self.font.height, self.font.line_spacing) };
-        let mut lines = self.lines;
-        lines[usize::from(self.part - 2)].push(height, spacing, self.gap);
+        let mut lines = self.lines[usize::from(self.part - 2)];
+        lines.push(height, spacing, self.gap);
         lines
     }
 
-    fn closed(&self) -> Runs {
-        if self.any || self.lines[usize::from(self.part - 2)].spacing.is_some() { self.with_open_line() } else { self.lines }
+    fn closed(&self) -> Run {
+        let lines = self.lines[usize::from(self.part - 2)];
+        if self.any || lines.spacing.is_some() { self.with_open_line() } else { lines }
     }
 
-    fn open(&mut self, lines: Runs, gap: Option<u32>) {
-        self.lines = lines;
+    fn has_rows(&self, lines: Run) -> bool {
+        lines.size <= room(&self.lines, self.part, self.face.height)
+    }
+
+    fn open(&mut self, gap: Option<u32>) {
         self.characters = Runs::default();
+        self.columns = self.face.width;
         self.any = false;
         self.height = 0;
         self.spacing = 0;
         self.gap = gap;
     }
 
-    #[inline]
+    #[inline(always)]
     fn character(&mut self, character: u16) -> Result<(), Code> {
-        let glyph = self.font.glyph(character).ok_or(Code::NoCharacter)?;
-        self.characters[usize::from(self.side - 2)].push(glyph.width, self.font.character_spacing, None);
+        let font = self.font;
+        let width = font.width(character).ok_or(Code::NoCharacter)?;
+        let run = &mut self.characters[usize::from(self.side - 2)];
+        run.push(width, font.character_spacing, None);
+        if run.size > self.columns {
+            return Err(Code::TooBig);
+        }
         // The page takes more room only where the line grows.
-        let grows = !self.any || self.font.height > self.height || self.font.line_spacing > self.spacing;
+        if !self.any || font.height > self.height || font.line_spacing > self.spacing {
+            return self.grow();
+        }
+        Ok(())
+    }
+
+    fn grow(&mut self) -> Result<(), Code> {
         self.any = true;
         self.height = self.height.max(self.font.height);
         self.spacing = self.spacing.max(self.font.line_spacing);
-        if !fit(&self.characters, self.face.width) || grows && !fit(&self.with_open_line(), self.face.height) {
-            return Err(Code::TooBig);
-        }
-        Ok(())
+        if self.has_rows(self.with_open_line()) { Ok(()) } else { Err(Code::TooBig) }
     }
 
     fn take(&mut self, item: Item) -> Result<(), Code> {
@@ -333,41 +428,31 @@ impl<'a> Checker<'a> {
             Item::Char(character) => self.character(character)?,
             Item::NewLine(gap) => {
                 let lines = self.with_open_line();
-                if !fit(&lines, self.face.height) {
+                if !self.has_rows(lines) {
                     return Err(Code::TooBig);
                 }
-                self.open(lines, gap.map(u32::from));
+                self.lines[usize::from(self.part - 2)] = lines;
+                self.open(gap.map(u32::from));
             }
             Item::NewPage => {
-                if !fit(&self.closed(), self.face.height) {
+                if !self.has_rows(self.closed()) {
                     return Err(Code::TooBig);
                 }
                 if self.pages + 1 >= 6 {
                     return Err(Code::TooManyPages);
                 }
-                self.open(Runs::default(), None);
+                self.lines = Runs::default();
+                self.open(None);
                 self.pages += 1;
             }
-            Item::JustPage(part) => {
-                let part = part.unwrap_or(self.face.defaults.page);
-                if part != self.part {
-                    let lines = self.closed();
-                    if part <= last_place(&lines) {
-                        return Err(Code::Conflict);
-                    }
-                    if !fit(&lines, self.face.height) {
-                        return Err(Code::TooBig);
-                    }
-                    self.open(lines, None);
-                    self.part = part;
-                }
-            }
+            Item::JustPage(part) => self.turn_to_part(part.unwrap_or(self.face.defaults.page))?,
             Item::JustLine(side) => {
                 let side = side.unwrap_or(self.face.defaults.line);
                 if side < last_place(&self.characters) {
                     return Err(Code::Conflict);
                 }
                 self.side = side;
+                self.columns = room(&self.characters, side, self.face.width);
             }
             Item::Font(wanted) => {
                 let (number, version) = wanted.map_or((self.face.defaults.font, None), |(number, version)| (u32::from(number), version));
@@ -379,6 +464,24 @@ impl<'a> Checker<'a> {
             }
             _ => {}
         }
+        Ok(())
+    }
+
+    fn turn_to_part(&mut self, part: u8) -> Result<(), Code> {
+        if part == self.part {
+            return Ok(());
+        }
+        let lines = self.closed();
+        let fits = self.has_rows(lines);
+        self.lines[usize::from(self.part - 2)] = lines;
+        if part <= last_place(&self.lines) {
+            return Err(Code::Conflict);
+        }
+        if !fits {
+            return Err(Code::TooBig);
+        }
+        self.open(None);
+        self.part = part;
         Ok(())
     }
 }
@@ -393,14 +496,20 @@ fn walk(face: &Face, text: &[u8], mut each: impl FnMut(Item)) -> Result<usize, (
         return Err((Code::NoFont, 0));
     };
     let mut rest = text;
-    while !rest.is_empty() {
+    while let [first, more @ ..] = rest {
         let place = text.len() - rest.len();
+        if !matches!(first, b'[' | b']') {
+            checker.character(u16::from(*first)).map_err(|code| (code, place))?;
+            each(Item::Char(u16::from(*first)));
+            rest = more;
+            continue;
+        }
         let (item, more) = item(rest).map_err(|code| (code, place))?;
         checker.take(item).map_err(|code| (code, place))?;
         each(item);
         rest = more;
     }
-    if !fit(&checker.closed(), face.height) {
+    if !checker.has_rows(checker.closed()) {
         return Err((Code::TooBig, text.len()));
     }
     Ok(checker.pages + 1)
@@ -414,50 +523,44 @@ pub fn check(face: &Face, text: &[u8]) -> Result<usize, (Code, usize)> {
 // ---- pages
 
 #[derive(Clone, Copy, PartialEq)]
-struct Flash {
-    dark_first: bool,
-    lit: u8,
-    dark: u8,
+pub struct Flash {
+    pub dark_first: bool,
+    pub lit: u8,
+    pub dark: u8,
 }
 
 /// What a cell shows.
 #[derive(Clone, Copy, PartialEq)]
-struct Cell {
-    lit: bool,
-    colour: u8,
-    flash: Option<Flash>,
+pub struct Cell {
+    pub lit: bool,
+    pub colour: u8,
+    pub flash: Option<Flash>,
 }
 
-#[derive(Clone, Copy)]
-struct Style<'a> {
-    font: &'a Font,
+/// A character where it is laid out.
+struct Placed<'a> {
+    glyph: Glyph<'a>,
+    spacing: u32,
+    height: u32,
+    line_spacing: u32,
     foreground: u8,
-    flash: Option<Flash>,
     side: u8,
+    flash: Option<Flash>,
 }
 
-struct Line<'a> {
-    characters: Vec<(&'a Glyph, Style<'a>)>,
+/// The characters of a line, from one place among all to another.
+struct Line {
+    characters: Range<usize>,
     part: u8,
-    font: &'a Font,
+    height: u32,
+    spacing: u32,
     gap: Option<u32>,
-}
-
-impl Line<'_> {
-    fn height(&self) -> u32 {
-        self.characters.iter().map(|(_, style)| style.font.height).max().unwrap_or(self.font.height)
-    }
-
-    fn spacing(&self) -> u32 {
-        self.characters.iter().map(|(_, style)| style.font.line_spacing).max().unwrap_or(self.font.line_spacing)
-    }
 }
 
 pub struct Page {
     width: u32,
     height: u32,
-    #[allow(dead_code)]
-    times: (u8, u8),
+    pub times: (u8, u8),
     /// What cells show, the dark ones first, and the number of each cell among these.
     styles: Vec<Cell>,
     cells: Vec<u8>,
@@ -471,45 +574,66 @@ fn begin(place: u8, whole: u32, size: u32) -> u32 {
     }
 }
 
+/// Which of eight cells are lit, an octet for each.
+const LIT: [u64; 256] = lit();
+
+const fn lit() -> [u64; 256] {
+    let mut table = [0; 256];
+    let mut at = 0;
+    while at < 256 {
+        let mut column = 0;
+        while column < 8 {
+            if at >> (7 - column) & 1 == 1 {
+                table[at] |= 0xff << (8 * column);
+            }
+            column += 1;
+        }
+        at += 1;
+    }
+    table
+}
+
 impl Page {
-    fn drawn(face: &Face, lines: &[Line<'_>], background: u8, times: (u8, u8)) -> Page {
-        let styles = vec![Cell { lit: false, colour: background, flash: None }];
+    fn drawn(face: &Face, laid: &LaidOut, lines: &[Line], characters: &[Placed<'_>]) -> Page {
+        let styles = vec![Cell { lit: false, colour: laid.background, flash: None }];
         let cells = vec![0; (face.width * face.height) as usize];
-        let mut page = Page { width: face.width, height: face.height, times, styles, cells };
+        let mut page = Page { width: face.width, height: face.height, times: laid.times, styles, cells };
         for part in 2..=4 {
             let mut run = Run::default();
             for line in lines.iter().filter(|line| line.part == part) {
-                run.push(line.height(), line.spacing(), line.gap);
+                run.push(line.height, line.spacing, line.gap);
             }
             let first = begin(part, face.height, run.size);
             let mut run = Run::default();
             for line in lines.iter().filter(|line| line.part == part) {
-                run.push(line.height(), line.spacing(), line.gap);
-                page.draw_line(line, first + run.size);
+                run.push(line.height, line.spacing, line.gap);
+                page.draw_line(&characters[line.characters.clone()], first + run.size);
             }
         }
         page
     }
 
-    fn draw_line(&mut self, line: &Line<'_>, bottom: u32) {
-        for side in 2..=4 {
-            let of_side = || line.characters.iter().filter(|(_, style)| style.side == side);
+    /// Draws a line's characters, those of each side behind one another.
+    fn draw_line(&mut self, characters: &[Placed<'_>], bottom: u32) {
+        let mut rest = characters;
+        while let [first, ..] = rest {
+            let count = rest.iter().position(|other| other.side != first.side).unwrap_or(rest.len());
+            let (of_side, more) = rest.split_at(count);
             let mut run = Run::default();
-            for (glyph, style) in of_side() {
-                run.push(glyph.width, style.font.character_spacing, None);
-            }
-            let first = begin(side, self.width, run.size);
+            of_side.iter().for_each(|placed| run.push(placed.glyph.width, placed.spacing, None));
+            let left = begin(first.side, self.width, run.size);
             let mut run = Run::default();
-            for (glyph, style) in of_side() {
-                run.push(glyph.width, style.font.character_spacing, None);
-                self.draw(glyph, style, first + run.size - glyph.width, bottom - style.font.height);
+            for placed in of_side {
+                run.push(placed.glyph.width, placed.spacing, None);
+                self.draw(placed, left + run.size - placed.glyph.width, bottom - placed.height);
             }
+            rest = more;
         }
     }
 
     /// The number of what such cells show. A text of 512 octets has fewer than 130.
-    fn number(&mut self, style: &Style<'_>) -> u8 {
-        let lit = Cell { lit: true, colour: style.foreground, flash: style.flash };
+    fn number(&mut self, placed: &Placed<'_>) -> u8 {
+        let lit = Cell { lit: true, colour: placed.foreground, flash: placed.flash };
         let place = self.styles.iter().rposition(|other| *other == lit);
         place.unwrap_or_else(|| {
             self.styles.push(lit);
@@ -517,18 +641,35 @@ impl Page {
         }) as u8
     }
 
-    fn draw(&mut self, glyph: &Glyph, style: &Style<'_>, x: u32, y: u32) {
-        let number = self.number(style);
-        let start = (y * self.width + x) as usize;
-        let rows = self.cells[start..].chunks_mut(self.width as usize);
-        for (cells, row) in rows.zip(&glyph.rows) {
-            let mut bits = *row;
-            while bits != 0 {
-                let column = bits.leading_zeros();
-                cells[column as usize] = number;
-                bits &= !(1 << (31 - column));
+    fn draw(&mut self, placed: &Placed<'_>, x: u32, y: u32) {
+        let numbers = u64::from_le_bytes([self.number(placed); 8]);
+        let mut start = (y * self.width + x) as usize;
+        for row in placed.glyph.rows {
+            let [first, rest @ ..] = row.to_be_bytes();
+            self.light(start, LIT[usize::from(first)] & numbers);
+            if placed.glyph.width > 8 {
+                for (octet, column) in rest.into_iter().zip([8, 16, 24]) {
+                    self.light(start + column, LIT[usize::from(octet)] & numbers);
+                }
             }
+            start += self.width as usize;
         }
+    }
+
+    /// Lights cells of eight from a place on, of which those that are lit were dark.
+    #[inline]
+    fn light(&mut self, start: usize, numbers: u64) {
+        if let Some(cells) = self.cells.get_mut(start..start + 8).and_then(|cells| cells.first_chunk_mut::<8>()) {
+            *cells = (u64::from_le_bytes(*cells) | numbers).to_le_bytes();
+        } else {
+            let last = self.cells.get_mut(start..).into_iter().flatten();
+            last.zip(numbers.to_le_bytes()).for_each(|(cell, number)| *cell |= number);
+        }
+    }
+
+    /// What each cell shows, row by row.
+    pub fn cells(&self) -> impl Iterator<Item = &Cell> {
+        self.cells.iter().map(|number| &self.styles[usize::from(*number)])
     }
 
     fn row_weight(&self, y: u32) -> u64 {
@@ -538,13 +679,13 @@ impl Page {
 }
 
 fn weight(cell: &Cell) -> u64 {
-    let flash = cell.flash.map_or(0, |flash| u64::from(flash.lit) + u64::from(flash.dark) + 0 * u64::from(flash.dark_first));
+    let flash = cell.flash.map_or(0, |flash| u64::from(flash.lit) + u64::from(flash.dark));
     u64::from(cell.lit) + u64::from(cell.colour) + flash
 }
 
-/// The lines of a page, and what the page has.
-struct LaidOut<'a> {
-    lines: Vec<Line<'a>>,
+/// A page's lines, from one place among all to another, and what the page has.
+struct LaidOut {
+    lines: Range<usize>,
     background: u8,
     times: (u8, u8),
 }
@@ -552,10 +693,16 @@ struct LaidOut<'a> {
 /// A text that is being laid out.
 struct Layout<'a> {
     face: &'a Face,
-    pages: Vec<LaidOut<'a>>,
-    lines: Vec<Line<'a>>,
-    characters: Vec<(&'a Glyph, Style<'a>)>,
-    style: Style<'a>,
+    pages: Vec<LaidOut>,
+    lines: Vec<Line>,
+    characters: Vec<Placed<'a>>,
+    /// How many lines the pages before this one have, and how many characters the lines before this one.
+    earlier_lines: usize,
+    earlier_characters: usize,
+    font: &'a Font,
+    foreground: u8,
+    flash: Option<Flash>,
+    side: u8,
     background: u8,
     times: (u8, u8),
     part: u8,
@@ -563,21 +710,39 @@ struct Layout<'a> {
 }
 
 impl<'a> Layout<'a> {
-    fn new(face: &'a Face) -> Option<Layout<'a>> {
+    fn new(face: &'a Face, most: usize) -> Option<Layout<'a>> {
         let defaults = &face.defaults;
-        let style = Style { font: face.font(defaults.font)?, foreground: defaults.foreground, flash: None, side: defaults.line };
-        let (lines, characters) = (Vec::new(), Vec::new());
-        let (background, times, part) = (defaults.background, (defaults.on, defaults.off), defaults.page);
-        Some(Layout { face, pages: Vec::new(), lines, characters, style, background, times, part, gap: None })
+        Some(Layout {
+            face,
+            pages: Vec::with_capacity(1),
+            lines: Vec::with_capacity(8),
+            characters: Vec::with_capacity(most),
+            earlier_lines: 0,
+            earlier_characters: 0,
+            font: face.font(defaults.font)?,
+            foreground: defaults.foreground,
+            flash: None,
+            side: defaults.line,
+            background: defaults.background,
+            times: (defaults.on, defaults.off),
+            part: defaults.page,
+            gap: None,
+        })
     }
 
     fn close_line(&mut self) {
+        let characters = self.earlier_characters..self.characters.len();
+        let here = &self.characters[characters.clone()];
+        let height = here.iter().map(|placed| placed.height).max().unwrap_or(self.font.height);
+        let spacing = here.iter().map(|placed| placed.line_spacing).max().unwrap_or(self.font.line_spacing);
         let Layout { part, gap, .. } = *self;
-        self.lines.push(Line { characters: std::mem::take(&mut self.characters), part, font: self.style.font, gap });
+        self.earlier_characters = characters.end;
+        self.lines.push(Line { characters, part, height, spacing, gap });
     }
 
     fn close_part(&mut self) {
-        if !self.characters.is_empty() || self.lines.iter().any(|line| line.part == self.part) {
+        let is_empty = self.characters.len() == self.earlier_characters;
+        if !is_empty || self.lines[self.earlier_lines..].iter().any(|line| line.part == self.part) {
             self.close_line();
         }
         self.gap = None;
@@ -586,13 +751,32 @@ impl<'a> Layout<'a> {
     fn close_page(&mut self) {
         self.close_part();
         let Layout { background, times, .. } = *self;
-        self.pages.push(LaidOut { lines: std::mem::take(&mut self.lines), background, times });
+        let lines = self.earlier_lines..self.lines.len();
+        self.earlier_lines = lines.end;
+        self.pages.push(LaidOut { lines, background, times });
     }
 
+    #[inline(always)]
+    fn character(&mut self, character: u16) {
+        let Layout { font, foreground, flash, side, .. } = *self;
+        if let Some(glyph) = font.glyph(character) {
+            let Font { character_spacing: spacing, height, line_spacing, .. } = *font;
+            self.characters.push(Placed { glyph, spacing, height, line_spacing, foreground, side, flash });
+        }
+    }
+
+    #[inline(always)]
     fn take(&mut self, item: Item) {
+        match item {
+            Item::Char(character) => self.character(character),
+            tag => self.take_tag(tag),
+        }
+    }
+
+    fn take_tag(&mut self, item: Item) {
         let defaults = &self.face.defaults;
         match item {
-            Item::Char(character) => self.characters.extend(self.style.font.glyph(character).map(|glyph| (glyph, self.style))),
+            Item::Char(_) => {}
             Item::NewLine(above) => {
                 self.close_line();
                 self.gap = above.map(u32::from);
@@ -605,18 +789,18 @@ impl<'a> Layout<'a> {
                     self.part = other;
                 }
             }
-            Item::JustLine(side) => self.style.side = side.unwrap_or(defaults.line),
+            Item::JustLine(side) => self.side = side.unwrap_or(defaults.line),
             Item::Font(wanted) => {
                 let number = wanted.map_or(defaults.font, |(number, _)| u32::from(number));
-                self.style.font = self.face.font(number).unwrap_or(self.style.font);
+                self.font = self.face.font(number).unwrap_or(self.font);
             }
             Item::Background(colour) => self.background = colour.unwrap_or(defaults.background),
-            Item::Foreground(colour) => self.style.foreground = colour.unwrap_or(defaults.foreground),
+            Item::Foreground(colour) => self.foreground = colour.unwrap_or(defaults.foreground),
             Item::Flash { dark_first, lit, dark } => {
                 let (lit, dark) = (lit.unwrap_or(defaults.flash_on), dark.unwrap_or(defaults.flash_off));
-                self.style.flash = Some(Flash { dark_first, lit, dark });
+                self.flash = Some(Flash { dark_first, lit, dark });
             }
-            Item::FlashEnd => self.style.flash = None,
+            Item::FlashEnd => self.flash = None,
             Item::PageTime { lit, dark } => self.times = (lit.unwrap_or(defaults.on), dark.unwrap_or(defaults.off)),
         }
     }
@@ -624,10 +808,11 @@ impl<'a> Layout<'a> {
 
 /// The pages of a text, or its fault and where it stands.
 pub fn pages(face: &Face, text: &[u8]) -> Result<Vec<Page>, (Code, usize)> {
-    let mut layout = Layout::new(face).ok_or((Code::NoFont, 0))?;
+    let mut layout = Layout::new(face, text.len().min(512)).ok_or((Code::NoFont, 0))?;
     walk(face, text, |item| layout.take(item))?;
     layout.close_page();
-    Ok(layout.pages.iter().map(|page| Page::drawn(face, &page.lines, page.background, page.times)).collect())
+    let Layout { pages, lines, characters, .. } = &layout;
+    Ok(pages.iter().map(|page| Page::drawn(face, page, &lines[page.lines.clone()], characters)).collect())
 }
 
 // ---- what is measured
@@ -637,7 +822,7 @@ pub fn check_times(face: &Face, text: &[u8], times: u32) -> u64 {
 }
 
 pub fn pages_times(face: &Face, text: &[u8], times: u32) -> u64 {
-    let made = |_| pages(face, std::hint::black_box(text)).map_or(0, |made| made.len() as u64 + made.iter().map(|page| page.row_weight(0)).sum::<u64>());
+    let made = |_| pages(face, std::hint::black_box(text)).map_or(0, |made| made.len() as u64 + made.iter().map(|page| page.cells().next().map_or(0, weight)).sum::<u64>());
     (0..times).map(made).sum()
 }
 

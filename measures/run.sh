@@ -9,11 +9,12 @@ build=$crate/out
 log=$(mktemp)
 trap 'rm -f "$log"' EXIT
 (cd "$crate" && "${RT:-rt}" lib > "$log" 2>&1) || { cat "$log" >&2; exit 1; }
-"${CC:-cc}" -O2 -c -o "$build/crc.o" "$folder/crc.c"
-ar rcs "$build/libcrc.a" "$build/crc.o"
+"${CC:-cc}" -O2 -c -o "$build/counted.o" "$folder/counted.c"
+ar rcs "$build/libcounted.a" "$build/counted.o"
 # The kit's own few lines of C, through which what allocates calls malloc and free.
 kit=$(dirname "$("${RT:-rt}" doc)")
-rustc --edition 2024 -O -L "$build" -L "$kit/c" -l static=libc_c -o "$build/measure" "$folder/measure.rs"
+flags=(-C opt-level=3 -C codegen-units=1 -C target-cpu=x86-64-v2) # the processor that the library is made for
+rustc --edition 2024 "${flags[@]}" -L "$build" -L "$kit/c" -l static=libc_c -o "$build/measure" "$folder/measure.rs"
 "$folder/measured.py" "$@"
 
 if "${CC:-cc}" -O2 -o "$build/netsnmp" "$folder/netsnmp.c" -lnetsnmp 2> /dev/null; then

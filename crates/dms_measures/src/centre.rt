@@ -13,10 +13,10 @@ pub(crate) const SETTINGS: Settings<'static> = Settings {
 };
 
 /// How many requests a publication sends.
-const REQUESTS: usize = 7;
+pub(crate) const REQUESTS: usize = 7;
 
 /// A good reply to each request of a publication, in turn.
-type Replies = [Out; REQUESTS];
+pub(crate) type Replies = [Out; REQUESTS];
 
 /// The command that publishes the text in changeable row 1.
 pub(crate) fn publication(text: &[u8]) -> Command<'_> {
@@ -74,7 +74,7 @@ fn put_reply(request: &[u8], number: Option<i64>, reply: &mut Out) {
 }
 
 /// Good replies to the requests of a new central system that publishes the text.
-fn replies_to(alloc: Global, text: &[u8]) -> Option<Replies> {
+pub(crate) fn replies_to(alloc: Global, text: &[u8]) -> Option<Replies> {
     let mut centre = Centre::new(alloc, SETTINGS, 1).ok()?;
     let mut replies: Replies = array::from_fn(|_| Out::new());
     let mut request = Out::new();

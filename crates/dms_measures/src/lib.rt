@@ -2,6 +2,7 @@
 //! a datagram or a text, and returns a sum of what came out, so that nothing of the work can be left away.
 #![tactic(auto)]
 
+pub mod answers;
 pub mod centre;
 pub mod scripts;
 pub mod sign;
@@ -192,7 +193,16 @@ fn row_weight(page: &Page, y: u16) -> u64
     sum
 }
 
-/// Makes the text's pages, and sums their number and the weights of the cells in the first row of each.
+/// The weight of a page's first cell.
+fn first_weight(page: &Page) -> u64 {
+    if page.width() > 0 && page.height() > 0 {
+        cell_weight(page.cell(0, 0))
+    } else {
+        0
+    }
+}
+
+/// Makes the text's pages, and sums their number and the weight of the first cell of each.
 #[unsafe(no_mangle)]
 pub extern "C" fn dms_measures_pages(alloc: Global, fonts: &[u8], text: &[u8], times: u32) -> u64 {
     let Some(face) = face_of(alloc, fonts) else {
@@ -203,9 +213,7 @@ pub extern "C" fn dms_measures_pages(alloc: Global, fonts: &[u8], text: &[u8], t
         if let Ok(made) = pages(alloc, &face, text) {
             sum = sum.wrapping_add(made.len() as u64);
             for page in &made {
-                if page.height() > 0 {
-                    sum = sum.wrapping_add(row_weight(page, 0));
-                }
+                sum = sum.wrapping_add(first_weight(page));
             }
         }
     }

@@ -41,13 +41,10 @@ fn world_after(alloc: Global, setup: Setup, events: &[ScriptEvent]) -> Option<Wo
     Some(world)
 }
 
-/// A number that depends on each octet.
-fn weight(octets: &[u8]) -> u64 {
-    let mut sum = octets.len() as u64;
-    for octet in octets {
-        sum = sum.wrapping_mul(3).wrapping_add(u64::from(*octet));
-    }
-    sum
+/// How many octets there are, and one of them.
+fn glance(octets: &[u8], time: u32) -> u64 {
+    let octet = octets.get(time as usize % 256).copied().unwrap_or(0);
+    (octets.len() as u64).wrapping_add(u64::from(octet))
 }
 
 /// Reads the script, and sums the numbers of its events.
@@ -62,7 +59,7 @@ pub extern "C" fn dms_measures_script_read(alloc: Global, script: &[u8], times: 
     sum
 }
 
-/// Runs the script once and reports its world, and sums the weights of the reports.
+/// Runs the script once and reports its world, and sums the sizes of the reports, and an octet of each.
 #[unsafe(no_mangle)]
 pub extern "C" fn dms_measures_script_report(alloc: Global, script: &[u8], times: u32) -> u64 {
     let Some((setup, events)) = read_script(alloc, script) else {
@@ -72,23 +69,23 @@ pub extern "C" fn dms_measures_script_report(alloc: Global, script: &[u8], times
         return 0;
     };
     let mut sum = 0_u64;
-    for _ in 0..times {
+    for time in 0..times {
         if let Ok(text) = report(alloc, &world, events.len()) {
-            sum = sum.wrapping_add(weight(text.as_slice()));
+            sum = sum.wrapping_add(glance(text.as_slice(), time));
         }
     }
     sum
 }
 
-/// Reads the script, runs it and writes its report, and sums the weights of the reports.
+/// Reads the script, runs it and writes its report, and sums the sizes of the reports, and an octet of each.
 #[unsafe(no_mangle)]
 pub extern "C" fn dms_measures_script_replay(alloc: Global, script: &[u8], times: u32) -> u64 {
     let mut sum = 0_u64;
-    for _ in 0..times {
+    for time in 0..times {
         let mut reader = script;
         let mut writer = Gathered::new(alloc);
         if replay(alloc, &mut reader, &mut writer).is_ok() {
-            sum = sum.wrapping_add(weight(writer.bytes()));
+            sum = sum.wrapping_add(glance(writer.bytes(), time));
         }
     }
     sum

@@ -38,7 +38,7 @@ const MOST: Stock<'static> = Stock {
 };
 
 /// A sign with so many changeable rows: 64 and the most of the others, or else those of the bench sign.
-fn sign_of(alloc: Global, fonts: &[u8], changeable: u32) -> Option<Sign> {
+pub(crate) fn sign_of(alloc: Global, fonts: &[u8], changeable: u32) -> Option<Sign> {
     let config = Config {
         face: face_of(alloc, fonts)?,
         stock: if changeable == 64 { MOST } else { FEW },
@@ -49,7 +49,7 @@ fn sign_of(alloc: Global, fonts: &[u8], changeable: u32) -> Option<Sign> {
 }
 
 /// The first step of a script, and what follows it: a step has two octets of size, and a datagram of that size.
-fn step(script: &[u8]) -> Option<(&[u8], &[u8])>
+pub(crate) fn step(script: &[u8]) -> Option<(&[u8], &[u8])>
     ensures { IfSome result (λ x. length x.1.now < length script.now) }
 {
     let [high, low, rest @ ..] = script else {

@@ -1,0 +1,263 @@
+//! What the measured calls answer, each octet of it in one number: the program of measures/ compares it with what the same by hand
+//! answers, before it measures.
+
+ghost use Rattle.std.specs.Prelude.{◌<◌};
+
+use crate::centre::{REQUESTS, SETTINGS, publication, replies_to};
+use crate::face_of;
+use crate::sign::{sign_of, step};
+use arrayvec::ArrayVec;
+use dms_centre::{Centre, Ended};
+use dms_codes::Order;
+use dms_face::{Cell, check};
+use dms_multi::Lead;
+use dms_pages::{Page, pages};
+use dms_replay::replay;
+use dms_sign::{Receipt, Sign};
+use dms_streams::Gathered;
+use dms_wire::{Bind, MAX_BINDINGS, MessageParts, Out, Value, read, write};
+use std::alloc::Global;
+
+/// With a number after what was noted before: it depends on each of them and on their order.
+fn noted(sum: u64, number: u64) -> u64 {
+    sum.wrapping_mul(1_099_511_628_211).wrapping_add(number)
+}
+
+/// With these octets and how many they are.
+fn octets_noted(before: u64, octets: &[u8]) -> u64 {
+    let mut sum = noted(before, octets.len() as u64);
+    for octet in octets {
+        sum = noted(sum, u64::from(*octet));
+    }
+    sum
+}
+
+/// With a value: the number of its tag, and its content.
+fn value_noted(sum: u64, value: &Value<'_>) -> u64 {
+    match value {
+        Value::Integer(number) => noted(noted(sum, 2), number.unsigned_abs()),
+        Value::Octets(octets) => octets_noted(noted(sum, 4), octets),
+        Value::Null => noted(sum, 5),
+        Value::Name(name) => octets_noted(noted(sum, 6), name.content()),
+        Value::Address(octets) => octets_noted(noted(sum, 64), octets.as_slice()),
+        Value::Counter(number) => noted(noted(sum, 65), u64::from(*number)),
+        Value::Gauge(number) => noted(noted(sum, 66), u64::from(*number)),
+        Value::Ticks(number) => noted(noted(sum, 67), u64::from(*number)),
+        Value::Opaque(octets) => octets_noted(noted(sum, 68), octets),
+    }
+}
+
+/// What is read of the datagram: its fault, or its request-id, its community and its bindings.
+#[unsafe(no_mangle)]
+pub extern "C" fn dms_answers_read(datagram: &[u8]) -> u64 {
+    match read(datagram) {
+        Err(fault) => noted(u64::from(fault.kind.number()), fault.place as u64),
+        Ok(message) => {
+            let mut sum = noted(0, message.request.unsigned_abs());
+            sum = octets_noted(sum, message.community);
+            for bind in message.binds {
+                sum = octets_noted(sum, bind.name.content());
+                sum = value_noted(sum, &bind.value);
+            }
+            sum
+        }
+    }
+}
+
+/// What is written of the message that the datagram spells.
+#[unsafe(no_mangle)]
+pub extern "C" fn dms_answers_write(datagram: &[u8]) -> u64 {
+    let Ok(message) = read(datagram) else {
+        return 0;
+    };
+    let mut binds: ArrayVec<Bind<'_>, MAX_BINDINGS> = ArrayVec::new();
+    for bind in message.binds {
+        let _ = binds.try_push(bind);
+    }
+    let parts = MessageParts {
+        community: message.community,
+        kind: message.kind,
+        request: message.request,
+        status: message.status,
+        index: message.index,
+        binds: binds.as_slice(),
+    };
+    let mut out = Out::new();
+    match write(&parts, &mut out) {
+        Ok(()) => octets_noted(1, out.as_slice()),
+        Err(_) => 0,
+    }
+}
+
+/// The number of the text's pages, or its fault.
+#[unsafe(no_mangle)]
+pub extern "C" fn dms_answers_check(alloc: Global, fonts: &[u8], text: &[u8]) -> u64 {
+    let Some(face) = face_of(alloc, fonts) else {
+        return 0;
+    };
+    match check(&face, text) {
+        Ok(count) => noted(1, count as u64),
+        Err(fault) => noted(noted(2, u64::from(fault.code.number())), fault.place as u64),
+    }
+}
+
+/// With all that a cell shows.
+fn cell_noted(before: u64, cell: Cell) -> u64 {
+    let sum = noted(noted(before, u64::from(cell.lit)), u64::from(cell.colour));
+    match cell.flash {
+        None => noted(sum, 0),
+        Some(flash) => {
+            let sum = noted(sum, 1 + u64::from(flash.first == Lead::Dark));
+            noted(noted(sum, u64::from(flash.lit)), u64::from(flash.dark))
+        }
+    }
+}
+
+/// With the cells of a row.
+fn row_noted(before: u64, page: &Page, y: u16) -> u64
+    requires { y < page.now.height }
+{
+    let mut sum = before;
+    for x in 0..page.width() {
+        sum = cell_noted(sum, page.cell(x, y));
+    }
+    sum
+}
+
+/// With a page's times and its cells.
+fn page_noted(before: u64, page: &Page) -> u64 {
+    let mut sum = noted(noted(before, u64::from(page.on())), u64::from(page.off()));
+    for y in 0..page.height() {
+        sum = row_noted(sum, page, y);
+    }
+    sum
+}
+
+/// The text's pages, cell by cell.
+#[unsafe(no_mangle)]
+pub extern "C" fn dms_answers_pages(alloc: Global, fonts: &[u8], text: &[u8]) -> u64 {
+    let Some(face) = face_of(alloc, fonts) else {
+        return 0;
+    };
+    let Ok(made) = pages(alloc, &face, text) else {
+        return 0;
+    };
+    let mut sum = noted(0, made.len() as u64);
+    for page in &made {
+        sum = page_noted(sum, page);
+    }
+    sum
+}
+
+/// With what came of a datagram.
+fn receipt_noted(sum: u64, receipt: Receipt) -> u64 {
+    match receipt {
+        Receipt::Dropped => noted(sum, 0),
+        Receipt::Replied => noted(sum, 1),
+        Receipt::Accepted(code) => {
+            let octets = code.to_bytes(Order::High);
+            octets_noted(noted(sum, 2), octets.as_slice())
+        }
+    }
+}
+
+/// Hands the sign a script, as it is measured, and notes each reply and what came of each datagram.
+fn answered(sign: &mut Sign, script: &[u8], before: u64, out: &mut Out) -> u64 {
+    let mut sum = before;
+    let mut left = script;
+    'steps: while let Some((datagram, rest)) = step(left) {
+        if datagram.is_empty() {
+            sign.tick();
+        } else {
+            let receipt = sign.receive(datagram, out);
+            sum = octets_noted(receipt_noted(sum, receipt), out.as_slice());
+        }
+        left = rest;
+    }
+    sum
+}
+
+/// Each reply of a new sign that is handed the script `before` once and then `script` twice.
+#[unsafe(no_mangle)]
+pub extern "C" fn dms_answers_sign(
+    alloc: Global,
+    fonts: &[u8],
+    before: &[u8],
+    script: &[u8],
+    changeable: u32,
+) -> u64 {
+    let Some(mut sign) = sign_of(alloc, fonts, changeable) else {
+        return 0;
+    };
+    let mut out = Out::new();
+    let prepared = answered(&mut sign, before, 0, &mut out);
+    let once = answered(&mut sign, script, prepared, &mut out);
+    answered(&mut sign, script, once, &mut out)
+}
+
+/// Each request of a new central system that publishes the text, and whether the text was accepted.
+#[unsafe(no_mangle)]
+pub extern "C" fn dms_answers_publication(alloc: Global, text: &[u8]) -> u64 {
+    let Some(replies) = replies_to(alloc, text) else {
+        return 0;
+    };
+    let Ok(mut centre) = Centre::new(alloc, SETTINGS, 1) else {
+        return 0;
+    };
+    let mut out = Out::new();
+    let taken = centre.command(publication(text), &mut out).is_ok();
+    let mut sum = octets_noted(u64::from(taken), out.as_slice());
+    for at in 0..REQUESTS {
+        if at == REQUESTS - 1 && centre.tick(&mut out).is_ok() {
+            sum = octets_noted(sum, out.as_slice());
+        }
+        centre.receive(replies[at].as_slice(), &mut out);
+        sum = octets_noted(sum, out.as_slice());
+    }
+    noted(sum, u64::from(centre.last() == Ended::Accepted))
+}
+
+/// What a central system sends where the text's publication is commanded, some ticks pass, and it is restarted: twice.
+#[unsafe(no_mangle)]
+pub extern "C" fn dms_answers_waits(alloc: Global, text: &[u8], ticks: u32) -> u64 {
+    let Ok(mut centre) = Centre::new(alloc, SETTINGS, 1) else {
+        return 0;
+    };
+    let mut out = Out::new();
+    let mut sum = 0_u64;
+    for _ in 0..2 {
+        let taken = centre.command(publication(text), &mut out).is_ok();
+        sum = octets_noted(noted(sum, u64::from(taken)), out.as_slice());
+        for _ in 0..ticks {
+            let done = centre.tick(&mut out).is_ok();
+            sum = octets_noted(noted(sum, u64::from(done)), out.as_slice());
+        }
+        centre.restart();
+        sum = noted(sum, u64::from(centre.busy()));
+    }
+    sum
+}
+
+/// What a central system sends at a datagram that does not answer the request that waits, and whether its job is still on.
+#[unsafe(no_mangle)]
+pub extern "C" fn dms_answers_foreign(alloc: Global, datagram: &[u8]) -> u64 {
+    let Ok(mut centre) = Centre::new(alloc, SETTINGS, 1) else {
+        return 0;
+    };
+    let mut out = Out::new();
+    let taken = centre.command(publication(b"A"), &mut out).is_ok();
+    let sum = octets_noted(u64::from(taken), out.as_slice());
+    centre.receive(datagram, &mut out);
+    noted(octets_noted(sum, out.as_slice()), u64::from(centre.busy()))
+}
+
+/// The report of the script.
+#[unsafe(no_mangle)]
+pub extern "C" fn dms_answers_replay(alloc: Global, script: &[u8]) -> u64 {
+    let mut reader = script;
+    let mut writer = Gathered::new(alloc);
+    match replay(alloc, &mut reader, &mut writer) {
+        Ok(()) => octets_noted(1, writer.bytes()),
+        Err(_) => 0,
+    }
+}
