@@ -58,6 +58,7 @@ STEPS = (
     Step("helps", "tools/helps.sh", 400),
     Step("control room", "python3 -m control.short --signtool {program}", 600),
     Step("house", "tools/house.py --check", 60),
+    Step("table of objects", "tools/objects.py --check", 60),
 )
 
 
@@ -101,9 +102,16 @@ def run(step: Step, program: str) -> Outcome:
     words = [program if word == "{program}" else word for word in step.command.split()]
     with tempfile.TemporaryDirectory(prefix="after-gate-") as room, tempfile.TemporaryFile() as output:
         environment = {**os.environ, "TMPDIR": room, "PYTHONDONTWRITEBYTECODE": "1"}
-        streams = {"stdin": subprocess.DEVNULL, "stdout": output, "stderr": output}
         try:
-            process = subprocess.Popen(words, cwd=TOP, env=environment, start_new_session=True, **streams)
+            process = subprocess.Popen(
+                words,
+                cwd=TOP,
+                env=environment,
+                start_new_session=True,
+                stdin=subprocess.DEVNULL,
+                stdout=output,
+                stderr=output,
+            )
         except OSError as fault:
             return Outcome(failed=1, said=f"{step.name}: {fault}")
         is_ended = waited(process, step.limit)
@@ -174,7 +182,7 @@ def main() -> int:
         words.error("there is no such step: --list names all")
     adopt_orphans()
     gate = COUNTS.search(asked.gate)
-    found = [Outcome(*map(int, gate.groups()))] if gate else []
+    found = [Outcome(int(gate[1]), int(gate[2]))] if gate else []
     if os.access(asked.program, os.X_OK):
         found += outcomes(steps, os.path.abspath(asked.program))
     else:

@@ -104,8 +104,8 @@ def built(plan: Plan, processors: int) -> int:
     log.parent.mkdir(exist_ok=True)
     with open(log, "wb") as said:
         words = ["rt", "run", "--jobs", str(processors), "--", "--version"]
-        streams = {"stdin": subprocess.DEVNULL, "stdout": said, "stderr": said}
-        status = subprocess.run(words, cwd=log.parent.parent, check=False, **streams).returncode
+        quiet, folder = subprocess.DEVNULL, log.parent.parent
+        status = subprocess.run(words, cwd=folder, check=False, stdin=quiet, stdout=said, stderr=said).returncode
     return show_fault(plan.program, log, status)
 
 

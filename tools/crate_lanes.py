@@ -46,8 +46,9 @@ class Check:
         out.mkdir(exist_ok=True)
         with open(out / "build.log", "wb") as log:
             words = ["rt", "lib", "--jobs", str(self.jobs)]
-            streams = {"stdin": subprocess.DEVNULL, "stdout": log, "stderr": log}
-            self.process = subprocess.Popen(words, cwd=out.parent, start_new_session=True, **streams)
+            self.process = subprocess.Popen(
+                words, cwd=out.parent, start_new_session=True, stdin=subprocess.DEVNULL, stdout=log, stderr=log
+            )
         return self
 
     def end(self) -> int:

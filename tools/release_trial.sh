@@ -14,6 +14,7 @@ program=crates/signtool/out/signtool
 if [ "${1:-}" = --program ]; then program=$2; shift 2; fi
 base=${1:-/var/tmp/wisangub-trial-base}
 [ "$(id -u)" = 0 ] || { echo "it wants root, for chroot" >&2; exit 2; }
+[ -x "$base/usr/bin/snmpget" ] || command -v debootstrap > /dev/null || { echo "it wants debootstrap" >&2; exit 2; }
 room=$(mktemp -d)
 root=$room/root
 started=()

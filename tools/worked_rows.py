@@ -1,8 +1,8 @@
 #!/usr/bin/env python3
-"""The worked rows that proofs compute, and the names that docs/MAP.md cites.
+"""The worked examples that proofs compute, and the names that docs/MAP.md cites.
 
-`worked_rows.py` lists the worked rows, the equations of proofs that the checker computes. `worked_rows.py --check` says
-which names of the table of docs/MAP.md do not stand where its rows say, and ends with 1 where there are such."""
+`worked_rows.py` lists the worked examples, the equations of proofs that the checker computes. `worked_rows.py --check`
+says which names of the table of docs/MAP.md do not stand where its rows say, and ends with 1 where there are such."""
 
 import argparse
 import pathlib

@@ -93,7 +93,8 @@ def of_body(parts: Parts, line: bytes) -> str | None:
     if words[0] == b"font":
         why = forms.fault(forms.FONT, line)
         if why is None:
-            parts.fonts.append(layout.Font(*map(int, words[1:9:2]), int(words[9], 16)))
+            number, height, space, leading = map(int, words[1:9:2])
+            parts.fonts.append(layout.Font(number, height, space, leading, int(words[9], 16)))
         return why
     if words[0] == b"glyph":
         return of_glyph(parts.fonts[-1], line) if parts.fonts else "a character stands after its font"
