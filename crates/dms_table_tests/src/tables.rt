@@ -1,7 +1,8 @@
 //! The table by its values: each cell of the table of statuses, verdicts on the bench sign, each cause of a decision, and what a table
 //! is made of.
 
-use dms_face::{Defaults, Face, Font, MultiFault, MultiFaultCode};
+use dms_bench_sign::{B, DEFAULTS, face, stock};
+use dms_face::{Defaults, Face, MultiFault, MultiFaultCode};
 use dms_table::{
     Activation, Ask, Cause, Field, Order, Permanent, Place, Refused, RowId, Shown, Status, Stock,
     Table, TableFault, Verdict, memory,
@@ -10,68 +11,16 @@ use std::alloc::Global;
 use std::process::Abort;
 use std::test::Fail;
 
-const TALL: &[u8] = b"font 1 height 7 space 1 line 1 version 0001
-glyph 65 5 7463f8c620
-glyph 66 5 f463e8c7c0";
-
-const SMALL: &[u8] = b"font 2 height 5 space 1 line 1 version 0002
-glyph 65 3 57da";
-
-const DEFAULTS: Defaults = Defaults {
-    background: 0,
-    foreground: 9,
-    flash_on: 5,
-    flash_off: 5,
-    font: 1,
-    line: 3,
-    page: 2,
-    on: 30,
-    off: 0,
-};
-
 /// The defaults with the other font.
 const SMALL_DEFAULTS: Defaults = Defaults {
-    background: 0,
-    foreground: 9,
-    flash_on: 5,
-    flash_off: 5,
     font: 2,
-    line: 3,
-    page: 2,
-    on: 30,
-    off: 0,
-};
-
-const B: Permanent<'static> = Permanent {
-    text: b"B",
-    owner: &[],
-    beacon: 0,
-    pixel: 0,
-    priority: 100,
+    ..DEFAULTS
 };
 
 const FIRST: RowId = RowId {
     memory: 3,
     number: 1,
 };
-
-fn bench_face(alloc: Global) -> Result<Face, Fail> {
-    let mut fonts = Vec::new(alloc);
-    fonts.push(Font::from_text(alloc, TALL)?)?;
-    fonts.push(Font::from_text(alloc, SMALL)?)?;
-    Ok(Face::new(23, 14, fonts, DEFAULTS)?)
-}
-
-fn bench_stock<'a>(permanent: &'a [Permanent<'a>]) -> Stock<'a> {
-    Stock {
-        permanent,
-        changeable: 2,
-        volatile: 1,
-        beacon: true,
-        pixel: false,
-        order: Order::High,
-    }
-}
 
 /// The sign at its start: a blank message.
 fn blank() -> Shown {
@@ -134,7 +83,7 @@ fn asked(
     from: Status,
     ask: Ask,
 ) -> Result<(Option<Status>, bool, Option<Status>), Fail> {
-    let mut table = Table::new(alloc, bench_stock(&[]), face)?;
+    let mut table = Table::new(alloc, stock(&[]), face)?;
     brought_to(&mut table, face, from)?;
     let before = status(&table, FIRST);
     let taken = table.ask(FIRST, ask).is_ok();
@@ -162,7 +111,7 @@ fn check_asked(
 
 #[test]
 fn statuses(rt: HostRuntime) -> Result<(), Fail> {
-    let face = bench_face(rt.alloc())?;
+    let face = face(rt.alloc())?;
     let modifying = Some(Status::Modifying);
     let validating = Some(Status::Validating);
     let not_used = Some(Status::NotUsed);
@@ -187,7 +136,7 @@ fn check_verdicts(
     stock: Stock<'_>,
     rows: &[(&[u8], u8, u8, Verdict)],
 ) -> Result<(), Fail> {
-    let face = bench_face(alloc)?;
+    let face = face(alloc)?;
     let mut table = Table::new(alloc, stock, &face)?;
     for (text, beacon, pixel, verdict) in rows {
         let found = validated(&mut table, &face, &DEFAULTS, text, *beacon, *pixel)?;
@@ -213,7 +162,7 @@ fn verdicts(rt: HostRuntime) -> Result<(), Fail> {
     check_verdicts(
         &rt,
         rt.alloc(),
-        bench_stock(&[]),
+        stock(&[]),
         &[
             (b"A", 1, 0, verdict_of(2)),
             (b"A", 0, 1, verdict_of(4)),
@@ -225,7 +174,7 @@ fn verdicts(rt: HostRuntime) -> Result<(), Fail> {
 
 #[test]
 fn verdicts_of_a_sign_with_neither(rt: HostRuntime) -> Result<(), Fail> {
-    let mut stock = bench_stock(&[]);
+    let mut stock = stock(&[]);
     stock.beacon = false;
     check_verdicts(
         &rt,
@@ -246,8 +195,8 @@ fn error_of(verdict: Option<Verdict>) -> Option<u8> {
 
 /// The verdicts on a text under the defaults and then under the small ones, and one more where no row is being validated.
 fn three_verdicts(alloc: Global) -> Result<[Option<u8>; 3], Fail> {
-    let face = bench_face(alloc)?;
-    let mut table = Table::new(alloc, bench_stock(&[]), &face)?;
+    let face = face(alloc)?;
+    let mut table = Table::new(alloc, stock(&[]), &face)?;
     let before = validated(&mut table, &face, &DEFAULTS, b"[nl]A", 0, 0)?;
     let after = validated(&mut table, &face, &SMALL_DEFAULTS, b"[nl]A", 0, 0)?;
     let none = table.settle(&face, &face.defaults());
@@ -273,8 +222,8 @@ const VOLATILE: RowId = RowId {
 
 /// A table after a loss of power, before which one row was being validated, and whether another one could be too.
 fn after_one_validation(alloc: Global) -> Result<(Table, bool), Fail> {
-    let face = bench_face(alloc)?;
-    let mut table = Table::new(alloc, bench_stock(&[]), &face)?;
+    let face = face(alloc)?;
+    let mut table = Table::new(alloc, stock(&[]), &face)?;
     table.ask(VOLATILE, Ask::Modify)?;
     brought_to(&mut table, &face, Status::Validating)?;
     let second = table.ask(VOLATILE, Ask::Validate);
@@ -344,8 +293,8 @@ fn cause_of(
 
 #[test]
 fn decisions(rt: HostRuntime) -> Result<(), Fail> {
-    let face = bench_face(rt.alloc())?;
-    let mut table = Table::new(rt.alloc(), bench_stock(&[B]), &face)?;
+    let face = face(rt.alloc())?;
+    let mut table = Table::new(rt.alloc(), stock(&[B]), &face)?;
     validated(&mut table, &face, &DEFAULTS, b"A", 0, 0)?;
     let code = [0, 5, 255, 3, 0, 1, 0x9a, 0x66];
     let shown = decision(&table, &face, &DEFAULTS, &blank(), code)??;
@@ -401,8 +350,8 @@ fn check_causes(rt: &impl Abort, table: &Table, face: &Face, shown: &Shown) -> R
 
 /// `B` as it comes up, and what is shown after it by another code under the small defaults.
 fn shown_after_b(alloc: Global, code: [u8; 8]) -> Result<(Shown, Shown), Fail> {
-    let face = bench_face(alloc)?;
-    let table = Table::new(alloc, bench_stock(&[B]), &face)?;
+    let face = face(alloc)?;
+    let table = Table::new(alloc, stock(&[B]), &face)?;
     let up = [255, 255, 255, 2, 0, 1, 0x75, 2];
     let b = decision(&table, &face, &DEFAULTS, &blank(), up)??;
     let next = decision(&table, &face, &SMALL_DEFAULTS, &b, code)??;
@@ -466,7 +415,7 @@ const TOLD: Told = (
 
 /// What a table with the row `B` tells of itself.
 fn told(alloc: Global, face: &Face) -> Result<Told, TableFault> {
-    let table = Table::new(alloc, bench_stock(&[B]), face)?;
+    let table = Table::new(alloc, stock(&[B]), face)?;
     let counts = [
         counted(&table, 2),
         counted(&table, 3),
@@ -478,7 +427,7 @@ fn told(alloc: Global, face: &Face) -> Result<Told, TableFault> {
 
 #[test]
 fn tables(rt: HostRuntime) -> Result<(), Fail> {
-    let face = bench_face(rt.alloc())?;
+    let face = face(rt.alloc())?;
     assert_eq!(rt; told(rt.alloc(), &face), Ok(TOLD));
     Ok(())
 }
@@ -490,13 +439,13 @@ fn check_permanent(
     permanent: &[Permanent<'_>],
     fault: TableFault,
 ) {
-    let found = Table::new(alloc, bench_stock(permanent), face).err();
+    let found = Table::new(alloc, stock(permanent), face).err();
     assert_eq!(rt; found, Some(fault));
 }
 
 #[test]
 fn permanent_rows(rt: HostRuntime) -> Result<(), Fail> {
-    let face = bench_face(rt.alloc())?;
+    let face = face(rt.alloc())?;
     let long = [65; 513];
     let rows: [(&[u8], u8, u8, u8); 5] = [
         (b"B", 0, 1, 100),
@@ -532,7 +481,7 @@ fn counted_of(
     changeable: u8,
     volatile: u8,
 ) -> Result<[usize; 4], TableFault> {
-    let mut stock = bench_stock(&[B; 16]);
+    let mut stock = stock(&[B; 16]);
     stock.changeable = changeable;
     stock.volatile = volatile;
     let table = Table::new(alloc, stock, face)?;
@@ -546,7 +495,7 @@ fn counted_of(
 
 #[test]
 fn counts(rt: HostRuntime) -> Result<(), Fail> {
-    let face = bench_face(rt.alloc())?;
+    let face = face(rt.alloc())?;
     for (changeable, volatile, found) in [
         (0, 0, Ok([16, 16, 0, 0])),
         (64, 16, Ok([16, 16, 64, 16])),
@@ -558,17 +507,10 @@ fn counts(rt: HostRuntime) -> Result<(), Fail> {
     Ok(())
 }
 
-/// A face, where there is memory for it.
-fn face_of_one_font(alloc: Global) -> Option<Face> {
-    let mut fonts = Vec::new(alloc);
-    fonts.push(Font::from_text(alloc, TALL).ok()?).ok()?;
-    Face::new(23, 14, fonts, DEFAULTS).ok()
-}
-
 /// With any allocation of the call refused it answers that memory is out, and the same call with memory gives the table.
 #[test]
 fn table_or_out_of_memory(rt: HostRuntime) {
-    let Some(face) = face_of_one_font(rt.alloc()) else {
+    let Ok(face) = face(rt.alloc()) else {
         return;
     };
     let made = match told(rt.alloc(), &face) {
@@ -584,8 +526,8 @@ fn checksum(table: &Table, id: RowId) -> Option<u16> {
 
 #[test]
 fn example(rt: HostRuntime) -> Result<(), Fail> {
-    let face = bench_face(rt.alloc())?;
-    let mut table = Table::new(rt.alloc(), bench_stock(&[]), &face)?;
+    let face = face(rt.alloc())?;
+    let mut table = Table::new(rt.alloc(), stock(&[]), &face)?;
     let row = RowId {
         memory: memory::CHANGEABLE,
         number: 1,
