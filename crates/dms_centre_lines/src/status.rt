@@ -14,18 +14,18 @@ pub(crate) fn status(alloc: Global, centre: &Centre) -> Result<Vec<u8>, AllocErr
     ensures { IfOk result (λ text. text.items ≡ status_lines centre.now.state) }
 {
     let mut text = Vec::new(alloc);
-    match put_status(alloc, &mut text, centre) {
+    match put_status(&mut text, centre) {
         Ok(()) => Ok(text),
         Err(_) => Err(AllocError),
     }
 }
 
-fn put_status(alloc: Global, text: &mut Vec<u8>, centre: &Centre) -> io::Result<()>
+fn put_status(text: &mut Vec<u8>, centre: &Centre) -> io::Result<()>
     ensures { OnOk result (text.new.items ≡ text.old.items ++ status_lines centre.now.state) }
 {
     put_job(text, centre.busy())?;
     put_last(text, centre.last())?;
-    put_ledger(alloc, text, centre)?;
+    put_ledger(text, centre)?;
     text.write_all(b"ok\n")
 }
 

@@ -1,5 +1,5 @@
--- The lines of commands read from their beginning, which the calls say of themselves; `command_found` and `command_only`
--- in proofs/ join it to the lines that spell commands (this profile).
+-- The lines of commands read from their beginning, which the calls say of themselves; `command_found` and
+-- `command_only` in proofs/ join it to the lines that spell commands (this profile).
 use Rattle.std.specs.Prelude.{ℕ, ◌==◌, if◌then◌else◌, List, [], ◌∷◌, length, codes, Option, Some, None, option_map, Result, Ok, Err}
 use Rattle.hex.specs.Hex.{decode_of}
 use Rattle.hex.specs.declared.error.FromHexError.{FromHexError}

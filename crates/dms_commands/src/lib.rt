@@ -22,6 +22,6 @@ pub mod reading;
 
 pub use command_word::CommandWord;
 pub use fields::address;
-pub use ledger_text::put_ledger;
+pub use ledger_text::{put_code, put_ledger};
 pub use owned_command::{OwnedCommand, Publication};
 pub use reading::{command_after, read_command};

@@ -6,6 +6,7 @@ ghost use Rattle.dms_world.specs.CodeView.{seen};
 ghost use Rattle.dms_replay.specs.Report.{report_of, events_line, sent_line, accepted_line};
 
 use dms_codes::{Activation, Order};
+use dms_commands::put_code;
 pub use dms_commands::put_ledger;
 pub use dms_description::put_shown;
 use dms_sign::Sign;
@@ -13,8 +14,8 @@ use dms_world::World;
 use std::alloc::{AllocError, Global};
 use std::io::Write;
 
-/// The report of a world after so many events: what was sent, what is shown, the activations that the sign accepted and the ledger.
-/// Each line ends in a newline.
+/// The report of a world after so many events: what was sent, what is shown, the activations that the sign accepted and
+/// the ledger. Each line ends in a newline.
 pub fn report(alloc: Global, world: &World, events: usize) -> Result<Vec<u8>, AllocError>
     ensures { IfOk result (λ report. report.items ≡ report_of (seen world.now) events) }
 {
@@ -34,8 +35,8 @@ fn put_report(
     put_events(report, events)?;
     put_sent(report, world)?;
     put_sign(alloc, report, &world.sign)?;
-    put_activations(alloc, report, world)?;
-    put_ledger(alloc, report, &world.centre)
+    put_activations(report, world)?;
+    put_ledger(report, &world.centre)
 }
 
 fn put_events(report: &mut Vec<u8>, events: usize) -> Result<(), AllocError>
@@ -54,7 +55,6 @@ fn put_sent(report: &mut Vec<u8>, world: &World) -> Result<(), AllocError>
 }
 
 fn put_accepted(
-    alloc: Global,
     report: &mut Vec<u8>,
     order: Order,
     number: usize,
@@ -62,12 +62,12 @@ fn put_accepted(
 ) -> Result<(), AllocError>
     ensures { OnOk result (report.new.items ≡ report.old.items ++ accepted_line order (number, code.now)) }
 {
-    let code = hex::encode(alloc, code.to_bytes(order).as_slice())?;
-    writeln!(report, "accepted {number} {code}").or(Err(AllocError))
+    write!(report, "accepted {number} ").or(Err(AllocError))?;
+    put_code(report, order, code)?;
+    writeln!(report).or(Err(AllocError))
 }
 
 fn put_all_accepted(
-    alloc: Global,
     report: &mut Vec<u8>,
     order: Order,
     accepted: &[(usize, Activation)],
@@ -75,18 +75,18 @@ fn put_all_accepted(
     ensures { OnOk result (report.new.items ≡ report.old.items ++ flat_map (accepted_line order) accepted.now) }
 {
     for (number, code) in accepted {
-        put_accepted(alloc, report, order, *number, code)?;
+        put_accepted(report, order, *number, code)?;
     }
     Ok(())
 }
 
 /// The activations that the sign accepted.
-fn put_activations(alloc: Global, report: &mut Vec<u8>, world: &World) -> Result<(), AllocError>
+fn put_activations(report: &mut Vec<u8>, world: &World) -> Result<(), AllocError>
     ensures { OnOk result (report.new.items ≡ report.old.items
         ++ flat_map (accepted_line (seen world.now).sign.table.order) (seen world.now).accepted) }
 {
     let order = world.sign.order();
-    put_all_accepted(alloc, report, order, world.accepted.as_slice())
+    put_all_accepted(report, order, world.accepted.as_slice())
 }
 
 /// What the sign shows.
