@@ -1,4 +1,5 @@
--- What may be written to the objects of a sign, and what a value writes there (NTCIP 1203, each object's ACCESS and SYNTAX).
+-- What may be written to the objects of a sign, and what a value writes there (NTCIP 1203, each object's ACCESS and
+-- SYNTAX).
 use Rattle.std.specs.Prelude.{ℕ, pos, ◌==◌, ◌&&◌, ◌||◌, Bool, true, false, if◌then◌else◌, List, length, nat_le, Option, Some, None, option_map, option_and_then}
 use Rattle.dms_wire.specs.Message.{ObjectValue, integer, octet_string}
 use Rattle.dms_face.specs.Face.{FaceModel, has_font}

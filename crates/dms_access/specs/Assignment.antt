@@ -4,7 +4,8 @@ use Rattle.dms_objects.specs.declared.scalar.Scalar.{Scalar}
 use Rattle.dms_objects.specs.Names.{scalar_number}
 use Rattle.dms_access.specs.Access.{Write, SetNumber, SetCode}
 
--- the value that these give, the last of it where there are more, or else the old one: a SET that is not refused names no object twice
+-- the value that these give, the last of it where there are more, or else the old one: a SET that is not refused names
+-- no object twice
 abbrev pub given : {A B : Type 0} → (A → Option B) → List A → B → B
 given pick [] old = old
 given pick (x ∷ xs) old = given pick xs (unwrap_or (pick x) old)

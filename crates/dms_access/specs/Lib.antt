@@ -1,5 +1,5 @@
--- what a reader must believe: what can be set, what a value writes there, what writes give to an object, which names a SET
--- has given, what a sign reports of its verdicts and decisions, and what a column of dmsMessageTable reads
+-- what a reader must believe: what can be set, what a value writes there, what writes give to an object, which names a
+-- SET has given, what a sign reports of its verdicts and decisions, and what a column of dmsMessageTable reads
 pub mod Access
 pub mod Settable
 pub mod Assignment

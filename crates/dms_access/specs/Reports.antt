@@ -1,4 +1,5 @@
--- What a sign reports of its verdicts and decisions (NTCIP 1203, each object by its name; the values at the start are this profile's).
+-- What a sign reports of its verdicts and decisions (NTCIP 1203, each object by its name; the values at the start are
+-- this profile's).
 use Rattle.std.specs.Prelude.{ℕ, List, Option, Some, None, ⊤, ◌≤◌, replicate}
 use Rattle.dms_face.specs.declared.multi_fault.MultiFault.{MultiFault}
 use Rattle.dms_face.specs.FaultCode.{number_of_code}

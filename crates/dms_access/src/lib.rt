@@ -1,6 +1,15 @@
-//! Which objects of a sign can be set (NTCIP 1203, each object's ACCESS and SYNTAX), what a value writes to one, the settings that
-//! writes leave, which names a SET has given, what a sign reports of its verdicts and decisions, and what a column of
-//! dmsMessageTable reads.
+//! Which objects of a sign can be set (NTCIP 1203, each object's ACCESS and SYNTAX), what a value writes to one, the
+//! settings that writes leave, which names a SET has given, what a sign reports of its verdicts and decisions, and what
+//! a column of dmsMessageTable reads.
+//!
+//! ```
+//! let seconds = Instance::The(Scalar::ShortPowerLossTime);
+//! assert!(rt; is_settable(seconds) && !is_settable(Instance::The(Scalar::SignWidthPixels)));
+//! assert!(rt; write_of(&face, seconds, &Value::Integer(65536)).is_none());
+//! let change = write_of(&face, seconds, &Value::Integer(60)).ok_or("no change")?;
+//! let mut settings = Settings::new(face.defaults());
+//! settings.assign(&change);
+//! ```
 #![tactic(auto)]
 
 pub mod access;

@@ -1,4 +1,5 @@
-//! The names that the bindings of a SET gave so far, each marked in its slot: so a name is not compared with every earlier one.
+//! The names that the bindings of a SET gave so far, each marked in its slot: so a name is not compared with every
+//! earlier one.
 
 ghost use Rattle.std.specs.Prelude.{◌≡◌, ◌<◌, ◌++◌, List, [], ◌∷◌, take};
 ghost use Rattle.dms_wire.specs.Message.{VarBind};
@@ -10,8 +11,8 @@ use dms_wire::{Binds, Oid};
 /// A bit for each slot.
 pub type Slots = [u64; 16];
 
-/// Whether the name is that of one of the first `count` bindings, whose names have their slots taken: they are looked at only where its
-/// slot is.
+/// Whether the name is that of one of the first `count` bindings, whose names have their slots taken: they are looked
+/// at only where its slot is.
 pub fn was_given(slots: &Slots, name: &Oid<'_>, before: &Binds<'_>, count: u32) -> bool
     requires { AreTaken slots.now (take count before.now) }
     ensures { result ≡ is_among name.now (take count before.now) }
@@ -39,8 +40,8 @@ fn is_among(name: &Oid<'_>, binds: Binds<'_>, count: u32) -> bool
     false
 }
 
-/// The slot of a name with these content octets. No two objects that can be set, of a table of at most 64 changeable and 16 volatile rows,
-/// share a slot; other names may.
+/// The slot of a name with these content octets. No two objects that can be set, of a table of at most 64 changeable
+/// and 16 volatile rows, share a slot; other names may.
 #[tactic(auto, unfolding(crate::specs::Slots::content_slot))]
 fn content_slot(content: &[u8]) -> usize
     ensures slot { result ≡ content_slot content.now }

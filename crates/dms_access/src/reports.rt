@@ -43,7 +43,8 @@ impl Reports {
         }
     }
 
-    /// With the verdict on the row that was settled, where one was: dmsValidateMessageError, and its text's fault or none.
+    /// With the verdict on the row that was settled, where one was: dmsValidateMessageError, and its text's fault or
+    /// none.
     pub fn with_verdict(self, verdict: &Option<Verdict>) -> Reports
         requires { IfSome verdict.now (λ verdict. IfSome verdict.fault (λ fault. fault.place ≤ longest_text)) }
         ensures { reports_of result ≡ settled_reports (reports_of self) verdict.now }

@@ -1,4 +1,9 @@
 //! Why a line of a description is refused, in words: a word of it, what it stands behind, or the sign that it ends.
+//!
+//! ```
+//! assert!(rt; communities_cause(b"public", b"public") == Some(SignCause::SameCommunities));
+//! assert!(rt; counts_cause(0, 64, 16).is_none());
+//! ```
 #![tactic(auto)]
 
 pub mod cause;

@@ -1,4 +1,15 @@
-//! The central system of a sign: it does one operator's command at a time, and keeps a ledger of the codes that it sent.
+//! The central system of a sign: it does one operator's command at a time, and keeps a ledger of the codes that it
+//! sent.
+//!
+//! ```
+//! let settings = Settings { community: b"admin", order: Order::High };
+//! let mut centre = Centre::new(alloc, settings, 1)?;
+//! let mut out = Out::new();
+//! centre.command(Command::Blank { number: 1, minutes: 65535, priority: 255, address: [192, 0, 2, 1] }, &mut out)?;
+//! assert!(rt; centre.busy() && !out.is_empty());
+//! centre.restart();
+//! assert!(rt; centre.ledger().len() == 1);
+//! ```
 #![tactic(auto)]
 
 mod answering;

@@ -42,7 +42,8 @@ pub record EntryMoves (settings : SettingsModel) (input : Input) (entry later : 
 abbrev pub PutsUp : SettingsModel → ℕ → Activation → List ℕ → Type 0
 PutsUp settings number code octets = message_of octets ≡ Some (request_of settings number (Showing code) Activating)
 
--- A new entry waits. Its code is that of the job, and the request of the next number, which puts the code up, goes out and waits.
+-- A new entry waits. Its code is that of the job, and the request of the next number, which puts the code up, goes out
+-- and waits.
 pub record IsNewEntry (settings : SettingsModel) (next : ℕ) (move : Move) (entry : Entry) : Type 0 where
   pub number : entry.number ≡ next
   pub waiting : entry.outcome ≡ Waiting

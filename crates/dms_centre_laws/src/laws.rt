@@ -1,5 +1,5 @@
-//! Laws over definitions alone, stated as functions with nothing to run: what holds of the central system under any list of commands,
-//! datagrams of anyone, ticks and restarts.
+//! Laws over definitions alone, stated as functions with nothing to run: what holds of the central system under any
+//! list of commands, datagrams of anyone, ticks and restarts.
 
 ghost use Rattle.std.specs.Prelude.{ℕ, List};
 ghost use Rattle.std.specs.List.{AllByRecursion};
@@ -9,8 +9,8 @@ ghost use Rattle.dms_centre_laws.specs.RequestNumbers.{AreRequests, NumbersRise,
 ghost use Rattle.dms_centre_laws.specs.Numbered.{HistoryIsNumbered};
 ghost use Rattle.dms_centre_laws.specs.Ledger.{LedgerMoves, LedgerIsSent, NumbersPutUpTheirCodes, CodesAreOrdered};
 
-/// Each datagram that is sent spells a request of the machine, whose number is below the next one; no later datagram has a lower
-/// number; and what goes out at an input went out before, or is a new request, which takes the next number.
+/// Each datagram that is sent spells a request of the machine, whose number is below the next one; no later datagram
+/// has a lower number; and what goes out at an input went out before, or is a new request, which takes the next number.
 pub fn numbers_rise()
     ensures requests { (settings : SettingsModel) (first : ℕ) (inputs : List Input) → AreSettings settings → AllByRecursion IsInput inputs
         → AreRequests settings (after_inputs (made settings first) inputs).state.next (after_inputs (made settings first) inputs).sent }
@@ -39,9 +39,9 @@ pub fn numbers_are_kept()
     ensures input { (history : History) (input : Input) → HistoryIsNumbered history → IsInput input → HistoryIsNumbered (after_input history input) }
 {}
 
-/// An entry of the ledger, once made, keeps its place, its number and its code, and its outcome changes only from Waiting: to Accepted
-/// and Refused at a reply to its number, to NoReply at a tick, to Unknown at a restart. At most one entry is new at an input; it waits,
-/// and the request that goes out puts its code up.
+/// An entry of the ledger, once made, keeps its place, its number and its code, and its outcome changes only from
+/// Waiting: to Accepted and Refused at a reply to its number, to NoReply at a tick, to Unknown at a restart. At most
+/// one entry is new at an input; it waits, and the request that goes out puts its code up.
 pub fn ledger_is_kept()
     ensures { (settings : SettingsModel) (first : ℕ) (inputs : List Input) (input : Input) → AreSettings settings
         → AllByRecursion IsInput inputs → IsInput input
@@ -49,7 +49,8 @@ pub fn ledger_is_kept()
         input (move_at (after_inputs (made settings first) inputs).state input) }
 {}
 
-/// The entries' numbers rise, and the request of each was sent. Whatever was sent with an entry's number puts the entry's code up.
+/// The entries' numbers rise, and the request of each was sent. Whatever was sent with an entry's number puts the
+/// entry's code up.
 pub fn entries_were_sent()
     ensures sent { (settings : SettingsModel) (first : ℕ) (inputs : List Input) → AreSettings settings → AllByRecursion IsInput inputs
         → LedgerIsSent settings (after_inputs (made settings first) inputs).state.next
@@ -59,7 +60,8 @@ pub fn entries_were_sent()
         (after_inputs (made settings first) inputs).sent }
 {}
 
-/// Each code of the ledger is that of a command that was taken; the code of a publication has the checksum of the operator's message.
+/// Each code of the ledger is that of a command that was taken; the code of a publication has the checksum of the
+/// operator's message.
 pub fn codes_are_ordered()
     ensures { (settings : SettingsModel) (first : ℕ) (inputs : List Input) → AreSettings settings → AllByRecursion IsInput inputs
         → CodesAreOrdered settings first inputs (after_inputs (made settings first) inputs).state.ledger }

@@ -19,8 +19,8 @@ use dms_lines::{bad_line, ok_line};
 use dms_wire::Out;
 use std::alloc::{AllocError, Global};
 
-/// Does what a line asks of the central system, and answers it: one line or more, each with a newline at its end. The line comes without
-/// its newline; a carriage return at its end belongs to its last word.
+/// Does what a line asks of the central system, and answers it: one line or more, each with a newline at its end. The
+/// line comes without its newline; a carriage return at its end belongs to its last word.
 ///
 /// - `publish ..`, `blank ..` and `activate ..`, as in a script, give it a command: `send OCTETS`, with what goes out in hexadecimal digits,
 ///   or `refused` and why.

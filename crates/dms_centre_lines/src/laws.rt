@@ -21,8 +21,8 @@ pub fn a_line_spells_at_most_one_call()
         → call ≡ other }
 {}
 
-/// The answer to a line, and the central system after it, are those of the call that the line spells; a line that spells none is a bad line,
-/// and changes nothing.
+/// The answer to a line, and the central system after it, are those of the call that the line spells; a line that
+/// spells none is a bad line, and changes nothing.
 pub fn answers_are_those_of_calls()
     ensures text { (state : CentreState) (line : List ℕ) (call : CentreCall) → SpellsCentreCall state.settings.order call line
         → answer_text state line ≡ call_answer state (Some call) }

@@ -1,7 +1,14 @@
 //! A central system that is spoken to in lines of text: each line is answered by lines.
 //!
-//! A line is an operator's command as in a script (`publish ..`, `blank ..`, `activate ..`), or `datagram OCTETS`, `tick`, `restart` or
-//! `status`.
+//! A line is an operator's command as in a script (`publish ..`, `blank ..`, `activate ..`), or `datagram OCTETS`,
+//! `tick`, `restart` or `status`.
+//!
+//! ```
+//! let settings = Settings { community: b"admin", order: Order::High };
+//! let mut centre = Centre::new(alloc, settings, 1)?;
+//! let text = answer(alloc, &mut centre, b"status")?;
+//! assert!(rt; text.as_slice() == b"idle\nlast none\nok\n");
+//! ```
 #![tactic(auto)]
 
 pub mod answering;

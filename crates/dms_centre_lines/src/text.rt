@@ -32,7 +32,8 @@ pub(crate) fn room(alloc: Global) -> Result<Vec<u8>, AllocError>
     Vec::with_capacity(alloc, LONGEST_SENT)
 }
 
-/// Writes the datagram that goes out, in small hexadecimal digits, or `ok` where none does, into a text that has room for it.
+/// Writes the datagram that goes out, in small hexadecimal digits, or `ok` where none does, into a text that has room
+/// for it.
 pub(crate) fn put_sent(text: &mut Vec<u8>, datagram: &Out)
     requires empty { text.old.items ≡ [] }
     requires room { longest_sent ≤ vec_capacity text.old }

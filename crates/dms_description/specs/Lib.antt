@@ -8,7 +8,8 @@ pub mod Forms
 pub mod Causes
 pub mod Before
 pub mod ShownLine
--- reading from the beginning, which only proofs go through: `read_is_spelled` and `spelled_is_read` in proofs/ join it to the above
+-- reading from the beginning, which only proofs go through: `read_is_spelled` and `spelled_is_read` in proofs/ join it
+-- to the above
 pub mod DescriptionReading
 pub mod FieldsReading
 pub mod Views

@@ -23,7 +23,8 @@ code_text order code = encode_lower (octets_of_activation order code)
 abbrev pub ended : List ℕ → List ℕ
 ended line = line ++ codes "\n"
 
--- its source with the checksum as a number of four digits, its mode, its priority, the minutes that are left, and its text
+-- its source with the checksum as a number of four digits, its mode, its priority, the minutes that are left, and its
+-- text
 abbrev pub shown_line : ShownModel → List ℕ
 shown_line shown = ended (
     codes "shown " ++ decimal shown.source.memory ++ codes " " ++ decimal shown.source.number

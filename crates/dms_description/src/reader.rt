@@ -54,8 +54,8 @@ impl<'a> Parts<'a> {
     }
 }
 
-/// The sign of the first lines, up to their line `end`, and the lines after it. A fault's line is counted over the whole
-/// text of which these lines are left.
+/// The sign of the first lines, up to their line `end`, and the lines after it. A fault's line is counted over the
+/// whole text of which these lines are left.
 pub fn sign_of_lines(
     alloc: Global,
     lines: Lines<'_>,

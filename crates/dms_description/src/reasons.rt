@@ -34,8 +34,8 @@ const HEAD: [Form; 7] = [
     Form::First,
 ];
 
-/// Why the line of this number is the one for which the description is refused. None is said of any other line, and none where the
-/// description is a sign's.
+/// Why the line of this number is the one for which the description is refused. None is said of any other line, and
+/// none where the description is a sign's.
 pub fn why(alloc: Global, octets: &[u8], number: usize) -> Result<Option<Cause>, AllocError>
     ensures cause { IfOk result (λ found. IfSome found (λ cause. first_cause (kept_lines octets.now) ≡ Some cause)) }
     ensures refused { IfOk result (λ found. IfSome found (λ cause. (it : Description) → SpellsSign (kept_lines octets.now) it → ⊥)) }

@@ -1,4 +1,5 @@
--- The words that stand as they are in the lines of descriptions and scripts, and the names of the others (this profile).
+-- The words that stand as they are in the lines of descriptions and scripts, and the names of the others (this
+-- profile).
 use Rattle.std.specs.Prelude.{ℕ, List, codes}
 use Rattle.dms_forms.specs.declared.vocabulary.Keyword.{Keyword}
 use Rattle.dms_forms.specs.declared.vocabulary.Keyword.TheVariants as keywords

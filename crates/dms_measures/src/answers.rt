@@ -1,5 +1,5 @@
-//! What the measured calls answer, each octet of it in one number: the program of measures/ compares it with what the same by hand
-//! answers, before it measures.
+//! What the measured calls answer, each octet of it in one number: the program of measures/ compares it with what the
+//! same by hand answers, before it measures.
 
 ghost use Rattle.std.specs.Prelude.{◌<◌};
 
@@ -238,7 +238,8 @@ pub extern "C" fn dms_answers_waits(alloc: Global, text: &[u8], ticks: u32) -> u
     sum
 }
 
-/// What a central system sends at a datagram that does not answer the request that waits, and whether its job is still on.
+/// What a central system sends at a datagram that does not answer the request that waits, and whether its job is still
+/// on.
 #[unsafe(no_mangle)]
 pub extern "C" fn dms_answers_foreign(alloc: Global, datagram: &[u8]) -> u64 {
     let Ok(mut centre) = Centre::new(alloc, SETTINGS, 1) else {

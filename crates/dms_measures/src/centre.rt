@@ -90,7 +90,8 @@ pub(crate) fn replies_to(alloc: Global, text: &[u8]) -> Option<Replies> {
     Some(replies)
 }
 
-/// Has a new central system publish the text against these replies. It sums the sizes of what is sent, and whether the text was accepted.
+/// Has a new central system publish the text against these replies. It sums the sizes of what is sent, and whether the
+/// text was accepted.
 fn published(alloc: Global, text: &[u8], replies: &Replies, out: &mut Out) -> u64 {
     let Ok(mut centre) = Centre::new(alloc, SETTINGS, 1) else {
         return 0;
@@ -111,7 +112,8 @@ fn published(alloc: Global, text: &[u8], replies: &Replies, out: &mut Out) -> u6
     sum.wrapping_add(u64::from(centre.last() == Ended::Accepted))
 }
 
-/// A new central system publishes the text, from the command to the reply that accepts it. It sums what `published` does.
+/// A new central system publishes the text, from the command to the reply that accepts it. It sums what `published`
+/// does.
 #[unsafe(no_mangle)]
 pub extern "C" fn dms_measures_centre_publication(alloc: Global, text: &[u8], times: u32) -> u64 {
     let Some(replies) = replies_to(alloc, text) else {
@@ -125,7 +127,8 @@ pub extern "C" fn dms_measures_centre_publication(alloc: Global, text: &[u8], ti
     sum
 }
 
-/// The text's publication is commanded, some ticks pass, and the central system is restarted. It sums the sizes of what is sent.
+/// The text's publication is commanded, some ticks pass, and the central system is restarted. It sums the sizes of what
+/// is sent.
 fn waited(alloc: Global, text: &[u8], ticks: u8, times: u32) -> u64 {
     let Ok(mut centre) = Centre::new(alloc, SETTINGS, 1) else {
         return 0;
@@ -164,7 +167,8 @@ pub extern "C" fn dms_measures_centre_resend(alloc: Global, text: &[u8], times: 
     waited(alloc, text, 3, times)
 }
 
-/// While a request waits, a datagram comes that does not answer it. It sums the sizes of what is sent, and whether the job is still on.
+/// While a request waits, a datagram comes that does not answer it. It sums the sizes of what is sent, and whether the
+/// job is still on.
 #[unsafe(no_mangle)]
 pub extern "C" fn dms_measures_centre_foreign(alloc: Global, datagram: &[u8], times: u32) -> u64 {
     let Ok(mut centre) = Centre::new(alloc, SETTINGS, 1) else {

@@ -1,5 +1,9 @@
 //! Measures of the libraries, for the program of measures/: each export does one thing `times` times over the octets of
 //! a datagram or a text, and returns a sum of what came out, so that nothing of the work can be left away.
+//!
+//! ```c
+//! uint64_t dms_measures_script_report(const uint8_t *script, size_t size, uint32_t times);
+//! ```
 #![tactic(auto)]
 
 pub mod answers;

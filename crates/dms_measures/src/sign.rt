@@ -63,8 +63,8 @@ pub(crate) fn step(script: &[u8]) -> Option<(&[u8], &[u8])>
     }
 }
 
-/// Hands the sign the datagrams of a script, and a second for each that is empty. It sums the sizes of the replies, and of
-/// each reply another octet, from this place on.
+/// Hands the sign the datagrams of a script, and a second for each that is empty. It sums the sizes of the replies, and
+/// of each reply another octet, from this place on.
 fn played(sign: &mut Sign, script: &[u8], place: u32, out: &mut Out) -> u64 {
     let mut sum = 0_u64;
     let mut place = place as usize;
@@ -83,8 +83,8 @@ fn played(sign: &mut Sign, script: &[u8], place: u32, out: &mut Out) -> u64 {
     sum
 }
 
-/// Makes a sign with so many changeable rows, hands it the script `before` once and then `script` `times` times. It sums the
-/// sizes of the replies, and of each reply another octet.
+/// Makes a sign with so many changeable rows, hands it the script `before` once and then `script` `times` times. It
+/// sums the sizes of the replies, and of each reply another octet.
 #[unsafe(no_mangle)]
 pub extern "C" fn dms_measures_sign(
     alloc: Global,

@@ -29,7 +29,8 @@ const STOCK: Stock<'static> = Stock {
     order: Order::High,
 };
 
-/// Writes the text to a row, validates it, reads it, activates it, and lets the power go. It sums checksums and verdicts.
+/// Writes the text to a row, validates it, reads it, activates it, and lets the power go. It sums checksums and
+/// verdicts.
 fn one_message(table: &mut Table, face: &Face, shown: &mut Shown, text: &[u8]) -> u64 {
     let defaults = face.defaults();
     let mut sum = u64::from(table.takes(ROW, Ask::Modify));
@@ -78,7 +79,8 @@ pub extern "C" fn dms_still_table(alloc: Global, fonts: &[u8], text: &[u8], time
     sum
 }
 
-/// The central system: a message is published, each request is repeated as its reply, a tick passes, and it begins anew.
+/// The central system: a message is published, each request is repeated as its reply, a tick passes, and it begins
+/// anew.
 #[unsafe(no_mangle)]
 pub extern "C" fn dms_still_centre(alloc: Global, text: &[u8], times: u32) -> u64 {
     let Ok(mut centre) = Centre::new(alloc, SETTINGS, 1) else {
@@ -283,7 +285,8 @@ fn rendered(item: Item, text: &mut ArrayVec<u8, MAX_TEXT>) -> u64 {
     }
 }
 
-/// Walks the items of the text, and writes each. It sums their offsets, that of the fault and the sizes of what is written.
+/// Walks the items of the text, and writes each. It sums their offsets, that of the fault and the sizes of what is
+/// written.
 fn walked(text: &[u8], out: &mut ArrayVec<u8, MAX_TEXT>) -> u64 {
     let mut sum = 0_u64;
     for outcome in items(text) {

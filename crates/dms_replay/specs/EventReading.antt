@@ -1,5 +1,5 @@
--- The lines of a script's events read from their beginning, which the calls say of themselves; `event_found` and `event_only` in proofs/
--- join it to the lines that spell events (this profile).
+-- The lines of a script's events read from their beginning, which the calls say of themselves; `event_found` and
+-- `event_only` in proofs/ join it to the lines that spell events (this profile).
 use Rattle.std.specs.Prelude.{ℕ, if◌then◌else◌, List, codes, Option, Some, None, option_map}
 use Rattle.dms_text.specs.Words.{words_of}
 use Rattle.dms_text.specs.Reading.{same_octets, word_at, ◌>>=◌}

@@ -30,8 +30,8 @@ pub record ReplayedPrefix (octets : List ℕ) (old new : Option (List ℕ)) : Ty
   pub is_report : IsReport octets report
   pub written : AppendsPrefix old new report
 
--- The world of a sign that is described begins as its two ends are made, these events are in range, and what holds of every run holds of
--- theirs.
+-- The world of a sign that is described begins as its two ends are made, these events are in range, and what holds of
+-- every run holds of theirs.
 pub record IsLawful (sign : Description) (events : List EventModel) : Type 0 where
   pub fresh : IsFresh (beginning_of sign)
   pub ranges : AreEvents events

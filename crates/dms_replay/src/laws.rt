@@ -24,7 +24,8 @@ pub fn a_line_spells_at_most_one_event()
     ensures { (order : Order) (line : List ℕ) (one other : EventModel) → SpellsEvent order one line → SpellsEvent order other line → one ≡ other }
 {}
 
-/// What holds of every run holds of each script's: its world begins as its two ends are made, and its commands are in range.
+/// What holds of every run holds of each script's: its world begins as its two ends are made, and its commands are in
+/// range.
 pub fn scripts_run_lawfully()
     ensures { (octets : List ℕ) (sign : Description) (events : List EventModel) → AllBelowBase 256 octets → SpellsScript octets sign events
         → IsLawful sign events }

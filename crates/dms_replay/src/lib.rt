@@ -1,4 +1,11 @@
 //! Scripts of events as text, and the report of their run.
+//!
+//! ```
+//! let mut script: &[u8] = b"bench\nblank 1 65535 255 192.0.2.1\nto-sign 0\nto-centre 0\n";
+//! let mut report = Gathered::new(alloc);
+//! replay(alloc, &mut script, &mut report)?;
+//! assert!(rt; report.bytes().starts_with(b"events 3\nsent 1 1\n"));
+//! ```
 #![tactic(auto)]
 
 pub mod event_line;

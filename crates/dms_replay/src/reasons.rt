@@ -62,8 +62,8 @@ impl fmt::Display for ScriptCause {
     }
 }
 
-/// Why the line of this number is the one for which the script is refused. None is said of any other line, and none where the text
-/// spells a script.
+/// Why the line of this number is the one for which the script is refused. None is said of any other line, and none
+/// where the text spells a script.
 pub fn why(alloc: Global, octets: &[u8], number: usize) -> Result<Option<ScriptCause>, AllocError>
     requires { length octets.now ≤ longest_input }
     ensures cause { IfOk result (λ found. IfSome found (IsCauseOf octets.now number)) }

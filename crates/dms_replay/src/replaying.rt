@@ -30,8 +30,9 @@ use dms_streams::{Sink, Source, write_whole};
 use dms_world::{Event, World, run};
 use std::alloc::Global;
 
-/// Reads a script to its end, runs its events, and writes the report. Nothing is written before the whole report is there. What holds of
-/// every run of events holds of the script's; and to a writer that has room for the report, no write fails.
+/// Reads a script to its end, runs its events, and writes the report. Nothing is written before the whole report is
+/// there. What holds of every run of events holds of the script's; and to a writer that has room for the report, no
+/// write fails.
 pub fn replay<R: Source, W: Sink>(
     alloc: Global,
     reader: &mut R,

@@ -33,7 +33,8 @@ longest_silence s = 60 * s.time_comm_loss
 abbrev pub quieter : SignState → SignState
 quieter s = record s { silent = s.silent + 1 }
 
--- Silence is counted up to its limit, where the code of a communications loss is activated: once, until a datagram is answered.
+-- Silence is counted up to its limit, where the code of a communications loss is activated: once, until a datagram is
+-- answered.
 unfoldable pub after_silence : SignState → SignState
 after_silence s =
     if nat_lt s.silent (longest_silence s)

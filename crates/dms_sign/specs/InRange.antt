@@ -1,5 +1,5 @@
--- The ranges of what a sign holds. They hold of a sign as it is made and after every event, so that each value which its objects read
--- can be said in a message (this profile).
+-- The ranges of what a sign holds. They hold of a sign as it is made and after every event, so that each value which
+-- its objects read can be said in a message (this profile).
 use Rattle.std.specs.Prelude.{◌≡◌, ℕ, ◌*◌, ◌≤◌, if◌then◌else◌, List, length, nat_le, Option, Some, None, ⊤, IsTrue, All, replicate}
 use Rattle.std.specs.List.{AllByRecursion}
 use Rattle.std.specs.Int.Digits.{AllBelowBase}
@@ -85,7 +85,8 @@ pub record IsShownInRange (shown : ShownModel) : Type 0 where
   pub remaining : IsTimeInRange shown.remaining
   pub defaults : AreDefaultsInRange shown.defaults
 
--- the errors are octets, a place lies in a text or at its end, and each code is twelve octets (NTCIP 1203, MessageActivationCode)
+-- the errors are octets, a place lies in a text or at its end, and each code is twelve octets (NTCIP 1203,
+-- MessageActivationCode)
 pub record AreReportsInRange (reports : ReportsModel) : Type 0 where
   pub validate_error : reports.validate_error ≤ 255
   pub activate_error : reports.activate_error ≤ 255
@@ -139,8 +140,8 @@ pub record IsBindingInLimits (binding : VarBind) : Type 0 where
 abbrev pub response_sent : SnmpMessage → Answer → SnmpMessage
 response_sent m answer = if nat_le (length (canonical (response_of m answer))) most_octets then response_of m answer else response_to m too_big 0
 
--- The reply fits a datagram, and its octets spell the Response that is sent to the request, which has the community and the request-id
--- of the request.
+-- The reply fits a datagram, and its octets spell the Response that is sent to the request, which has the community and
+-- the request-id of the request.
 pub record IsSpelledReply (s : SignState) (datagram reply : List ℕ) : Type 0 where
   pub request : SnmpMessage
   pub asked : message_of datagram ≡ Some request

@@ -1,4 +1,5 @@
--- what a reader must believe: what a sign is made with, its state, what its objects read and take, requests and replies, events, and what is promised of them
+-- what a reader must believe: what a sign is made with, its state, what its objects read and take, requests and
+-- replies, events, and what is promised of them
 pub mod Communities
 pub mod Configuration
 pub mod State

@@ -1,4 +1,5 @@
--- What a sign shows when it activates one of its own codes, and what it reports of a code that is refused (this profile).
+-- What a sign shows when it activates one of its own codes, and what it reports of a code that is refused (this
+-- profile).
 use Rattle.std.specs.Prelude.{ℕ, ◌==◌, List, None, Result, Ok, Err, if◌then◌else◌}
 use Rattle.dms_codes.specs.declared.codes.MessageId.{MessageId}
 use Rattle.dms_codes.specs.declared.codes.Activation.{Activation}
@@ -23,7 +24,8 @@ with_refused_code s cause code = record s { reports = refused_reports s.reports 
 abbrev pub own_activation : MessageId → Activation
 own_activation id = record { minutes = 65535; priority = 255; id = id; address = no_address }
 
--- What comes of a decision: the message is up with this mode, or else the blank message is, and the refusal is reported.
+-- What comes of a decision: the message is up with this mode, or else the blank message is, and the refusal is
+-- reported.
 abbrev pub put_up_as_decided : SignState → MessageId → ℕ → Result ShownModel Cause → SignState
 put_up_as_decided s id mode (Ok shown) = showing s (record shown { mode = mode })
 put_up_as_decided s id mode (Err cause) =
@@ -33,8 +35,8 @@ put_up_as_decided s id mode (Err cause) =
 abbrev pub staying : SignState → ℕ → SignState
 staying s mode = showing s (record s.shown { mode = mode; remaining = None })
 
--- The sign activates the message that these five octets name: what is shown stays for a code of the current buffer, whatever its number
--- and its checksum; any other code is decided on.
+-- The sign activates the message that these five octets name: what is shown stays for a code of the current buffer,
+-- whatever its number and its checksum; any other code is decided on.
 unfoldable pub put_up_code : SignState → List ℕ → ℕ → SignState
 put_up_code s octets mode =
     let id = id_of s.table.order octets in

@@ -1,4 +1,5 @@
--- What the code sends and answers; only proofs go through these, but for `sent` and `accepted_by`, which say what a receipt is.
+-- What the code sends and answers; only proofs go through these, but for `sent` and `accepted_by`, which say what a
+-- receipt is.
 use Rattle.std.specs.Prelude.{ℕ, List, length, nat_le, Option, Some, None, if◌then◌else◌, ⊤}
 use Rattle.dms_wire.specs.Message.{VarBind, SnmpMessage}
 use Rattle.dms_wire.specs.Spelling.{Spells}

@@ -1,4 +1,5 @@
--- What a sign answers to a message, where a reply may have any size, and what it is afterwards (RFC 1157, 4.1.2 to 4.1.5).
+-- What a sign answers to a message, where a reply may have any size, and what it is afterwards (RFC 1157, 4.1.2 to
+-- 4.1.5).
 use Rattle.std.specs.Prelude.{ℕ, ◌==◌, Bool, if◌then◌else◌, List, [], ◌∷◌, map, nat_eq, filter_map, find, Option, Some, None, is_none, unwrap_or, Result, Ok, Err}
 use Rattle.std.specs.List.{position_from}
 use Rattle.std.specs.Cmp.Lexicographic.{pointwise}

@@ -1,5 +1,5 @@
--- What a SET writes, what keeps it from doing so, and the state in which all that it assigns is assigned at once (RFC 1157, 4.1.5, and this
--- profile).
+-- What a SET writes, what keeps it from doing so, and the state in which all that it assigns is assigned at once (RFC
+-- 1157, 4.1.5, and this profile).
 use Rattle.std.specs.Prelude.{ℕ, ◌+◌, ◌&&◌, ◌||◌, Bool, false, not, if◌then◌else◌, List, [], ◌∷◌, ◌++◌, length, filter_map, Option, Some, None, is_none, option_map, option_and_then, unwrap_or}
 use Rattle.std.specs.List.{list_any}
 use Rattle.dms_wire.specs.declared.error_status.ErrorStatus.{ErrorStatus}
@@ -45,8 +45,9 @@ pub record SetCause : Type 0 where
   pub index : ℕ
   pub status : ErrorStatus
 
--- What is wrong with a binding after others, in order (this profile): the name is not there or not to be set, for the community that
--- reads none is; the value; the name was given before; a second command; a field of a row that is not being modified.
+-- What is wrong with a binding after others, in order (this profile): the name is not there or not to be set, for the
+-- community that reads none is; the value; the name was given before; a second command; a field of a row that is not
+-- being modified.
 abbrev pub tests_at : SignState → Bool → List VarBind → VarBind → List (Bool × ErrorStatus)
 tests_at s may_write before binding =
     (not may_write || is_none (settable_instance s binding.name), NoSuchName)
@@ -82,8 +83,8 @@ abbrev pub with_writes : TableModel → List Write → TableModel
 with_writes table [] = table
 with_writes table (write ∷ writes) = with_writes (with_write table write) writes
 
--- The state with all values assigned at once: no write depends on another, since no object and no field is named twice. Commands
--- assign nothing.
+-- The state with all values assigned at once: no write depends on another, since no object and no field is named twice.
+-- Commands assign nothing.
 unfoldable pub assigned : SignState → List Write → SignState
 assigned s writes = record s {
   table = with_writes s.table writes;

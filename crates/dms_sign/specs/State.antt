@@ -14,7 +14,8 @@ pub record ConfigModel : Type 0 where
   pub reader : List ℕ
   pub writer : List ℕ
 
--- The codes of the messages that a sign activates by itself, each the five octets that were written (NTCIP 1203, MessageIDCode).
+-- The codes of the messages that a sign activates by itself, each the five octets that were written (NTCIP 1203,
+-- MessageIDCode).
 pub record FallbacksModel : Type 0 where
   -- dmsShortPowerRecoveryMessage
   pub short_power_recovery : List ℕ

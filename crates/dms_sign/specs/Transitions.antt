@@ -1,5 +1,5 @@
--- What one thing that comes to a sign makes of its rows and of what it shows: a datagram, a second, a loss of power or its return (this
--- profile).
+-- What one thing that comes to a sign makes of its rows and of what it shows: a datagram, a second, a loss of power or
+-- its return (this profile).
 use Rattle.std.specs.Prelude.{IsTrue, ◌≡◌, ◌⊎◌, ℕ, [], Option, Some}
 use Rattle.dms_face.specs.declared.defaults.Defaults.{Defaults}
 use Rattle.dms_face.specs.Face.{FaceModel, fit}
@@ -19,8 +19,8 @@ use Rattle.dms_sign.specs.State.{FallbacksModel, SignState}
 
 -- ---- rows
 
--- What a sign has stays, and so do its permanent rows; each row that is valid now was so before, or it was being validated and can be
--- shown on this face.
+-- What a sign has stays, and so do its permanent rows; each row that is valid now was so before, or it was being
+-- validated and can be shown on this face.
 pub record TableStep (face : FaceModel) (old new : TableModel) : Type 0 where
   pub permanent : new.permanent ≡ old.permanent
   pub services : new.services ≡ old.services
@@ -48,7 +48,8 @@ pub record IsBlankedUnder (defaults : Defaults) (shown : ShownModel) : Type 0 wh
   pub pixel : shown.pixel ≡ 0
   pub copied : shown.defaults ≡ defaults
 
--- the row that the source names, with a copy of the defaults: it is valid, its text is good under them, and its checksum is the source's
+-- the row that the source names, with a copy of the defaults: it is valid, its text is good under them, and its
+-- checksum is the source's
 pub record IsRowOf (face : FaceModel) (defaults : Defaults) (table : TableModel) (shown : ShownModel) : Type 0 where
   pub row : RowModel
   pub there : numbered (rows_of table shown.source.memory) shown.source.number ≡ Some row
@@ -69,8 +70,8 @@ IsOwnCode order fallbacks id =
     ⊎ (id ≡ id_of order fallbacks.power_loss) ⊎ (id ≡ id_of order fallbacks.end_duration)
     ⊎ (id ≡ id_of order fallbacks.communications_loss)
 
--- How what is shown now came up: it stayed; or what was kept over a loss of power is shown again; or a blank message came up; or a row
--- did, by the code that was accepted or by one of the sign's own.
+-- How what is shown now came up: it stayed; or what was kept over a loss of power is shown again; or a blank message
+-- came up; or a row did, by the code that was accepted or by one of the sign's own.
 pub data ShowsNow (old new : SignState) (accepted : Option Activation) : Type 0 where
   stayed : IsSameMessage old.shown new.shown → ShowsNow old new accepted
   came_back : IsSameMessage old.kept new.shown → ShowsNow old new accepted
@@ -82,7 +83,8 @@ pub data ShowsNow (old new : SignState) (accepted : Option Activation) : Type 0 
 
 -- ---- the step
 
--- The sign stays the one that was made; rows become valid under the defaults of before; and what is kept is what was, or what was shown.
+-- The sign stays the one that was made; rows become valid under the defaults of before; and what is kept is what was,
+-- or what was shown.
 pub record IsSignStep (old new : SignState) (accepted : Option Activation) : Type 0 where
   pub config : new.config ≡ old.config
   pub table : TableStep (under old.config.face old.defaults) old.table new.table

@@ -8,8 +8,8 @@ use dms_table::{Stock, TableFault};
 use std::error::Error;
 use std::fmt;
 
-/// A face, the stock of the message table, and the communities that may read and that may also write: each has 1 to 32 octets, and they
-/// differ.
+/// A face, the stock of the message table, and the communities that may read and that may also write: each has 1 to 32
+/// octets, and they differ.
 #[derive(Drop)]
 pub struct Config<'a> {
     /// The matrix, its fonts and its first defaults.

@@ -7,7 +7,8 @@ ghost use Rattle.dms_sign.specs.Transitions.{HasFitDefaults};
 
 use crate::sign::Sign;
 
-/// What holds of every sign: its values are in range, its defaults fit its face, and its communities have 1 to 32 octets and differ.
+/// What holds of every sign: its values are in range, its defaults fit its face, and its communities have 1 to 32
+/// octets and differ.
 pub fn signs_are_kept(sign: &Sign)
     ensures in_range { IsSignInRange sign.now }
     ensures fit { HasFitDefaults sign.now }

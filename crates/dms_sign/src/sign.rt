@@ -39,7 +39,8 @@ mod values;
 /// The most octets of a community.
 const MAX_COMMUNITY: usize = 32;
 
-/// A sign: what it is made with, its message table, what was set, and what it shows. A contract sees the state of the sign's machine.
+/// A sign: what it is made with, its message table, what was set, and what it shows. A contract sees the state of the
+/// sign's machine.
 #[derive(Drop)]
 pub struct Sign {
     face: Face,
@@ -256,7 +257,8 @@ impl Sign {
         self.known.note(place, &self.settings.defaults);
     }
 
-    /// What is there as the power comes back: what was kept is shown, volatile rows are gone, and the silence begins anew.
+    /// What is there as the power comes back: what was kept is shown, volatile rows are gone, and the silence begins
+    /// anew.
     fn restore(&mut self)
         ensures { self.new ≡ restored self.old }
     {
@@ -280,7 +282,8 @@ fn community(octets: &[u8]) -> ArrayVec<u8, MAX_COMMUNITY>
     copy
 }
 
-/// Refuses a code under these defaults for the first cause that there is; a text that is known to be good under them is not checked again.
+/// Refuses a code under these defaults for the first cause that there is; a text that is known to be good under them is
+/// not checked again.
 fn judge(
     known: &KnownTexts,
     table: &Table,

@@ -25,8 +25,8 @@ pub fn replies_name_their_request()
     ensures { (s : SignState) (datagram : List ℕ) (reply : List ℕ) → (received s datagram).reply ≡ Some reply → IsReplyTo datagram reply }
 {}
 
-/// A SET of one binding is never answered by tooBig: its reply has the status and the index of what is answered, and repeats the
-/// binding.
+/// A SET of one binding is never answered by tooBig: its reply has the status and the index of what is answered, and
+/// repeats the binding.
 pub fn one_binding_set_is_never_too_big()
     ensures { (s : SignState) (m : SnmpMessage) (datagram : List ℕ) → message_of datagram ≡ Some m → m.kind ≡ Set → length m.bindings ≡ 1
         → reply_to m (primary s m) ≡ canonical (response_to m (error_status_number (primary s m).status) (primary s m).index) }
@@ -38,9 +38,9 @@ pub fn no_success_is_replaced()
         → reply_to m (primary s m) ≡ canonical (response_to m (error_status_number (primary s m).status) (primary s m).index) }
 {}
 
-/// A SET of dmsActivateMessage alone is answered by no error where its activation was accepted, and there alone. A SET that has it among
-/// other bindings is answered by no error only where it was accepted; and an activation is accepted only where a binding of a SET asks for
-/// it, and no error is answered.
+/// A SET of dmsActivateMessage alone is answered by no error where its activation was accepted, and there alone. A SET
+/// that has it among other bindings is answered by no error only where it was accepted; and an activation is accepted
+/// only where a binding of a SET asks for it, and no error is answered.
 pub fn accepted_where_no_error()
     ensures one { (s : SignState) (m : SnmpMessage) (octets : List ℕ) → m.kind ≡ Set → m.bindings ≡ activates octets ∷ []
         → ((primary s m).status ≡ NoError) ↔ ((primary s m).accepted ≡ Some (activation_of s.table.order octets)) }

@@ -44,8 +44,8 @@ pub fn answers_are_in_limits()
     ensures too_big { (m : SnmpMessage) → IsMessageInLimits m → IsMessageInLimits (response_to m too_big 0) }
 {}
 
-/// Each reply of a sign in range fits a datagram, and its octets spell the Response that was meant: what was answered, or
-/// that the answer is too big.
+/// Each reply of a sign in range fits a datagram, and its octets spell the Response that was meant: what was answered,
+/// or that the answer is too big.
 #[tactic(auto, using(crate::proofs::InRangeReplies::replies_spell_their_response))]
 pub fn replies_spell_their_response()
     ensures { (s : SignState) (octets reply : List ℕ) → IsSignInRange s → (received s octets).reply ≡ Some reply

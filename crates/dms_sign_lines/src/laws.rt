@@ -23,8 +23,8 @@ pub fn a_line_spells_at_most_one_call()
         → call ≡ other }
 {}
 
-/// The answer to a line, and the sign after it, are those of the call that the line spells; a line that spells none is a
-/// bad line, and changes nothing.
+/// The answer to a line, and the sign after it, are those of the call that the line spells; a line that spells none is
+/// a bad line, and changes nothing.
 pub fn answers_are_those_of_calls()
     ensures text { (s : SignState) (line : List ℕ) (call : SignCall) → SpellsSignCall call line
         → answer_text s line ≡ call_text s call }

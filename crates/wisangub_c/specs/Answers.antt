@@ -28,7 +28,8 @@ at_fault = 4
 abbrev pub put_first : List ℕ → List ℕ → List ℕ
 put_first octets buffer = octets ++ drop (length octets) buffer
 
--- ---- octets that a buffer has room for or not; where it has none the buffer stays as it is, and the size that is needed is told
+-- ---- octets that a buffer has room for or not; where it has none the buffer stays as it is, and the size that is
+-- needed is told
 
 abbrev pub given_answer : List ℕ → ℕ → ℕ
 given_answer octets room = if nat_lt room (length octets) then too_small else done

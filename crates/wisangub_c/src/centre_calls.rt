@@ -33,7 +33,8 @@ pub struct LedgerEntry {
     pub status: i64,
     /// The number of the request.
     pub number: u32,
-    /// 0 it waits, 1 the sign accepted it, 2 the sign refused it, 3 no reply came, 4 the centre was restarted while it waited.
+    /// 0 it waits, 1 the sign accepted it, 2 the sign refused it, 3 no reply came, 4 the centre was restarted while it
+    /// waited.
     pub outcome: u8,
     /// The code, as the request carried it.
     pub code: CodeParts,
@@ -182,8 +183,8 @@ fn command(
     }
 }
 
-/// Gives the central system the command that a line of a script spells. The request stands first in `request`, `size` octets; with fewer
-/// than 1472 octets of room nothing is done.
+/// Gives the central system the command that a line of a script spells. The request stands first in `request`, `size`
+/// octets; with fewer than 1472 octets of room nothing is done.
 #[unsafe(no_mangle)]
 pub extern "C" fn wisangub_centre_command_at(
     alloc: Global,
@@ -222,8 +223,8 @@ fn hear(centre: &mut Centre, datagram: &[u8], request: &mut [u8], size: &mut usi
     give_sent(&out, request, size)
 }
 
-/// Hands the central system a datagram. The request that it sends next stands first in `request`, `size` octets; with fewer than 1472
-/// octets of room nothing is done.
+/// Hands the central system a datagram. The request that it sends next stands first in `request`, `size` octets; with
+/// fewer than 1472 octets of room nothing is done.
 #[unsafe(no_mangle)]
 pub extern "C" fn wisangub_centre_receive_at(
     centre: &mut CentreHandle,
@@ -259,8 +260,8 @@ fn tick(centre: &mut Centre, request: &mut [u8], size: &mut usize) -> u32
     }
 }
 
-/// The central system's clock ticks. What it sends stands first in `request`, `size` octets; with fewer than 1472 octets of room nothing is
-/// done.
+/// The central system's clock ticks. What it sends stands first in `request`, `size` octets; with fewer than 1472
+/// octets of room nothing is done.
 #[unsafe(no_mangle)]
 pub extern "C" fn wisangub_centre_tick_at(
     centre: &mut CentreHandle,

@@ -5,7 +5,8 @@ ghost use Rattle.dms_centre.specs.Room.{CentreModel};
 use std::alloc::{Allocator, Global};
 use std::marker::Model;
 
-/// A central system behind a pointer. A contract sees its state, and how many more entries its ledger takes without memory.
+/// A central system behind a pointer. A contract sees its state, and how many more entries its ledger takes without
+/// memory.
 #[repr(C)]
 pub struct CentreHandle {
     pub(crate) at: *mut u8,

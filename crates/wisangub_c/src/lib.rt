@@ -1,4 +1,11 @@
 //! The sign and the central system for C: a static library. `include/wisangub.h` declares what it exports.
+//!
+//! ```c
+//! struct wisangub_sign sign = {0};
+//! uint32_t first;
+//! size_t line;
+//! if (wisangub_sign_new(&sign, text, size, &first, &line) == WISANGUB_FAULT) printf("line %zu\n", line);
+//! ```
 #![tactic(auto)]
 
 mod answers;

@@ -9,7 +9,8 @@ use dms_multi::Lead;
 use dms_pages::Page;
 use std::alloc::{AllocError, Global};
 
-/// Pages as octets. Of each cell they say, by `layer`, its look (0), or how long it is lit (1) or dark (2) while it flashes.
+/// Pages as octets. Of each cell they say, by `layer`, its look (0), or how long it is lit (1) or dark (2) while it
+/// flashes.
 pub(crate) fn pages_octets(alloc: Global, layer: u8, pages: &[Page]) -> Result<Vec<u8>, AllocError>
     ensures { IfOk result (λ octets. octets.items ≡ pages_octets layer pages.now) }
 {
@@ -137,7 +138,8 @@ pub(crate) fn bits_needed(looks: &[u8]) -> usize
     looks.len().div_ceil(8)
 }
 
-/// Which cells of a row are lit, eight an octet from the left, the first in the highest bit: first in a buffer that has room for them.
+/// Which cells of a row are lit, eight an octet from the left, the first in the highest bit: first in a buffer that has
+/// room for them.
 pub(crate) fn put_bits(looks: &[u8], bits: &mut [u8])
     requires { (length looks.now + 7) / 8 ≤ length bits.old }
     ensures { bits.new ≡ put_first (row_bits looks.now) bits.old }

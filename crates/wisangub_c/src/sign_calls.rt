@@ -43,8 +43,8 @@ fn made(alloc: Global, text: &[u8]) -> Result<NewSign, DescriptionFault>
     }
 }
 
-/// Makes the sign of a description, in the place `sign`: `first` is the number of the first request of its centre. Where the description
-/// is at fault, `line` is the number of the line for which it is refused, from 1.
+/// Makes the sign of a description, in the place `sign`: `first` is the number of the first request of its centre.
+/// Where the description is at fault, `line` is the number of the line for which it is refused, from 1.
 #[unsafe(no_mangle)]
 pub extern "C" fn wisangub_sign_new_at(
     alloc: Global,
@@ -96,7 +96,8 @@ fn hear(sign: &mut Sign, datagram: &[u8], reply: &mut [u8], size: &mut usize) ->
     }
 }
 
-/// Hands the sign a datagram. The reply stands first in `reply`, `size` octets; with fewer than 1472 octets of room the sign hears nothing.
+/// Hands the sign a datagram. The reply stands first in `reply`, `size` octets; with fewer than 1472 octets of room the
+/// sign hears nothing.
 #[unsafe(no_mangle)]
 pub extern "C" fn wisangub_sign_receive_at(
     sign: &mut SignHandle,

@@ -45,7 +45,8 @@ impl Sign {
         }
     }
 
-    /// Silence is counted up to its limit, where the code of a communications loss is activated: once, until a datagram is answered.
+    /// Silence is counted up to its limit, where the code of a communications loss is activated: once, until a datagram
+    /// is answered.
     #[tactic(auto, unfolding(crate::specs::Events::after_silence))]
     fn grow_silent(&mut self)
         ensures { self.new ≡ after_silence self.old }
@@ -72,7 +73,8 @@ impl Sign {
         }
     }
 
-    /// The power is lost: what is shown is kept, and the code of a power loss is activated. A sign without power does nothing.
+    /// The power is lost: what is shown is kept, and the code of a power loss is activated. A sign without power does
+    /// nothing.
     #[tactic(auto, unfolding(crate::specs::Events::after_power_loss))]
     pub fn power_lost(&mut self)
         ensures { self.new ≡ after_power_loss self.old }
@@ -84,8 +86,8 @@ impl Sign {
         }
     }
 
-    /// The power is back after so many seconds: volatile rows are gone, what was kept is shown, and the code of the recovery is put
-    /// up. A sign with power does nothing.
+    /// The power is back after so many seconds: volatile rows are gone, what was kept is shown, and the code of the
+    /// recovery is put up. A sign with power does nothing.
     #[tactic(auto, unfolding(crate::specs::Events::after_power_return))]
     pub fn power_back(&mut self, seconds: u32)
         ensures { self.new ≡ after_power_return self.old seconds }

@@ -32,8 +32,9 @@ pub enum Receipt {
 }
 
 impl Sign {
-    /// What comes of a datagram: the reply is left in `out`, which is empty where nothing is sent. Octets that spell no message, a
-    /// Response, a message of another community and all that comes while the power is off are dropped, and nothing changes.
+    /// What comes of a datagram: the reply is left in `out`, which is empty where nothing is sent. Octets that spell no
+    /// message, a Response, a message of another community and all that comes while the power is off are dropped, and
+    /// nothing changes.
     #[tactic(auto, unfolding(crate::specs::Reply::received))]
     pub fn receive(&mut self, datagram: &[u8], out: &mut Out) -> Receipt
         ensures after { self.new ≡ (received self.old datagram.now).after }

@@ -13,7 +13,8 @@ use dms_objects::{Instance, Name};
 use dms_wire::{Bind, BindingOctets, Binds, Oid, Value};
 
 impl Sign {
-    /// Appends these bindings with what their names read, or answers the index of the first name that is that of no instance.
+    /// Appends these bindings with what their names read, or answers the index of the first name that is that of no
+    /// instance.
     pub(super) fn values_of(&self, binds: &Binds<'_>, octets: &mut BindingOctets) -> Result<(), u32>
         requires few { length binds.now ≤ most_bindings }
         requires none_yet { octets.old ≡ octets_of_bindings [] }

@@ -31,7 +31,8 @@ pub(super) struct Refusal {
     pub status: ErrorStatus,
 }
 
-/// What a SET that is not refused writes: the settings that it leaves, whether it writes fields, and its command with its index.
+/// What a SET that is not refused writes: the settings that it leaves, whether it writes fields, and its command with
+/// its index.
 #[derive(Clone, Copy)]
 pub(super) struct Judged<'a> {
     pub settings: Settings,
