@@ -1,9 +1,9 @@
 //! The bench sign against datagrams and replies in octets that were made outside of this code.
 
-use dms_face::{Defaults, Face, Font};
+use dms_bench_sign::{B, PICTURE_OF_A, drawing, face, stock};
 use dms_pages::pages_with;
 use dms_sign::{Config, ConfigFault, Receipt, Sign};
-use dms_table::{Order, Permanent, Stock, TableFault};
+use dms_table::{Order, Stock, TableFault};
 use dms_wire::{Bind, Kind, MessageParts, Oid, Out, Value, oid_cmp, read, write};
 use std::alloc::Global;
 use std::cmp::Ordering;
@@ -12,51 +12,13 @@ use std::test::Fail;
 mod cases;
 mod hostile;
 
-const TALL: &[u8] = b"font 1 height 7 space 1 line 1 version 0001
-glyph 49 2 7554
-glyph 65 5 7463f8c620
-glyph 66 5 f463e8c7c0
-glyph 91 3 f24938
-glyph 93 3 e49278";
-
-const SMALL: &[u8] = b"font 2 height 5 space 1 line 1 version 0002
-glyph 65 3 57da";
-
-const DEFAULTS: Defaults = Defaults {
-    background: 0,
-    foreground: 9,
-    flash_on: 5,
-    flash_off: 5,
-    font: 1,
-    line: 3,
-    page: 2,
-    on: 30,
-    off: 0,
-};
-
-const B: Permanent<'static> = Permanent {
-    text: b"B",
-    owner: &[],
-    beacon: 0,
-    pixel: 0,
-    priority: 100,
-};
-
 fn bench_sign(alloc: Global) -> Result<Sign, &'static str> {
-    sign_of(alloc, &[B], 2, 1, Order::High)
+    sign_of(alloc, stock(&[B]))
 }
 
-/// A sign as the bench sign is, but for its rows and the order of the octets of its checksums.
-fn sign_of(
-    alloc: Global,
-    permanent: &[Permanent<'_>],
-    changeable: u8,
-    volatile: u8,
-    order: Order,
-) -> Result<Sign, &'static str> {
-    let config = config_of(alloc, permanent, changeable, volatile, order).ok_or(
-        "no configuration",
-    )?;
+/// A sign as the bench sign is, but for its stock.
+fn sign_of(alloc: Global, stock: Stock<'_>) -> Result<Sign, &'static str> {
+    let config = config_of(alloc, stock).ok_or("no configuration")?;
     match Sign::new(alloc, config) {
         Ok(sign) => Ok(sign),
         Err(_) => Err("no sign"),
@@ -64,26 +26,10 @@ fn sign_of(
 }
 
 /// None where its face finds no memory.
-fn config_of<'a>(
-    alloc: Global,
-    permanent: &'a [Permanent<'a>],
-    changeable: u8,
-    volatile: u8,
-    order: Order,
-) -> Option<Config<'a>> {
-    let mut fonts = Vec::new(alloc);
-    fonts.push(Font::from_text(alloc, TALL).ok()?).ok()?;
-    fonts.push(Font::from_text(alloc, SMALL).ok()?).ok()?;
+fn config_of(alloc: Global, stock: Stock<'_>) -> Option<Config<'_>> {
     Some(Config {
-        face: Face::new(23, 14, fonts, DEFAULTS).ok()?,
-        stock: Stock {
-            permanent,
-            changeable,
-            volatile,
-            beacon: true,
-            pixel: false,
-            order,
-        },
+        face: face(alloc).ok()?,
+        stock,
         reader: b"public",
         writer: b"admin",
     })
@@ -166,13 +112,15 @@ fn play_line(
         "lost" => sign.power_lost(),
         "back" => sign.power_back(number(rest)?),
         "shown" => check_shown(sign, rest)?,
+        "#" => {}
         _ => return Err("no such word"),
     }
     Ok(())
 }
 
-/// A datagram is handed over after `>`, and `<` is followed by the reply, or by `dropped`; then there are seconds, losses and returns of
-/// the power, and what is shown with its mode.
+/// A datagram is handed over after `>`, and `<` is followed by the reply, or by `dropped`; then there are seconds,
+/// losses and returns of the power, and what is shown with its mode. A line that begins with `#` says in words what
+/// follows.
 fn play(sign: &mut Sign, script: &str) -> Result<(), &'static str> {
     let mut reply = Out::new();
     let mut receipt = Receipt::Dropped;
@@ -182,34 +130,43 @@ fn play(sign: &mut Sign, script: &str) -> Result<(), &'static str> {
     Ok(())
 }
 
-/// The script of a new sign, as the bench sign is but for the order of the octets of its checksums.
-fn played(alloc: Global, order: Order, script: &str) -> Result<(), &'static str> {
-    play(&mut sign_of(alloc, &[B], 2, 1, order)?, script)
+/// The two scripts of a new sign, one after the other. It is as the bench sign is but for the order of the octets of
+/// its checksums.
+fn played(alloc: Global, order: Order, before: &str, script: &str) -> Result<(), &'static str> {
+    let stock = Stock {
+        order,
+        ..stock(&[B])
+    };
+    let mut sign = sign_of(alloc, stock)?;
+    play(&mut sign, before)?;
+    play(&mut sign, script)
 }
 
-/// Each script of the bench sign. In the last the octets of checksums are in the other order, and it has the same number as 29954 so.
+/// Each script of the bench sign, after what goes before it. In the last the octets of checksums are in the other
+/// order, and it has the same number as 29954 so.
 #[test]
 fn scripts(rt: HostRuntime) {
-    for (name, order, script) in [
-        ("requests", Order::High, cases::REQUESTS),
-        ("activations", Order::High, cases::ACTIVATIONS),
-        ("commands", Order::High, cases::COMMANDS),
-        ("power and silence", Order::High, cases::POWER),
-        ("sizes", Order::High, cases::SIZES),
-        ("silence", Order::High, cases::SILENCE),
-        ("written defaults", Order::High, cases::WRITTEN_DEFAULTS),
-        ("returns of the power", Order::High, cases::RETURNS),
-        (
-            "checksum of the other order",
-            Order::Swapped,
-            cases::SWAPPED,
-        ),
+    let high = Order::High;
+    let swapped = Order::Swapped;
+    let ready = cases::A_IN_ROW_ONE;
+    for (name, order, before, script) in [
+        ("requests", high, "", cases::REQUESTS),
+        ("activations", high, ready, cases::ACTIVATIONS),
+        ("commands", high, ready, cases::COMMANDS),
+        ("power and silence", high, "", cases::POWER),
+        ("sizes", high, "", cases::SIZES),
+        ("silence", high, "", cases::SILENCE),
+        ("written defaults", high, "", cases::WRITTEN_DEFAULTS),
+        ("returns of the power", high, ready, cases::RETURNS),
+        ("checksum of the other order", swapped, "", cases::SWAPPED),
     ] {
-        assert_eq!(rt; played(rt.alloc(), order, script), Ok(()), "of {name}");
+        let found = played(rt.alloc(), order, before, script);
+        assert_eq!(rt; found, Ok(()), "of {name}");
     }
 }
 
-/// What a request of one name is answered: the name and the value of the reply's binding, or none where the reply is an error.
+/// What a request of one name is answered: the name and the value of the reply's binding, or none where the reply is an
+/// error.
 fn asked<'a>(
     sign: &mut Sign,
     kind: Kind,
@@ -280,7 +237,11 @@ fn walked(sign: &mut Sign) -> Result<u32, &'static str> {
 /// A walk from 0.0 on names each instance once, in order, and each reads the same by its name.
 #[test]
 fn walk(rt: HostRuntime) -> Result<(), Fail> {
-    let mut sign = sign_of(rt.alloc(), &[B, B], 1, 1, Order::High)?;
+    let rows = Stock {
+        changeable: 1,
+        ..stock(&[B, B])
+    };
+    let mut sign = sign_of(rt.alloc(), rows)?;
     assert_eq!(rt; walked(&mut sign), Ok(36 + 9 * (2 + 1 + 1 + 1 + 255)));
     Ok(())
 }
@@ -294,7 +255,8 @@ fn sign_again(alloc: Global) -> Result<Sign, &'static str> {
     }
 }
 
-/// Each allocation of a sign may be refused: then it is out of memory, and the same call with memory makes the same sign.
+/// Each allocation of a sign may be refused: then it is out of memory, and the same call with memory makes the same
+/// sign.
 #[test]
 fn sign_or_out_of_memory(rt: HostRuntime) -> Result<(), Fail> {
     let mut sign = sign_again(rt.alloc())?;
@@ -304,9 +266,9 @@ fn sign_or_out_of_memory(rt: HostRuntime) -> Result<(), Fail> {
 
 /// The configuration of the bench sign; where memory is refused to its face, it is asked for again.
 fn bench_config(alloc: Global) -> Result<Config<'static>, &'static str> {
-    match config_of(alloc, &[B], 2, 1, Order::High) {
+    match config_of(alloc, stock(&[B])) {
         Some(config) => Ok(config),
-        None => config_of(alloc, &[B], 2, 1, Order::High).ok_or("no configuration"),
+        None => config_of(alloc, stock(&[B])).ok_or("no configuration"),
     }
 }
 
@@ -338,7 +300,7 @@ fn check_same(sign: &mut Sign, other: &mut Sign) -> Result<(), &'static str> {
     Err("no end")
 }
 
-/// What is shown, drawn under its own copy of the defaults: the digit of a lit cell's colour, and a point where nothing is lit.
+/// What is shown, drawn under its own copy of the defaults.
 fn picture(alloc: Global, sign: &Sign) -> Result<String, Fail> {
     let shown = sign.shown();
     if !shown.defaults.fits(sign.face()) {
@@ -346,19 +308,7 @@ fn picture(alloc: Global, sign: &Sign) -> Result<String, Fail> {
     }
     let pages = pages_with(alloc, sign.face(), &shown.defaults, shown.text.as_slice())?;
     let page = pages.first().ok_or("no page")?;
-    let mut text = String::new(alloc);
-    for y in 0..page.height() {
-        for x in 0..page.width() {
-            let cell = page.cell(x, y);
-            if cell.lit {
-                text.push(char::from(b'0' + cell.colour % 10))?;
-            } else {
-                text.push('.')?;
-            }
-        }
-        text.push('\n')?;
-    }
-    Ok(text)
+    Ok(drawing(alloc, page)?)
 }
 
 /// What is shown after a script, drawn.
@@ -371,8 +321,9 @@ fn picture_after(alloc: Global, sign: &mut Sign, script: &str) -> Result<String,
 #[test]
 fn pictures(rt: HostRuntime) -> Result<(), Fail> {
     let mut sign = bench_sign(rt.alloc())?;
+    play(&mut sign, cases::A_IN_ROW_ONE)?;
     for (script, wanted) in [
-        (cases::PUT_UP, cases::FONT_ONE),
+        (cases::PUT_UP, PICTURE_OF_A),
         (cases::PUT_UP_AGAIN, cases::FONT_TWO),
     ] {
         let found = picture_after(rt.alloc(), &mut sign, script)?;

@@ -1,13 +1,11 @@
-//! Datagrams that a sign should not have been sent: each is dropped or answered, and nothing that an object reads changes.
+//! Datagrams that a sign should not have been sent: each is dropped or answered, and nothing that an object reads
+//! changes.
 
+use crate::signs::cases::STATUS;
 use crate::signs::{bench_sign, cases, check_same, play};
 use dms_sign::{Receipt, Sign};
 use dms_wire::Out;
 use std::test::Fail;
-
-/// A Get of dmsMessageStatus.3.1 by the community that may read.
-const STATUS: [u8; 48] =
-    *b"\x30\x2e\x02\x01\x00\x04\x06public\xa0\x21\x02\x01\x01\x02\x01\x00\x02\x01\x00\x30\x16\x30\x14\x06\x10\x2b\x06\x01\x04\x01\x89\x36\x04\x02\x03\x05\x08\x01\x09\x03\x01\x05\x00";
 
 /// A sign that was sent such datagrams, beside one that was not.
 #[derive(Drop)]
