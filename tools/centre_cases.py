@@ -1,4 +1,5 @@
-"""Writes crates/dms_centre_tests/src/centres/cases.rt: requests of the central system and replies to them, in octets.
+"""Writes crates/dms_centre_tests/src/centres/cases.rt: requests of the central system and replies to them, in octets,
+with words before each that say what it is.
 
     python3 tools/centre_cases.py > crates/dms_centre_tests/src/centres/cases.rt
 
@@ -91,15 +92,15 @@ class Publication:
         return message(GET, number, [(asked, NULL)]), message(RESPONSE, number, [(asked, integer(value))])
 
     def steps(self):
-        status = cell(STATUS, self.row)
+        status, row = cell(STATUS, self.row), "row {}.{}".format(*self.row)
         return [
-            self.sets(1, [(status, integer(6))]),
-            self.reads(2, STATUS, 2),
-            self.sets(3, self.fields),
-            self.sets(4, [(status, integer(7))]),
-            self.reads(5, STATUS, 4),
-            self.reads(6, CHECKSUM, int.from_bytes(self.crc, "big")),
-            self.sets(7, [(scalar(3), octets(self.code))]),
+            (f"{row} is to be modified", *self.sets(1, [(status, integer(6))])),
+            (f"whether {row} is being modified: it is", *self.reads(2, STATUS, 2)),
+            (f"text, owner, beacon, pixel service and priority of {row}", *self.sets(3, self.fields)),
+            (f"{row} is to be validated", *self.sets(4, [(status, integer(7))])),
+            (f"whether {row} is valid: it is", *self.reads(5, STATUS, 4)),
+            (f"the checksum of {row}, as it should be", *self.reads(6, CHECKSUM, int.from_bytes(self.crc, "big"))),
+            (f"{row} is put up, and accepted", *self.sets(7, [(scalar(3), octets(self.code))])),
         ]
 
 
@@ -112,13 +113,19 @@ def literal(content):
 
 
 def print_rows(title, about, kind, rows):
+    """Rows of words and fields."""
     print(f"\n/// {about}\npub static {title}: [{kind}; {len(rows)}] = [")
-    for row in rows:
-        print("    (")
-        for field in row:
+    for words, *fields in rows:
+        print(f"    // {words}\n    (")
+        for field in fields:
             print(f"        {field},")
         print("    ),")
     print("];")
+
+
+def print_steps(title, about, steps):
+    rows = [(words, literal(request), literal(reply)) for words, request, reply in steps]
+    print_rows(title, about, "(&[u8], &[u8])", rows)
 
 
 def print_octets(title, about, content):
@@ -132,51 +139,58 @@ def error(number, bindings, status, index=1):
 status_cell = cell(STATUS, A.row)
 reported = (status_cell, integer(2))
 ENDINGS = [
-    (0, error(1, [(status_cell, integer(6))], 5), "Failed(1, Why::Status(5))"),
-    (1, message(RESPONSE, 2, [(status_cell, integer(5))]), "Failed(2, Why::WrongStatus(5))"),
-    (1, error(2, [(status_cell, NULL)], 2), "Failed(2, Why::Status(2))"),
-    (1, message(RESPONSE, 2, [reported, reported]), "Failed(2, Why::OddReply)"),
-    (1, message(RESPONSE, 2, []), "Failed(2, Why::OddReply)"),
-    (1, message(RESPONSE, 2, [(cell(STATUS, (3, 2)), integer(2))]), "Failed(2, Why::OddReply)"),
-    (1, message(RESPONSE, 2, [(status_cell, octets(b"\2"))]), "Failed(2, Why::OddReply)"),
-    (2, error(3, A.fields, 3), "Failed(3, Why::Status(3))"),
-    (3, error(4, [(status_cell, integer(7))], 5), "Failed(4, Why::Status(5))"),
-    (4, message(RESPONSE, 5, [(status_cell, integer(5))]), "Failed(5, Why::WrongStatus(5))"),
-    (5, message(RESPONSE, 6, [(cell(CHECKSUM, A.row), integer(0x7502))]), "Failed(6, Why::OtherChecksum)"),
-    (5, message(RESPONSE, 6, [(cell(CHECKSUM, A.row), integer(0x669A))]), "Failed(6, Why::OtherChecksum)"),
+    ("error-status 5 at the first request", 0, error(1, [(status_cell, integer(6))], 5), "Failed(1, Why::Status(5))"),
+    ("the row has status 5 where 2 is wanted", 1, message(RESPONSE, 2, [(status_cell, integer(5))]),
+     "Failed(2, Why::WrongStatus(5))"),
+    ("there is no such row", 1, error(2, [(status_cell, NULL)], 2), "Failed(2, Why::Status(2))"),
+    ("two bindings where one is wanted", 1, message(RESPONSE, 2, [reported, reported]), "Failed(2, Why::OddReply)"),
+    ("no binding", 1, message(RESPONSE, 2, []), "Failed(2, Why::OddReply)"),
+    ("the status of another row", 1, message(RESPONSE, 2, [(cell(STATUS, (3, 2)), integer(2))]),
+     "Failed(2, Why::OddReply)"),
+    ("a status that is no number", 1, message(RESPONSE, 2, [(status_cell, octets(b"\2"))]), "Failed(2, Why::OddReply)"),
+    ("error-status 3 at the fields", 2, error(3, A.fields, 3), "Failed(3, Why::Status(3))"),
+    ("error-status 5 where the row is to be validated", 3, error(4, [(status_cell, integer(7))], 5),
+     "Failed(4, Why::Status(5))"),
+    ("the row has status 5 where 4 is wanted", 4, message(RESPONSE, 5, [(status_cell, integer(5))]),
+     "Failed(5, Why::WrongStatus(5))"),
+    ("the checksum of another text", 5, message(RESPONSE, 6, [(cell(CHECKSUM, A.row), integer(0x7502))]),
+     "Failed(6, Why::OtherChecksum)"),
+    ("the checksum with its octets in the other order", 5,
+     message(RESPONSE, 6, [(cell(CHECKSUM, A.row), integer(0x669A))]), "Failed(6, Why::OtherChecksum)"),
 ]
 
-first_reply = A.steps()[0][1]
+first_reply = A.steps()[0][2]
 FOREIGN = [
-    message(RESPONSE, 1, [(status_cell, integer(6))], community=b"public"),
-    message(RESPONSE, 2, [(status_cell, integer(6))]),
-    message(RESPONSE, 0, [(status_cell, integer(6))]),
-    message(SET, 1, [(status_cell, integer(6))]),
-    first_reply[:-1],
-    first_reply + b"\0",
-    b"",
+    ("of another community", message(RESPONSE, 1, [(status_cell, integer(6))], community=b"public")),
+    ("to a later request", message(RESPONSE, 2, [(status_cell, integer(6))])),
+    ("to an earlier request", message(RESPONSE, 0, [(status_cell, integer(6))])),
+    ("a SET and no Response", message(SET, 1, [(status_cell, integer(6))])),
+    ("without its last octet", first_reply[:-1]),
+    ("with an octet more", first_reply + b"\0"),
+    ("nothing", b""),
 ]
 
 activate = (scalar(3), octets(A.code))
 cause = scalar(17)
 LAST = 2147483647
 
-print('''//! Requests of the central system and replies to them, made by tools/centre_cases.py with nothing of this repository's code.
-use crate::{Ended, Why};''')
-steps = [(literal(request), literal(reply)) for request, reply in A.steps()]
-print_rows("PUBLISHED", "The requests that publish `A` in changeable row 1, the high octet of a checksum first, and good replies.",
-           "(&[u8], &[u8])", steps)
-steps = [(literal(request), literal(reply)) for request, reply in LONG.steps()]
-print_rows("PUBLISHED_SWAPPED", "Those that publish a longer text in volatile row 300, the low octet of a checksum first.",
-           "(&[u8], &[u8])", steps)
-polls = [A.reads(number, STATUS, 3) for number in range(5, 15)]
-print_rows("POLLS", "Ten polls, each answered by validating.", "(&[u8], &[u8])",
-           [(literal(request), literal(reply)) for request, reply in polls])
-print_rows("ENDINGS", "How many good replies there were, the next reply, and how it ends the publication.", "(usize, &[u8], Ended)",
-           [(count, literal(reply), "Ended::" + ended) for count, reply, ended in ENDINGS])
+print('''//! Requests of the central system and replies to them, made by tools/centre_cases.py with nothing of this
+//! repository's code.
+use dms_centre::{Ended, Why};''')
+print_steps("PUBLISHED",
+            "The requests that publish `A` in changeable row 1, the high octet of a checksum first, and good replies.",
+            A.steps())
+print_steps("PUBLISHED_SWAPPED",
+            "Those that publish a longer text in volatile row 300, the low octet of a checksum first.",
+            LONG.steps())
+print_steps("POLLS", "Ten polls, each answered by validating.",
+            [(f"poll {number - 4}: still being validated", *A.reads(number, STATUS, 3)) for number in range(5, 15)])
+print_rows("ENDINGS",
+           "How many good replies there were, the next reply, and how it ends the publication.", "(usize, &[u8], Ended)",
+           [(words, count, literal(reply), "Ended::" + ended) for words, count, reply, ended in ENDINGS])
 print(f"\n/// What does not answer request 1.\npub static FOREIGN: [&[u8]; {len(FOREIGN)}] = [")
-for datagram in FOREIGN:
-    print(f"    {literal(datagram)},")
+for words, datagram in FOREIGN:
+    print(f"    // {words}\n    {literal(datagram)},")
 print("];")
 print_octets("REFUSED", "The activation of `A` as request 7 is refused.", error(7, [activate], 5))
 print_octets("WHY", "Request 8, which asks for the cause.", message(GET, 8, [(cause, NULL)]))

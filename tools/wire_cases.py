@@ -4,7 +4,8 @@
 
 Each line of CASES.jsonl is {"octets": HEX, "canonical": HEX} for a datagram that spells a message, or
 {"octets": HEX, "fault": NUMBER, "place": OFFSET} for one that spells none. The short ones are kept, in tables of
-CHUNK rows: the time that a table takes to check grows faster than its length. What it writes is laid out as by rt fmt.
+CHUNK rows: the time that a table takes to check grows faster than its length. What it writes is laid out as by rt fmt,
+with words before each row: what the message is, or in which of its elements the fault is.
 """
 
 import json
@@ -19,19 +20,78 @@ HEAD = """\
 //! Datagrams with the answers of an independent model, made by tools/wire_cases.py: those that
 //! spell no message, with the kind and the place of their fault, and those that do, with the
 //! message's shortest spelling.
-use crate::FaultKind;
-use crate::FaultKind::{
+use dms_wire::FaultKind;
+use dms_wire::FaultKind::{
     BadInteger, BadLength, BadName, BadTag, BadVersion, LengthPast, TrailingBytes, Truncated,
 };"""
 # the width up to which rt fmt keeps a tuple on one line
 ROW_WIDTH = 60
 
 
+MESSAGES = {0xA0: "Get", 0xA1: "GetNext", 0xA2: "Response", 0xA3: "Set"}
+OF_MESSAGE, OF_PDU = ("version", "community", "PDU"), ("request-id", "error-status", "error-index", "list of bindings")
+
+
+def elements(octets, at, end):
+    """The tag, the first octet, the first of the content and the end of each element, whatever its length says."""
+    while at + 1 < end:
+        size, content = octets[at + 1], at + 2
+        if size > 128:
+            digits = octets[content:content + size - 128]
+            size, content = int.from_bytes(digits, "big"), content + len(digits)
+        after = min(content + size, end)
+        yield octets[at], at, content, after
+        at = after
+
+
+def around(octets, place):
+    """The kind of message, and the element around a place."""
+    kind, found = "message", "outermost element"
+    for _, _, content, after in elements(octets, 0, len(octets)):
+        for name, (tag, first, inner, last) in zip(OF_MESSAGE, elements(octets, content, after)):
+            found = name if first <= place else found
+            if name != "PDU":
+                continue
+            kind = MESSAGES.get(tag, kind)
+            for name, (_, first, inner, last) in zip(OF_PDU, elements(octets, inner, last)):
+                found = name if first <= place else found
+                if name != OF_PDU[-1]:
+                    continue
+                for number, (_, first, inner, last) in enumerate(elements(octets, inner, last), 1):
+                    found = f"binding {number}" if first <= place else found
+                    for name, (_, first, _, _) in zip(("name", "value"), elements(octets, inner, last)):
+                        found = f"{name} of binding {number}" if first <= place else found
+        break
+    return kind, found
+
+
+def bindings_of(octets):
+    """How many bindings a message has."""
+    [message] = elements(octets, 0, len(octets))
+    *_, pdu = elements(octets, *message[2:])
+    *_, listed = elements(octets, *pdu[2:])
+    return len(list(elements(octets, *listed[2:])))
+
+
+def fault_words(case):
+    kind, found = around(bytes.fromhex(case["octets"]), case["place"])
+    return f"a {kind} with a fault in {found if found.startswith('binding') else 'the ' + found}"
+
+
+def message_words(case):
+    octets = bytes.fromhex(case["octets"])
+    count, is_shortest = bindings_of(octets), case["canonical"] == case["octets"]
+    kind, _ = around(octets, 0)
+    bound = f"{count} binding{'s' if count != 1 else ''}"
+    return f"a {kind} of {bound}, {'in' if is_shortest else 'not in'} its shortest spelling"
+
+
 def literal(digits):
     return 'b"' + "".join(f"\\x{digits[i:i + 2]}" for i in range(0, len(digits), 2)) + '"'
 
 
-def print_row(row):
+def print_row(words, *row):
+    print(f"    // {words}")
     line = ", ".join(row)
     if len(line) <= ROW_WIDTH:
         print(f"    ({line}),")
@@ -48,7 +108,7 @@ def tables(name, row_type, rows):
         print()
         print(f"pub static {name}_{first // CHUNK + 1}: [{row_type}; {len(chunk)}] = [")
         for row in chunk:
-            print_row(row)
+            print_row(*row)
         print("];")
 
 
@@ -62,9 +122,10 @@ def main():
                      key=lambda case: case["canonical"] == case["octets"])[:MOST_SPELLED]
     print(HEAD)
     tables("FAULTY", "(&[u8], FaultKind, usize)",
-           [(literal(case["octets"]), KINDS[int(case["fault"])], str(case["place"])) for case in faulty])
+           [(fault_words(case), literal(case["octets"]), KINDS[int(case["fault"])], str(case["place"]))
+            for case in faulty])
     tables("SPELLED", "(&[u8], &[u8])",
-           [(literal(case["octets"]), literal(case["canonical"])) for case in spelled])
+           [(message_words(case), literal(case["octets"]), literal(case["canonical"])) for case in spelled])
 
 
 main()

@@ -3,7 +3,7 @@
 from collections.abc import Callable
 from dataclasses import dataclass
 
-from . import crates, documents, drawing, tools, words
+from . import crates, documents, drawing, rows, tools, words
 from .tree import Tree
 
 
@@ -34,6 +34,7 @@ BARS = (
     Bar("the list of tools", tools.in_list),
     Bar("tools can be called", tools.executable),
     Bar("tools have a help", tools.has_help),
+    Bar("rows of hexadecimal", rows.without_words),
     Bar("nothing is put off", words.put_off),
     Bar("nothing is named that is gone", words.gone),
 )

@@ -5,7 +5,7 @@ import re
 
 import pytest
 
-from upkeep import crates, documents, drawing, tools, words
+from upkeep import crates, documents, drawing, rows, tools, words
 from upkeep.bars import BARS, Bar
 from upkeep.tree import Tree
 
@@ -145,3 +145,53 @@ def test_nothing_that_holds_is_left_for_later() -> None:
         found = bar.look(tree)
         for page in bar.later:
             assert any(line.startswith(page) for line in found), f"{bar.name}: {page} holds, and can be looked at"
+
+
+ROWS = r"""/// A table.
+pub static TABLE: [(&str, u8); 5] = [
+    // one
+    (
+        "HEX",
+        "HEX",
+    ),
+    (
+        "HEX",
+        1,
+    ),
+    ("30", 2),
+    ("HEX", 3),
+    // five
+    ("HEX", 4),
+];
+
+/// A list.
+pub static LIST: [&[u8]; 2] = [
+    // one
+    b"ESCAPES",
+    b"ESCAPES",
+];
+
+/// A row.
+pub const ROW: &str =
+    "HEX";
+
+pub const OTHER: &str = "HEX";
+
+/// A script.
+pub const SCRIPT: &str = "\
+# what is asked, in two lines
+# of words: what is answered
+> HEX
+< HEX
+tick 1
+> HEX
+< HEX";
+""".replace("HEX", "302e02010004067075626c6963").replace("ESCAPES", r"\x30" * 8)
+
+
+def test_rows_of_hexadecimal(made) -> None:
+    tree = made()
+    tree.names = [name := "crates/some_tests/src/some/cases.rt", other := "crates/some/src/some/cases.rt"]
+    tree.read = {name: ROWS, other: ROWS}
+    wanted = [f"{name}:{line}: a row without words before it" for line in (9, 13, 22, 29, 38, 39)]
+    assert rows.without_words(tree) == wanted

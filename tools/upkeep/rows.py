@@ -1,0 +1,34 @@
+"""A bar of the test crates: each row of hexadecimal in a file of rows stands after words that say what it is."""
+
+import re
+
+from .tree import Tree
+
+FILES = re.compile(r"crates/\w+_tests/src/(?:\w+/)*cases\.rt")
+ROW = re.compile(r"(?i)[0-9a-f]{16}|(?:\\x[0-9a-f]{2}){8}")
+WORDS = re.compile(r"\s*(?://|#)")
+# what another row ends with, or begins with where it is a line of its own
+OTHER = re.compile(r'\s*$|<|.*\),$|.*";$| {4}b?"')
+
+
+def has_words(lines: list[str], at: int) -> bool:
+    """Whether words stand above this line, before any other row. A reply has those of its request."""
+    for line in reversed(lines[:at]):
+        if WORDS.match(line):
+            return True
+        if OTHER.match(line) or line.startswith(">") and not lines[at].startswith("<"):
+            return False
+    return False
+
+
+def without_words(tree: Tree) -> list[str]:
+    """Rows of hexadecimal that nothing is said of."""
+    found = []
+    for name in filter(FILES.fullmatch, tree.names):
+        lines = [line for _, line in tree.lines(name)]
+        found += [
+            f"{name}:{at + 1}: a row without words before it"
+            for at, line in enumerate(lines)
+            if ROW.search(line) and not WORDS.match(line) and not has_words(lines, at)
+        ]
+    return found
