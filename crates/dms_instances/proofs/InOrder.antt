@@ -1,11 +1,12 @@
 -- The instances of a sign stand in the strict order of their names; what the walk finds.
-use Rattle.std.proofs.Common.{◌≡◌, ◌⊎◌, inl, inr, ℕ, zero, suc, ◌+◌, ◌<◌, Bool, true, false, ◌&&◌, cond, nat_eq, Less, Equal, Greater, Ordering, List, [], ◌∷◌, ◌++◌, map, flat_map, find, Option, Some, None, slice_get, refl, sym, ap, subst, ◌∙◌, arith, true≢false, lt-ltb}
+use Rattle.std.proofs.Common.{◌≡◌, ◌⊎◌, inl, inr, ℕ, zero, suc, ◌+◌, ◌<◌, Bool, true, false, ◌&&◌, nat_eq, Less, Equal, Greater, Ordering, List, [], ◌∷◌, ◌++◌, map, flat_map, find, Option, Some, None, slice_get, refl, sym, ap, subst, ◌∙◌, arith, true≢false, ◌≤◌}
 use Rattle.std.specs.Cmp.Lexicographic.{pointwise, bytes_decides}
 use Rattle.std.specs.List.{range_with_len}
-use Rattle.std.specs.Ordering.{is_lt, ordering_then}
+use Rattle.std.specs.Ordering.{is_lt}
+use Rattle.std.proofs.lemmas.Bool.Decides.{nat_tests}
 use Rattle.std.proofs.lemmas.Bool.{and_parts, and_from, both_ways, cond-true, cond-false, false_from_ne_true}
 use Rattle.dms_ber.proofs.Elements.{chosen}
-use Rattle.std.proofs.lemmas.Cmp.{nat_list_cmp_total, nat_cmp_total, tied_itself}
+use Rattle.std.proofs.lemmas.Cmp.{nat_list_cmp_total, tied_itself}
 use Rattle.dms_ber.specs.NameOrder.{numbers_cmp}
 use Rattle.dms_objects.specs.declared.column.Column.{Column}
 use Rattle.dms_codes.specs.declared.row_id.RowId.{RowId}
@@ -38,11 +39,21 @@ before_differs a b h =
     both_ways (is_before a a) (not_before_itself a) (subst (λ b. is_before a b ≡ true) (sym ((bytes_decides a b).0 e)) h)
 
 -- names that begin alike
-alike : (n : ℕ) (a b : List ℕ) → is_before a b ≡ true → is_before (n ∷ a) (n ∷ b) ≡ true
-alike n a b h = ap (λ o. is_lt (ordering_then o (numbers_cmp a b))) (tied_itself nat_cmp_total n) ∙ h
+pub alike_is : (n : ℕ) (a b : List ℕ) → is_before (n ∷ a) (n ∷ b) ≡ is_before a b
+alike_is n a b = grind (arith, nat_tests)
 
-smaller : (m n : ℕ) (a b : List ℕ) → m < n → is_before (m ∷ a) (n ∷ b) ≡ true
-smaller m n a b h = ap (λ t. is_lt (ordering_then (cond t Less (cond (nat_eq m n) Equal Greater)) (numbers_cmp a b))) (lt-ltb m n h)
+alike : (n : ℕ) (a b : List ℕ) → is_before a b ≡ true → is_before (n ∷ a) (n ∷ b) ≡ true
+alike n a b h = alike_is n a b ∙ h
+
+pub smaller : (m n : ℕ) (a b : List ℕ) → m < n → is_before (m ∷ a) (n ∷ b) ≡ true
+smaller m n a b h = grind (arith, nat_tests)
+
+pub larger : (m n : ℕ) (a b : List ℕ) → n < m → is_before (m ∷ a) (n ∷ b) ≡ false
+larger m n a b h = grind (arith, nat_tests)
+
+-- two numbers are in this order or not
+pub less_or_not : (a b : ℕ) → (a < b) ⊎ (b ≤ a)
+less_or_not a b = grind (arith, nat_tests)
 
 -- ---- rising names
 
@@ -167,7 +178,7 @@ above low (x ∷ xs) high r (suc k) j h =
     let parts = and_parts (is_before low (name_of x)) (rises name_of (name_of x) xs high) r in
     before_trans low (name_of x) (name_of j) parts.0 (above (name_of x) xs high parts.1 k j h)
 
-found : (test : Instance → Bool) (xs : List Instance) (i : Instance) → find test xs ≡ Some i → (k : ℕ) × (slice_get xs k ≡ Some i) × (test i ≡ true)
+pub found : {X : Type 0} (test : X → Bool) (xs : List X) (i : X) → find test xs ≡ Some i → (k : ℕ) × (slice_get xs k ≡ Some i) × (test i ≡ true)
 found test [] i h = absurd (cc)
 found test (x ∷ xs) i h =
     elim (chosen (test x) (Some x) (find test xs) (Some i) h) [

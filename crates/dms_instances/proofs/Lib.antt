@@ -2,8 +2,11 @@ pub mod Members
 pub mod InOrder
 pub mod WhichInstances
 pub mod ObjectRows
-pub mod Places
 pub mod CellOctets
 pub mod SameOctets
 pub mod Told
 pub mod Inverses
+pub mod Beginnings
+pub mod Following
+pub mod Cells
+pub mod Stops

@@ -16,8 +16,7 @@ use Rattle.dms_instances.specs.Objects.{has_name, instance_named, IsInstance}
 use Rattle.dms_instances.specs.Places.{HasCounts}
 use Rattle.dms_instances.specs.Told.{IsTold}
 use Rattle.dms_instances.proofs.CellOctets.{short_named, long_named_low}
-use Rattle.dms_instances.proofs.InOrder.{named_is}
-use Rattle.dms_instances.proofs.Places.{less_or_not}
+use Rattle.dms_instances.proofs.InOrder.{named_is, less_or_not}
 use Rattle.dms_instances.proofs.WhichInstances.{AreOctets, Counted, there_counted, last_few}
 
 -- a name that is an instance's has its octets

@@ -3,17 +3,18 @@ use Rattle.std.proofs.Common.{◌≡◌, ◌⊎◌, inl, inr, ◌↔◌, ℕ, ze
 use Rattle.std.specs.List.{range_with_len}
 use Rattle.std.proofs.lemmas.Bool.{eqb-true, eqb-false, and_parts, and_from, leb-true, le-leb, ne_eqb}
 use Rattle.dms_objects.specs.declared.column.Column.{Column}
-use Rattle.dms_objects.specs.declared.column.Column.TheVariants.{MemoryType, Number, MultiString, Owner, Crc, Beacon, PixelService, RunTimePriority, Status}
 use Rattle.dms_codes.specs.declared.row_id.RowId.{RowId}
 use Rattle.dms_table.specs.Rows.{RowModel, TableModel, row_read, blank, numbered, reading, rows_of, blank_at, blank_reading}
 use Rattle.dms_table.specs.Activation.{ShownModel, message_at, shown_reading}
 use Rattle.dms_objects.specs.declared.scalar.Scalar.{Scalar}
-use Rattle.dms_objects.specs.declared.scalar.Scalar.TheVariants.{SignHeightPixels, SignWidthPixels, DefaultBackgroundColor, DefaultForegroundColor, DefaultFlashOn, DefaultFlashOff, DefaultFont, DefaultJustificationLine, DefaultJustificationPage, DefaultPageOnTime, DefaultPageOffTime, ColorScheme, NumPermanentMsg, NumChangeableMsg, MaxChangeableMsg, FreeChangeableMemory, NumVolatileMsg, MaxVolatileMsg, FreeVolatileMemory, ValidateMessageError, ActivateMessage, MessageTimeRemaining, MsgTableSource, MsgRequesterId, MsgSourceMode, ShortPowerRecoveryMessage, LongPowerRecoveryMessage, ShortPowerLossTime, CommunicationsLossMessage, TimeCommLoss, PowerLossMessage, EndDurationMessage, ActivateMsgError, MultiSyntaxError, MultiSyntaxErrorPosition, ActivateErrorMsgCode}
 use Rattle.dms_objects.specs.declared.instance.Instance.{Instance}
 use Rattle.dms_objects.specs.declared.instance.Instance.TheVariants.{The, Cell}
 use Rattle.dms_instances.specs.Objects.{before_table, after_table, columns, memories, rows_in, row_ids, cells, instances, IsInstance}
 use Rattle.dms_instances.specs.declared.counts.Counts.{Counts}
 use Rattle.dms_instances.specs.Places.{HasCounts, last_number}
+use Rattle.dms_objects.specs.Names.{column_number, scalar_number}
+use Rattle.dms_instances.proofs.InOrder.{found}
+use Rattle.dms_instances.proofs.Inverses.{column_back, scalar_back}
 use Rattle.dms_instances.proofs.Members.{In, some_is, in_left, in_right, in_either, in_map, of_map, in_flat, of_flat, in_range, of_range}
 
 -- ---- rows
@@ -178,53 +179,16 @@ unfolding instances
 in_after table k object h = in_right (before ++ rows table) after (The object) (k, h)
 
 pub object_there : (table : TableModel) (object : Scalar) → IsInstance table (The object)
-object_there table SignHeightPixels = in_before table 0 SignHeightPixels refl
-object_there table SignWidthPixels = in_before table 1 SignWidthPixels refl
-object_there table DefaultBackgroundColor = in_before table 2 DefaultBackgroundColor refl
-object_there table DefaultForegroundColor = in_before table 3 DefaultForegroundColor refl
-object_there table DefaultFlashOn = in_before table 4 DefaultFlashOn refl
-object_there table DefaultFlashOff = in_before table 5 DefaultFlashOff refl
-object_there table DefaultFont = in_before table 6 DefaultFont refl
-object_there table DefaultJustificationLine = in_before table 7 DefaultJustificationLine refl
-object_there table DefaultJustificationPage = in_before table 8 DefaultJustificationPage refl
-object_there table DefaultPageOnTime = in_before table 9 DefaultPageOnTime refl
-object_there table DefaultPageOffTime = in_before table 10 DefaultPageOffTime refl
-object_there table ColorScheme = in_before table 11 ColorScheme refl
-object_there table NumPermanentMsg = in_before table 12 NumPermanentMsg refl
-object_there table NumChangeableMsg = in_before table 13 NumChangeableMsg refl
-object_there table MaxChangeableMsg = in_before table 14 MaxChangeableMsg refl
-object_there table FreeChangeableMemory = in_before table 15 FreeChangeableMemory refl
-object_there table NumVolatileMsg = in_before table 16 NumVolatileMsg refl
-object_there table MaxVolatileMsg = in_before table 17 MaxVolatileMsg refl
-object_there table FreeVolatileMemory = in_before table 18 FreeVolatileMemory refl
-object_there table ValidateMessageError = in_after table 0 ValidateMessageError refl
-object_there table ActivateMessage = in_after table 1 ActivateMessage refl
-object_there table MessageTimeRemaining = in_after table 2 MessageTimeRemaining refl
-object_there table MsgTableSource = in_after table 3 MsgTableSource refl
-object_there table MsgRequesterId = in_after table 4 MsgRequesterId refl
-object_there table MsgSourceMode = in_after table 5 MsgSourceMode refl
-object_there table ShortPowerRecoveryMessage = in_after table 6 ShortPowerRecoveryMessage refl
-object_there table LongPowerRecoveryMessage = in_after table 7 LongPowerRecoveryMessage refl
-object_there table ShortPowerLossTime = in_after table 8 ShortPowerLossTime refl
-object_there table CommunicationsLossMessage = in_after table 9 CommunicationsLossMessage refl
-object_there table TimeCommLoss = in_after table 10 TimeCommLoss refl
-object_there table PowerLossMessage = in_after table 11 PowerLossMessage refl
-object_there table EndDurationMessage = in_after table 12 EndDurationMessage refl
-object_there table ActivateMsgError = in_after table 13 ActivateMsgError refl
-object_there table MultiSyntaxError = in_after table 14 MultiSyntaxError refl
-object_there table MultiSyntaxErrorPosition = in_after table 15 MultiSyntaxErrorPosition refl
-object_there table ActivateErrorMsgCode = in_after table 16 ActivateErrorMsgCode refl
+object_there table object =
+    let numbers = found (λ other. ((scalar_number other).0 == (scalar_number object).0) && ((scalar_number other).1 == (scalar_number object).1))
+    (before_table ++ after_table) object (scalar_back object) in
+    elim (in_either before_table after_table numbers.0 object numbers.1) [
+      | inl i ↦ let at = in_map The before_table i.0 object i.1 in in_before table at.0 object at.1
+      | inr i ↦ let at = in_map The after_table i.0 object i.1 in in_after table at.0 object at.1
+    ]
 
 column_there : (column : Column) → In columns column
-column_there MemoryType = (0, refl)
-column_there Number = (1, refl)
-column_there MultiString = (2, refl)
-column_there Owner = (3, refl)
-column_there Crc = (4, refl)
-column_there Beacon = (5, refl)
-column_there PixelService = (6, refl)
-column_there RunTimePriority = (7, refl)
-column_there Status = (8, refl)
+column_there column = let at = found (λ other. column_number other == column_number column) columns column (column_back column) in (at.0, at.1)
 
 cell_there : (table : TableModel) (column : Column) (row : RowId) → In (row_ids table) row → IsInstance table (Cell column row)
 unfolding instances

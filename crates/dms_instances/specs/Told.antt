@@ -1,6 +1,7 @@
 -- What the octets of a name tell of the instance whose name they are (X.690, 8.19; this profile).
-use Rattle.std.specs.Prelude.{◌≡◌, ◌<◌, ◌+◌, ◌==◌, ◌&&◌, ◌++◌, ℕ, List, [], ◌∷◌, Option, Some}
-use Rattle.std.specs.List.{find}
+use Rattle.std.specs.Prelude.{◌≡◌, ◌<◌, ◌+◌, ◌==◌, ◌&&◌, ◌++◌, ℕ, List, [], ◌∷◌, Option, Some, nat_lt, get_or, if◌then◌else◌}
+use Rattle.std.specs.List.{find, flat_map}
+use Rattle.dms_ber.specs.ObjectIdentifier.{sub_identifier_octets}
 use Rattle.dms_objects.specs.Names.{column_number, scalar_number}
 use Rattle.dms_objects.specs.declared.column.Column.{Column}
 use Rattle.dms_objects.specs.declared.scalar.Scalar.{Scalar}
@@ -16,6 +17,15 @@ column_at number = find (λ column. column_number column == number) columns
 abbrev pub scalar_at : (group number : ℕ) → Option Scalar
 scalar_at group number =
     find (λ object. ((scalar_number object).0 == group) && ((scalar_number object).1 == number)) (before_table ++ after_table)
+
+-- the octets of the numbers of a name behind its first two (X.690, 8.19)
+abbrev pub octets_below : List ℕ → List ℕ
+octets_below numbers = flat_map sub_identifier_octets numbers
+
+-- the number of a row that these numbers begin with: 0 where there is none, and for one above 255, the last that a row
+-- has, that
+abbrev pub row_number_of : List ℕ → ℕ
+row_number_of numbers = if nat_lt (get_or numbers 0 0) 256 then get_or numbers 0 0 else 255
 
 -- the content octets of a name below dms, 1.3.6.1.4.1.1206.4.2.3
 abbrev pub under_dms : List ℕ → List ℕ
@@ -33,7 +43,8 @@ cell_content column memory number = under_dms (5 ∷ 8 ∷ 1 ∷ column_number c
 abbrev pub long_cell_content : Column → (memory low : ℕ) → List ℕ
 long_cell_content column memory low = under_dms (5 ∷ 8 ∷ 1 ∷ column_number column ∷ memory ∷ 129 ∷ low ∷ [])
 
--- whichever object, or cell of a row of a type of memory below 128 and a number below 256, has these octets as its name: it is told
+-- whichever object, or cell of a row of a type of memory below 128 and a number below 256, has these octets as its
+-- name: it is told
 pub record IsTold (octets : List ℕ) (told : Option Instance) : Type 0 where
   pub object : (object : Scalar) → octets ≡ object_content object → told ≡ Some (The object)
   pub short : (column : Column) (memory number : ℕ) → memory < 128 → number < 128 → octets ≡ cell_content column memory number

@@ -1,75 +1,23 @@
-//! The places of instances: the list of them is never made, since the instance at a place is computed.
+//! The instances that a sign has by how many rows it has: no list of them is made. Which one a name names, and which
+//! comes next, is told by where the octets of the name first differ from those of names that there are; nothing is
+//! searched for.
 
-ghost use Rattle.std.specs.Prelude.{◌≡◌, ◌≤◌, ◌<◌, ◌+◌, ◌*◌, ℕ, true, length, Some, IfSome};
+ghost use Rattle.std.specs.Prelude.{◌≡◌, ◌≤◌, ◌<◌, ◌+◌, ◌==◌, ◌&&◌, ◌∷◌, [], ℕ, List, true, length, IfSome, IfNone};
+ghost use Rattle.dms_codes.specs.declared.row_id.RowId.{RowId};
 ghost use Rattle.dms_table.specs.Rows.{TableModel};
-ghost use Rattle.std.specs.List.{slice_index_or};
-ghost use Rattle.dms_objects.specs.declared.column.Column.TheVariants.{MemoryType};
-ghost use Rattle.dms_instances.specs.Objects.{columns, has_name, instance_named, next_instance, IsInstance};
-ghost use Rattle.dms_instances.specs.Places.{HasCounts, last_number, row_total, place_total, row_at, instance_at, IsBetween};
+ghost use Rattle.dms_objects.specs.Names.{below_dms, cell_name, column_number};
+ghost use Rattle.dms_instances.specs.Objects.{instance_named, next_instance, IsInstance};
+ghost use Rattle.dms_instances.specs.Places.{HasCounts, last_number, row_place, IsRow, IsFirstRow};
+ghost use Rattle.dms_instances.specs.Told.{octets_below};
 
-use crate::guess;
-use crate::names::{comes_after, has_name, known_by_octets};
+use crate::names::{comes_before_dms, known_below_dms, known_by_octets};
+use crate::octets::{
+    self, below_dms, column_of, first_octet, last_object, number_after, row_number, scalar_of,
+};
 use dms_ber::Oid;
 use dms_codes::{RowId, memory};
-use dms_objects::{Column, Instance, Scalar};
+use dms_objects::{Column, Instance};
 use dms_table::Table;
-
-/// The objects before dmsMessageTable.
-const BEFORE_TABLE: [Scalar; 19] = [
-    Scalar::SignHeightPixels,
-    Scalar::SignWidthPixels,
-    Scalar::DefaultBackgroundColor,
-    Scalar::DefaultForegroundColor,
-    Scalar::DefaultFlashOn,
-    Scalar::DefaultFlashOff,
-    Scalar::DefaultFont,
-    Scalar::DefaultJustificationLine,
-    Scalar::DefaultJustificationPage,
-    Scalar::DefaultPageOnTime,
-    Scalar::DefaultPageOffTime,
-    Scalar::ColorScheme,
-    Scalar::NumPermanentMsg,
-    Scalar::NumChangeableMsg,
-    Scalar::MaxChangeableMsg,
-    Scalar::FreeChangeableMemory,
-    Scalar::NumVolatileMsg,
-    Scalar::MaxVolatileMsg,
-    Scalar::FreeVolatileMemory,
-];
-
-/// The objects after dmsMessageTable.
-const AFTER_TABLE: [Scalar; 17] = [
-    Scalar::ValidateMessageError,
-    Scalar::ActivateMessage,
-    Scalar::MessageTimeRemaining,
-    Scalar::MsgTableSource,
-    Scalar::MsgRequesterId,
-    Scalar::MsgSourceMode,
-    Scalar::ShortPowerRecoveryMessage,
-    Scalar::LongPowerRecoveryMessage,
-    Scalar::ShortPowerLossTime,
-    Scalar::CommunicationsLossMessage,
-    Scalar::TimeCommLoss,
-    Scalar::PowerLossMessage,
-    Scalar::EndDurationMessage,
-    Scalar::ActivateMsgError,
-    Scalar::MultiSyntaxError,
-    Scalar::MultiSyntaxErrorPosition,
-    Scalar::ActivateErrorMsgCode,
-];
-
-/// The columns of dmsMessageTable.
-const COLUMNS: [Column; 9] = [
-    Column::MemoryType,
-    Column::Number,
-    Column::MultiString,
-    Column::Owner,
-    Column::Crc,
-    Column::Beacon,
-    Column::PixelService,
-    Column::RunTimePriority,
-    Column::Status,
-];
 
 /// How many rows a sign has of each type of memory that it stores. They say which instances it has.
 #[derive(Clone, Copy, Debug, PartialEq, Eq)]
@@ -102,7 +50,7 @@ impl Counts {
         ensures { (table : TableModel) → HasCounts table self.now → result ≡ instance_named table name.now }
     {
         are_octets(self.permanent, self.changeable, self.volatile);
-        let instance = guess::instance(name.content())?;
+        let instance = octets::instance(name.content())?;
         known_by_octets(name, instance);
         if self.has(instance) {
             Some(instance)
@@ -140,152 +88,207 @@ impl Counts {
     pub fn next(&self, name: &Oid<'_>) -> Option<Instance>
         ensures { (table : TableModel) → HasCounts table self.now → result ≡ next_instance table name.now }
     {
-        if let Some(next) = self.after_cell(name) {
-            return Some(next);
-        }
-        let place = self.next_place(name);
-        if place < self.places() {
-            Some(self.instance_at(place))
-        } else {
-            None
-        }
-    }
-
-    /// The instance after this name, where its octets tell at once that it is a cell's.
-    fn after_cell(&self, name: &Oid<'_>) -> Option<Instance>
-        ensures { IfSome result (λ i. (table : TableModel) → HasCounts table self.now → Some i ≡ next_instance table name.now) }
-    {
-        let instance = guess::instance(name.content())?;
-        known_by_octets(name, instance);
-        match instance {
-            Instance::The(_) => None,
-            Instance::Cell(column, row) => {
-                let place = guess::row_place(self, row.memory, row.number)?;
-                Some(self.after_cell_at(column_place(column), place))
+        match below_dms(name.content()) {
+            Some(octets) => {
+                known_below_dms(name, octets);
+                self.next_below(octets)
+            }
+            None => {
+                if comes_before_dms(name) {
+                    self.from_object(0, 0)
+                } else {
+                    None
+                }
             }
         }
     }
 
-    fn next_place(&self, name: &Oid<'_>) -> usize
-        ensures within { result ≤ place_total self.now }
-        ensures between { (table : TableModel) → HasCounts table self.now → IsBetween table name.now result result }
+    /// The first instance after the name whose numbers below dms have these octets.
+    #[inline]
+    fn next_below(&self, octets: &[u8]) -> Option<Instance>
+        ensures { (numbers : List ℕ) → octets_below numbers ≡ octets.now → (table : TableModel) → HasCounts table self.now
+            → result ≡ next_instance table (below_dms numbers) }
     {
-        match self.guessed(name) {
-            Some(place) => place + 1,
-            None => self.place_after(name),
+        match first_octet(octets) {
+            Some((group, rest)) => self.next_in_group(group, rest),
+            None => self.from_object(0, 0),
         }
     }
 
-    /// The place of this name, where its octets tell at once that it is an object's.
-    fn guessed(&self, name: &Oid<'_>) -> Option<usize>
-        ensures within { IfSome result (λ place. place < place_total self.now) }
-        ensures named { IfSome result (λ place. has_name name.now (instance_at self.now place) ≡ true) }
+    /// The same, where the first octet is the group's: whole, or of a number of 128 or more, which no group has.
+    #[inline]
+    fn next_in_group(&self, group: u8, octets: &[u8]) -> Option<Instance>
+        ensures { (numbers : List ℕ) → octets_below numbers ≡ group ∷ octets.now → (table : TableModel) → HasCounts table self.now
+            → result ≡ next_instance table (below_dms numbers) }
     {
-        let place = guess::place(self, name.content())?;
-        if place < self.places() && has_name(name, self.instance_at(place)) {
-            Some(place)
+        match first_octet(octets) {
+            Some((number, rest)) => self.next_in_object(group, number, rest),
+            None => self.from_object(group, 0),
+        }
+    }
+
+    /// The same, where the second is the number's in the group.
+    #[inline]
+    fn next_in_object(&self, group: u8, number: u8, octets: &[u8]) -> Option<Instance>
+        ensures { (numbers : List ℕ) → octets_below numbers ≡ group ∷ number ∷ octets.now → (table : TableModel) → HasCounts table self.now
+            → result ≡ next_instance table (below_dms numbers) }
+    {
+        if is_table(group, number) {
+            return self.next_in_table(octets);
+        }
+        match first_octet(octets) {
+            Some(_) => self.from_object(group, number_after(number)),
+            None => self.from_object(group, number),
+        }
+    }
+
+    /// The same below dmsMessageTable, 5.8.
+    #[inline]
+    fn next_in_table(&self, octets: &[u8]) -> Option<Instance>
+        ensures { (numbers : List ℕ) → octets_below numbers ≡ octets.now → (table : TableModel) → HasCounts table self.now
+            → result ≡ next_instance table (below_dms (5 ∷ 8 ∷ numbers)) }
+    {
+        match first_octet(octets) {
+            Some((entry, rest)) => {
+                if entry == 1 {
+                    self.next_in_entry(rest)
+                } else if entry == 0 {
+                    self.from_object(5, 8)
+                } else {
+                    self.from_object(5, 9)
+                }
+            }
+            None => self.from_object(5, 8),
+        }
+    }
+
+    /// The same below dmsMessageEntry, 5.8.1.
+    #[inline]
+    fn next_in_entry(&self, octets: &[u8]) -> Option<Instance>
+        ensures { (numbers : List ℕ) → octets_below numbers ≡ octets.now → (table : TableModel) → HasCounts table self.now
+            → result ≡ next_instance table (below_dms (5 ∷ 8 ∷ 1 ∷ numbers)) }
+    {
+        let Some((number, rest)) = first_octet(octets) else {
+            return self.from_object(5, 8);
+        };
+        match column_of(number) {
+            Some(column) => self.next_in_column(column, rest),
+            None => {
+                if number == 0 {
+                    self.from_object(5, 8)
+                } else {
+                    self.from_object(5, 9)
+                }
+            }
+        }
+    }
+
+    /// The same below a column of it.
+    #[inline]
+    fn next_in_column(&self, column: Column, octets: &[u8]) -> Option<Instance>
+        ensures { (numbers : List ℕ) → octets_below numbers ≡ octets.now → (table : TableModel) → HasCounts table self.now
+            → result ≡ next_instance table (below_dms (5 ∷ 8 ∷ 1 ∷ column_number column ∷ numbers)) }
+    {
+        are_octets(self.permanent, self.changeable, self.volatile);
+        match first_octet(octets) {
+            Some((memory, rest)) => self.after_cell(column, memory, row_number(rest)),
+            None => self.after_cell(column, 0, 0),
+        }
+    }
+
+    /// The first instance after the name of this cell, whether there is such a row or not.
+    #[inline]
+    fn after_cell(&self, column: Column, memory: u8, number: u8) -> Option<Instance>
+        ensures { (table : TableModel) → HasCounts table self.now
+            → result ≡ next_instance table (cell_name column (record { memory = memory; number = number })) }
+    {
+        are_octets(self.permanent, self.changeable, self.volatile);
+        match self.row_after(memory, number) {
+            Some(row) => Some(Instance::Cell(column, row)),
+            None => self.after_column(column),
+        }
+    }
+
+    /// The first instance after those of a column.
+    fn after_column(&self, column: Column) -> Option<Instance>
+        ensures { (table : TableModel) → HasCounts table self.now
+            → result ≡ next_instance table (below_dms (5 ∷ 8 ∷ 1 ∷ (column_number column + 1) ∷ [])) }
+    {
+        match column_of(column.number() + 1) {
+            Some(column) => self.first_of(column),
+            None => self.from_object(5, 9),
+        }
+    }
+
+    /// The first instance of a column.
+    fn first_of(&self, column: Column) -> Option<Instance>
+        ensures { (table : TableModel) → HasCounts table self.now
+            → result ≡ next_instance table (below_dms (5 ∷ 8 ∷ 1 ∷ column_number column ∷ [])) }
+    {
+        are_octets(self.permanent, self.changeable, self.volatile);
+        let row = self.row_past(0)?;
+        Some(Instance::Cell(column, row))
+    }
+
+    /// The first row after this type of memory and number.
+    #[inline]
+    fn row_after(&self, memory: u8, number: u8) -> Option<RowId>
+        ensures some { IfSome result (λ row. IsFirstRow self.now (row_place memory number) row) }
+        ensures none { IfNone result ((row : RowId) → IsRow self.now row → row_place row.memory row.number ≤ row_place memory number) }
+    {
+        are_octets(self.permanent, self.changeable, self.volatile);
+        let number = u16::from(number);
+        if number < self.last_number(memory) {
+            let number = number + 1;
+            Some(RowId { memory, number })
+        } else {
+            self.row_past(memory)
+        }
+    }
+
+    /// The first row of a type of memory above this one.
+    fn row_past(&self, kind: u8) -> Option<RowId>
+        ensures some { IfSome result (λ row. IsFirstRow self.now (row_place kind 255) row) }
+        ensures none { IfNone result ((row : RowId) → IsRow self.now row → row.memory ≤ kind) }
+    {
+        are_octets(self.permanent, self.changeable, self.volatile);
+        if kind < memory::PERMANENT && self.permanent != 0 {
+            Some(first_row(memory::PERMANENT))
+        } else if kind < memory::CHANGEABLE && self.changeable != 0 {
+            Some(first_row(memory::CHANGEABLE))
+        } else if kind < memory::VOLATILE && self.volatile != 0 {
+            Some(first_row(memory::VOLATILE))
+        } else if kind < memory::CURRENT_BUFFER {
+            Some(first_row(memory::CURRENT_BUFFER))
+        } else if kind < memory::BLANK {
+            Some(first_row(memory::BLANK))
         } else {
             None
         }
     }
 
-    /// The first place of which the instance comes after this name, or the number of places: where its octets tell it that place and
-    /// the one before it are looked at, and else it is found by halving.
-    fn place_after(&self, name: &Oid<'_>) -> usize
-        ensures within { result ≤ place_total self.now }
-        ensures between { (table : TableModel) → HasCounts table self.now → IsBetween table name.now result result }
+    /// The first instance of an object, or of the table, that does not come before this group and number: at most six
+    /// pairs of numbers are looked at.
+    fn from_object(&self, group: u8, number: u8) -> Option<Instance>
+        ensures { (table : TableModel) → HasCounts table self.now → result ≡ next_instance table (below_dms (group ∷ number ∷ [])) }
     {
-        let guess = guess::place_of_next(self, name.content());
-        let mut low = 0;
-        let mut high = self.places();
-        while low < high {
-            let place = probe(low, high, guess);
-            if comes_after(name, self.instance_at(place)) {
-                high = place;
+        let mut group = group;
+        let mut number = number;
+        while group <= 6 {
+            if is_table(group, number) {
+                return self.first_of(Column::MemoryType);
+            }
+            if let Some(object) = scalar_of(group, number) {
+                return Some(Instance::The(object));
+            }
+            if number < last_object(group) {
+                number += 1;
             } else {
-                low = place + 1;
+                group += 1;
+                number = 0;
             }
         }
-        low
-    }
-
-    /// How many rows a column has: the stored ones, the current buffer and 255 blank messages.
-    pub(crate) fn rows(&self) -> usize
-        ensures { result ≡ row_total self.now }
-    {
-        usize::from(self.permanent)
-            + usize::from(self.changeable)
-            + usize::from(self.volatile)
-            + 256
-    }
-
-    /// How many instances there are.
-    pub(crate) fn places(&self) -> usize
-        ensures { result ≡ place_total self.now }
-    {
-        19 + self.rows() * 9 + 17
-    }
-
-    /// The row at a place of a column.
-    #[tactic(auto, unfolding(crate::specs::Places::row_at))]
-    fn row_at(&self, place: usize) -> RowId
-        requires { place < row_total self.now }
-        ensures { result ≡ row_at self.now place }
-    {
-        let permanent = usize::from(self.permanent);
-        let changeable = permanent + usize::from(self.changeable);
-        let volatile = changeable + usize::from(self.volatile);
-        if place < permanent {
-            row(memory::PERMANENT, place + 1)
-        } else if place < changeable {
-            row(memory::CHANGEABLE, place - permanent + 1)
-        } else if place < volatile {
-            row(memory::VOLATILE, place - changeable + 1)
-        } else if place == volatile {
-            row(memory::CURRENT_BUFFER, 1)
-        } else {
-            row(memory::BLANK, place - volatile)
-        }
-    }
-
-    /// The instance of a row in a column: its place is known with no division.
-    fn cell_at(&self, column: usize, row: usize) -> Instance
-        requires column { column < 9 }
-        requires row { row < row_total self.now }
-        ensures { result ≡ instance_at self.now (19 + column * row_total self.now + row) }
-    {
-        Instance::Cell(COLUMNS[column], self.row_at(row))
-    }
-
-    /// The instance after that of a row in a column.
-    fn after_cell_at(&self, column: usize, row: usize) -> Instance
-        requires column { column < 9 }
-        requires row { row < row_total self.now }
-        ensures { result ≡ instance_at self.now (19 + column * row_total self.now + row + 1) }
-    {
-        if row + 1 < self.rows() {
-            self.cell_at(column, row + 1)
-        } else {
-            self.instance_at(19 + column * self.rows() + row + 1)
-        }
-    }
-
-    /// The instance at a place.
-    #[tactic(auto, unfolding(crate::specs::Places::instance_at))]
-    fn instance_at(&self, place: usize) -> Instance
-        requires { place < place_total self.now }
-        ensures { result ≡ instance_at self.now place }
-    {
-        if place < 19 {
-            return Instance::The(BEFORE_TABLE[place]);
-        }
-        let rows = self.rows();
-        let cell = place - 19;
-        if cell < rows * 9 {
-            Instance::Cell(COLUMNS[cell / rows], self.row_at(cell % rows))
-        } else {
-            Instance::The(AFTER_TABLE[cell - rows * 9])
-        }
+        None
     }
 }
 
@@ -297,45 +300,16 @@ fn are_octets(permanent: u8, changeable: u8, volatile: u8)
     ensures volatile { volatile < 256 }
 {}
 
-/// The place of a column.
-fn column_place(column: Column) -> usize
-    ensures within { result < 9 }
-    ensures is { slice_index_or columns result MemoryType ≡ column }
+fn first_row(memory: u8) -> RowId
+    ensures { result ≡ record { memory = memory; number = 1 } }
 {
-    match column {
-        Column::MemoryType => 0,
-        Column::Number => 1,
-        Column::MultiString => 2,
-        Column::Owner => 3,
-        Column::Crc => 4,
-        Column::Beacon => 5,
-        Column::PixelService => 6,
-        Column::RunTimePriority => 7,
-        Column::Status => 8,
-    }
+    RowId { memory, number: 1 }
 }
 
-fn row(memory: u8, number: usize) -> RowId
-    requires { number < 65536 }
-    ensures { result ≡ record { memory = memory; number = number } }
+/// Whether these are the numbers of dmsMessageTable below dms.
+#[inline]
+fn is_table(group: u8, number: u8) -> bool
+    ensures { result ≡ ((group == 5) && (number == 8)) }
 {
-    RowId {
-        memory,
-        number: number as u16,
-    }
-}
-
-/// The place to look at next: the guess first, then the one before it where the guess was right, and else the middle.
-fn probe(low: usize, high: usize, guess: usize) -> usize
-    requires { low < high }
-    ensures from { low ≤ result }
-    ensures below { result < high }
-{
-    if low <= guess && guess < high {
-        guess
-    } else if guess == high {
-        high - 1
-    } else {
-        low + (high - low) / 2
-    }
+    group == 5 && number == 8
 }

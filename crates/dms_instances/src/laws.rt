@@ -18,8 +18,8 @@ pub fn each_has_its_instances()
         → IsInstance table (Cell column row) ↔ IsSome (message_at table shown row) }
 {}
 
-/// The instances stand in the strict order of their names: the one that comes next after a name is the least of those that come
-/// after it, and an instance is found by its name, and by no other.
+/// The instances stand in the strict order of their names: the one that comes next after a name is the least of those
+/// that come after it, and an instance is found by its name, and by no other.
 pub fn objects_in_order()
     ensures next { (table : TableModel) (name : List ℕ) → FirstAfter table name (next_instance table name) }
     ensures named { (table : TableModel) (i : Instance) → IsInstance table i → instance_named table (name_of i) ≡ Some i }

@@ -10,8 +10,8 @@
 #![tactic(auto)]
 
 pub mod counts;
-mod guess;
 pub mod laws;
 mod names;
+mod octets;
 
 pub use counts::Counts;

@@ -1,11 +1,16 @@
-use Rattle.std.proofs.Common.{◌≡◌, true, Some, ap, ◌∙◌, subst}
-use Rattle.dms_instances.specs.Objects.{has_name}
-use Rattle.dms_instances.proofs.Places.{after_cell_named}
+use Rattle.std.proofs.Common.{sym, ◌∙◌, arith}
+use Rattle.dms_objects.specs.Names.{column_number}
+use Rattle.dms_instances.proofs.Cells.{cell_next, past_rows}
 use Rattle.dms_instances.proofs.counts.Counts.after_cell.Goals as goal
 
-pub returns-in_ok-place-in-Cell : goal.returns-in_ok-place-in-Cell
-returns-in_ok-place-in-Cell c = λ table has.
-    ap Some c.after_cell_at.ensures
-    ∙ after_cell_named table c.args.self.now c.args.name.now c.column_place.result c.in_ok-place-in-Cell.place c.in-Cell.column c.in-Cell.row has
-    c.column_place.ensures.within c.in_ok-place-in-Cell.ensures.within c.column_place.ensures.is c.in_ok-place-in-Cell.ensures.row
-    (subst (λ i. has_name c.args.name.now i ≡ true) c.in-Cell.is c.known_by_octets.ensures)
+pub returns-in-Some : goal.returns-in-Some
+returns-in-Some c = λ table has.
+    cell_next table c.args.self.now has (c.are_octets.ensures.permanent, c.are_octets.ensures.changeable, c.are_octets.ensures.volatile)
+    c.args.column c.args.memory c.args.number (omega arith) c.in-Some.row c.in-Some.ensures.some
+
+pub returns-in-None : goal.returns-in-None
+returns-in-None c = λ table has.
+    c.after_column.ensures table has
+    ∙ sym (past_rows table c.args.self.now has
+    (c.are_octets.ensures.permanent, c.are_octets.ensures.changeable, c.are_octets.ensures.volatile)
+    (column_number c.args.column) c.args.memory c.args.number (omega arith) c.in-None.ensures.none)

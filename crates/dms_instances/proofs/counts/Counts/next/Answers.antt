@@ -1,12 +1,19 @@
-use Rattle.std.proofs.Common.{Some, ap, ◌∙◌, arith}
-use Rattle.dms_instances.proofs.Places.{next_found, next_none}
+use Rattle.std.proofs.Common.{sym, ap, ◌∙◌}
+use Rattle.dms_ber.specs.ObjectIdentifier.{name_octets}
+use Rattle.dms_instances.specs.Told.{octets_below}
+use Rattle.dms_instances.proofs.Following.{before_dms, past_dms}
+use Rattle.dms_instances.proofs.SameOctets.{dms_octets}
 use Rattle.dms_instances.proofs.counts.Counts.next.Goals as goal
 
-pub returns-then-place-places : goal.returns-then-place-places
-returns-then-place-places c = λ table has.
-    ap Some c.instance_at.ensures
-    ∙ next_found table c.args.self.now c.args.name.now c.next_place-place.result has (c.next_place-place.ensures.between table has) (omega arith)
+pub returns-then-comes_before_dms : goal.returns-then-comes_before_dms
+returns-then-comes_before_dms c = λ table has.
+    c.from_object.ensures table has
+    ∙ before_dms table c.args.self.now has c.args.name.now
+    (λ rest e. c.in-None.ensures.told (octets_below rest) (c.content.ensures ∙ ap name_octets e ∙ dms_octets rest))
+    (sym c.comes_before_dms.ensures ∙ c.if-comes_before_dms.true)
 
-pub returns-else-place-places : goal.returns-else-place-places
-returns-else-place-places c = λ table has.
-    next_none table c.args.self.now c.args.name.now c.next_place-place.result has (c.next_place-place.ensures.between table has) (omega arith)
+pub returns-else-comes_before_dms : goal.returns-else-comes_before_dms
+returns-else-comes_before_dms c = λ table has.
+    past_dms table c.args.name.now
+    (λ rest e. c.in-None.ensures.told (octets_below rest) (c.content.ensures ∙ ap name_octets e ∙ dms_octets rest))
+    (sym c.comes_before_dms.ensures ∙ c.if-comes_before_dms.false)
