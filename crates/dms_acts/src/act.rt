@@ -1,22 +1,19 @@
 //! A call, carried out.
 
-use crate::codes::{activation, code};
-use crate::lacking::what_lacks;
-use crate::reading::{decode, list_items, tell_hex_fault};
-use dms_calls::{Call, Drawing, Form, SignWanted};
+use crate::inputs::{described_before, described_whole, replayed};
+use crate::refusal::Refusal;
+use dms_calls::{Call, Form, SignWanted};
 use dms_description::Setup;
-use dms_face::{Face, MultiFault, check};
-use dms_lines::{numbered_page, pages_text};
-use dms_pages::{PagesFault, pages};
 use dms_parties::{LiveCentre, LiveSign};
-use dms_picture::{picture, still};
-use dms_refusal::{Refusal, described_before, described_whole, replayed};
-use dms_replay::{ReplayFault, bench};
+use dms_printing::{
+    activation, code, decode, list_items, print_count, print_pages, say_why_dropped, status_after,
+    tell, tell_hex_fault,
+};
+use dms_replay::{ReplayFault, address, bench};
 use dms_sign::Receipt;
 use dms_streams::{ConversationFault, Counted, Input, Party, Source, converse};
-use dms_wire::{Out, read};
-use std::alloc::{AllocError, Global};
-use std::io;
+use dms_wire::Out;
+use std::alloc::Global;
 use std::io::{Read, Write};
 
 /// The program's name and version.
@@ -57,8 +54,14 @@ pub fn act_saying<R: Read, W: Write, E: Write>(
         Call::Decode { hex, spaced, form } => decode(alloc, hex, spaced, form, writer),
         Call::Items { text, form } => list_items(alloc, text, form, writer, errors),
         Call::Version => tell(writer, VERSION, 0),
-        Call::Code(words) => code(alloc, &words, writer),
-        Call::Activation(words) => activation(alloc, &words, writer),
+        Call::Code(words) => {
+            let address = address(words.terms.address.as_bytes());
+            code(alloc, &words, address, writer)
+        }
+        Call::Activation(words) => {
+            let address = address(words.terms.address.as_bytes());
+            activation(alloc, &words, address, writer)
+        }
         Call::Replay => print_report(alloc, reader, writer, errors),
         Call::Sign { sign } => be_sign(alloc, sign, reader, writer, errors),
         Call::Centre { sign } => be_centre(alloc, sign, reader, writer, errors),
@@ -207,134 +210,8 @@ fn check_text<R: Read, W: Write, E: Write>(
     }
 }
 
-/// Prints the number of a text's pages on a face, or its fault.
-fn print_count<W: Write, E: Write>(
-    alloc: Global,
-    text: &str,
-    face: &Face,
-    form: Form,
-    writer: &mut W,
-    errors: &mut E,
-) -> u8 {
-    match check(face, text.as_bytes()) {
-        Ok(pages) => status(match form {
-            Form::Lines => writeln!(writer, "ok pages {pages}"),
-            Form::Json => writeln!(writer, "{{\"pages\":{pages}}}"),
-        }),
-        Err(fault) => {
-            say_fault(alloc, text, face, fault, errors);
-            let number = fault.code.number();
-            let place = fault.place;
-            status_after(
-                1,
-                match form {
-                    Form::Lines => writeln!(writer, "fault {number} at {place}"),
-                    Form::Json => writeln!(writer, "{{\"fault\":{number},\"at\":{place}}}"),
-                },
-            )
-        }
-    }
-}
-
-/// Prints the pages of a text on a face, or its fault.
-fn print_pages<W: Write, E: Write>(
-    alloc: Global,
-    text: &str,
-    face: &Face,
-    drawing: Drawing,
-    writer: &mut W,
-    errors: &mut E,
-) -> u8 {
-    let pages = match pages(alloc, face, text.as_bytes()) {
-        Ok(pages) => pages,
-        Err(PagesFault::Multi(fault)) => {
-            return tell_fault(alloc, text, face, fault, writer, errors);
-        }
-        Err(PagesFault::Memory) => return tell(writer, "memory", 1),
-    };
-    match drawing.page {
-        None if drawing.svg => {
-            let document = picture(alloc, face.width(), face.height(), pages.as_slice());
-            print_document(document, writer)
-        }
-        None => print_document(pages_text(alloc, pages.as_slice()), writer),
-        Some(number) => match pages.get(usize::from(number).saturating_sub(1)) {
-            Some(page) if drawing.svg => print_document(still(alloc, page), writer),
-            Some(page) => {
-                print_document(numbered_page(alloc, usize::from(number), page), writer)
-            }
-            None => tell(writer, "no such page", 1),
-        },
-    }
-}
-
-/// Prints a picture, or the text of pages.
-fn print_document<W: Write>(document: Result<Vec<u8>, AllocError>, writer: &mut W) -> u8 {
-    match document {
-        Ok(document) => status(writer.write_all(document.as_slice())),
-        Err(_) => tell(writer, "memory", 1),
-    }
-}
-
-/// Says why a sign does not answer a datagram.
-fn say_why_dropped<E: Write>(datagram: &[u8], errors: &mut E) {
-    let _ = match read(datagram) {
-        Ok(_) => writeln!(
-            errors,
-            "no request, or not of a community that may ask this"
-        ),
-        Err(fault) => writeln!(errors, "{fault}"),
-    };
-}
-
-/// The status of a refusal that was written, or 1 where it was not.
-pub(crate) fn status_after(refused: u8, written: io::Result<()>) -> u8 {
-    match written {
-        Ok(()) => refused,
-        Err(_) => 1,
-    }
-}
-
-/// The status of a call of which all was written, or not.
-pub(crate) fn status(written: io::Result<()>) -> u8 {
-    match written {
-        Ok(()) => 0,
-        Err(_) => 1,
-    }
-}
-
-/// Prints the fault of a text, which is refused, and says it in words.
-fn tell_fault<W: Write, E: Write>(
-    alloc: Global,
-    text: &str,
-    face: &Face,
-    fault: MultiFault,
-    writer: &mut W,
-    errors: &mut E,
-) -> u8 {
-    say_fault(alloc, text, face, fault, errors);
-    let _ = writeln!(writer, "fault {} at {}", fault.code.number(), fault.place);
-    1
-}
-
-/// Says the fault of a text on a face, and what the face lacks for it.
-fn say_fault<E: Write>(alloc: Global, text: &str, face: &Face, fault: MultiFault, errors: &mut E) {
-    let _ = match what_lacks(alloc, face, text.as_bytes(), fault) {
-        Some(lack) => writeln!(errors, "{fault}: {lack}"),
-        None => writeln!(errors, "{fault}"),
-    };
-}
-
 /// Prints what is wrong with a script or a description on the standard input, or that there is no memory.
 fn tell_refusal<W: Write, E: Write>(writer: &mut W, errors: &mut E, refusal: Refusal) -> u8 {
     let _ = refusal.tell(writer, errors);
     1
-}
-
-/// Prints a line, and gives the status, or 1 where the line was not written.
-pub(crate) fn tell<W: Write>(writer: &mut W, line: &str, status: u8) -> u8 {
-    match writeln!(writer, "{line}") {
-        Ok(()) => status,
-        Err(_) => 1,
-    }
 }

@@ -4,19 +4,23 @@ ghost use Rattle.std.specs.Prelude.{◌≡◌, ◌++◌, if◌then◌else◌, On
 ghost use Rattle.dms_codes.specs.declared.codes.Order.{Order};
 ghost use Rattle.dms_codes.specs.declared.codes.Order.TheVariants.{High, Swapped};
 ghost use Rattle.dms_codes.specs.declared.codes.Activation.{Activation};
-ghost use Rattle.dms_acts.specs.CodeLine.{code_line};
+ghost use Rattle.dms_printing.specs.CodeLine.{code_line};
 
-use crate::act::{status, tell};
+use crate::statuses::{status, tell};
 use dms_calls::{ActivationWords, CodeWords, TermWords};
 use dms_codes::{Activation, MAX_TEXT, MessageId, Order, crc};
-use dms_replay::address;
 use dms_text::version;
 use std::alloc::{AllocError, Global};
 use std::io::Write;
 
-/// Prints the checksum of a message, and the code that puts it up.
-pub fn code<W: Write>(alloc: Global, words: &CodeWords<'_>, writer: &mut W) -> u8 {
-    let Some(address) = address(words.terms.address.as_bytes()) else {
+/// Prints the checksum of a message, and the code that puts it up. `address` is what the address of its terms spells.
+pub fn code<W: Write>(
+    alloc: Global,
+    words: &CodeWords<'_>,
+    address: Option<[u8; 4]>,
+    writer: &mut W,
+) -> u8 {
+    let Some(address) = address else {
         return tell(writer, "bad address", 2);
     };
     if words.text.len() > MAX_TEXT {
@@ -39,12 +43,17 @@ pub fn code<W: Write>(alloc: Global, words: &CodeWords<'_>, writer: &mut W) -> u
     print_code(alloc, lines, id, &words.terms, address, writer)
 }
 
-/// Prints the code that puts up the message of a checksum.
-pub fn activation<W: Write>(alloc: Global, words: &ActivationWords<'_>, writer: &mut W) -> u8 {
+/// Prints the code that puts up the message of a checksum. `address` is what the address of its terms spells.
+pub fn activation<W: Write>(
+    alloc: Global,
+    words: &ActivationWords<'_>,
+    address: Option<[u8; 4]>,
+    writer: &mut W,
+) -> u8 {
     let Some(crc) = version(words.checksum.as_bytes()) else {
         return tell(writer, "bad checksum", 2);
     };
-    let Some(address) = address(words.terms.address.as_bytes()) else {
+    let Some(address) = address else {
         return tell(writer, "bad address", 2);
     };
     let id = MessageId {

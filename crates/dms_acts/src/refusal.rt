@@ -18,7 +18,7 @@ pub struct Refusal {
 
 impl From<ReplayFault> for Refusal {
     ghost use Rattle.std.specs.Prelude.{◌≡◌};
-    ghost use Rattle.dms_refusal.specs.Refused.{fault_alone};
+    ghost use Rattle.dms_acts.specs.Refused.{fault_alone};
 
     ghost from_gives = { λ fault made. made ≡ fault_alone fault };
 
@@ -34,7 +34,7 @@ impl From<ReplayFault> for Refusal {
 impl Refusal {
     ghost use Rattle.std.specs.Prelude.{OnOk};
     ghost use Rattle.std.specs.Io.KnownBytes.{Appends};
-    ghost use Rattle.dms_refusal.specs.Told.{fault_line, cause_line, empty_line, said};
+    ghost use Rattle.dms_acts.specs.Told.{fault_line, cause_line, empty_line, said};
 
     /// Prints the fault on the standard output, and says on the standard error what is wrong with its line. It says so
     /// also where the fault is not printed.

@@ -1,5 +1,5 @@
-use Rattle.dms_refusal.proofs.Carried.{no_script}
-use Rattle.dms_refusal.proofs.inputs.replayed.Goals as goal
+use Rattle.dms_acts.proofs.Carried.{no_script}
+use Rattle.dms_acts.proofs.inputs.replayed.Goals as goal
 
 pub returns-in-Ok-clause-line : goal.returns-in-Ok-clause-line
 returns-in-Ok-clause-line g c number is =

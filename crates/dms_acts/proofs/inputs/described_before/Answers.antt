@@ -1,6 +1,6 @@
 use Rattle.dms_streams.specs.Lines.{left}
-use Rattle.dms_refusal.proofs.Carried.{not_described_before, empty_of_text}
-use Rattle.dms_refusal.proofs.inputs.described_before.Goals as goal
+use Rattle.dms_acts.proofs.Carried.{not_described_before, empty_of_text}
+use Rattle.dms_acts.proofs.inputs.described_before.Goals as goal
 
 pub returns-in-Ok-clause-line : goal.returns-in-Ok-clause-line
 returns-in-Ok-clause-line g c number is =

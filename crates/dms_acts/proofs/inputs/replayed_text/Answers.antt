@@ -1,5 +1,5 @@
-use Rattle.dms_refusal.proofs.Carried.{same_line}
-use Rattle.dms_refusal.proofs.inputs.replayed_text.Goals as goal
+use Rattle.dms_acts.proofs.Carried.{same_line}
+use Rattle.dms_acts.proofs.inputs.replayed_text.Goals as goal
 
 pub returns-in-Err-clause-line : goal.returns-in-Err-clause-line
 returns-in-Err-clause-line g c number is =

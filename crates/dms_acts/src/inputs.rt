@@ -11,7 +11,7 @@ ghost use Rattle.dms_description.specs.Description.{Description, SpellsDescripti
 ghost use Rattle.dms_description.specs.Setups.{IsMade};
 ghost use Rattle.dms_description.specs.declared.reading_fault.ReplayFault.TheVariants as faults;
 ghost use Rattle.dms_replay.specs.Replayed.{Replayed, ReplayedPrefix, RunsLawfully, HasNoRoom, NoScript};
-ghost use Rattle.dms_refusal.specs.Refused.{with_fault, says_empty, SaysMoreOfLines, IsDescriptionCause, IsScriptCause};
+ghost use Rattle.dms_acts.specs.Refused.{with_fault, says_empty, SaysMoreOfLines, IsDescriptionCause, IsScriptCause};
 
 use crate::refusal::Refusal;
 use dms_description::describing::{text_before, whole_input};

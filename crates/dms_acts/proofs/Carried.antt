@@ -15,8 +15,8 @@ use Rattle.dms_description.specs.declared.reading_fault.ReplayFault.{ReplayFault
 use Rattle.dms_description.specs.declared.reading_fault.ReplayFault.TheVariants as faults
 use Rattle.dms_description.specs.declared.setup.Setup.{Setup}
 use Rattle.dms_replay.specs.Replayed.{NoScript}
-use Rattle.dms_refusal.specs.declared.refusal.Refusal.{Refusal}
-use Rattle.dms_refusal.specs.Refused.{names_line, says_empty}
+use Rattle.dms_acts.specs.declared.refusal.Refusal.{Refusal}
+use Rattle.dms_acts.specs.Refused.{names_line, says_empty}
 
 -- ---- an input that is read to its end: `slice` is lent of the octets that were read, which are all
 

@@ -4,7 +4,7 @@ use Rattle.dms_description.specs.FaultTexts.{replay_fault_text}
 use Rattle.dms_description.specs.declared.reading_fault.ReplayFault.{ReplayFault}
 use Rattle.dms_replay.specs.Reasons.{script_cause_text}
 use Rattle.dms_replay.specs.declared.reasons.ScriptCause.{ScriptCause}
-use Rattle.dms_refusal.specs.declared.refusal.Refusal.{Refusal}
+use Rattle.dms_acts.specs.declared.refusal.Refusal.{Refusal}
 
 -- the line of the fault
 abbrev pub fault_line : ReplayFault → List ℕ

@@ -1,17 +1,17 @@
 //! Datagrams and texts, read and printed.
 
-use crate::act::{status, status_after, tell};
 use crate::fields::write_message;
 use crate::item_lines::write_items;
 use crate::json::{put_items, put_message};
+use crate::statuses::{status, status_after, tell};
 use dms_calls::Form;
 use dms_wire::{WireFault, read};
 use hex::FromHexError;
 use std::alloc::Global;
 use std::io::Write;
 
-/// Prints the fields of a datagram, or its fault.
-pub(crate) fn decode<W: Write>(
+/// Prints the fields of a datagram in hexadecimal digits, or its fault. `spaced` is whether spaces and colons may stand between octets.
+pub fn decode<W: Write>(
     alloc: Global,
     digits: &str,
     spaced: bool,
@@ -42,8 +42,8 @@ pub(crate) fn decode<W: Write>(
     }
 }
 
-/// Prints the items of a text before its fault, and its fault, if it has one.
-pub(crate) fn list_items<W: Write, E: Write>(
+/// Prints the items of a text before its fault, and its fault, if it has one, which is said in words too.
+pub fn list_items<W: Write, E: Write>(
     alloc: Global,
     text: &str,
     form: Form,
@@ -78,11 +78,22 @@ fn spaced_octets(alloc: Global, digits: &str) -> Result<Vec<u8>, FromHexError> {
 }
 
 /// Prints that digits are no octets, or that there is no memory.
-pub(crate) fn tell_hex_fault<W: Write>(form: Form, writer: &mut W, fault: FromHexError) -> u8 {
+pub fn tell_hex_fault<W: Write>(form: Form, writer: &mut W, fault: FromHexError) -> u8 {
     match fault {
         FromHexError::OutOfMemory => tell_refused(form, writer, "memory", 1),
         _ => tell_refused(form, writer, "not hex", 2),
     }
+}
+
+/// Says in words why a sign does not answer a datagram.
+pub fn say_why_dropped<E: Write>(datagram: &[u8], errors: &mut E) {
+    let _ = match read(datagram) {
+        Ok(_) => writeln!(
+            errors,
+            "no request, or not of a community that may ask this"
+        ),
+        Err(fault) => writeln!(errors, "{fault}"),
+    };
 }
 
 /// Prints why octets spell no message, and where.

@@ -8,7 +8,7 @@ use Rattle.dms_description.specs.declared.reading_fault.ReplayFault.TheVariants 
 use Rattle.dms_replay.specs.Reasons.{IsCauseOf}
 use Rattle.dms_replay.specs.declared.reasons.ScriptCause.{ScriptCause}
 use Rattle.dms_replay.specs.declared.reasons.ScriptCause.TheVariants as script
-use Rattle.dms_refusal.specs.declared.refusal.Refusal.{Refusal}
+use Rattle.dms_acts.specs.declared.refusal.Refusal.{Refusal}
 
 -- a fault, and nothing beside it
 abbrev pub fault_alone : ReplayFault → Refusal

@@ -1,0 +1,2 @@
+-- what a reader must believe of what is printed
+pub mod CodeLine

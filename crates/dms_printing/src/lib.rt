@@ -1,0 +1,25 @@
+//! What the program prints of a datagram, of a text on a face and of a code, as lines and as JSON, and what a face lacks for a text, in
+//! words. It needs no sign.
+//!
+//! ```
+//! let mut printed = Vec::new(alloc);
+//! let status = decode(alloc, "300a", false, Form::Lines, &mut printed);
+//! assert_eq!(rt; status, 1);
+//! assert_eq!(rt; printed.as_slice(), b"fault truncated at octet 2\n".as_slice());
+//! ```
+#![tactic(auto)]
+
+pub mod codes;
+mod fields;
+mod item_lines;
+mod json;
+mod lacking;
+mod names;
+pub mod reading;
+pub mod statuses;
+pub mod texts;
+
+pub use codes::{activation, code};
+pub use reading::{decode, list_items, say_why_dropped, tell_hex_fault};
+pub use statuses::{status, status_after, tell};
+pub use texts::{print_count, print_pages};
