@@ -1,5 +1,5 @@
-//! What the program does: each call of the command line, carried out; and why an input of it is refused, with what is wrong with its
-//! line.
+//! What the program does: each call of the command line, carried out; and why an input of it is refused, with what is
+//! wrong with its line.
 //!
 //! ```
 //! let mut input: &[u8] = b"bench\nlisten\n";

@@ -1,2 +1,3 @@
 -- what a reader must believe of what is printed
 pub mod CodeLine
+pub mod ObjectNames

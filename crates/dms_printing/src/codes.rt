@@ -82,7 +82,12 @@ fn print_code<W: Write>(
 
 /// The activation of a message on these terms, from this address.
 fn on_terms(id: MessageId, terms: &TermWords<'_>, address: [u8; 4]) -> Activation
-    ensures { result ≡ record { minutes = terms.now.duration; priority = terms.now.priority; id = id; address = address } }
+    ensures { result ≡ record {
+      minutes = terms.now.duration;
+      priority = terms.now.priority;
+      id = id;
+      address = address;
+    } }
 {
     Activation {
         minutes: terms.duration,

@@ -6,8 +6,8 @@ use std::alloc::Global;
 use std::io;
 use std::io::Write;
 
-/// Writes a message's fields, a line each. Octets are pairs of hexadecimal digits, and after them in quotes a text, where all are
-/// printable.
+/// Writes a message's fields, a line each. Octets are pairs of hexadecimal digits, and after them in quotes a text,
+/// where all are printable.
 pub fn write_message<W: Write>(
     alloc: Global,
     message: Message<'_>,
@@ -67,7 +67,8 @@ fn write_value<W: Write>(alloc: Global, value: &Value<'_>, writer: &mut W) -> io
     }
 }
 
-/// Writes a space and octets, and in quotes the text that they are, where all of them are printable; none at all is `-`.
+/// Writes a space and octets, and in quotes the text that they are, where all of them are printable; none at all is
+/// `-`.
 fn write_octets<W: Write>(alloc: Global, octets: &[u8], writer: &mut W) -> io::Result<()> {
     if octets.is_empty() {
         return write!(writer, " -");

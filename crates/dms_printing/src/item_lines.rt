@@ -4,8 +4,8 @@ use dms_multi::{Item, Lead, SyntaxFault, items};
 use std::io;
 use std::io::Write;
 
-/// Writes each item of a text before its fault, a line each: the offset in octets, what it is, and its values, of which `default` is the
-/// sign's; and then its fault, if it has one. Gives the fault.
+/// Writes each item of a text before its fault, a line each: the offset in octets, what it is, and its values, of which
+/// `default` is the sign's; and then its fault, if it has one. Gives the fault.
 pub fn write_items<W: Write>(text: &[u8], writer: &mut W) -> io::Result<Option<SyntaxFault>> {
     for outcome in items(text) {
         match outcome {

@@ -47,8 +47,8 @@ impl fmt::Display for Lack {
     }
 }
 
-/// What a face lacks for a text with this fault, where that is a character, a font or room. Nothing is told where no matrix has the room,
-/// or where there is no memory to look.
+/// What a face lacks for a text with this fault, where that is a character, a font or room. Nothing is told where no
+/// matrix has the room, or where there is no memory to look.
 pub(crate) fn what_lacks(
     alloc: Global,
     face: &Face,
@@ -84,7 +84,8 @@ fn missing_item(face: &Face, text: &[u8], place: usize) -> Option<Lack> {
     None
 }
 
-/// The columns or the rows that a matrix has to have more, for the item at this octet and those after it on its line or its page.
+/// The columns or the rows that a matrix has to have more, for the item at this octet and those after it on its line or
+/// its page.
 fn missing_room(alloc: Global, face: &Face, text: &[u8], place: usize) -> Option<Lack> {
     let past = place.saturating_add(1);
     if takes(alloc, face, (face.width(), HIGHEST), text, past).ok()? {
@@ -124,7 +125,8 @@ fn more_rows(alloc: Global, face: &Face, text: &[u8], end: usize) -> Result<u16,
     Ok(too_few.saturating_add(1))
 }
 
-/// Whether a matrix of this size has room for the items of a text that begin before an octet. One that is larger than any has.
+/// Whether a matrix of this size has room for the items of a text that begin before an octet. One that is larger than
+/// any has.
 fn takes(
     alloc: Global,
     face: &Face,
@@ -173,7 +175,8 @@ fn unlit(alloc: Global, font: &Font) -> Result<Font, AllocError> {
     Font::from_text(alloc, text.as_slice()).or(Err(AllocError))
 }
 
-/// Where the line of an octet ends: the first octet of the next item that closes a line, or the octet after the text's end.
+/// Where the line of an octet ends: the first octet of the next item that closes a line, or the octet after the text's
+/// end.
 fn end_of_line(text: &[u8], place: usize) -> usize {
     for spot in items(text) {
         match spot {
@@ -189,7 +192,8 @@ fn closes_line(item: Item) -> bool {
     matches!(item, Item::NewLine(_) | Item::NewPage | Item::JustPage(_))
 }
 
-/// Where the page of an octet ends: the octet after the first one of the next item that closes a page, or that after the text's end.
+/// Where the page of an octet ends: the octet after the first one of the next item that closes a page, or that after
+/// the text's end.
 fn end_of_page(text: &[u8], place: usize) -> usize {
     for spot in items(text) {
         match spot {

@@ -1,5 +1,5 @@
-//! What the program prints of a datagram, of a text on a face and of a code, as lines and as JSON, and what a face lacks for a text, in
-//! words. It needs no sign.
+//! What the program prints of a datagram, of a text on a face and of a code, as lines and as JSON, and what a face
+//! lacks for a text, in words. It needs no sign.
 //!
 //! ```
 //! let mut printed = Vec::new(alloc);

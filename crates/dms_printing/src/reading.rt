@@ -10,7 +10,8 @@ use hex::FromHexError;
 use std::alloc::Global;
 use std::io::Write;
 
-/// Prints the fields of a datagram in hexadecimal digits, or its fault. `spaced` is whether spaces and colons may stand between octets.
+/// Prints the fields of a datagram in hexadecimal digits, or its fault. `spaced` is whether spaces and colons may stand
+/// between octets.
 pub fn decode<W: Write>(
     alloc: Global,
     digits: &str,

@@ -1,12 +1,13 @@
 //! A dynamic message sign's controller and its central system on the command line.
 //!
-//! `signtool CALL ..` hands its words to dms_cli, and the call that they are, its input and its outputs to dms_acts. This page says what
-//! can be asked of it, each call with what it prints. The rules behind the answers are those of docs/PROFILE.md.
+//! `signtool CALL ..` hands its words to dms_cli, and the call that they are, its input and its outputs to dms_acts.
+//! This page says what can be asked of it, each call with what it prints. The rules behind the answers are those of
+//! docs/PROFILE.md.
 //!
 //! # Which sign
 //!
-//! The sign is the bench sign: 23 columns and 14 rows of lamps, two fonts, one permanent message `B`. With `--sign` it is the one that
-//! the standard input describes, as the files of signs/ do:
+//! The sign is the bench sign: 23 columns and 14 rows of lamps, two fonts, one permanent message `B`. With `--sign` it
+//! is the one that the standard input describes, as the files of signs/ do:
 //!
 //! ```sh
 //! signtool check --sign "ROAD WORK[nl]1 KM AHEAD" < signs/roadside.sign
@@ -18,8 +19,8 @@
 //!
 //! # Datagrams
 //!
-//! `answer [--sign] HEX` prints the sign's reply to a datagram. Octets are two hexadecimal digits each, with nothing between them.
-//! Here a manager asks a sign for dmsMessageStatus.3.1, the status of the first changeable message:
+//! `answer [--sign] HEX` prints the sign's reply to a datagram. Octets are two hexadecimal digits each, with nothing
+//! between them. Here a manager asks a sign for dmsMessageStatus.3.1, the status of the first changeable message:
 //!
 //! ```sh
 //! signtool answer 302e02010004067075626c6963a0210201010201000201003016301406102b0601040189360402030508010903010500
@@ -29,8 +30,8 @@
 //! 302f02010004067075626c6963a2220201010201000201003017301506102b060104018936040203050801090301020101
 //! ```
 //!
-//! A datagram that a sign leaves without a reply prints `dropped`. `decode HEX` prints the fields of a datagram of either end, one a
-//! line; a name of one of the sign's objects has the object and its instance beside it:
+//! A datagram that a sign leaves without a reply prints `dropped`. `decode HEX` prints the fields of a datagram of
+//! either end, one a line; a name of one of the sign's objects has the object and its instance beside it:
 //!
 //! ```text
 //! kind Get
@@ -41,13 +42,14 @@
 //! binding 1.3.6.1.4.1.1206.4.2.3.5.8.1.9.3.1 (dmsMessageStatus.3.1): NULL
 //! ```
 //!
-//! Octets that spell no message have their first fault and the offset of the octet at which it is told: `signtool decode 300a` prints
-//! `fault truncated at octet 2`. `decode --spaced HEX` takes octets with spaces and colons between them, as Wireshark copies them:
-//! `signtool decode --spaced 30:0a` prints the same.
+//! Octets that spell no message have their first fault and the offset of the octet at which it is told:
+//! `signtool decode 300a` prints `fault truncated at octet 2`. `decode --spaced HEX` takes octets with spaces and
+//! colons between them, as Wireshark copies them: `signtool decode --spaced 30:0a` prints the same.
 //!
 //! # Texts
 //!
-//! `items TEXT` prints what a MULTI text is made of, each item after its offset in octets. `signtool items "A[pt20o0]B[nl]C"`:
+//! `items TEXT` prints what a MULTI text is made of, each item after its offset in octets.
+//! `signtool items "A[pt20o0]B[nl]C"`:
 //!
 //! ```text
 //! 0 character 65
@@ -57,12 +59,13 @@
 //! 14 character 67
 //! ```
 //!
-//! `check [--sign] TEXT` prints the number of its pages on the sign, or the fault that keeps it from being shown, under its number in
-//! NTCIP 1203: `signtool check "A[np]B"` prints `ok pages 2`, and `signtool check a` prints `fault 7 at 0`, since no font of the bench
-//! sign has a picture of `a`.
+//! `check [--sign] TEXT` prints the number of its pages on the sign, or the fault that keeps it from being shown, under
+//! its number in NTCIP 1203: `signtool check "A[np]B"` prints `ok pages 2`, and `signtool check a` prints
+//! `fault 7 at 0`, since no font of the bench sign has a picture of `a`.
 //!
-//! `pages [--sign] TEXT` draws each page: its number, its times in tenths of a second and its background, and then a line for each row
-//! of lamps, with `.` for a lamp that is not lit and the digit of its colour for one that is. `signtool pages A` begins:
+//! `pages [--sign] TEXT` draws each page: its number, its times in tenths of a second and its background, and then a
+//! line for each row of lamps, with `.` for a lamp that is not lit and the digit of its colour for one that is.
+//! `signtool pages A` begins:
 //!
 //! ```text
 //! page 1 on 30 off 0 back 0
@@ -72,28 +75,32 @@
 //! .........99999.........
 //! ```
 //!
-//! `--page K` prints the K-th page alone. `--svg` prints a picture in place of the digits, which a browser plays: its pages take turns
-//! and what flashes does.
+//! `--page K` prints the K-th page alone. `--svg` prints a picture in place of the digits, which a browser plays: its
+//! pages take turns and what flashes does.
 //!
-//! `decode`, `items` and `check` print one object of JSON with `--json`: `signtool check --json "A[np]B"` prints `{"pages":2}`.
+//! `decode`, `items` and `check` print one object of JSON with `--json`: `signtool check --json "A[np]B"` prints
+//! `{"pages":2}`.
 //!
 //! # Codes
 //!
-//! `code TYPE NUMBER TEXT` prints a message's checksum and the code that activates it. The options `--beacon`, `--pixel`, `--swapped`,
-//! `--duration`, `--priority` and `--address` say the rest. `signtool code 3 1 A --address 192.0.2.1`:
+//! `code TYPE NUMBER TEXT` prints a message's checksum and the code that activates it. The options `--beacon`,
+//! `--pixel`, `--swapped`, `--duration`, `--priority` and `--address` say the rest.
+//! `signtool code 3 1 A --address 192.0.2.1`:
 //!
 //! ```text
 //! crc 9a66
 //! code ffffff0300019a66c0000201
 //! ```
 //!
-//! `activation MEMORY NUMBER CHECKSUM` prints the code alone, of a message that is known by its checksum: also of a blank message, whose
-//! checksum is `0000`, and of what is shown. `signtool activation 7 1 0000` prints `code ffffff070001000000000000`.
+//! `activation MEMORY NUMBER CHECKSUM` prints the code alone, of a message that is known by its checksum: also of a
+//! blank message, whose checksum is `0000`, and of what is shown. `signtool activation 7 1 0000` prints
+//! `code ffffff070001000000000000`.
 //!
 //! # Runs of both ends
 //!
-//! `replay` runs the script on the standard input, a sign and a centre that send each other datagrams, and prints the report: what was
-//! sent, what the sign shows, which codes it accepted, and the centre's ledger. Here the operator orders a blank sign:
+//! `replay` runs the script on the standard input, a sign and a centre that send each other datagrams, and prints the
+//! report: what was sent, what the sign shows, which codes it accepted, and the centre's ledger. Here the operator
+//! orders a blank sign:
 //!
 //! ```sh
 //! printf 'bench\nblank 1 65535 255 192.0.2.1\ncentre-tick\nto-sign 0\nto-centre 0\n' | signtool replay
@@ -109,9 +116,9 @@
 //!
 //! # Live ends
 //!
-//! `sign [--sign]` and `centre [--sign]` are a sign and a central system that other programs speak to, a line each way: `tick`, `show`,
-//! `status`, `datagram HEX` and the like. Each line is answered before the next one is read, and a line that asks for nothing that they
-//! know is answered `bad line`. `printf 'status\ntick\n' | signtool centre`:
+//! `sign [--sign]` and `centre [--sign]` are a sign and a central system that other programs speak to, a line each way:
+//! `tick`, `show`, `status`, `datagram HEX` and the like. Each line is answered before the next one is read, and a line
+//! that asks for nothing that they know is answered `bad line`. `printf 'status\ntick\n' | signtool centre`:
 //!
 //! ```text
 //! idle
@@ -122,10 +129,10 @@
 //!
 //! # Faults
 //!
-//! The exit status is 0 where the call printed its answer, 1 where the answer is a refusal (a fault of a text or a datagram, a line of
-//! a description or a script that is wrong, no memory, an output that could not be written), and 2 where the command line is no call,
-//! is `--help`, or has digits or an address that cannot be read. Why a text is refused or a datagram is dropped is said in words on
-//! standard error.
+//! The exit status is 0 where the call printed its answer, 1 where the answer is a refusal (a fault of a text or a
+//! datagram, a line of a description or a script that is wrong, no memory, an output that could not be written), and 2
+//! where the command line is no call, is `--help`, or has digits or an address that cannot be read. Why a text is
+//! refused or a datagram is dropped is said in words on standard error.
 #![tactic(auto)]
 
 use dms_acts::act_saying;
@@ -166,7 +173,8 @@ fn main(rt: HostRuntime) -> ExitCode {
     }
 }
 
-/// The number of the first word that is no text, from 1; the program's name is word 0. None is found where there is no memory to look.
+/// The number of the first word that is no text, from 1; the program's name is word 0. None is found where there is no
+/// memory to look.
 fn word_without_text(rt: &HostRuntime) -> Option<usize> {
     let mut octets = vec![in rt.alloc(); 0; LONGEST_WORD].ok()?;
     for number in 0..usize::MAX {
