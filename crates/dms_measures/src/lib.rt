@@ -16,8 +16,9 @@ ghost use Rattle.std.specs.Prelude.{◌≡◌, ◌<◌};
 ghost use Rattle.dms_wire.specs.Message.{SnmpMessage};
 ghost use Rattle.dms_wire.specs.Spelling.{Spells};
 
+use dms_bench_sign::DEFAULTS;
 use dms_codes::crc;
-use dms_face::{Cell, Defaults, Face, Font, check};
+use dms_face::{Cell, Face, Font, check};
 use dms_pages::{Page, pages};
 use dms_text::Lines;
 use dms_wire::{Bind, MessageParts, Oid, Out, Value, read, write};
@@ -126,19 +127,6 @@ pub extern "C" fn dms_measures_crc(text: &[u8], times: u32) -> u64 {
     sum
 }
 
-/// What holds on the measured sign where a text says nothing else.
-const DEFAULTS: Defaults = Defaults {
-    background: 0,
-    foreground: 9,
-    flash_on: 5,
-    flash_off: 5,
-    font: 1,
-    line: 3,
-    page: 2,
-    on: 30,
-    off: 0,
-};
-
 /// The fonts that these lines spell: each font's header, and after it its characters.
 fn fonts_of(alloc: Global, fonts: &[u8]) -> Option<Vec<Font>> {
     let mut read: Vec<Font> = Vec::new(alloc);
@@ -152,7 +140,7 @@ fn fonts_of(alloc: Global, fonts: &[u8]) -> Option<Vec<Font>> {
     Some(read)
 }
 
-/// The face of the largest matrix with these fonts.
+/// The face of the largest matrix with these fonts, and with the defaults of the bench sign.
 fn face_with(fonts: Vec<Font>) -> Option<Face> {
     Face::new(256, 64, fonts, DEFAULTS).ok()
 }

@@ -3,6 +3,7 @@
 ghost use Rattle.std.specs.Prelude.{◌<◌, length, IfSome};
 
 use crate::{MAX_DATAGRAM, face_of};
+use dms_bench_sign::stock;
 use dms_codes::Order;
 use dms_sign::{Config, Sign};
 use dms_table::{Permanent, Stock};
@@ -17,16 +18,6 @@ const PERMANENT: Permanent<'static> = Permanent {
     priority: 100,
 };
 
-/// As many rows as the bench sign has.
-const FEW: Stock<'static> = Stock {
-    permanent: &[PERMANENT],
-    changeable: 2,
-    volatile: 1,
-    beacon: true,
-    pixel: true,
-    order: Order::High,
-};
-
 /// As many rows as a sign can have.
 const MOST: Stock<'static> = Stock {
     permanent: &[PERMANENT; 16],
@@ -37,11 +28,23 @@ const MOST: Stock<'static> = Stock {
     order: Order::High,
 };
 
-/// A sign with so many changeable rows: 64 and the most of the others, or else those of the bench sign.
+/// The stock with so many changeable rows: 64 and the most of the others, or else as many as the bench sign has.
+fn stock_of(changeable: u32) -> Stock<'static> {
+    if changeable == 64 {
+        MOST
+    } else {
+        Stock {
+            pixel: true,
+            ..stock(&[PERMANENT])
+        }
+    }
+}
+
+/// A sign of the largest matrix with so many changeable rows.
 pub(crate) fn sign_of(alloc: Global, fonts: &[u8], changeable: u32) -> Option<Sign> {
     let config = Config {
         face: face_of(alloc, fonts)?,
-        stock: if changeable == 64 { MOST } else { FEW },
+        stock: stock_of(changeable),
         reader: b"public",
         writer: b"admin",
     };
