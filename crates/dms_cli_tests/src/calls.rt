@@ -46,34 +46,37 @@ const ANSWERS: [(&str, &str, u8); 19] = [
         "301802010004067075626c6963a20b0201010201000201003000\n",
         0,
     ),
-    // the last octet missing, and one too many
+    // the last octet missing
     (
         "302e02010004067075626c6963a0210201010201000201003016301406102b06010401893604020305080109030105",
         "dropped\n",
         1,
     ),
+    // one octet too many
     (
         "302e02010004067075626c6963a0210201010201000201003016301406102b060104018936040203050801090301050000",
         "dropped\n",
         1,
     ),
-    // GetNext from changeable 1, and from the last blank message
+    // GetNext from changeable 1
     (
         "302e02010004067075626c6963a1210201010201000201003016301406102b0601040189360402030508010903010500",
         "302f02010004067075626c6963a2220201010201000201003017301506102b060104018936040203050801090302020101\n",
         0,
     ),
+    // GetNext from the last blank message
     (
         "302f02010004067075626c6963a1220201020201000201003017301506112b0601040189360402030508010907817f0500",
         "302c02010004067075626c6963a21f02010202010002010030143012060d2b060104018936040203050900020102\n",
         0,
     ),
-    // changeable 1 is asked to be modified by `admin`, and by `public`
+    // changeable 1 is asked to be modified by `admin`
     (
         "302e020100040561646d696ea3220201010201000201003017301506102b060104018936040203050801090301020106",
         "302e020100040561646d696ea2220201010201000201003017301506102b060104018936040203050801090301020106\n",
         0,
     ),
+    // and by `public`
     (
         "302f02010004067075626c6963a3220201010201000201003017301506102b060104018936040203050801090301020106",
         "302f02010004067075626c6963a2220201010201020201013017301506102b060104018936040203050801090301020106\n",
@@ -136,11 +139,13 @@ const CALLS: [(&[&str], &str, u8); 27] = [
         "page 1 on 30 off 0 back 0\n..........999..........\n.........9...9.........\n.........9...9.........\n.........99999.........\n.........9...9.........\n.........9...9.........\n.........9...9.........\n.......................\n.......................\n.......................\n.......................\n.......................\n.......................\n.......................\n",
         0,
     ),
+    // the code of `A` in changeable 1
     (
         &["signtool", "code", "3", "1", "A", "--address", "192.0.2.1"],
         "crc 9a66\ncode ffffff0300019a66c0000201\n",
         0,
     ),
+    // the same, with the octets of the checksum in the other order
     (
         &[
             "signtool",
@@ -155,11 +160,13 @@ const CALLS: [(&[&str], &str, u8); 27] = [
         "crc 9a66\ncode ffffff030001669ac0000201\n",
         0,
     ),
+    // the code of the permanent row
     (
         &["signtool", "code", "2", "1", "B"],
         "crc 7502\ncode ffffff020001750200000000\n",
         0,
     ),
+    // the code of a volatile row with a beacon, for five minutes with priority 10
     (
         &[
             "signtool",
@@ -176,6 +183,7 @@ const CALLS: [(&[&str], &str, u8); 27] = [
         "crc 83be\ncode 00050a04ffff83be00000000\n",
         0,
     ),
+    // an address with digits that it does not need
     (
         &["signtool", "code", "3", "1", "", "--address", "001.2.3.255"],
         "crc 0f47\ncode ffffff0300010f47010203ff\n",
@@ -201,6 +209,7 @@ const CALLS: [(&[&str], &str, u8); 27] = [
         "bad address\n",
         2,
     ),
+    // the code of changeable 1 from its checksum
     (
         &[
             "signtool",
@@ -214,6 +223,7 @@ const CALLS: [(&[&str], &str, u8); 27] = [
         "code ffffff0300019a66c0000201\n",
         0,
     ),
+    // the same, with the octets of the checksum in the other order
     (
         &[
             "signtool",
@@ -228,11 +238,13 @@ const CALLS: [(&[&str], &str, u8); 27] = [
         "code ffffff030001669ac0000201\n",
         0,
     ),
+    // the code of the permanent row from its checksum
     (
         &["signtool", "activation", "2", "1", "7502"],
         "code ffffff020001750200000000\n",
         0,
     ),
+    // the code of a volatile row from its checksum, for five minutes with priority 10
     (
         &[
             "signtool",
@@ -248,6 +260,7 @@ const CALLS: [(&[&str], &str, u8); 27] = [
         "code 00050a04ffff83be00000000\n",
         0,
     ),
+    // the code of what is shown, for ten minutes
     (
         &[
             "signtool",
@@ -261,6 +274,7 @@ const CALLS: [(&[&str], &str, u8); 27] = [
         "code 000aff050001000000000000\n",
         0,
     ),
+    // the code of a blank message, with each value as where it is not given
     (
         &[
             "signtool",
@@ -276,6 +290,7 @@ const CALLS: [(&[&str], &str, u8); 27] = [
         "code ffffff070001000000000000\n",
         0,
     ),
+    // the code of the last blank message
     (
         &["signtool", "activation", "7", "255", "0000"],
         "code ffffff0700ff000000000000\n",
@@ -511,6 +526,7 @@ const WITH_INPUT: [(&[&str], &str, &str, u8); 18] = [
         "page 1 on 10 off 0 back 0\n.111.\n1...1\n1...1\n11111\n1...1\n1...1\n1...1\n",
         0,
     ),
+    // a colon among the octets
     (
         &[
             "signtool",
@@ -541,6 +557,7 @@ const WITH_INPUT: [(&[&str], &str, &str, u8); 18] = [
         "events 1\nsent 0 0\nshown 7 1 0000 mode 10 priority 1 remaining 65535 text -\n",
         0,
     ),
+    // a blank message is put up, and its code accepted
     (
         &["signtool", "replay"],
         "bench\nblank 1 65535 255 0.0.0.0\nto-sign 0\nto-centre 0\n",
@@ -549,6 +566,7 @@ const WITH_INPUT: [(&[&str], &str, &str, u8); 18] = [
     ),
     (&["signtool", "replay"], "bench\nsign-tock\n", "line 2\n", 1),
     (&["signtool", "replay"], "", "line 1\n", 1),
+    // a datagram among lines to a sign
     (
         &["signtool", "sign"],
         "tick\nstate\r\n\nticks\ndatagram 301802010004067075626c6963a00b0201010201000201003000\ndatagram -",
@@ -563,6 +581,7 @@ const WITH_INPUT: [(&[&str], &str, &str, u8); 18] = [
         0,
     ),
     (&["signtool", "sign", "--sign"], "size 5 7\n", "line 2\n", 1),
+    // a publication that a restart ends
     (
         &["signtool", "centre"],
         "status\npublish 3 1 41 - 0 0 100 65535 255 127.0.0.1\nblank 1 65535 255 0.0.0.0\nrestart\nstatus",
@@ -814,6 +833,7 @@ const CELLS: Drawing = Drawing {
 /// Words, what they print, the status, and what is said on the standard error.
 const READERS: [(&[&str], &str, u8, &str); 33] = [
     (&["signtool", "--version"], "signtool 1.0.0\n", 0, ""),
+    // a Get of changeable 1 by `public`, with blanks and colons
     (
         &[
             "signtool",
@@ -892,6 +912,7 @@ const READERS: [(&[&str], &str, u8, &str); 33] = [
         1,
         "truncated at octet 2\n",
     ),
+    // a Response to a sign
     (
         &[
             "signtool",
@@ -980,6 +1001,7 @@ const READERS: [(&[&str], &str, u8, &str); 33] = [
         2,
         "",
     ),
+    // a Get of changeable 1 by `public`, as JSON
     (
         &[
             "signtool",
@@ -991,6 +1013,7 @@ const READERS: [(&[&str], &str, u8, &str); 33] = [
         0,
         "",
     ),
+    // a community with a quotation mark, as JSON
     (
         &[
             "signtool",
@@ -1008,6 +1031,7 @@ const READERS: [(&[&str], &str, u8, &str); 33] = [
         1,
         "text too big at octet 9: wider than the matrix by 6 columns\n",
     ),
+    // a Response with a value of each type, as JSON
     (
         &[
             "signtool",
