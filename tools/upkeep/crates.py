@@ -1,4 +1,4 @@
-"""Bars of the crates: that the pages on them name each, house by house in the order of crates.txt."""
+"""Bars of the crates: that pages name each, house by house in the order of crates.txt, and what each of them owes."""
 
 import re
 
@@ -6,6 +6,10 @@ from .tree import Tree
 
 LIST = "crates.txt"
 PAGES = ("docs/ARCHITECTURE.md", "docs/MAP.md", "docs/PROVED.md")
+REASONS = "docs/DECISIONS.md"
+FEWEST = 10
+FUNCTION = re.compile(r"(?m)^\s*(?:pub(?:\(\w+\))? )?(?:const )?(?:extern \"C\" )?fn \w+")
+PUBLIC = re.compile(r"(?m)(?P<above>(?:^[ \t]*(?:///|#\[)[^\n]*\n)*)^[ \t]*pub (?:const )?(?:extern \"C\" )?fn (?P<name>\w+)")
 
 
 def names(tree: Tree) -> list[str]:
@@ -58,4 +62,50 @@ def ordered(tree: Tree) -> list[str]:
             for crate in wanted[name]
             if not re.search(rf"\b{re.escape(crate)}\b", part)
         ]
+    return found
+
+
+def sources(tree: Tree, crate: str) -> list[str]:
+    """The files of a crate's code."""
+    return [name for name in tree.names if name.startswith(f"crates/{crate}/src/") and name.endswith(".rt")]
+
+
+def is_tests(crate: str) -> bool:
+    """Whether a crate is one of tests."""
+    return crate.endswith("_tests")
+
+
+def few(tree: Tree) -> list[str]:
+    """Crates of under ten functions, but for those of tests, for which no reason is given."""
+    counts = {crate: sum(len(FUNCTION.findall(tree.text(name))) for name in sources(tree, crate)) for crate in names(tree)}
+    return [
+        f"{crate}: {count} functions, and {REASONS} has no reason for it"
+        for crate, count in counts.items()
+        if count < FEWEST and not is_tests(crate) and not re.search(rf"\b{re.escape(crate)}\b", tree.text(REASONS))
+    ]
+
+
+def examples(tree: Tree) -> list[str]:
+    """Crates whose first page has no example, but for those of tests and programs, whose page is their help."""
+    pages = [f"crates/{crate}/src/lib.rt" for crate in names(tree) if not is_tests(crate)]
+    return [
+        f"{page}: no example on the crate's first page"
+        for page in pages
+        if tree.has(page) and not any(line.startswith("//! ```") for _, line in tree.lines(page))
+    ]
+
+
+def unsaid(tree: Tree) -> list[str]:
+    """Public functions that have no comment, that no other crate uses and that no page names."""
+    pages = "\n".join(tree.text(name) for name in tree.documents())
+    texts = {crate: "\n".join(tree.text(name) for name in sources(tree, crate)) for crate in names(tree)}
+    found = []
+    for crate in texts:
+        others = "\n".join([pages, *(text for other, text in texts.items() if other != crate)])
+        for name in sources(tree, crate):
+            found += [
+                f"{name}: nothing uses, names or documents {public['name']}"
+                for public in PUBLIC.finditer(tree.text(name))
+                if "///" not in public["above"] and not re.search(rf"\b{public['name']}\b", others)
+            ]
     return found

@@ -16,7 +16,7 @@ def made(tmp_path: pathlib.Path):
 
     def tree(**texts: str) -> Tree:
         for name, text in texts.items():
-            path = tmp_path / re.sub(r"_(md|py|txt|svg)$", r".\1", name.replace("__", "/"))
+            path = tmp_path / re.sub(r"_(md|py|txt|svg|rt)$", r".\1", name.replace("__", "/"))
             path.parent.mkdir(parents=True, exist_ok=True)
             path.write_text(text, encoding="utf-8")
         return Tree(tmp_path)
@@ -71,6 +71,16 @@ def test_houses(made) -> None:
         "docs/PROVED.md: the houses are both ends, octets; in crates.txt they are octets, both ends",
         "docs/PROVED.md: one does not stand under octets",
     ]
+
+
+def test_what_crates_owe(made) -> None:
+    pages = {"crates__one__src__lib_rt": "//! A crate.\n//!\n//! ```\n//! call();\n//! ```\n", "docs__DECISIONS_md": "one is small"}
+    code = "//! Another.\n\n/// Said.\npub fn said() {}\n\n    #[inline]\n    pub fn unsaid() {}\n\npub fn used() {}\n"
+    tree = made(crates_txt="one: two\ntwo:\ntwo_tests: two\n", crates__two_tests__src__lib_rt="used();\n",
+                crates__two__src__lib_rt=code, **pages)
+    assert crates.few(tree) == ["two: 3 functions, and docs/DECISIONS.md has no reason for it"]
+    assert crates.examples(tree) == ["crates/two/src/lib.rt: no example on the crate's first page"]
+    assert crates.unsaid(tree) == ["crates/two/src/lib.rt: nothing uses, names or documents unsaid"]
 
 
 LISTED = "# low\nfirst:\nsecond: first\n# high\nthird: first second other\nthird_tests: third\n"
