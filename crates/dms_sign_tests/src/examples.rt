@@ -1,0 +1,49 @@
+//! The examples of the first pages of dms_instances, dms_access and dms_sign.
+
+use dms_access::{Settings, is_settable, write_of};
+use dms_bench_sign::{face, stock};
+use dms_ber::name_of;
+use dms_instances::Counts;
+use dms_objects::{Instance, Scalar};
+use dms_sign::{Config, Receipt, Sign};
+use dms_table::Table;
+use dms_wire::{Out, Value};
+use std::test::Fail;
+
+#[test]
+fn instances(rt: HostRuntime) -> Result<(), Fail> {
+    let table = Table::new(rt.alloc(), stock(&[]), &face(rt.alloc())?)?;
+    let counts = Counts::of(&table);
+    let name = name_of(&[43, 6, 1, 4, 1, 137, 54, 4, 2, 3, 6, 3, 0]).ok_or("no name")?;
+    assert!(rt; counts.named(&name) == Some(Instance::The(Scalar::ActivateMessage)));
+    assert!(rt; counts.next(&name) == Some(Instance::The(Scalar::MessageTimeRemaining)));
+    Ok(())
+}
+
+#[test]
+fn access(rt: HostRuntime) -> Result<(), Fail> {
+    let face = face(rt.alloc())?;
+    let seconds = Instance::The(Scalar::ShortPowerLossTime);
+    assert!(rt; is_settable(seconds) && !is_settable(Instance::The(Scalar::SignWidthPixels)));
+    assert!(rt; write_of(&face, seconds, &Value::Integer(65536)).is_none());
+    let change = write_of(&face, seconds, &Value::Integer(60)).ok_or("no change")?;
+    let mut settings = Settings::new(face.defaults());
+    settings.assign(&change);
+    Ok(())
+}
+
+#[test]
+fn sign(rt: HostRuntime) -> Result<(), Fail> {
+    let config = Config {
+        face: face(rt.alloc())?,
+        stock: stock(&[]),
+        reader: b"public",
+        writer: b"admin",
+    };
+    let mut sign = Sign::new(rt.alloc(), config)?;
+    let mut reply = Out::new();
+    assert!(rt; sign.receive(b"no datagram", &mut reply) == Receipt::Dropped);
+    sign.tick();
+    assert!(rt; sign.shown().text.is_empty());
+    Ok(())
+}
