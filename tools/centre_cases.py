@@ -192,6 +192,9 @@ print(f"\n/// What does not answer request 1.\npub static FOREIGN: [&[u8]; {len(
 for words, datagram in FOREIGN:
     print(f"    // {words}\n    {literal(datagram)},")
 print("];")
+print_octets("GET", "A Get of dmsMessageStatus.3.1 by another community.",
+             message(GET, 1, [(status_cell, NULL)], community=b"public"))
+print_octets("NOTHING_BOUND", "A Response to request 1 that has no binding.", message(RESPONSE, 1, []))
 print_octets("REFUSED", "The activation of `A` as request 7 is refused.", error(7, [activate], 5))
 print_octets("WHY", "Request 8, which asks for the cause.", message(GET, 8, [(cause, NULL)]))
 print_octets("PRIORITY", "The cause is the priority.", message(RESPONSE, 8, [(cause, integer(3))]))

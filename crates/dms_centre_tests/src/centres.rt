@@ -1,6 +1,6 @@
 //! The central system against requests and replies in octets.
 
-mod cases;
+pub(crate) mod cases;
 mod pairs;
 
 use dms_centre::{
@@ -16,7 +16,7 @@ use std::test::Fail;
 const ADDRESS: [u8; 4] = [192, 0, 2, 1];
 
 /// The code of `A` in changeable row 1.
-const CODE: Activation = Activation {
+pub(crate) const CODE: Activation = Activation {
     minutes: 65535,
     priority: 255,
     id: MessageId {
@@ -124,10 +124,6 @@ fn check_steps(rt: &impl Abort, centre: &mut Centre, steps: &[(&[u8], &[u8])], c
     }
 }
 
-/// A Get of a sign's object, 48 octets, of another community.
-const GET: [u8; 48] =
-    *b"\x30\x2e\x02\x01\x00\x04\x06public\xa0\x21\x02\x01\x01\x02\x01\x00\x02\x01\x00\x30\x16\x30\x14\x06\x10\x2b\x06\x01\x04\x01\x89\x36\x04\x02\x03\x05\x08\x01\x09\x03\x01\x05\x00";
-
 /// A datagram that does not answer the first request of a job: nothing is sent, and the job goes on.
 fn check_unheard(rt: &impl Abort, centre: &mut Centre, datagram: &[u8]) {
     let mut out = Out::new();
@@ -149,8 +145,8 @@ fn check_goes_on(rt: &impl Abort, centre: &mut Centre) {
 #[test]
 fn changed_octets(rt: HostRuntime) {
     let mut centre = publishing(&rt, rt.alloc());
-    for place in 0..GET.len() {
-        let mut datagram = GET;
+    for place in 0..cases::GET.len() {
+        let mut datagram = cases::GET;
         for octet in 0..=255 {
             datagram[place] = octet;
             check_unheard(&rt, &mut centre, &datagram);
@@ -442,7 +438,8 @@ fn communities(rt: HostRuntime) {
     }
 }
 
-/// The fault of a blank message that is refused, whether nothing was sent then, and what the central system tells of itself.
+/// The fault of a blank message that is refused, whether nothing was sent then, and what the central system tells of
+/// itself.
 fn blank_refused(
     centre: &mut Centre,
     out: &mut Out,
@@ -453,8 +450,8 @@ fn blank_refused(
     }
 }
 
-/// With any allocation refused, a blank message and an activation that is due are out of memory, which changes nothing, and the same
-/// call succeeds with memory.
+/// With any allocation refused, a blank message and an activation that is due are out of memory, which changes nothing,
+/// and the same call succeeds with memory.
 #[test]
 fn entered_or_out_of_memory(rt: HostRuntime) {
     let mut centre = centre(&rt, rt.alloc(), Order::High, 1);

@@ -1,28 +1,15 @@
-//! Runs of a small sign and its centre.
+//! Runs of a sign and its centre.
 
+use crate::centres;
+use crate::centres::cases;
+use dms_bench_sign::{face, stock};
 use dms_centre::{Centre, Command, Outcome, Settings};
-use dms_codes::{Activation, MessageId, Order};
-use dms_face::{Defaults, Face, Font};
+use dms_codes::{Activation, Order};
 use dms_sign::{Config, Sign};
 use dms_table::Stock;
 use dms_world::{Datagrams, Event, World, run};
 use std::alloc::Global;
 use std::test::Fail;
-
-const FONT: &[u8] = b"font 1 height 7 space 1 line 1 version 0001
-glyph 65 5 7463f8c620";
-
-const DEFAULTS: Defaults = Defaults {
-    background: 0,
-    foreground: 9,
-    flash_on: 5,
-    flash_off: 5,
-    font: 1,
-    line: 3,
-    page: 2,
-    on: 30,
-    off: 0,
-};
 
 /// `A` into changeable row 1.
 const PUBLISH: Command<'static> = Command::Publish {
@@ -38,16 +25,10 @@ const PUBLISH: Command<'static> = Command::Publish {
     address: [192, 0, 2, 1],
 };
 
-/// The code of changeable row 1 with `A`.
+/// The code of changeable row 1 with `A`, of no address.
 const CODE: Activation = Activation {
-    minutes: 65535,
-    priority: 255,
-    id: MessageId {
-        memory: 3,
-        number: 1,
-        crc: 0x9a66,
-    },
     address: [0; 4],
+    ..centres::CODE
 };
 
 static PUBLICATION: [Event<'static>; 17] = [
@@ -70,20 +51,17 @@ static PUBLICATION: [Event<'static>; 17] = [
     Event::ToCentre(6),
 ];
 
-/// A sign of 23 columns and 14 rows with one font and one changeable row, and its centre.
+/// The bench sign with one changeable row alone and without a beacon, and its centre.
 fn world_of(alloc: Global) -> Option<World> {
-    let mut fonts = Vec::new(alloc);
-    fonts.push(Font::from_text(alloc, FONT).ok()?).ok()?;
+    let stock = Stock {
+        changeable: 1,
+        volatile: 0,
+        beacon: false,
+        ..stock(&[])
+    };
     let config = Config {
-        face: Face::new(23, 14, fonts, DEFAULTS).ok()?,
-        stock: Stock {
-            permanent: &[],
-            changeable: 1,
-            volatile: 0,
-            beacon: false,
-            pixel: false,
-            order: Order::High,
-        },
+        face: face(alloc).ok()?,
+        stock,
         reader: b"public",
         writer: b"admin",
     };
@@ -128,7 +106,8 @@ fn recounted(event: usize, stop: usize) -> usize {
     }
 }
 
-/// Goes on after a stop, which only an event that may want memory is a cause of. How many events had happened at the stop.
+/// Goes on after a stop, which only an event that may want memory is a cause of. How many events had happened at the
+/// stop.
 fn run_through(world: &mut World, events: &[Event<'_>]) -> Result<usize, &'static str> {
     let done = match run(world, events) {
         Ok(()) => return Ok(0),
@@ -148,8 +127,8 @@ fn run_through(world: &mut World, events: &[Event<'_>]) -> Result<usize, &'stati
     }
 }
 
-/// Makes the world anew where its parts found no memory, and goes on after a stop. The world after all events, and how many had happened
-/// at the stop.
+/// Makes the world anew where its parts found no memory, and goes on after a stop. The world after all events, and how
+/// many had happened at the stop.
 fn after_all(alloc: Global, events: &[Event<'_>]) -> Result<(World, usize), &'static str> {
     let mut world = match world_of(alloc) {
         Some(world) => world,
@@ -159,7 +138,8 @@ fn after_all(alloc: Global, events: &[Event<'_>]) -> Result<(World, usize), &'st
     Ok((world, stop))
 }
 
-/// A publication is accepted at the sixteenth event. Where the run stops for want of memory, it goes on after the stop, and counts anew.
+/// A publication is accepted at the sixteenth event. Where the run stops for want of memory, it goes on after the stop,
+/// and counts anew.
 #[test]
 fn publication(rt: HostRuntime) -> Result<(), Fail> {
     let (world, stop) = after_all(rt.alloc(), &PUBLICATION)?;
@@ -178,8 +158,8 @@ fn same_datagrams(some: &Datagrams, others: &Datagrams) -> bool {
     some.len() == others.len() && (0..some.len()).all(|place| some.get(place) == others.get(place))
 }
 
-/// Whether a world is as wanted after a publication and a second activation that no reply came to, where the run stopped after so many
-/// events: its counts, what became of both requests, and both acceptances.
+/// Whether a world is as wanted after a publication and a second activation that no reply came to, where the run
+/// stopped after so many events: its counts, what became of both requests, and both acceptances.
 fn as_wanted(world: &World, stop: usize) -> [bool; 5] {
     [
         counts(world) == (8, 8, 2, true),
@@ -202,8 +182,9 @@ fn two_worlds(
     Ok((as_wanted(&one, stop), as_wanted(&other, other_stop), same))
 }
 
-/// A publication, a loss of power and forged datagrams, where memory is refused once or never, as `rt try --test --fail-alloc N` refuses it:
-/// the world after all events is the same, but for the numbers of the events, which count anew after a stop.
+/// A publication, a loss of power and forged datagrams, where memory is refused once or never, as `rt try --test
+/// --fail-alloc N` refuses it: the world after all events is the same, but for the numbers of the events, which count
+/// anew after a stop.
 #[test]
 fn world_or_out_of_memory(rt: HostRuntime) -> Result<(), Fail> {
     let mut events = [Event::SignTick; 23];
@@ -246,11 +227,9 @@ fn nothing_happens(rt: HostRuntime) -> Result<(), Fail> {
 /// A forged reply makes the centre record what never was, and enters no list.
 #[test]
 fn forged_reply(rt: HostRuntime) -> Result<(), Fail> {
-    let reply =
-        b"\x30\x17\x02\x01\x00\x04\x05admin\xa2\x0b\x02\x01\x01\x02\x01\x00\x02\x01\x00\x30\x00";
     let events = [
         Event::Command(Command::Activate(CODE)),
-        Event::ForgeCentre(reply),
+        Event::ForgeCentre(&cases::NOTHING_BOUND),
     ];
     let (world, _) = after_all(rt.alloc(), &events)?;
     assert_eq!(rt;
