@@ -1,5 +1,5 @@
 -- The octets of the names of cells whose type of memory has one octet.
-use Rattle.std.proofs.Common.{◌≡◌, ℕ, ◌<◌, ◌≤◌, ◌+◌, ◌-◌, ◌/◌, ◌%◌, ◌∷◌, [], arith, refl, subst}
+use Rattle.std.proofs.Common.{◌≡◌, ℕ, ◌<◌, ◌+◌, ◌/◌, ◌%◌, ◌∷◌, [], arith, refl}
 use Rattle.dms_objects.specs.declared.column.Column.{Column}
 use Rattle.dms_objects.specs.declared.instance.Instance.TheVariants.{Cell}
 use Rattle.dms_objects.specs.Names.{column_number}
@@ -16,21 +16,11 @@ short_named column first memory number is few_memory few_number =
     (rw (one_octet memory few_memory, one_octet number few_number, is) refl)
 
 -- seventeen, where it has two
-pub long_named : (column : Column) (first memory number : ℕ) → first ≡ column_number column → memory < 128 → 128 ≤ number → number < 256
-    → IsNamed (Cell column (record { memory = memory; number = number }))
-    (43 ∷ 6 ∷ 1 ∷ 4 ∷ 1 ∷ 137 ∷ 54 ∷ 4 ∷ 2 ∷ 3 ∷ 5 ∷ 8 ∷ 1 ∷ first ∷ memory ∷ 129 ∷ (number - 128) ∷ [])
-long_named column first memory number is few_memory least few_number =
-    let high : number / 128 % 128 ≡ 1 = omega arith in
-    let low : number % 128 ≡ number - 128 = omega arith in
-    cell_named column (record { memory = memory; number = number }) _ (omega arith) (omega arith)
-    (rw (one_octet memory few_memory, two_octets number least (omega arith), high, low, is) refl)
-
--- those seventeen by their last octet
-pub long_named_low : (column : Column) (first memory low : ℕ) → first ≡ column_number column → memory < 128 → low < 128
+pub long_named : (column : Column) (first memory low : ℕ) → first ≡ column_number column → memory < 128 → low < 128
     → IsNamed (Cell column (record { memory = memory; number = 128 + low }))
     (43 ∷ 6 ∷ 1 ∷ 4 ∷ 1 ∷ 137 ∷ 54 ∷ 4 ∷ 2 ∷ 3 ∷ 5 ∷ 8 ∷ 1 ∷ first ∷ memory ∷ 129 ∷ low ∷ [])
-long_named_low column first memory low is few_memory few_low =
-    let same : 128 + low - 128 ≡ low = omega arith in
-    subst (λ last. IsNamed (Cell column (record { memory = memory; number = 128 + low }))
-    (43 ∷ 6 ∷ 1 ∷ 4 ∷ 1 ∷ 137 ∷ 54 ∷ 4 ∷ 2 ∷ 3 ∷ 5 ∷ 8 ∷ 1 ∷ first ∷ memory ∷ 129 ∷ last ∷ [])) same
-    (long_named column first memory (128 + low) is few_memory (omega arith) (omega arith))
+long_named column first memory low is few_memory few_low =
+    let high : (128 + low) / 128 % 128 ≡ 1 = omega arith in
+    let last : (128 + low) % 128 ≡ low = omega arith in
+    cell_named column (record { memory = memory; number = 128 + low }) _ (omega arith) (omega arith)
+    (rw (one_octet memory few_memory, two_octets (128 + low) (omega arith) (omega arith), high, last, is) refl)

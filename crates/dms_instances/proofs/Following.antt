@@ -1,5 +1,5 @@
 -- What comes next after a name, by where it first differs from the names that there are.
-use Rattle.std.proofs.Common.{◌≡◌, ◌⊎◌, ◌==◌, ◌&&◌, inl, inr, ℕ, zero, suc, ◌+◌, ◌<◌, ◌≤◌, Bool, true, false, cond, List, [], ◌∷◌, ◌++◌, find, Option, Some, None, slice_get, refl, sym, ap, ◌∙◌, arith}
+use Rattle.std.proofs.Common.{◌≡◌, ◌⊎◌, ◌==◌, ◌&&◌, ℕ, zero, suc, ◌+◌, ◌<◌, ◌≤◌, Bool, true, false, cond, List, [], ◌∷◌, ◌++◌, find, Option, Some, None, slice_get, refl, sym, ap, ◌∙◌, arith}
 use Rattle.std.proofs.lemmas.Bool.{both_ways}
 use Rattle.std.proofs.lemmas.Bool.Decides.{nat_tests}
 use Rattle.dms_codes.specs.declared.row_id.RowId.{RowId}
@@ -44,16 +44,11 @@ first_is table name i is = by (next_instance table name) (next_is_first table na
     by : (o : Option Instance) → FirstAfter table name o → o ≡ Some i
     by None last = absurd (both_ways (comes_after name i) (last i is.there) is.after)
     by (Some k) first =
-        elim (first.first i is.there is.after) [
-          | inl same ↦ ap Some same
-          | inr before ↦
-              elim (is.first k first.there first.after) [
-                | inl same ↦ ap Some (sym same)
-                | inr other ↦
-                    absurd (both_ways (is_before (name_of i) (name_of i)) (not_before_itself (name_of i))
-                    (before_trans (name_of i) (name_of k) (name_of i) other before))
-              ]
-        ]
+        let here = first.first i is.there is.after in
+        let there = is.first k first.there first.after in
+        let not = not_before_itself (name_of i) in
+        let turns = before_trans (name_of i) (name_of k) (name_of i) in
+        grind arith
 
 -- ---- where two names first differ
 

@@ -1,5 +1,5 @@
 -- The instances of a sign stand in the strict order of their names; what the walk finds.
-use Rattle.std.proofs.Common.{◌≡◌, ◌⊎◌, inl, inr, ℕ, zero, suc, ◌+◌, ◌<◌, Bool, true, false, ◌&&◌, nat_eq, Less, Equal, Greater, Ordering, List, [], ◌∷◌, ◌++◌, map, flat_map, find, Option, Some, None, slice_get, refl, sym, ap, subst, ◌∙◌, arith, true≢false, ◌≤◌}
+use Rattle.std.proofs.Common.{◌≡◌, ◌⊎◌, inl, inr, ℕ, zero, suc, ◌+◌, ◌<◌, Bool, true, false, ◌&&◌, nat_eq, Less, Ordering, List, [], ◌∷◌, ◌++◌, map, flat_map, find, Option, Some, None, slice_get, refl, sym, ap, subst, ◌∙◌, arith, ◌≤◌}
 use Rattle.std.specs.Cmp.Lexicographic.{pointwise, bytes_decides}
 use Rattle.std.specs.List.{range_with_len}
 use Rattle.std.specs.Ordering.{is_lt}
@@ -21,9 +21,7 @@ use Rattle.dms_instances.proofs.Members.{some_is}
 -- ---- the order of names
 
 less : (o : Ordering) → is_lt o ≡ true → o ≡ Less
-less Less h = refl
-less Equal h = absurd (true≢false (sym h))
-less Greater h = absurd (true≢false (sym h))
+less o h = grind arith
 
 pub before_trans : (a b c : List ℕ) → is_before a b ≡ true → is_before b c ≡ true → is_before a c ≡ true
 before_trans a b c h g =
@@ -190,12 +188,7 @@ least : (name low : List ℕ) (xs : List Instance) (high : List ℕ) → rises n
     → find (comes_after name) xs ≡ Some i → (k : ℕ) (j : Instance) → slice_get xs k ≡ Some j → comes_after name j ≡ true
     → (i ≡ j) ⊎ (comes_after (name_of i) j ≡ true)
 least name low [] high r i h k j g t = absurd (cc)
-least name low (x ∷ xs) high r i h zero j g t =
-    let is : x ≡ j = some_is x j g in
-    elim (chosen (comes_after name x) (Some x) (find (comes_after name) xs) (Some i) h) [
-      | inl here ↦ inl (sym (some_is x i here.1) ∙ is)
-      | inr later ↦ absurd (both_ways (comes_after name x) later.0 (subst (λ j. comes_after name j ≡ true) (sym is) t))
-    ]
+least name low (x ∷ xs) high r i h zero j g t = grind arith
 least name low (x ∷ xs) high r i h (suc k) j g t =
     let parts = and_parts (is_before low (name_of x)) (rises name_of (name_of x) xs high) r in
     elim (chosen (comes_after name x) (Some x) (find (comes_after name) xs) (Some i) h) [
@@ -206,16 +199,10 @@ least name low (x ∷ xs) high r i h (suc k) j g t =
 none_after : (name : List ℕ) (xs : List Instance) → find (comes_after name) xs ≡ None → (k : ℕ) (j : Instance) → slice_get xs k ≡ Some j
     → comes_after name j ≡ false
 none_after name [] h k j g = absurd (cc)
-none_after name (x ∷ xs) h zero j g =
-    elim (chosen (comes_after name x) (Some x) (find (comes_after name) xs) None h) [
-      | inl here ↦ absurd (cc)
-      | inr later ↦ subst (λ j. comes_after name j ≡ false) (some_is x j g) later.0
-    ]
+none_after name (x ∷ xs) h zero j g = grind arith
 none_after name (x ∷ xs) h (suc k) j g =
-    elim (chosen (comes_after name x) (Some x) (find (comes_after name) xs) None h) [
-      | inl here ↦ absurd (cc)
-      | inr later ↦ none_after name xs later.1 k j g
-    ]
+    let rest = λ (later : find (comes_after name) xs ≡ None). none_after name xs later k j g in
+    grind arith
 
 named_found : (low : List ℕ) (xs : List Instance) (high : List ℕ) → rises name_of low xs high ≡ true → (k : ℕ) (i : Instance)
     → slice_get xs k ≡ Some i

@@ -15,7 +15,7 @@ use Rattle.dms_instances.specs.declared.counts.Counts.{Counts}
 use Rattle.dms_instances.specs.Objects.{has_name, instance_named, IsInstance}
 use Rattle.dms_instances.specs.Places.{HasCounts}
 use Rattle.dms_instances.specs.Told.{IsTold}
-use Rattle.dms_instances.proofs.CellOctets.{short_named, long_named_low}
+use Rattle.dms_instances.proofs.CellOctets.{short_named, long_named}
 use Rattle.dms_instances.proofs.InOrder.{named_is, less_or_not}
 use Rattle.dms_instances.proofs.WhichInstances.{AreOctets, Counted, there_counted, last_few}
 
@@ -36,7 +36,7 @@ cell_told name told column row is memory number e =
           let few : low < 128 = omega arith in
           let same : 128 + low ≡ row.number = omega arith in
           let as_row : record { memory = row.memory; number = 128 + low } ≡ row = ap (λ n. record { memory = row.memory; number = n }) same in
-          let named = long_named_low column (column_number column) row.memory low refl memory few in
+          let named = long_named column (column_number column) row.memory low refl memory few in
           is.long column row.memory low memory few
           (octets_of name (Cell column (record { memory = row.memory; number = 128 + low })) _
           (subst (λ r. has_name name (Cell column r) ≡ true) (sym as_row) e) named)

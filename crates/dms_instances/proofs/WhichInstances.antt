@@ -1,10 +1,11 @@
 -- Which instances there are: each object, and each column of each row that can be read.
-use Rattle.std.proofs.Common.{◌≡◌, ◌⊎◌, inl, inr, ◌↔◌, ℕ, zero, suc, ◌-◌, ◌<◌, ◌≤◌, Bool, true, false, cond, nat_le, ◌==◌, ◌&&◌, List, [], ◌∷◌, ◌++◌, map, length, flat_map, Option, Some, None, slice_get, IsSome, is_some, option_map, refl, sym, ap, subst, ◌∙◌, arith, true≢false}
+use Rattle.std.proofs.Common.{◌≡◌, ◌⊎◌, inl, inr, ◌↔◌, ℕ, zero, suc, ◌-◌, ◌<◌, ◌≤◌, Bool, true, false, cond, ◌==◌, ◌&&◌, List, [], ◌∷◌, ◌++◌, map, length, flat_map, Option, Some, None, slice_get, IsSome, option_map, refl, sym, ap, subst, ◌∙◌, arith, true≢false}
 use Rattle.std.specs.List.{range_with_len}
-use Rattle.std.proofs.lemmas.Bool.{eqb-true, eqb-false, and_parts, and_from, leb-true, le-leb, ne_eqb}
+use Rattle.std.proofs.lemmas.Bool.Decides.{nat_tests}
+use Rattle.std.proofs.lemmas.Bool.{eqb-true}
 use Rattle.dms_objects.specs.declared.column.Column.{Column}
 use Rattle.dms_codes.specs.declared.row_id.RowId.{RowId}
-use Rattle.dms_table.specs.Rows.{RowModel, TableModel, row_read, blank, numbered, reading, rows_of, blank_at, blank_reading}
+use Rattle.dms_table.specs.Rows.{RowModel, TableModel, row_read, numbered, reading, rows_of, blank_at, blank_reading}
 use Rattle.dms_table.specs.Activation.{ShownModel, message_at, shown_reading}
 use Rattle.dms_objects.specs.declared.scalar.Scalar.{Scalar}
 use Rattle.dms_objects.specs.declared.instance.Instance.{Instance}
@@ -62,32 +63,18 @@ split P true x y h = inl (refl, h)
 split P false x y h = inr (refl, h)
 
 numbered_some : (rows : List RowModel) (number : ℕ) → 1 ≤ number → number ≤ length rows → IsSome (numbered rows number)
-numbered_some rows number from to =
-    ap (λ b. is_some (cond b None (slice_get rows (number - 1)))) (ne_eqb number 0 λ e. omega (arith, e, from))
-    ∙ some_at rows (number - 1) (omega (arith, from, to))
+numbered_some rows number from to = let at = some_at rows (number - 1) in grind (arith, nat_tests)
 
 some_numbered : (rows : List RowModel) (number : ℕ) → IsSome (numbered rows number) → (1 ≤ number) × (number ≤ length rows)
 some_numbered rows number h =
-    elim (split IsSome (number == 0) None (slice_get rows (number - 1)) h) [
-      | inl none ↦ absurd (true≢false (sym none.1))
-      | inr other ↦
-          let less = at_some rows (number - 1) other.1 in
-          let some = eqb-false number 0 other.0 in
-          (omega (arith, some), omega (arith, less, some))
-    ]
+    let at = at_some rows (number - 1) in
+    (grind (arith, nat_tests), grind (arith, nat_tests))
 
 blank_some : (number : ℕ) → 1 ≤ number → number ≤ 255 → IsSome (blank_at number)
-blank_some number from to =
-    ap (λ b. is_some (cond b (Some (blank number)) None)) (and_from (nat_le 1 number) (nat_le number 255) (le-leb 1 number from) (le-leb number 255 to))
+blank_some number from to = grind (arith, nat_tests)
 
 some_blank : (number : ℕ) → IsSome (blank_at number) → (1 ≤ number) × (number ≤ 255)
-some_blank number h =
-    elim (split IsSome (nat_le 1 number && nat_le number 255) (Some (blank number)) None h) [
-      | inl within ↦
-          let parts = and_parts (nat_le 1 number) (nat_le number 255) within.0 in
-          (leb-true 1 number parts.0, leb-true number 255 parts.1)
-      | inr other ↦ absurd (true≢false (sym other.1))
-    ]
+some_blank number h = (grind (arith, nat_tests), grind (arith, nat_tests))
 
 -- ---- rows that can be read
 
@@ -312,14 +299,9 @@ there_counted table n column row has there =
 abbrev pub AreOctets : Counts → Type 0
 AreOctets n = (n.permanent < 256) × (n.changeable < 256) × (n.volatile < 256)
 
--- what holds of both branches of an if holds of it
-of_both : {A : Type 0} (P : A → Type 0) (b : Bool) (x y : A) → P x → P y → P (cond b x y)
-of_both P true x y p q = p
-of_both P false x y p q = q
-
 pub last_few : (n : Counts) → AreOctets n → (memory : ℕ) → last_number n memory < 256
 last_few n few memory =
-    let few_of = λ (b : Bool) (x y : ℕ) (p : x < 256) (q : y < 256). of_both (λ k. k < 256) b x y p q in
-    few_of (memory == 2) n.permanent _ few.0
-    (few_of (memory == 3) n.changeable _ few.1
-    (few_of (memory == 4) n.volatile _ few.2 (few_of (memory == 5) 1 _ (omega arith) (few_of (memory == 7) 255 0 (omega arith) (omega arith)))))
+    let permanent = few.0 in
+    let changeable = few.1 in
+    let volatile = few.2 in
+    grind (arith, nat_tests)

@@ -22,8 +22,8 @@ scalar_at group number =
 abbrev pub octets_below : List ℕ → List ℕ
 octets_below numbers = flat_map sub_identifier_octets numbers
 
--- the number of a row that these numbers begin with: 0 where there is none, and for one above 255, the last that a row
--- has, that
+-- the number of a row that these numbers begin with: 0 where there is none, and 255, the last that a row has, where it is
+-- above
 abbrev pub row_number_of : List ℕ → ℕ
 row_number_of numbers = if nat_lt (get_or numbers 0 0) 256 then get_or numbers 0 0 else 255
 

@@ -1,7 +1,7 @@
 use Rattle.std.proofs.Common.{◌≡◌, ◌+◌, Some, ap, sym, ◌∙◌}
 use Rattle.dms_objects.specs.declared.instance.Instance.TheVariants.{Cell}
 use Rattle.dms_instances.specs.Told.{column_at}
-use Rattle.dms_instances.proofs.CellOctets.{long_named_low}
+use Rattle.dms_instances.proofs.CellOctets.{long_named}
 use Rattle.dms_instances.proofs.Inverses.{column_back}
 use Rattle.dms_instances.proofs.Members.{some_is}
 use Rattle.dms_instances.proofs.octets.long_cell_named.Goals as goal
@@ -9,7 +9,7 @@ use Rattle.dms_instances.proofs.octets.long_cell_named.Goals as goal
 pub returns-in_ok-column-clause-named : goal.returns-in_ok-column-clause-named
 returns-in_ok-column-clause-named c =
     rw c.from-number.ensures
-    (long_named_low c.in_ok-column.column c.args.column c.args.memory c.args.low (sym c.in_ok-column.ensures.named) c.if-memory-lt128.true c.if-low-lt128.true)
+    (long_named c.in_ok-column.column c.args.column c.args.memory c.args.low (sym c.in_ok-column.ensures.named) c.if-memory-lt128.true c.if-low-lt128.true)
 
 pub returns-in_ok-column-clause-told : goal.returns-in_ok-column-clause-told
 returns-in_ok-column-clause-told c = λ column is few_memory few_low.
