@@ -4,4 +4,6 @@
 #[cfg(test)]
 mod centres;
 #[cfg(test)]
+mod examples;
+#[cfg(test)]
 mod worlds;
