@@ -16,7 +16,7 @@ use Rattle.dms_centre.specs.Sending.{entered}
 use Rattle.dms_centre.specs.Replies.{with_outcome, most_polls}
 use Rattle.dms_centre.specs.Resending.{given_up, is_waiting}
 use Rattle.dms_centre.specs.Requests.{IsWork}
-use Rattle.dms_centre.specs.CodeView.{sent_in, phase_model, work_model}
+use Rattle.dms_centre.specs.CodeView.{sent_in, phase_model}
 use Rattle.dms_centre.specs.Invariant.{AllBelow, IsState, IsPhase, IsPending}
 
 -- ---- the ledger
@@ -57,7 +57,7 @@ canonical_some m = omega arith
 
 -- of a phase that is not idle
 pub busy_work : (stage : Stage) (job : CodeJob) (pending : CodePending) → is_busy (phase_model stage job pending) ≡ true → IsPhase (phase_model stage job pending)
-    → IsWork (work_model job.work) × (job.polls ≤ most_polls)
+    → IsWork (job.work) × (job.polls ≤ most_polls)
 busy_work stages.Idle job pending busy is = absurd (false≢true busy)
 busy_work stages.Awaits job pending busy is = (is.0, is.2)
 busy_work stages.Due job pending busy is = is

@@ -1,23 +1,25 @@
 -- Requests that are written fit a datagram.
-use Rattle.std.proofs.Common.{◌≡◌, ℕ, ◌≤◌, pos, List, [], ◌∷◌, ◌++◌, length, Option, Result, Ok, Err, refl, subst, ◌∙◌, arith}
+use Rattle.std.proofs.Common.{◌≡◌, ℕ, ◌≤◌, pos, Bool, true, false, List, [], ◌∷◌, ◌++◌, length, Option, Result, Ok, Err, refl, sym, ap, subst, ◌∙◌, arith}
+use Rattle.std.proofs.lemmas.Bool.{false≢true}
 use Rattle.std.specs.Result.{IsOk}
 use Rattle.dms_wire.specs.declared.fault.TooBig.{TooBig}
-use Rattle.dms_wire.specs.declared.message.Kind.TheVariants.{Set}
 use Rattle.dms_wire.specs.Message.{ObjectValue, integer, octet_string, VarBind, SnmpMessage}
 use Rattle.dms_wire.specs.Canonical.{canonical}
 use Rattle.dms_wire.specs.Written.{IsWritten, octets_of_bindings}
+use Rattle.dms_codes.specs.declared.codes.Activation.{Activation}
 use Rattle.dms_codes.specs.declared.row_id.RowId.{RowId}
 use Rattle.dms_objects.specs.declared.column.Column.{Column}
 use Rattle.dms_objects.specs.declared.column.Column.TheVariants.{MultiString, Owner, Beacon, PixelService, RunTimePriority}
 use Rattle.dms_objects.specs.Names.{cell_name}
-use Rattle.dms_centre.specs.declared.job.Publication.{Publication}
+use Rattle.dms_centre.specs.declared.job.RowFields.{RowFields}
 use Rattle.dms_centre.specs.declared.step.Step.{Step}
 use Rattle.dms_centre.specs.State.{SettingsModel, Work, Publishing}
-use Rattle.dms_centre.specs.Steps.{fields, request_of}
+use Rattle.dms_centre.specs.Steps.{fields, request_of, row_of}
 use Rattle.dms_centre.specs.Sending.{last_number}
 use Rattle.dms_centre.specs.History.{AreSettings}
 use Rattle.dms_centre.specs.Requests.{IsWork}
-use Rattle.dms_centre.specs.CodeView.{IsPushed, asking, publication_model}
+use Rattle.dms_centre.specs.CodeView.{IsPushed}
+use Rattle.dms_centre.specs.JobView.{publication_model, work_model}
 use Rattle.dms_centre.proofs.Requests.{request_fits}
 use Rattle.dms_ber.specs.Limits.{longest_datagram}
 
@@ -47,24 +49,25 @@ pushed_five nothing one two three four five a b c d e begun first second third f
 abbrev pub field_in : RowId → Column → ObjectValue → VarBind
 field_in row column value = record { name = cell_name column row; value = value }
 
--- the request that sets them
-abbrev pub setting : List ℕ → ℕ → RowId → (text owner : List ℕ) → (beacon pixel run_priority : ℕ) → SnmpMessage
-setting community number row text owner beacon pixel run_priority = asking community Set number (
+-- the fields of a row, one after the other
+abbrev pub fields_in : RowId → (text owner : List ℕ) → (beacon pixel run_priority : ℕ) → List VarBind
+fields_in row text owner beacon pixel run_priority =
     [] ++ field_in row MultiString (octet_string text) ∷ [] ++ field_in row Owner (octet_string owner) ∷ []
-    ++ field_in row Beacon (integer (pos beacon)) ∷ [] ++ field_in row PixelService (integer (pos pixel)) ∷ [] ++ field_in row RunTimePriority (integer (pos run_priority)) ∷ [])
+    ++ field_in row Beacon (integer (pos beacon)) ∷ [] ++ field_in row PixelService (integer (pos pixel)) ∷ [] ++ field_in row RunTimePriority (integer (pos run_priority)) ∷ []
 
-abbrev pub fields_octets : List ℕ → ℕ → Publication → List ℕ
-fields_octets community number message = canonical (asking community Set number (fields (Publishing (publication_model message))))
+written_fields : (code : Activation) (kept : RowFields) (row : RowId) (text owner : List ℕ) → row ≡ row_of (Publishing (publication_model code kept))
+    → text ≡ kept.text.items → owner ≡ kept.owner.items → fields_in row text owner kept.beacon kept.pixel kept.run_priority ≡ fields (Publishing (publication_model code kept))
+written_fields code kept row text owner is text_is owner_is = rw (is, text_is, owner_is) refl
 
-same_setting : (community : List ℕ) (number : ℕ) (row : RowId) (message : Publication) (text owner : List ℕ)
-    → row ≡ record { memory = message.memory; number = message.number } → text ≡ message.text.items → owner ≡ message.owner.items
-    → setting community number row text owner message.beacon message.pixel message.run_priority ≡ asking community Set number (fields (Publishing (publication_model message)))
-same_setting community number row message text owner is text_is owner_is = rw (is, text_is, owner_is) refl
+pub published_fields : (publishes : Bool) (code : Activation) (kept : RowFields) (work : Work) (row : RowId) (text owner : List ℕ) → publishes ≡ true
+    → work_model publishes code kept ≡ work → row ≡ row_of work → text ≡ kept.text.items → owner ≡ kept.owner.items
+    → fields_in row text owner kept.beacon kept.pixel kept.run_priority ≡ fields work
+published_fields true code kept work row text owner some view is text_is owner_is =
+    written_fields code kept row text owner (is ∙ ap row_of (sym view)) text_is owner_is ∙ ap fields view
+published_fields false code kept work row text owner some view is text_is owner_is = absurd (false≢true some)
 
-pub done_fields : (result : Result (Unit {0}) TooBig) (written community : List ℕ) (number : ℕ) (row : RowId) (message : Publication) (text owner : List ℕ)
-    → row ≡ record { memory = message.memory; number = message.number } → text ≡ message.text.items → owner ≡ message.owner.items
-    → (m : SnmpMessage) → m ≡ setting community number row text owner message.beacon message.pixel message.run_priority → IsWritten result written (canonical m)
-    → length (fields_octets community number message) ≤ longest_datagram → IsDone result written (fields_octets community number message)
-done_fields result written community number row message text owner is text_is owner_is m m_is written_is few =
-    done result written (fields_octets community number message)
-    (subst (λ m. IsWritten result written (canonical m)) (m_is ∙ same_setting community number row message text owner is text_is owner_is) written_is) few
+-- ---- the request that sets them
+
+pub done_around : (result : Result (Unit {0}) TooBig) (written : List ℕ) (m n : SnmpMessage) → m ≡ n → IsWritten result written (canonical m)
+    → length (canonical n) ≤ longest_datagram → IsDone result written (canonical n)
+done_around result written m n is written_is few = done result written (canonical n) (subst (λ m. IsWritten result written (canonical m)) is written_is) few

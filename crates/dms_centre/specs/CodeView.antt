@@ -3,9 +3,6 @@ use Rattle.std.specs.Prelude.{◌≡◌, ℕ, pos, List, [], ◌∷◌, ◌++◌
 use Rattle.dms_centre.specs.declared.command.Command.{Command}
 use Rattle.dms_centre.specs.declared.command.Command.TheVariants as commands
 use Rattle.dms_centre.specs.declared.settings.Settings.{Settings}
-use Rattle.dms_centre.specs.declared.job.Publication.{Publication}
-use Rattle.dms_centre.specs.declared.job.Work.{Work}
-use Rattle.dms_centre.specs.declared.job.Work.TheVariants as works
 use Rattle.dms_centre.specs.declared.job.Job.{Job}
 use Rattle.dms_centre.specs.declared.pending.Pending.{Pending}
 use Rattle.dms_centre.specs.declared.stage.Stage.{Stage}
@@ -56,26 +53,8 @@ sent_in (octet ∷ octets) = Some (octet ∷ octets)
 abbrev pub entry_given_up : Outcome → Entry → Entry
 entry_given_up outcome entry = if is_waiting entry.outcome then record entry { outcome = outcome } else entry
 
-abbrev pub publication_model : Publication → state.PublicationModel
-publication_model p = record {
-  memory = p.memory;
-  number = p.number;
-  text = p.text.items;
-  owner = p.owner.items;
-  beacon = p.beacon;
-  pixel = p.pixel;
-  run_priority = p.run_priority;
-  minutes = p.minutes;
-  priority = p.priority;
-  address = p.address;
-}
-
-abbrev pub work_model : Work → state.Work
-work_model (works.Publishing p) = state.Publishing (publication_model p)
-work_model (works.Showing code) = state.Showing code
-
 abbrev pub job_model : Job → state.Job
-job_model job = record { work = work_model job.work; step = job.step; polls = job.polls }
+job_model job = record { work = job.work; step = job.step; polls = job.polls }
 
 abbrev pub pending_model : Pending → state.Pending
 pending_model pending = record { number = pending.number; octets = pending.octets.items; sends = pending.sends; age = pending.age }

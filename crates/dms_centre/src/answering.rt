@@ -177,6 +177,7 @@ impl Centre {
                 }
             }
             Step::Comparing => {
+                self.job.work.keep_checksum();
                 if number == i64::from(self.checksum()) {
                     self.job.step = Step::Activating;
                     self.stage = Stage::Due;

@@ -164,11 +164,10 @@ impl Centre {
         if let Some(fault) = self.refusal(&command) {
             return Err(fault);
         }
-        let job = Job::of(&command);
-        if job.step.is_activating() && self.make_room().is_err() {
+        if command.first_step().is_activating() && self.make_room().is_err() {
             return Err(CommandFault::Memory);
         }
-        self.job = job;
+        self.job.begin(&command);
         self.stage = Stage::Due;
         self.send(out);
         Ok(())

@@ -1,41 +1,55 @@
 //! A job: what is to be activated, and how far it is.
 
-ghost use Rattle.std.specs.Prelude.{◌≡◌, ◌≤◌, ◌<◌, ◌^◌, true, length};
+ghost use Rattle.std.specs.Prelude.{◌≡◌, ◌≤◌, true, length};
 ghost use Rattle.std.specs.Int.Digits.{AllBelowBase};
-ghost use Rattle.dms_codes.specs.Codes.{IsActivation};
+ghost use Rattle.dms_codes.specs.Checksum.{message_checksum};
+ghost use Rattle.dms_centre.specs.State.{Publishing, Showing};
 ghost use Rattle.dms_centre.specs.Steps.{code_of, row_of};
-ghost use Rattle.dms_centre.specs.Commands.{IsAddress, IsPublication, is_good, job_of, showing};
+ghost use Rattle.dms_centre.specs.Commands.{is_good, job_of};
 ghost use Rattle.dms_centre.specs.Requests.{IsWork};
-ghost use Rattle.dms_centre.specs.CodeView.{command_model, job_model, publication_model, work_model};
+ghost use Rattle.dms_centre.specs.CodeView.{command_model, job_model};
+ghost use Rattle.dms_centre.specs.JobView.{HasItsChecksum};
 ghost use Rattle.dms_codes.specs.Limits.{longest_text, longest_owner};
 
 use crate::command::Command;
 use crate::step::Step;
 use arrayvec::ArrayVec;
 use dms_codes::{Activation, MAX_OWNER, MAX_TEXT, MessageId, RowId, crc, memory};
+use std::marker::Model;
 
-/// A message to be written into a row and activated.
+/// The fields of a row that is written.
 #[derive(Drop)]
-pub(crate) struct Publication {
-    pub(crate) memory: u8,
-    pub(crate) number: u16,
+pub(crate) struct RowFields {
     pub(crate) text: ArrayVec<u8, MAX_TEXT>,
     pub(crate) owner: ArrayVec<u8, MAX_OWNER>,
     pub(crate) beacon: u8,
     pub(crate) pixel: u8,
     pub(crate) run_priority: u8,
-    pub(crate) minutes: u16,
-    pub(crate) priority: u8,
-    pub(crate) address: [u8; 4],
 }
 
-/// What a job is to activate.
+/// What a job is to activate: a message that it writes first, or one that the sign has. A contract sees the work of the
+/// definitions.
 #[derive(Drop)]
-pub(crate) enum Work {
-    /// A message that it writes first.
-    Publishing(Publication),
-    /// A message that the sign has.
-    Showing(Activation),
+pub(crate) struct Work {
+    /// Whether the message is written first.
+    pub(crate) publishes: bool,
+    /// The code that puts it up; of a message that is written it lacks the checksum.
+    code: Activation,
+    /// Of no meaning where nothing is written.
+    pub(crate) fields: RowFields,
+    /// The checksum of the fields, once it was computed.
+    checksum: Option<u16>,
+}
+
+impl Model for Work {
+    ghost use Rattle.dms_centre.specs.State as state;
+    ghost use Rattle.dms_centre.specs.JobView.{HasItsChecksum, work_model};
+
+    ghost Value = { state.Work };
+
+    ghost view = { λ w. work_model w.publishes w.code w.fields };
+
+    ghost invariant = { λ w. HasItsChecksum w.checksum w.fields };
 }
 
 /// A job: what is to be activated, and how far it is.
@@ -56,74 +70,62 @@ pub(crate) fn kept<const N: usize>(octets: &[u8]) -> ArrayVec<u8, N>
     ArrayVec::try_from(octets).unwrap()
 }
 
-impl Work {
-    /// The code that puts it up.
-    pub(crate) fn code(&self) -> Activation
-        ensures { result ≡ code_of (work_model self.now) }
-    {
-        match self {
-            Work::Publishing(message) => Activation {
-                minutes: message.minutes,
-                priority: message.priority,
-                id: MessageId {
-                    memory: message.memory,
-                    number: message.number,
-                    crc: crc(message.text.as_slice(), message.beacon, message.pixel),
-                },
-                address: message.address,
-            },
-            Work::Showing(code) => *code,
-        }
-    }
+/// Keeps these octets in the place of others.
+fn replace<const N: usize>(kept: &mut ArrayVec<u8, N>, octets: &[u8])
+    requires { length octets.now ≤ N }
+    ensures { kept.new.items ≡ octets.now }
+{
+    kept.clear();
+    kept.try_extend_from_slice(octets).unwrap();
+}
 
-    /// The row that the code names.
-    pub(crate) fn row(&self) -> RowId
-        ensures { result ≡ row_of (work_model self.now) }
+impl RowFields {
+    /// Their checksum: that which was kept, or else it is computed.
+    fn checksum(&self, kept: Option<u16>) -> u16
+        requires { HasItsChecksum kept self.now }
+        ensures { result ≡ message_checksum self.now.text.items self.now.beacon self.now.pixel }
     {
-        match self {
-            Work::Publishing(message) => RowId {
-                memory: message.memory,
-                number: message.number,
-            },
-            Work::Showing(code) => RowId {
-                memory: code.id.memory,
-                number: code.id.number,
-            },
+        match kept {
+            Some(checksum) => checksum,
+            None => crc(self.text.as_slice(), self.beacon, self.pixel),
         }
     }
 }
 
-impl Job {
-    /// No job.
-    pub(crate) fn none() -> Job {
-        Job::showing(Activation {
-            minutes: 0,
-            priority: 0,
-            id: MessageId {
-                memory: memory::BLANK,
-                number: 0,
-                crc: 0,
-            },
-            address: [0; 4],
-        })
+impl Work {
+    /// The code that puts it up.
+    pub(crate) fn code(&self) -> Activation
+        ensures { result ≡ code_of self.now }
+    {
+        let mut code = self.code;
+        if self.publishes {
+            code.id.crc = self.fields.checksum(self.checksum);
+        }
+        code
     }
 
-    /// The job that activates a message that the sign has.
-    fn showing(code: Activation) -> Job
-        ensures { job_model result ≡ showing code }
+    /// Keeps the checksum of the fields, so that it is computed once a job.
+    pub(crate) fn keep_checksum(&mut self)
+        ensures { self.new ≡ self.old }
     {
-        Job {
-            work: Work::Showing(code),
-            step: Step::Activating,
-            polls: 0,
+        self.checksum = Some(self.fields.checksum(self.checksum));
+    }
+
+    /// The row that the code names.
+    #[tactic(auto, using(crate::proofs::Work::row_named))]
+    pub(crate) fn row(&self) -> RowId
+        ensures { result ≡ row_of self.now }
+    {
+        RowId {
+            memory: self.code.id.memory,
+            number: self.code.id.number,
         }
     }
 
-    /// The job that a command begins.
-    pub(crate) fn of(command: &Command<'_>) -> Job
+    /// It becomes what a command is to activate.
+    fn begin(&mut self, command: &Command<'_>)
         requires { is_good (command_model command.now) ≡ true }
-        ensures job { job_model result ≡ job_of (command_model command.now) }
-        ensures work { IsWork (work_model result.work) }
+        ensures { self.new ≡ (job_of (command_model command.now)).work }
     {
         match *command {
             Command::Publish {
@@ -137,111 +139,133 @@ impl Job {
                 minutes,
                 priority,
                 address,
-            } => Job {
-                work: Work::Publishing(publication_of(
-                    memory,
-                    number,
-                    text,
-                    owner,
-                    beacon,
-                    pixel,
-                    run_priority,
-                    minutes,
-                    priority,
-                    address,
-                )),
-                step: Step::Opening,
-                polls: 0,
-            },
+            } => self.publish(
+                memory,
+                number,
+                text,
+                owner,
+                beacon,
+                pixel,
+                run_priority,
+                minutes,
+                priority,
+                address,
+            ),
             Command::Blank {
                 number,
                 minutes,
                 priority,
                 address,
-            } => Job::showing(activation_of(minutes, priority, memory::BLANK, number, 0, address)),
-            Command::Activate(code) => Job::showing(activation_of(
-                code.minutes,
-                code.priority,
-                code.id.memory,
-                code.id.number,
-                code.id.crc,
-                code.address,
-            )),
+            } => self.show(Activation {
+                minutes,
+                priority,
+                id: MessageId {
+                    memory: memory::BLANK,
+                    number,
+                    crc: 0,
+                },
+                address,
+            }),
+            Command::Activate(code) => self.show(code),
         }
     }
-}
 
-/// The octets of an address are in their range.
-fn address_octets(address: &[u8])
-    requires { length address.now ≡ 4 }
-    ensures { IsAddress address.now }
-{}
+    /// It becomes a message that the sign has.
+    fn show(&mut self, code: Activation)
+        ensures { self.new ≡ Showing code }
+    {
+        self.publishes = false;
+        self.code = code;
+    }
 
-/// The code of these parts, each in the range of its type.
-fn activation_of(
-    minutes: u16,
-    priority: u8,
-    memory: u8,
-    number: u16,
-    crc: u16,
-    address: [u8; 4],
-) -> Activation
-    ensures code { result ≡ record { minutes = minutes; priority = priority; id = record { memory = memory; number = number; crc = crc }; address = address } }
-    ensures ranges { IsActivation result }
-{
-    address_octets(&address);
-    Activation {
-        minutes,
-        priority,
-        id: MessageId {
-            memory,
-            number,
-            crc,
-        },
-        address,
+    /// It becomes a message that is written first, of these parts.
+    fn publish(
+        &mut self,
+        memory: u8,
+        number: u16,
+        text: &[u8],
+        owner: &[u8],
+        beacon: u8,
+        pixel: u8,
+        run_priority: u8,
+        minutes: u16,
+        priority: u8,
+        address: [u8; 4],
+    )
+        requires text { length text.now ≤ longest_text }
+        requires owner { length owner.now ≤ longest_owner }
+        ensures { self.new ≡ Publishing (record {
+          memory = memory;
+          number = number;
+          text = text.now;
+          owner = owner.now;
+          beacon = beacon;
+          pixel = pixel;
+          run_priority = run_priority;
+          minutes = minutes;
+          priority = priority;
+          address = address;
+        }) }
+    {
+        self.publishes = true;
+        self.code = Activation {
+            minutes,
+            priority,
+            id: MessageId {
+                memory,
+                number,
+                crc: 0,
+            },
+            address,
+        };
+        self.checksum = None;
+        replace(&mut self.fields.text, text);
+        replace(&mut self.fields.owner, owner);
+        self.fields.beacon = beacon;
+        self.fields.pixel = pixel;
+        self.fields.run_priority = run_priority;
     }
 }
 
-/// The publication of these parts, each in the range of its type.
-fn publication_of(
-    memory: u8,
-    number: u16,
-    text: &[u8],
-    owner: &[u8],
-    beacon: u8,
-    pixel: u8,
-    run_priority: u8,
-    minutes: u16,
-    priority: u8,
-    address: [u8; 4],
-) -> Publication
-    requires text { length text.now ≤ longest_text }
-    requires owner { length owner.now ≤ longest_owner }
-    ensures publication { publication_model result ≡ record {
-      memory = memory;
-      number = number;
-      text = text.now;
-      owner = owner.now;
-      beacon = beacon;
-      pixel = pixel;
-      run_priority = run_priority;
-      minutes = minutes;
-      priority = priority;
-      address = address;
-    } }
-    ensures ranges { IsPublication (publication_model result) }
-{
-    address_octets(&address);
-    Publication {
-        memory,
-        number,
-        text: kept(text),
-        owner: kept(owner),
-        beacon,
-        pixel,
-        run_priority,
-        minutes,
-        priority,
-        address,
+impl Job {
+    /// No job.
+    pub(crate) fn none() -> Job {
+        Job {
+            work: Work {
+                publishes: false,
+                code: Activation {
+                    minutes: 0,
+                    priority: 0,
+                    id: MessageId {
+                        memory: memory::BLANK,
+                        number: 0,
+                        crc: 0,
+                    },
+                    address: [0; 4],
+                },
+                fields: RowFields {
+                    text: ArrayVec::new(),
+                    owner: ArrayVec::new(),
+                    beacon: 0,
+                    pixel: 0,
+                    run_priority: 0,
+                },
+                checksum: None,
+            },
+            step: Step::Activating,
+            polls: 0,
+        }
+    }
+
+    /// The job that a command begins, in the place of the last one.
+    pub(crate) fn begin(&mut self, command: &Command<'_>)
+        requires { is_good (command_model command.now) ≡ true }
+        ensures job { job_model self.new ≡ job_of (command_model command.now) }
+        ensures work { IsWork self.new.work }
+    {
+        command.has_ranges();
+        self.step = command.first_step();
+        self.polls = 0;
+        self.work.begin(command);
     }
 }

@@ -4,17 +4,17 @@ ghost use Rattle.std.specs.Prelude.{◌≡◌, ◌≤◌, ◌<◌, ◌∷◌, []
 ghost use Rattle.dms_wire.specs.Message.{VarBind, integer, octet_string};
 ghost use Rattle.dms_wire.specs.Canonical.{canonical};
 ghost use Rattle.dms_wire.specs.declared.message.Kind.TheVariants as kinds;
+ghost use Rattle.dms_wire.specs.Written.{octets_of_bindings};
 ghost use Rattle.dms_wire.specs.View.{message_around, object_value, var_bind};
 ghost use Rattle.dms_objects.specs.Names.{cell_name, name_of};
-ghost use Rattle.dms_centre.specs.State.{Publishing};
 ghost use Rattle.dms_centre.specs.Steps.{fields, request_of};
 ghost use Rattle.dms_centre.specs.Sending.{last_number};
 ghost use Rattle.dms_centre.specs.History.{AreSettings};
 ghost use Rattle.dms_centre.specs.Requests.{IsWork};
-ghost use Rattle.dms_centre.specs.CodeView.{IsPushed, asking, publication_model, work_model};
+ghost use Rattle.dms_centre.specs.CodeView.{IsPushed, asking};
 ghost use Rattle.dms_ber.specs.Limits.{longest_datagram};
 
-use crate::job::{Publication, Work};
+use crate::job::Work;
 use crate::step::Step;
 use dms_codes::{Order, RowId};
 use dms_objects::{Column, Instance, Name, Scalar};
@@ -38,8 +38,8 @@ pub(crate) fn put_request(
 )
     requires settings { AreSettings (record { community = community.now; order = order }) }
     requires number { number ≤ last_number }
-    requires work { IsWork (work_model work.now) }
-    ensures { out.new.items ≡ canonical (request_of (record { community = community.now; order = order }) number (work_model work.now) step) }
+    requires work { IsWork work.now }
+    ensures { out.new.items ≡ canonical (request_of (record { community = community.now; order = order }) number work.now step) }
 {
     let row = work.row();
     let status = Instance::Cell(Column::Status, row);
@@ -51,10 +51,7 @@ pub(crate) fn put_request(
         Step::Opened | Step::Polling => {
             put_one(community, Kind::Get, number, status, Value::Null, out);
         }
-        Step::Filling => match work {
-            Work::Publishing(message) => put_fields(community, number, message, row, out),
-            Work::Showing(_) => put(community, Kind::Set, number, &[], out),
-        },
+        Step::Filling => put_fields(community, number, work, out),
         Step::Validating => {
             let value = Value::Integer(VALIDATE_REQUEST);
             put_one(community, Kind::Set, number, status, value, out);
@@ -83,29 +80,30 @@ pub(crate) fn put_request(
 }
 
 /// Writes the request that sets the fields of a row.
-#[tactic(auto, unfolding(dms_objects::specs::Names::name_of))]
-fn put_fields(community: &[u8], number: u32, message: &Publication, row: RowId, out: &mut Out)
-    requires row { row ≡ record { memory = message.now.memory; number = message.now.number } }
-    requires fits { length (canonical (asking community.now kinds.Set number (fields (Publishing (publication_model message.now))))) ≤ longest_datagram }
-    ensures { out.new.items ≡ canonical (asking community.now kinds.Set number (fields (Publishing (publication_model message.now)))) }
+fn put_fields(community: &[u8], number: u32, work: &Work, out: &mut Out)
+    requires { length (canonical (asking community.now kinds.Set number (fields work.now))) ≤ longest_datagram }
+    ensures { out.new.items ≡ canonical (asking community.now kinds.Set number (fields work.now)) }
 {
     let mut fields = BindingOctets::new();
-    push_octets(
-        &mut fields,
-        row,
-        Column::MultiString,
-        message.text.as_slice(),
-    );
-    push_octets(&mut fields, row, Column::Owner, message.owner.as_slice());
-    push_number(&mut fields, row, Column::Beacon, message.beacon);
-    push_number(&mut fields, row, Column::PixelService, message.pixel);
-    push_number(
-        &mut fields,
-        row,
-        Column::RunTimePriority,
-        message.run_priority,
-    );
+    push_fields(&mut fields, work);
     write_around(&header(community, Kind::Set, number), &fields, out).unwrap();
+}
+
+/// The fields of the row that is written, if one is.
+fn push_fields(octets: &mut BindingOctets, work: &Work)
+    requires { octets.old ≡ octets_of_bindings [] }
+    ensures { octets.new ≡ octets_of_bindings (fields work.now) }
+{
+    if !work.publishes {
+        return;
+    }
+    let row = work.row();
+    let fields = &work.fields;
+    push_octets(octets, row, Column::MultiString, fields.text.as_slice());
+    push_octets(octets, row, Column::Owner, fields.owner.as_slice());
+    push_number(octets, row, Column::Beacon, fields.beacon);
+    push_number(octets, row, Column::PixelService, fields.pixel);
+    push_number(octets, row, Column::RunTimePriority, fields.run_priority);
 }
 
 /// What a request says beside its bindings.

@@ -29,6 +29,7 @@ use Rattle.dms_centre_laws.specs.Numbered.{IsAwaited, IsAtWork, IsNumbered, Hist
 use Rattle.dms_centre_laws.proofs.Lists.{either_way, by_test, on_left, at_end}
 use Rattle.dms_centre_laws.proofs.Numbers.{request_number, requests_push, rise_push, same_push, few_push, count_more, count_of_none, below_next}
 use Rattle.dms_centre.proofs.Requests.{request_reads}
+use Rattle.dms_centre.proofs.Work.{is_job}
 
 -- ---- three moves
 
@@ -232,18 +233,6 @@ unfolding received
 keeps_received state sent octets n = keeps_datagram state sent (message_of octets) n
 
 -- ---- a command
-
--- a command that is taken has a job whose values are in their ranges
-is_job : (command : CommandModel) → IsCommand command → is_good command ≡ true → IsWork (job_of command).work
-is_job c (OfPublish p is) good = OfPublishing p is good
-is_job c (OfBlank number minutes priority address small long high is) good = OfShowing _ (record {
-  minutes = long;
-  priority = high;
-  id = record { memory = omega arith; number = small; crc = omega arith };
-  size = is.size;
-  octets = is.octets;
-})
-is_job c (OfActivate code is) good = OfShowing code is
 
 good_by : (b : Bool) (fault : CommandFault) → (if not b then Some fault else None) ≡ None → b ≡ true
 good_by true fault e = refl

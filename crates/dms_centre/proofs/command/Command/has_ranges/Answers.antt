@@ -1,7 +1,7 @@
 use Rattle.std.proofs.Common.{sym, subst}
 use Rattle.dms_centre.specs.CodeView.{command_model}
 use Rattle.dms_centre.specs.Commands.{IsCommand, OfPublish, OfBlank, OfActivate}
-use Rattle.dms_world.proofs.event.command_ranges.Goals as goal
+use Rattle.dms_centre.proofs.command.Command.has_ranges.Goals as goal
 
 pub returns-in-Publish : goal.returns-in-Publish
 returns-in-Publish c = subst (λ command. IsCommand (command_model command)) (sym c.in-Publish.is) (OfPublish _ c.publication_ranges.ensures)
