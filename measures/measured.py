@@ -2,10 +2,13 @@
 """Prints tables of the measures: the times of the proved calls and of those by hand, and their instructions.
 
     measures/measured.py [--instructions] [--times] [TOPIC ..]
+    measures/measured.py --compare measures/MEASURED.md [TOPIC ..]     which take more instructions than the page records
 
-It runs the program that measures/run.sh builds, crates/dms_measures/out/measure; its `--list` names the topics. Times are the least of
-interleaved passes of two milliseconds or more. Instructions are counted by callgrind (Debian's package valgrind): those of no calls
-are taken from those of some. They are the same whatever else the machine does. With neither option both are printed.
+It runs the program that measures/run.sh builds, crates/dms_measures/out/measure; its `--list` names the topics. Times
+are the least of interleaved passes of two milliseconds or more. Instructions are counted by callgrind (Debian's package
+valgrind): those of no calls are taken from those of some. They are the same whatever else the machine does. With
+neither option both are printed. With --compare the last line counts what was compared, and the exit status is 1 where a
+measure takes over half a per cent more than is recorded, or where one that is recorded is not measured.
 """
 
 import argparse
@@ -13,8 +16,11 @@ import os
 import pathlib
 import re
 import subprocess
+import sys
 import tempfile
 from dataclasses import dataclass
+
+from compared import Counted, compared
 
 MEASURE = pathlib.Path(__file__).resolve().parent.parent / "crates/dms_measures/out/measure"
 
@@ -43,7 +49,8 @@ def counted(rows: list[Row], topics: list[str]) -> None:
     """Counts the instructions of a call of each: a part for no calls and one for some, of both sides."""
     with tempfile.TemporaryDirectory() as folder:
         options = ["--tool=callgrind", f"--callgrind-out-file={folder}/out.%p", "--dump-line=no"]
-        ran = subprocess.run(["valgrind", *options, MEASURE, "--instructions", *topics], capture_output=True, text=True, check=True)
+        words = ["valgrind", *options, str(MEASURE), "--instructions", *topics]
+        ran = subprocess.run(words, capture_output=True, text=True, check=True)
         totals = iter(parts(pathlib.Path(folder)))
         for row, line in zip(rows, ran.stdout.splitlines(), strict=True):
             _, _, *times = line.split("\t")
@@ -71,13 +78,29 @@ def table(rows: list[Row], topic: str) -> str:
     return f"## {topic}\n\n" + "\n".join(f"| {' | '.join(line)} |" for line in said) + "\n"
 
 
-def main() -> None:
+def compare(page: pathlib.Path, rows: list[Row]) -> int:
+    """Says which measures take more instructions than the page records; the exit status."""
+    measures = [Counted(row.topic, row.name, row.instructions[0]) for row in rows if row.instructions]
+    count, found = compared(page.read_text(encoding="utf-8"), measures)
+    for line in found:
+        print(line)
+    print(f"{count} measures compared with {page}, {len(found)} findings")
+    return 1 if found or count == 0 else 0
+
+
+def main() -> int:
     words = argparse.ArgumentParser(description=__doc__, formatter_class=argparse.RawDescriptionHelpFormatter)
     words.add_argument("--instructions", action="store_true", help="instructions alone")
     words.add_argument("--times", action="store_true", help="times alone")
+    words.add_argument("--compare", type=pathlib.Path, metavar="PAGE", help="which take more instructions than PAGE records")
     words.add_argument("topics", nargs="*", metavar="TOPIC", help="these topics; else all")
     asked = words.parse_args()
+    if asked.compare and asked.times:
+        words.error("--compare is of instructions alone")
     rows = [Row(topic, name) for topic, name in lines("--list", *asked.topics)]
+    if asked.compare:
+        counted(rows, asked.topics)
+        return compare(asked.compare, rows)
     if asked.times or not asked.instructions:
         before = os.getloadavg()[0]
         for row, (_, _, proved, by_hand) in zip(rows, lines(*asked.topics), strict=True):
@@ -87,7 +110,8 @@ def main() -> None:
         counted(rows, asked.topics)
     for topic in dict.fromkeys(row.topic for row in rows):
         print(table(rows, topic))
+    return 0
 
 
 if __name__ == "__main__":
-    main()
+    sys.exit(main())

@@ -1,15 +1,15 @@
-"""The bars by their names, and what does not hold yet."""
+"""The bars by their names, and those that do not hold yet."""
 
 from collections.abc import Callable
 from dataclasses import dataclass
 
-from . import crates, documents, drawing, rows, tools, words
+from . import code, crates, documents, drawing, rows, tools, words
 from .tree import Tree
 
 
 @dataclass(frozen=True)
 class Bar:
-    """What is looked at; findings that begin with one of `later` are told with --all alone, until they are mended."""
+    """What is looked at; findings that begin with one of `later` are printed with --all alone, until they are mended."""
 
     name: str
     look: Callable[[Tree], list[str]]
@@ -42,8 +42,7 @@ BARS = (
     Bar("nothing is named that is gone", words.gone),
 )
 
-# Bars that nothing looks at yet.
+# Bars that do not hold yet: they are looked at with --all, or by name.
 NOT_YET = (
-    "120 columns in code, definitions and clauses",
-    "no measure of the sign takes more instructions than before",
+    Bar("lines of code", code.wide),
 )

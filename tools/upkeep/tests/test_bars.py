@@ -5,8 +5,8 @@ import re
 
 import pytest
 
-from upkeep import crates, documents, drawing, rows, tools, words
-from upkeep.bars import BARS, Bar
+from upkeep import code, crates, documents, drawing, rows, tools, words
+from upkeep.bars import BARS, NOT_YET, Bar
 from upkeep.tree import Tree
 
 
@@ -205,3 +205,40 @@ def test_rows_of_hexadecimal(made) -> None:
     tree.read = {name: ROWS, other: ROWS}
     wanted = [f"{name}:{line}: a row without words before it" for line in (9, 13, 22, 29, 38, 39)]
     assert rows.without_words(tree) == wanted
+
+
+CODE = '''\
+//! LONG
+pub static ROWS: [(&str, u8); 2] = [
+    // a row of data: LONG"
+    ("short", 1),
+    (
+        "decode LONG",
+        r#"{"a":"b"} LONG
+LONG
+# LONG
+"#,
+        *b"\\x30\\" LONG",
+        0, // LONG
+    ),
+    ("LONG", 1),
+];
+pub const TEXT: &str = "\\
+LONG
+> LONG";
+'''.replace("LONG", "long " * 30)
+
+
+def test_lines_of_code(made) -> None:
+    tree = made()
+    names = ["crates/some_tests/src/some/cases.rt", "crates/some/src/cases.rt", "crates/some/specs/Some.antt"]
+    tree.names = [*names, "crates/some/proofs/Some.antt"]
+    tree.read = {name: CODE for name in tree.names}
+    everywhere = (1, 3, 6, 7, 8, 9, 11, 12, 14, 17, 18)
+    wanted = [(names[0], (1, 3, 9, 12, 14)), (names[1], everywhere), (names[2], everywhere)]
+    found = [line.split(" columns")[0].rsplit(": ", 1)[0] for line in code.wide(tree)]
+    assert found == [f"{name}:{number}" for name, numbers in wanted for number in numbers]
+
+
+def test_bars_that_do_not_hold_yet() -> None:
+    assert {bar.name for bar in NOT_YET}.isdisjoint(bar.name for bar in BARS)
