@@ -3,9 +3,10 @@
 
     tools/build.py -- code 3 1 A --address 192.0.2.1
 
-Crates that do not stand on one another are proved at once, as many as there are processors and free memory, and first
-the one that the longest chain of others waits for. Of each that is done it says the time that it took, and about how
-long the rest takes. With words it then runs the program on them, with its input, its outputs and its exit status.
+Crates that do not stand on one another are proved at once, as many as there are processors and free memory. The one
+that the longest chain of others waits for starts first, and on each processor. Of each that is done it says the time
+that it took, and about how long the rest takes. With words it then runs the program on them, with its input, its
+outputs and its exit status.
 
 `rt` works in one crate and those below it at a time, so each crate is proved in a copy of the sources, and what that
 makes is moved to the crate's out/, where `rt` finds it. A run that was stopped goes on where it was. A crate that fails
@@ -29,6 +30,7 @@ from crate_plan import OF_JOB, OWN_MEMORY, Plan
 PLANNED = 0.85  # how much of the free memory is planned on
 SECONDS_A_LINE = 0.06  # before the first crate is done
 LINES_SHOWN = 40
+MOST_JOBS = 4  # of one check
 
 
 def free_memory() -> float:
@@ -46,16 +48,20 @@ class Build:
     def start_ready(self, places: list[pathlib.Path]) -> None:
         """Starts what is ready, the longest chain first, while there are processors and memory for it."""
         busy = {check.crate.name for check in self.running}
-        waiting = [name for name in self.plan.crates if name != self.plan.program and name not in self.done | busy]
+        unfinished = [name for name in self.plan.crates if name not in self.done]
+        waiting = [name for name in unfinished if name != self.plan.program and name not in busy]
         ready = [name for name in waiting if self.plan.below(name) <= self.done]
         ready.sort(key=self.plan.chain, reverse=True)
+        longest = max(map(self.plan.chain, unfinished))
         room = self.memory - sum(check.memory for check in self.running)
         for at, name in enumerate(ready):
-            idle = self.processors - sum(check.jobs for check in self.running)
-            crate = self.plan.crates[name]
-            if idle < 1 or (self.running and crate.memory > room):
+            idle = self.processors - sum(check.processors for check in self.running)
+            crate, all_wait = self.plan.crates[name], self.plan.chain(name) == longest
+            if (idle < 1 and not all_wait) or (self.running and crate.memory > room):
                 return
-            jobs = max(1, min(4, idle // (len(ready) - at), int(1 + (room / crate.memory - 1) / OF_JOB)))
+            # what all else waits for takes each processor, and others run in the time that it leaves
+            wanted = self.processors if all_wait else int(idle) // (len(ready) - at)
+            jobs = max(1, min(MOST_JOBS, wanted, int(1 + (room / crate.memory - 1) / OF_JOB)))
             free = next(place for place in places if place not in [check.lane for check in self.running])
             self.running.append(Check(crate, free, jobs).start(self.plan.below(name)))
             room -= self.running[-1].memory
@@ -86,7 +92,7 @@ class Build:
 
     def libraries(self) -> int:
         """Proves all below the program, and returns the status of the first that failed."""
-        with lanes(self.plan, self.processors) as places:
+        with lanes(self.plan, self.processors + 1) as places:
             try:
                 while len(self.done) + 1 < len(self.plan.crates):
                     self.start_ready(places)

@@ -60,6 +60,11 @@ class Check:
         return status
 
     @property
+    def processors(self) -> float:
+        """How many it keeps busy, about: of several jobs one goes on alone for half of the time."""
+        return (1 + self.jobs) / 2
+
+    @property
     def memory(self) -> float:
         return self.crate.memory * (1 + OF_JOB * (self.jobs - 1))
 
