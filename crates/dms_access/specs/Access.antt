@@ -14,7 +14,7 @@ use Rattle.dms_codes.specs.Limits.{longest_text, longest_owner}
 use Rattle.dms_objects.specs.declared.scalar.Scalar.{Scalar}
 use Rattle.dms_objects.specs.declared.scalar.Scalar.TheVariants.{DefaultBackgroundColor, DefaultForegroundColor, DefaultFlashOn, DefaultFlashOff, DefaultFont, DefaultJustificationLine, DefaultJustificationPage, DefaultPageOnTime, DefaultPageOffTime, ActivateMessage, MessageTimeRemaining, ShortPowerRecoveryMessage, LongPowerRecoveryMessage, ShortPowerLossTime, CommunicationsLossMessage, TimeCommLoss, PowerLossMessage, EndDurationMessage}
 use Rattle.dms_objects.specs.declared.instance.Instance.{Instance}
-use Rattle.dms_objects.specs.declared.instance.Instance.TheVariants.{The, Cell}
+use Rattle.dms_objects.specs.declared.instance.Instance.TheVariants as kinds
 
 -- ---- access
 
@@ -50,8 +50,8 @@ is_settable_object EndDurationMessage = true
 is_settable_object _ = false
 
 abbrev pub is_settable : Instance → Bool
-is_settable (The object) = is_settable_object object
-is_settable (Cell column id) = is_settable_column column && has_writable_rows id.memory
+is_settable (kinds.Scalar object) = is_settable_object object
+is_settable (kinds.Cell column id) = is_settable_column column && has_writable_rows id.memory
 
 -- ---- what a binding writes
 
@@ -123,5 +123,5 @@ cell_write columns.Status id value = option_map (λ number. AskRow id (ask_of nu
 cell_write _ id value = None
 
 unfoldable pub write_of : FaceModel → Instance → ObjectValue → Option Write
-write_of face (The object) value = object_write face object value
-write_of face (Cell column id) value = cell_write column id value
+write_of face (kinds.Scalar object) value = object_write face object value
+write_of face (kinds.Cell column id) value = cell_write column id value

@@ -81,7 +81,7 @@ pub fn is_settable(instance: Instance) -> bool
     ensures { result ≡ is_settable instance }
 {
     match instance {
-        Instance::The(object) => is_settable_object(object),
+        Instance::Scalar(object) => is_settable_object(object),
         Instance::Cell(column, id) => is_settable_column(column) && has_writable_rows(id.memory),
     }
 }
@@ -238,7 +238,7 @@ pub fn write_of<'a>(face: &Face, instance: Instance, value: &Value<'a>) -> Optio
     ensures change { IfSome result IsChange }
 {
     match instance {
-        Instance::The(object) => object_write(face, object, value),
+        Instance::Scalar(object) => object_write(face, object, value),
         Instance::Cell(column, id) => cell_write(column, id, value),
     }
 }

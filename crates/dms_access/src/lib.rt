@@ -3,8 +3,8 @@
 //! a column of dmsMessageTable reads.
 //!
 //! ```
-//! let seconds = Instance::The(Scalar::ShortPowerLossTime);
-//! assert!(rt; is_settable(seconds) && !is_settable(Instance::The(Scalar::SignWidthPixels)));
+//! let seconds = Instance::Scalar(Scalar::ShortPowerLossTime);
+//! assert!(rt; is_settable(seconds) && !is_settable(Instance::Scalar(Scalar::SignWidthPixels)));
 //! assert!(rt; write_of(&face, seconds, &Value::Integer(65536)).is_none());
 //! let change = write_of(&face, seconds, &Value::Integer(60)).ok_or("no change")?;
 //! let mut settings = Settings::new(face.defaults());

@@ -144,7 +144,7 @@ impl Centre {
         let row = self.job.work.row();
         match self.job.step {
             Step::Comparing => Instance::Cell(Column::Crc, row),
-            Step::Explaining => Instance::The(Scalar::ActivateMsgError),
+            Step::Explaining => Instance::Scalar(Scalar::ActivateMsgError),
             _ => Instance::Cell(Column::Status, row),
         }
     }

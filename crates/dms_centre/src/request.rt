@@ -62,7 +62,7 @@ pub(crate) fn put_request(
         }
         Step::Activating => {
             let code = work.code().to_bytes(order);
-            let object = Instance::The(Scalar::ActivateMessage);
+            let object = Instance::Scalar(Scalar::ActivateMessage);
             put_one(
                 community,
                 Kind::Set,
@@ -73,7 +73,7 @@ pub(crate) fn put_request(
             );
         }
         Step::Explaining => {
-            let object = Instance::The(Scalar::ActivateMsgError);
+            let object = Instance::Scalar(Scalar::ActivateMsgError);
             put_one(community, Kind::Get, number, object, Value::Null, out);
         }
     }

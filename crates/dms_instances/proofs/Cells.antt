@@ -4,7 +4,7 @@ use Rattle.std.proofs.lemmas.Bool.Decides.{nat_tests}
 use Rattle.dms_codes.specs.declared.row_id.RowId.{RowId}
 use Rattle.dms_objects.specs.declared.column.Column.{Column}
 use Rattle.dms_objects.specs.declared.instance.Instance.{Instance}
-use Rattle.dms_objects.specs.declared.instance.Instance.TheVariants.{The, Cell}
+use Rattle.dms_objects.specs.declared.instance.Instance.TheVariants.{Scalar, Cell}
 use Rattle.dms_objects.specs.Names.{below_dms, column_number, name_of, cell_name}
 use Rattle.dms_table.specs.Rows.{TableModel}
 use Rattle.dms_instances.specs.declared.counts.Counts.{Counts}
@@ -59,7 +59,7 @@ cell_next table n has few c m x most row is =
 
     each : (j : Instance) → IsInstance table j → comes_after (below_dms (5 ∷ 8 ∷ 1 ∷ column_number c ∷ m ∷ x ∷ [])) j ≡ true
         → (Cell c row ≡ j) ⊎ (comes_after (name_of (Cell c row)) j ≡ true)
-    each (The object) there e =
+    each (Scalar object) there e =
         inr (objects_alike (column_number c ∷ row.memory ∷ row.number ∷ []) (column_number c ∷ m ∷ x ∷ []) object ∙ e)
     each (Cell d r) there e =
         let counted = as_row n r (there_counted table n d r has there) in

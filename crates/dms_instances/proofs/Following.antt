@@ -7,7 +7,7 @@ use Rattle.dms_objects.specs.declared.column.Column.{Column}
 use Rattle.dms_objects.specs.declared.scalar.Scalar.{Scalar}
 use Rattle.dms_objects.specs.declared.scalar.Scalar.TheVariants as scalars
 use Rattle.dms_objects.specs.declared.instance.Instance.{Instance}
-use Rattle.dms_objects.specs.declared.instance.Instance.TheVariants.{The, Cell}
+use Rattle.dms_objects.specs.declared.instance.Instance.TheVariants as kinds
 use Rattle.dms_objects.specs.Names.{below_dms, column_number, scalar_number, name_of}
 use Rattle.dms_table.specs.Rows.{TableModel}
 use Rattle.dms_instances.specs.declared.counts.Counts.{Counts}
@@ -91,8 +91,8 @@ unfolding name_of
 same_below table n has a b objects cells = same_next table (below_dms a) (below_dms b) each
   where
     each : (j : Instance) → IsInstance table j → comes_after (below_dms a) j ≡ comes_after (below_dms b) j
-    each (The object) there = objects object
-    each (Cell column row) there = cells column row (there_counted table n column row has there)
+    each (kinds.Scalar object) there = objects object
+    each (kinds.Cell column row) there = cells column row (there_counted table n column row has there)
 
 -- names that no number but the first two tells from those that there are
 by_pairs : (table : TableModel) (n : Counts) → HasCounts table n → (a b : List ℕ)
@@ -186,19 +186,19 @@ in_column table n has k a b same =
 -- ---- the objects from a group and number on
 
 pub found_object : (table : TableModel) (n : Counts) → HasCounts table n → (g x : ℕ) (object : Scalar) → scalar_number object ≡ (g, x)
-    → next_instance table (below_dms (g ∷ x ∷ [])) ≡ Some (The object)
+    → next_instance table (below_dms (g ∷ x ∷ [])) ≡ Some (kinds.Scalar object)
 unfolding name_of
 found_object table n has g x object is =
-    first_is table (below_dms (g ∷ x ∷ [])) (The object)
+    first_is table (below_dms (g ∷ x ∷ [])) (kinds.Scalar object)
     (record { there = object_there table object; after = grind (arith, nat_tests); first = each })
   where
     each : (j : Instance) → IsInstance table j → comes_after (below_dms (g ∷ x ∷ [])) j ≡ true
-        → (The object ≡ j) ⊎ (comes_after (name_of (The object)) j ≡ true)
-    each (The other) there e =
+        → (kinds.Scalar object ≡ j) ⊎ (comes_after (name_of (kinds.Scalar object)) j ≡ true)
+    each (kinds.Scalar other) there e =
         let same = scalar_back object in
         let others = scalar_back other in
         grind (arith, nat_tests)
-    each (Cell column row) there e =
+    each (kinds.Cell column row) there e =
         let other = not_table object in
         grind (arith, nat_tests)
 
@@ -227,10 +227,10 @@ unfolding name_of
 past_groups table g a past = sym (none_next table (below_dms (g ∷ a)) each)
   where
     each : (j : Instance) → IsInstance table j → comes_after (below_dms (g ∷ a)) j ≡ false
-    each (The object) there =
+    each (kinds.Scalar object) there =
         let is = object_within object in
         larger g (scalar_number object).0 a ((scalar_number object).1 ∷ 0 ∷ []) (omega (arith, is.group_to, past))
-    each (Cell column row) there = larger g 5 a (8 ∷ 1 ∷ column_number column ∷ row.memory ∷ row.number ∷ []) (omega (arith, past))
+    each (kinds.Cell column row) there = larger g 5 a (8 ∷ 1 ∷ column_number column ∷ row.memory ∷ row.number ∷ []) (omega (arith, past))
 
 -- ---- names that are not below dms
 
@@ -243,8 +243,8 @@ outside (n ∷ front) (m ∷ name) xs other =
 
 each_outside : (name : List ℕ) → ((rest : List ℕ) → name ≡ below_dms rest → ⊥) → (j : Instance) → comes_after name j ≡ is_before name (below_dms [])
 unfolding name_of
-each_outside name other (The object) = outside (below_dms []) name (object_key object) other
-each_outside name other (Cell column row) = outside (below_dms []) name (cell_key column row) other
+each_outside name other (kinds.Scalar object) = outside (below_dms []) name (object_key object) other
+each_outside name other (kinds.Cell column row) = outside (below_dms []) name (cell_key column row) other
 
 pub before_dms : (table : TableModel) (n : Counts) → HasCounts table n → (name : List ℕ) → ((rest : List ℕ) → name ≡ below_dms rest → ⊥)
     → is_before name (below_dms []) ≡ true → next_instance table (below_dms (0 ∷ 0 ∷ [])) ≡ next_instance table name
@@ -253,8 +253,8 @@ before_dms table n has name other first =
     sym (of_nothing table n has) ∙ same_next table (below_dms []) name each
   where
     each : (j : Instance) → IsInstance table j → comes_after (below_dms []) j ≡ comes_after name j
-    each (The object) there = sym (each_outside name other (The object) ∙ first)
-    each (Cell column row) there = sym (each_outside name other (Cell column row) ∙ first)
+    each (kinds.Scalar object) there = sym (each_outside name other (kinds.Scalar object) ∙ first)
+    each (kinds.Cell column row) there = sym (each_outside name other (kinds.Cell column row) ∙ first)
 
 pub past_dms : (table : TableModel) (name : List ℕ) → ((rest : List ℕ) → name ≡ below_dms rest → ⊥)
     → is_before name (below_dms []) ≡ false → None ≡ next_instance table name

@@ -13,7 +13,7 @@ use Rattle.dms_codes.specs.declared.row_id.RowId.{RowId}
 use Rattle.dms_objects.specs.Names.{below_dms, column_number}
 use Rattle.dms_table.specs.Rows.{TableModel}
 use Rattle.dms_objects.specs.declared.instance.Instance.{Instance}
-use Rattle.dms_objects.specs.declared.instance.Instance.TheVariants.{The, Cell}
+use Rattle.dms_objects.specs.declared.instance.Instance.TheVariants.{Scalar, Cell}
 use Rattle.dms_objects.specs.Names.{name_of}
 use Rattle.dms_instances.specs.Objects.{before_table, after_table, columns, memories, rows_in, row_ids, cells, instances, is_before, has_name, comes_after, instance_named, next_instance, IsInstance, FirstAfter}
 use Rattle.dms_instances.proofs.Members.{some_is}
@@ -148,11 +148,11 @@ table_rises table =
     pieces name_of (cells table) (λ c. entry (column_number c ∷ [])) (λ c. entry (column_number c ∷ 8 ∷ [])) (cells_rise table) (entry []) columns
     (below_dms (5 ∷ 9 ∷ [])) refl
 
-before_rises : rises name_of [] (map The before_table) (entry []) ≡ true
+before_rises : rises name_of [] (map Scalar before_table) (entry []) ≡ true
 unfolding name_of
 before_rises = refl
 
-after_rises : rises name_of (below_dms (5 ∷ 9 ∷ [])) (map The after_table) (2 ∷ []) ≡ true
+after_rises : rises name_of (below_dms (5 ∷ 9 ∷ [])) (map Scalar after_table) (2 ∷ []) ≡ true
 unfolding name_of
 after_rises = refl
 
@@ -160,8 +160,8 @@ pub instances_rise : (table : TableModel) → rises name_of [] (instances table)
 unfolding instances
 instances_rise table =
     let cells_end = below_dms (5 ∷ 9 ∷ []) in
-    let first = joined name_of [] (map The before_table) (entry []) (flat_map (cells table) columns) cells_end before_rises (table_rises table) in
-    joined name_of [] (map The before_table ++ flat_map (cells table) columns) cells_end (map The after_table) (2 ∷ []) first after_rises
+    let first = joined name_of [] (map Scalar before_table) (entry []) (flat_map (cells table) columns) cells_end before_rises (table_rises table) in
+    joined name_of [] (map Scalar before_table ++ flat_map (cells table) columns) cells_end (map Scalar after_table) (2 ∷ []) first after_rises
 
 -- ---- what is found in a list whose names rise
 

@@ -5,7 +5,7 @@ use Rattle.dms_objects.specs.declared.column.Column.TheVariants.{Number, MultiSt
 use Rattle.dms_objects.specs.Names.{below_dms}
 use Rattle.dms_table.specs.Rows.{TableModel, unused}
 use Rattle.dms_objects.specs.declared.scalar.Scalar.TheVariants.{SignHeightPixels, ValidateMessageError, ActivateMessage, CommunicationsLossMessage, ActivateErrorMsgCode}
-use Rattle.dms_objects.specs.declared.instance.Instance.TheVariants.{The, Cell}
+use Rattle.dms_objects.specs.declared.instance.Instance.TheVariants.{Scalar, Cell}
 use Rattle.dms_objects.specs.Names.{name_of}
 use Rattle.dms_instances.specs.Objects.{instances, instance_named, next_instance}
 
@@ -14,12 +14,12 @@ abbrev pub table : TableModel
 table = record { permanent = unused ∷ []; changeable = unused ∷ unused ∷ []; volatile = unused ∷ []; services = record { beacon = false; pixel = false }; order = High }
 
 -- before all
-pub first_of_all : next_instance table [] ≡ Some (The SignHeightPixels)
+pub first_of_all : next_instance table [] ≡ Some (Scalar SignHeightPixels)
 unfolding instances name_of
 first_of_all = refl
 
 -- after dmsMessageStatus.7.255 comes dmsValidateMessageError.0
-pub after_the_table : next_instance table (name_of (Cell Status (record { memory = 7; number = 255 }))) ≡ Some (The ValidateMessageError)
+pub after_the_table : next_instance table (name_of (Cell Status (record { memory = 7; number = 255 }))) ≡ Some (Scalar ValidateMessageError)
 unfolding instances name_of
 after_the_table = refl
 
@@ -34,16 +34,16 @@ unfolding instances name_of
 after_a_column = refl
 
 -- after dmsShortPowerLossTime.0 comes dmsCommunicationsLossMessage.0, since this sign has no object 11
-pub past_a_gap : next_instance table (below_dms (6 ∷ 10 ∷ 0 ∷ [])) ≡ Some (The CommunicationsLossMessage)
+pub past_a_gap : next_instance table (below_dms (6 ∷ 10 ∷ 0 ∷ [])) ≡ Some (Scalar CommunicationsLossMessage)
 unfolding instances name_of
 past_a_gap = refl
 
 -- the name of an object without an instance comes before that of its instance
-pub after_an_object : next_instance table (below_dms (6 ∷ 3 ∷ [])) ≡ Some (The ActivateMessage)
+pub after_an_object : next_instance table (below_dms (6 ∷ 3 ∷ [])) ≡ Some (Scalar ActivateMessage)
 unfolding instances name_of
 after_an_object = refl
 
-pub after_the_last : next_instance table (name_of (The ActivateErrorMsgCode)) ≡ None
+pub after_the_last : next_instance table (name_of (Scalar ActivateErrorMsgCode)) ≡ None
 unfolding instances name_of
 after_the_last = refl
 

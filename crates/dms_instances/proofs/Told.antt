@@ -6,7 +6,7 @@ use Rattle.dms_ber.proofs.Unique.{name_is}
 use Rattle.dms_codes.specs.declared.row_id.RowId.{RowId}
 use Rattle.dms_objects.specs.declared.column.Column.{Column}
 use Rattle.dms_objects.specs.declared.instance.Instance.{Instance}
-use Rattle.dms_objects.specs.declared.instance.Instance.TheVariants.{The, Cell}
+use Rattle.dms_objects.specs.declared.instance.Instance.TheVariants.{Scalar, Cell}
 use Rattle.dms_objects.specs.NameOctets.{IsNamed}
 use Rattle.dms_objects.specs.Names.{name_of, column_number}
 use Rattle.dms_objects.proofs.NameLaws.{object_named}
@@ -45,8 +45,8 @@ cell_told name told column row is memory number e =
 
 pub there_told : (table : TableModel) (n : Counts) (name : List ℕ) (told : Option Instance) → HasCounts table n → AreOctets n
     → IsTold (name_octets name) told → (i : Instance) → IsInstance table i → has_name name i ≡ true → told ≡ Some i
-there_told table n name told has few is (The object) there e =
-    is.object object (octets_of name (The object) _ e (object_named object _ _ refl refl))
+there_told table n name told has few is (Scalar object) there e =
+    is.object object (octets_of name (Scalar object) _ e (object_named object _ _ refl refl))
 there_told table n name told has few is (Cell column row) there e =
     let counted : Counted n row = there_counted table n column row has there in
     cell_told name told column row is counted.memory (omega (arith, counted.to, last_few n few row.memory)) e

@@ -9,7 +9,7 @@ use Rattle.dms_table.specs.Rows.{RowModel, TableModel, row_read, numbered, readi
 use Rattle.dms_table.specs.Activation.{ShownModel, message_at, shown_reading}
 use Rattle.dms_objects.specs.declared.scalar.Scalar.{Scalar}
 use Rattle.dms_objects.specs.declared.instance.Instance.{Instance}
-use Rattle.dms_objects.specs.declared.instance.Instance.TheVariants.{The, Cell}
+use Rattle.dms_objects.specs.declared.instance.Instance.TheVariants as kinds
 use Rattle.dms_instances.specs.Objects.{before_table, after_table, columns, memories, rows_in, row_ids, cells, instances, IsInstance}
 use Rattle.dms_instances.specs.declared.counts.Counts.{Counts}
 use Rattle.dms_instances.specs.Places.{HasCounts, last_number}
@@ -147,63 +147,63 @@ read_held table shown row h =
 -- ---- instances
 
 abbrev before : List Instance
-before = map The before_table
+before = map kinds.Scalar before_table
 
 abbrev after : List Instance
-after = map The after_table
+after = map kinds.Scalar after_table
 
 abbrev rows : TableModel → List Instance
 rows table = flat_map (cells table) columns
 
-in_before : (table : TableModel) (k : ℕ) (object : Scalar) → slice_get before k ≡ Some (The object) → IsInstance table (The object)
+in_before : (table : TableModel) (k : ℕ) (object : Scalar) → slice_get before k ≡ Some (kinds.Scalar object) → IsInstance table (kinds.Scalar object)
 unfolding instances
 in_before table k object h =
-    let first = in_left before (rows table) k (The object) h in
-    in_left (before ++ rows table) after first.0 (The object) first.1
+    let first = in_left before (rows table) k (kinds.Scalar object) h in
+    in_left (before ++ rows table) after first.0 (kinds.Scalar object) first.1
 
-in_after : (table : TableModel) (k : ℕ) (object : Scalar) → slice_get after k ≡ Some (The object) → IsInstance table (The object)
+in_after : (table : TableModel) (k : ℕ) (object : Scalar) → slice_get after k ≡ Some (kinds.Scalar object) → IsInstance table (kinds.Scalar object)
 unfolding instances
-in_after table k object h = in_right (before ++ rows table) after (The object) (k, h)
+in_after table k object h = in_right (before ++ rows table) after (kinds.Scalar object) (k, h)
 
-pub object_there : (table : TableModel) (object : Scalar) → IsInstance table (The object)
+pub object_there : (table : TableModel) (object : Scalar) → IsInstance table (kinds.Scalar object)
 object_there table object =
     let numbers = found (λ other. ((scalar_number other).0 == (scalar_number object).0) && ((scalar_number other).1 == (scalar_number object).1))
     (before_table ++ after_table) object (scalar_back object) in
     elim (in_either before_table after_table numbers.0 object numbers.1) [
-      | inl i ↦ let at = in_map The before_table i.0 object i.1 in in_before table at.0 object at.1
-      | inr i ↦ let at = in_map The after_table i.0 object i.1 in in_after table at.0 object at.1
+      | inl i ↦ let at = in_map kinds.Scalar before_table i.0 object i.1 in in_before table at.0 object at.1
+      | inr i ↦ let at = in_map kinds.Scalar after_table i.0 object i.1 in in_after table at.0 object at.1
     ]
 
 column_there : (column : Column) → In columns column
 column_there column = let at = found (λ other. column_number other == column_number column) columns column (column_back column) in (at.0, at.1)
 
-cell_there : (table : TableModel) (column : Column) (row : RowId) → In (row_ids table) row → IsInstance table (Cell column row)
+cell_there : (table : TableModel) (column : Column) (row : RowId) → In (row_ids table) row → IsInstance table (kinds.Cell column row)
 unfolding instances
 cell_there table column row i =
-    let in_column = in_map (Cell column) (row_ids table) i.0 row i.1 in
+    let in_column = in_map (kinds.Cell column) (row_ids table) i.0 row i.1 in
     let at = column_there column in
-    let in_rows = in_flat (cells table) columns at.0 column (Cell column row) at.1 in_column in
-    let front = in_right before (rows table) (Cell column row) in_rows in
-    in_left (before ++ rows table) after front.0 (Cell column row) front.1
+    let in_rows = in_flat (cells table) columns at.0 column (kinds.Cell column row) at.1 in_column in
+    let front = in_right before (rows table) (kinds.Cell column row) in_rows in
+    in_left (before ++ rows table) after front.0 (kinds.Cell column row) front.1
 
-of_rows : (table : TableModel) (column : Column) (row : RowId) → In (rows table) (Cell column row) → In (row_ids table) row
+of_rows : (table : TableModel) (column : Column) (row : RowId) → In (rows table) (kinds.Cell column row) → In (row_ids table) row
 of_rows table column row i =
-    let o = of_flat (cells table) columns i.0 (Cell column row) i.1 in
-    let r = of_map (Cell o.0) (row_ids table) o.2.0 (Cell column row) o.2.1 in
+    let o = of_flat (cells table) columns i.0 (kinds.Cell column row) i.1 in
+    let r = of_map (kinds.Cell o.0) (row_ids table) o.2.0 (kinds.Cell column row) o.2.1 in
     let is : r.0 ≡ row = cc in
     subst (In (row_ids table)) is r.2
 
-no_object : (objects : List Scalar) (column : Column) (row : RowId) → In (map The objects) (Cell column row) → ⊥
+no_object : (objects : List Scalar) (column : Column) (row : RowId) → In (map kinds.Scalar objects) (kinds.Cell column row) → ⊥
 no_object objects column row i =
-    let o = of_map The objects i.0 (Cell column row) i.1 in
+    let o = of_map kinds.Scalar objects i.0 (kinds.Cell column row) i.1 in
     absurd (cc)
 
-of_cell : (table : TableModel) (column : Column) (row : RowId) → IsInstance table (Cell column row) → In (row_ids table) row
+of_cell : (table : TableModel) (column : Column) (row : RowId) → IsInstance table (kinds.Cell column row) → In (row_ids table) row
 unfolding instances
 of_cell table column row there =
-    elim (in_either (before ++ rows table) after there.0 (Cell column row) there.1) [
+    elim (in_either (before ++ rows table) after there.0 (kinds.Cell column row) there.1) [
       | inl front ↦
-          elim (in_either before (rows table) front.0 (Cell column row) front.1) [
+          elim (in_either before (rows table) front.0 (kinds.Cell column row) front.1) [
             | inl object ↦ absurd (no_object before_table column row object)
             | inr cell ↦ of_rows table column row cell
           ]
@@ -211,10 +211,10 @@ of_cell table column row there =
     ]
 
 pub cell_read : (table : TableModel) (shown : ShownModel) (column : Column) (row : RowId)
-    → IsInstance table (Cell column row) ↔ IsSome (message_at table shown row)
+    → IsInstance table (kinds.Cell column row) ↔ IsSome (message_at table shown row)
 cell_read table shown column row = (there_read, read_there)
   where
-    there_read : IsInstance table (Cell column row) → IsSome (message_at table shown row)
+    there_read : IsInstance table (kinds.Cell column row) → IsSome (message_at table shown row)
     there_read there =
         let i = of_cell table column row there in
         let o = of_flat rows_in (memories table) i.0 row i.1 in
@@ -222,7 +222,7 @@ cell_read table shown column row = (there_read, read_there)
         let read = held_read table shown o.1.0 o.0 row.number o.1.1 holds.from_1 holds.to in
         subst (λ m. IsSome (message_at table shown (record { memory = m; number = row.number }))) (sym holds.type_is) read
 
-    read_there : IsSome (message_at table shown row) → IsInstance table (Cell column row)
+    read_there : IsSome (message_at table shown row) → IsInstance table (kinds.Cell column row)
     read_there read =
         let held = read_held table shown row read in
         cell_there table column row (in_flat rows_in (memories table) held.1.0 held.0 row held.1.1 (rows_in_in held.0 row held.2))
@@ -246,7 +246,7 @@ held_by false false false false false table n row has is2 is3 is4 is5 is7 from t
 
 -- a row whose number is one of its type of memory has an instance in each column
 pub counted_there : (table : TableModel) (n : Counts) (column : Column) (row : RowId) → HasCounts table n → 1 ≤ row.number
-    → row.number ≤ last_number n row.memory → IsInstance table (Cell column row)
+    → row.number ≤ last_number n row.memory → IsInstance table (kinds.Cell column row)
 counted_there table n column row has from to =
     let held =
     held_by (row.memory == 2) (row.memory == 3) (row.memory == 4) (row.memory == 5) (row.memory == 7) table n row has refl refl refl refl refl from to
@@ -288,7 +288,7 @@ counted_at table n row has (suc (suc (suc (suc zero)))) memory h holds =
 counted_at table n row has (suc (suc (suc (suc (suc k))))) memory h holds = absurd (cc)
 
 -- a row that has an instance is counted
-pub there_counted : (table : TableModel) (n : Counts) (column : Column) (row : RowId) → HasCounts table n → IsInstance table (Cell column row)
+pub there_counted : (table : TableModel) (n : Counts) (column : Column) (row : RowId) → HasCounts table n → IsInstance table (kinds.Cell column row)
     → Counted n row
 there_counted table n column row has there =
     let i = of_cell table column row there in

@@ -13,7 +13,7 @@ use Rattle.dms_codes.specs.Memory.{permanent_memory, changeable_memory, volatile
 use Rattle.dms_objects.specs.declared.scalar.Scalar.{Scalar}
 use Rattle.dms_objects.specs.declared.scalar.Scalar.TheVariants.{SignHeightPixels, SignWidthPixels, DefaultBackgroundColor, DefaultForegroundColor, DefaultFlashOn, DefaultFlashOff, DefaultFont, DefaultJustificationLine, DefaultJustificationPage, DefaultPageOnTime, DefaultPageOffTime, ColorScheme, NumPermanentMsg, NumChangeableMsg, MaxChangeableMsg, FreeChangeableMemory, NumVolatileMsg, MaxVolatileMsg, FreeVolatileMemory, ValidateMessageError, ActivateMessage, MessageTimeRemaining, MsgTableSource, MsgRequesterId, MsgSourceMode, ShortPowerRecoveryMessage, LongPowerRecoveryMessage, ShortPowerLossTime, CommunicationsLossMessage, TimeCommLoss, PowerLossMessage, EndDurationMessage, ActivateMsgError, MultiSyntaxError, MultiSyntaxErrorPosition, ActivateErrorMsgCode}
 use Rattle.dms_objects.specs.declared.instance.Instance.{Instance}
-use Rattle.dms_objects.specs.declared.instance.Instance.TheVariants.{The, Cell}
+use Rattle.dms_objects.specs.declared.instance.Instance.TheVariants as kinds
 
 -- ---- the instances of a sign
 
@@ -54,11 +54,11 @@ row_ids table = flat_map rows_in (memories table)
 
 -- a column's instances, one for each row
 abbrev pub cells : TableModel → Column → List Instance
-cells table column = map (Cell column) (row_ids table)
+cells table column = map (kinds.Cell column) (row_ids table)
 
 -- every instance, in the order of names
 unfoldable pub instances : TableModel → List Instance
-instances table = map The before_table ++ flat_map (cells table) columns ++ map The after_table
+instances table = map kinds.Scalar before_table ++ flat_map (cells table) columns ++ map kinds.Scalar after_table
 
 -- ---- the walk
 

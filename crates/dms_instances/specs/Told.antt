@@ -6,7 +6,7 @@ use Rattle.dms_objects.specs.Names.{column_number, scalar_number}
 use Rattle.dms_objects.specs.declared.column.Column.{Column}
 use Rattle.dms_objects.specs.declared.scalar.Scalar.{Scalar}
 use Rattle.dms_objects.specs.declared.instance.Instance.{Instance}
-use Rattle.dms_objects.specs.declared.instance.Instance.TheVariants.{The, Cell}
+use Rattle.dms_objects.specs.declared.instance.Instance.TheVariants as kinds
 use Rattle.dms_instances.specs.Objects.{before_table, after_table, columns}
 
 -- the column of this number
@@ -46,8 +46,8 @@ long_cell_content column memory low = under_dms (5 ∷ 8 ∷ 1 ∷ column_number
 -- whichever object, or cell of a row of a type of memory below 128 and a number below 256, has these octets as its
 -- name: it is told
 pub record IsTold (octets : List ℕ) (told : Option Instance) : Type 0 where
-  pub object : (object : Scalar) → octets ≡ object_content object → told ≡ Some (The object)
+  pub object : (object : Scalar) → octets ≡ object_content object → told ≡ Some (kinds.Scalar object)
   pub short : (column : Column) (memory number : ℕ) → memory < 128 → number < 128 → octets ≡ cell_content column memory number
-      → told ≡ Some (Cell column (record { memory = memory; number = number }))
+      → told ≡ Some (kinds.Cell column (record { memory = memory; number = number }))
   pub long : (column : Column) (memory low : ℕ) → memory < 128 → low < 128 → octets ≡ long_cell_content column memory low
-      → told ≡ Some (Cell column (record { memory = memory; number = 128 + low }))
+      → told ≡ Some (kinds.Cell column (record { memory = memory; number = 128 + low }))

@@ -65,7 +65,7 @@ impl Counts {
         ensures each { (table : TableModel) → HasCounts table self.now → IsInstance table instance → result ≡ true }
     {
         match instance {
-            Instance::The(_) => true,
+            Instance::Scalar(_) => true,
             Instance::Cell(_, row) => 1 <= row.number && row.number <= self.last_number(row.memory),
         }
     }
@@ -279,7 +279,7 @@ impl Counts {
                 return self.first_of(Column::MemoryType);
             }
             if let Some(object) = scalar_of(group, number) {
-                return Some(Instance::The(object));
+                return Some(Instance::Scalar(object));
             }
             if number < last_object(group) {
                 number += 1;

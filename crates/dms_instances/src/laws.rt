@@ -4,7 +4,7 @@ ghost use Rattle.std.specs.Prelude.{◌≡◌, ◌↔◌, ℕ, List, Some, IsSom
 ghost use Rattle.dms_codes.specs.declared.row_id.RowId.{RowId};
 ghost use Rattle.dms_objects.specs.declared.column.Column.{Column};
 ghost use Rattle.dms_objects.specs.declared.instance.Instance.{Instance};
-ghost use Rattle.dms_objects.specs.declared.instance.Instance.TheVariants.{The, Cell};
+ghost use Rattle.dms_objects.specs.declared.instance.Instance.TheVariants as kinds;
 ghost use Rattle.dms_objects.specs.declared.scalar.Scalar.{Scalar};
 ghost use Rattle.dms_objects.specs.Names.{name_of};
 ghost use Rattle.dms_table.specs.Rows.{TableModel};
@@ -13,9 +13,9 @@ ghost use Rattle.dms_instances.specs.Objects.{instance_named, next_instance, IsI
 
 /// Each object has its instance, and each column one for each row that can be read, and for no other row.
 pub fn each_has_its_instances()
-    ensures object { (table : TableModel) (object : Scalar) → IsInstance table (The object) }
+    ensures object { (table : TableModel) (object : Scalar) → IsInstance table (kinds.Scalar object) }
     ensures cell { (table : TableModel) (shown : ShownModel) (column : Column) (row : RowId)
-        → IsInstance table (Cell column row) ↔ IsSome (message_at table shown row) }
+        → IsInstance table (kinds.Cell column row) ↔ IsSome (message_at table shown row) }
 {}
 
 /// The instances stand in the strict order of their names: the one that comes next after a name is the least of those

@@ -4,8 +4,8 @@
 //! ```
 //! let counts = Counts::of(&table);
 //! let name = name_of(&[43, 6, 1, 4, 1, 137, 54, 4, 2, 3, 6, 3, 0]).ok_or("no name")?;
-//! assert!(rt; counts.named(&name) == Some(Instance::The(Scalar::ActivateMessage)));
-//! assert!(rt; counts.next(&name) == Some(Instance::The(Scalar::MessageTimeRemaining)));
+//! assert!(rt; counts.named(&name) == Some(Instance::Scalar(Scalar::ActivateMessage)));
+//! assert!(rt; counts.next(&name) == Some(Instance::Scalar(Scalar::MessageTimeRemaining)));
 //! ```
 #![tactic(auto)]
 

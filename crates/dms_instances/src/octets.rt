@@ -3,7 +3,7 @@
 ghost use Rattle.std.specs.Prelude.{◌≡◌, ◌≤◌, ◌<◌, ◌+◌, ◌∷◌, [], ℕ, List, Some, IfSome, IfNone};
 ghost use Rattle.dms_objects.specs.declared.column.Column.{Column};
 ghost use Rattle.dms_objects.specs.declared.scalar.Scalar.{Scalar};
-ghost use Rattle.dms_objects.specs.declared.instance.Instance.TheVariants.{The, Cell};
+ghost use Rattle.dms_objects.specs.declared.instance.Instance.TheVariants as kinds;
 ghost use Rattle.dms_objects.specs.Names.{column_number, scalar_number};
 ghost use Rattle.dms_objects.specs.NameOctets.{IsNamed};
 ghost use Rattle.dms_instances.specs.Told.{column_at, scalar_at, octets_below, row_number_of, IsTold};
@@ -34,7 +34,7 @@ fn cell_named(column: u8, memory: u8, number: u8) -> Option<Instance>
     ensures named { IfSome result (λ i. IsNamed i
         (43 ∷ 6 ∷ 1 ∷ 4 ∷ 1 ∷ 137 ∷ 54 ∷ 4 ∷ 2 ∷ 3 ∷ 5 ∷ 8 ∷ 1 ∷ column ∷ memory ∷ number ∷ [])) }
     ensures told { (c : Column) → column_number c ≡ column → memory < 128 → number < 128
-        → result ≡ Some (Cell c (record { memory = memory; number = number })) }
+        → result ≡ Some (kinds.Cell c (record { memory = memory; number = number })) }
 {
     if memory < 128 && number < 128 {
         let column = column_of(column)?;
@@ -52,7 +52,7 @@ fn long_cell_named(column: u8, memory: u8, low: u8) -> Option<Instance>
     ensures named { IfSome result (λ i. IsNamed i
         (43 ∷ 6 ∷ 1 ∷ 4 ∷ 1 ∷ 137 ∷ 54 ∷ 4 ∷ 2 ∷ 3 ∷ 5 ∷ 8 ∷ 1 ∷ column ∷ memory ∷ 129 ∷ low ∷ [])) }
     ensures told { (c : Column) → column_number c ≡ column → memory < 128 → low < 128
-        → result ≡ Some (Cell c (record { memory = memory; number = 128 + low })) }
+        → result ≡ Some (kinds.Cell c (record { memory = memory; number = 128 + low })) }
 {
     if memory < 128 && low < 128 {
         let column = column_of(column)?;
@@ -67,9 +67,9 @@ fn long_cell_named(column: u8, memory: u8, low: u8) -> Option<Instance>
 #[inline]
 fn object_named(group: u8, number: u8) -> Option<Instance>
     ensures named { IfSome result (λ i. IsNamed i (43 ∷ 6 ∷ 1 ∷ 4 ∷ 1 ∷ 137 ∷ 54 ∷ 4 ∷ 2 ∷ 3 ∷ group ∷ number ∷ 0 ∷ [])) }
-    ensures told { (s : Scalar) → scalar_number s ≡ (group, number) → result ≡ Some (The s) }
+    ensures told { (s : Scalar) → scalar_number s ≡ (group, number) → result ≡ Some (kinds.Scalar s) }
 {
-    Some(Instance::The(scalar_of(group, number)?))
+    Some(Instance::Scalar(scalar_of(group, number)?))
 }
 
 /// The column of this number.

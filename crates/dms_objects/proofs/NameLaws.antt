@@ -9,7 +9,7 @@ use Rattle.dms_objects.specs.declared.column.Column.{Column}
 use Rattle.dms_objects.specs.declared.column.Column.TheVariants as columns
 use Rattle.dms_objects.specs.declared.scalar.Scalar.{Scalar}
 use Rattle.dms_objects.specs.declared.scalar.Scalar.TheVariants as scalars
-use Rattle.dms_objects.specs.declared.instance.Instance.TheVariants.{The, Cell}
+use Rattle.dms_objects.specs.declared.instance.Instance.TheVariants as kinds
 use Rattle.dms_objects.specs.Names.{scalar_number, column_number, name_of, cell_name, object_name}
 use Rattle.dms_objects.specs.NameOctets.{IsNamed}
 use Rattle.dms_objects.proofs.SubIdentifiers.{one_octet}
@@ -64,7 +64,7 @@ object_few scalars.MultiSyntaxErrorPosition = (omega arith, omega arith)
 object_few scalars.ActivateErrorMsgCode = (omega arith, omega arith)
 
 pub object_named : (object : Scalar) (number : ℕ × ℕ) (octets : List ℕ) → number ≡ scalar_number object
-    → octets ≡ 43 ∷ 6 ∷ 1 ∷ 4 ∷ 1 ∷ 137 ∷ 54 ∷ 4 ∷ 2 ∷ 3 ∷ number.0 ∷ number.1 ∷ 0 ∷ [] → IsNamed (The object) octets
+    → octets ≡ 43 ∷ 6 ∷ 1 ∷ 4 ∷ 1 ∷ 137 ∷ 54 ∷ 4 ∷ 2 ∷ 3 ∷ number.0 ∷ number.1 ∷ 0 ∷ [] → IsNamed (kinds.Scalar object) octets
 unfolding name_of
 object_named object number octets is written =
     let few : ((scalar_number object).0 < 128) × ((scalar_number object).1 < 128) = object_few object in
@@ -102,7 +102,7 @@ cell_in_limits column row memory number =
 
 pub cell_named : (column : Column) (row : RowId) (octets : List ℕ) → row.memory < 256 → row.number < 65536
     → octets ≡ (43 ∷ 6 ∷ 1 ∷ 4 ∷ 1 ∷ 137 ∷ 54 ∷ 4 ∷ 2 ∷ 3 ∷ 5 ∷ 8 ∷ 1 ∷ column_number column ∷ []) ++ sub_identifier_octets row.memory ++ sub_identifier_octets row.number
-    → IsNamed (Cell column row) octets
+    → IsNamed (kinds.Cell column row) octets
 unfolding name_of
 cell_named column row octets memory number written = record {
   is = subst (λ xs. IsName (cell_name column row) xs) (cell_octets column row ∙ sym written) (name_spelled (cell_name column row) (cell_in_limits column row memory number));

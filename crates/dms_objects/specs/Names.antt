@@ -6,7 +6,7 @@ use Rattle.dms_codes.specs.declared.row_id.RowId.{RowId}
 use Rattle.dms_objects.specs.declared.scalar.Scalar.{Scalar}
 use Rattle.dms_objects.specs.declared.scalar.Scalar.TheVariants.{SignHeightPixels, SignWidthPixels, DefaultBackgroundColor, DefaultForegroundColor, DefaultFlashOn, DefaultFlashOff, DefaultFont, DefaultJustificationLine, DefaultJustificationPage, DefaultPageOnTime, DefaultPageOffTime, ColorScheme, NumPermanentMsg, NumChangeableMsg, MaxChangeableMsg, FreeChangeableMemory, NumVolatileMsg, MaxVolatileMsg, FreeVolatileMemory, ValidateMessageError, ActivateMessage, MessageTimeRemaining, MsgTableSource, MsgRequesterId, MsgSourceMode, ShortPowerRecoveryMessage, LongPowerRecoveryMessage, ShortPowerLossTime, CommunicationsLossMessage, TimeCommLoss, PowerLossMessage, EndDurationMessage, ActivateMsgError, MultiSyntaxError, MultiSyntaxErrorPosition, ActivateErrorMsgCode}
 use Rattle.dms_objects.specs.declared.instance.Instance.{Instance}
-use Rattle.dms_objects.specs.declared.instance.Instance.TheVariants.{The, Cell}
+use Rattle.dms_objects.specs.declared.instance.Instance.TheVariants as kinds
 
 -- below dms, 1.3.6.1.4.1.1206.4.2.3
 abbrev pub below_dms : List ℕ → List ℕ
@@ -81,5 +81,5 @@ scalar_number ActivateErrorMsgCode = (6, 24)
 
 -- an object has the instance 0; a column's instances are named by the rows
 unfoldable pub name_of : Instance → List ℕ
-name_of (The object) = object_name (scalar_number object).0 (scalar_number object).1
-name_of (Cell column row) = cell_name column row
+name_of (kinds.Scalar object) = object_name (scalar_number object).0 (scalar_number object).1
+name_of (kinds.Cell column row) = cell_name column row

@@ -8,7 +8,7 @@ use dms_codes::RowId;
 #[derive(Clone, Copy, Debug, PartialEq, Eq)]
 pub enum Instance {
     /// The only instance of an object.
-    The(Scalar),
+    Scalar(Scalar),
     /// A column of a row of dmsMessageTable.
     Cell(Column, RowId),
 }

@@ -2,7 +2,7 @@
 //! names of their instances.
 //!
 //! ```
-//! let name = Name::of(Instance::The(Scalar::ActivateMessage));
+//! let name = Name::of(Instance::Scalar(Scalar::ActivateMessage));
 //! assert_eq!(name.oid().content(), [43, 6, 1, 4, 1, 137, 54, 4, 2, 3, 6, 3, 0]);
 //! ```
 #![tactic(auto)]

@@ -3,7 +3,7 @@
 ghost use Rattle.std.specs.Prelude.{◌≡◌, ◌++◌, ◌+◌, ◌≤◌, length};
 ghost use Rattle.arrayvec.specs.ArrayVec.{array_vec_len};
 ghost use Rattle.dms_ber.specs.ObjectIdentifier.{sub_identifier_octets};
-ghost use Rattle.dms_objects.specs.declared.instance.Instance.TheVariants.{The, Cell};
+ghost use Rattle.dms_objects.specs.declared.instance.Instance.TheVariants as kinds;
 ghost use Rattle.dms_objects.specs.Names.{name_of};
 ghost use Rattle.dms_objects.specs.NameOctets.{IsNamed};
 
@@ -44,7 +44,7 @@ impl Name {
         ensures { result ≡ instance }
     {
         match instance {
-            Instance::The(object) => of_scalar(object),
+            Instance::Scalar(object) => of_scalar(object),
             Instance::Cell(column, row) => of_cell(column, row.memory, row.number),
         }
     }
@@ -65,17 +65,17 @@ impl Name {
 }
 
 fn of_scalar(object: Scalar) -> Name
-    ensures { result ≡ The object }
+    ensures { result ≡ kinds.Scalar object }
 {
     let (group, number) = object.number();
     Name {
-        instance: Instance::The(object),
+        instance: Instance::Scalar(object),
         octets: kept(&[43, 6, 1, 4, 1, 137, 54, 4, 2, 3, group, number, 0]),
     }
 }
 
 fn of_cell(column: Column, memory: u8, number: u16) -> Name
-    ensures { result ≡ Cell column (record { memory = memory; number = number }) }
+    ensures { result ≡ kinds.Cell column (record { memory = memory; number = number }) }
 {
     let entry = [43, 6, 1, 4, 1, 137, 54, 4, 2, 3, 5, 8, 1, column.number()];
     let mut octets = kept(&entry);

@@ -30,7 +30,7 @@ use Rattle.dms_table.specs.Activation.{ShownModel, seconds_of, decided}
 use Rattle.dms_objects.specs.declared.scalar.Scalar.{Scalar}
 use Rattle.dms_objects.specs.declared.scalar.Scalar.TheVariants.{SignHeightPixels, SignWidthPixels, DefaultBackgroundColor, DefaultForegroundColor, DefaultFlashOn, DefaultFlashOff, DefaultFont, DefaultJustificationLine, DefaultJustificationPage, DefaultPageOnTime, DefaultPageOffTime, ColorScheme, NumPermanentMsg, NumChangeableMsg, MaxChangeableMsg, FreeChangeableMemory, NumVolatileMsg, MaxVolatileMsg, FreeVolatileMemory, ValidateMessageError, ActivateMessage, MessageTimeRemaining, MsgTableSource, MsgRequesterId, MsgSourceMode, ShortPowerRecoveryMessage, LongPowerRecoveryMessage, ShortPowerLossTime, CommunicationsLossMessage, TimeCommLoss, PowerLossMessage, EndDurationMessage, ActivateMsgError, MultiSyntaxError, MultiSyntaxErrorPosition, ActivateErrorMsgCode}
 use Rattle.dms_objects.specs.declared.instance.Instance.{Instance}
-use Rattle.dms_objects.specs.declared.instance.Instance.TheVariants.{The, Cell}
+use Rattle.dms_objects.specs.declared.instance.Instance.TheVariants as kinds
 use Rattle.dms_objects.specs.Names.{scalar_number}
 use Rattle.dms_access.specs.Reports.{ReportsModel}
 use Rattle.dms_sign.specs.State.{SignState, end_duration_mode}
@@ -278,8 +278,8 @@ cell_writes columns_of.Status id value within =
 
 instance_writes : (face : FaceModel) (i : Instance) (value : ObjectValue) → IsValueInLimits value → IfSome (write_of face i value) IsWriteInRange
 unfolding write_of
-instance_writes face (The object) value within = object_writes face object value within
-instance_writes face (Cell column id) value within = cell_writes column id value within
+instance_writes face (kinds.Scalar object) value within = object_writes face object value within
+instance_writes face (kinds.Cell column id) value within = cell_writes column id value within
 
 any_then : {X Y : Type 0} (P : Y → Type 0) (f : X → Option Y) (o : Option X) → ((x : X) → IfSome (f x) P) → IfSome (option_and_then f o) P
 any_then P f None each = tt

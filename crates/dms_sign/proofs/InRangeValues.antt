@@ -29,7 +29,7 @@ use Rattle.dms_codes.proofs.Division.{length-divided}
 use Rattle.dms_objects.specs.declared.scalar.Scalar.{Scalar}
 use Rattle.dms_objects.specs.declared.scalar.Scalar.TheVariants.{SignHeightPixels, SignWidthPixels, DefaultBackgroundColor, DefaultForegroundColor, DefaultFlashOn, DefaultFlashOff, DefaultFont, DefaultJustificationLine, DefaultJustificationPage, DefaultPageOnTime, DefaultPageOffTime, ColorScheme, NumPermanentMsg, NumChangeableMsg, MaxChangeableMsg, FreeChangeableMemory, NumVolatileMsg, MaxVolatileMsg, FreeVolatileMemory, ValidateMessageError, ActivateMessage, MessageTimeRemaining, MsgTableSource, MsgRequesterId, MsgSourceMode, ShortPowerRecoveryMessage, LongPowerRecoveryMessage, ShortPowerLossTime, CommunicationsLossMessage, TimeCommLoss, PowerLossMessage, EndDurationMessage, ActivateMsgError, MultiSyntaxError, MultiSyntaxErrorPosition, ActivateErrorMsgCode}
 use Rattle.dms_objects.specs.declared.instance.Instance.{Instance}
-use Rattle.dms_objects.specs.declared.instance.Instance.TheVariants.{The, Cell}
+use Rattle.dms_objects.specs.declared.instance.Instance.TheVariants as kinds
 use Rattle.dms_objects.specs.Names.{scalar_number, name_of}
 use Rattle.dms_instances.specs.Objects.{before_table, after_table, columns, numbers_to, memories, rows_in, row_ids, cells, instances, instance_named, next_instance, IsInstance}
 use Rattle.dms_sign.specs.State.{SignState}
@@ -227,13 +227,13 @@ cell_within order columns_of.Status id read small is = number_within (status_num
 -- ---- instances
 
 abbrev pub IsSmallInstance : Instance → Type 0
-IsSmallInstance (The object) = ⊤
-IsSmallInstance (Cell column id) = IsSmallId id
+IsSmallInstance (kinds.Scalar object) = ⊤
+IsSmallInstance (kinds.Cell column id) = IsSmallId id
 
 pub value_within : (s : SignState) → IsSignInRange s → (i : Instance) → IsSmallInstance i → IfSome (value_at s i) IsValueInLimits
 unfolding value_at
-value_within s is (The object) small = scalar_within s is object
-value_within s is (Cell column id) small =
+value_within s is (kinds.Scalar object) small = scalar_within s is object
+value_within s is (kinds.Cell column id) small =
     if_mapped IsReadingInRange IsValueInLimits (cell_value s.table.order column id) (message_at s.table s.shown id)
     (λ read r. cell_within s.table.order column id read small r)
     (message_in_range s.table s.shown id is.table is.shown)
@@ -262,11 +262,11 @@ ids_small table is =
 pub instances_small : (table : TableModel) → IsTableInRange table → AllByRecursion IsSmallInstance (instances table)
 unfolding instances
 instances_small table is =
-    let objects = λ (xs : List Scalar). all_mapped (λ (x : Scalar). ⊤) IsSmallInstance The xs (λ x h. tt) (all_any (λ (x : Scalar). ⊤) xs (λ x. tt)) in
-    let column = λ (c : Column). all_mapped IsSmallId IsSmallInstance (Cell c) (row_ids table) (λ id h. h) (ids_small table is) in
+    let objects = λ (xs : List Scalar). all_mapped (λ (x : Scalar). ⊤) IsSmallInstance kinds.Scalar xs (λ x h. tt) (all_any (λ (x : Scalar). ⊤) xs (λ x. tt)) in
+    let column = λ (c : Column). all_mapped IsSmallId IsSmallInstance (kinds.Cell c) (row_ids table) (λ id h. h) (ids_small table is) in
     let table_cells = all_flat (λ (c : Column). ⊤) IsSmallInstance (cells table) columns (λ c h. column c) (all_any (λ (c : Column). ⊤) columns (λ c. tt)) in
-    all_append IsSmallInstance (map The before_table ++ flat_map (cells table) columns) (map The after_table)
-    (all_append IsSmallInstance (map The before_table) (flat_map (cells table) columns) (objects before_table) table_cells) (objects after_table)
+    all_append IsSmallInstance (map kinds.Scalar before_table ++ flat_map (cells table) columns) (map kinds.Scalar after_table)
+    (all_append IsSmallInstance (map kinds.Scalar before_table) (flat_map (cells table) columns) (objects before_table) table_cells) (objects after_table)
 
 -- ---- names
 
@@ -341,8 +341,8 @@ cell_name_within column id small =
 
 pub name_within : (i : Instance) → IsSmallInstance i → IsNameInLimits (name_of i)
 unfolding name_of
-name_within (The object) small = object_name_within (scalar_number object).0 (scalar_number object).1 (object_small object).0 (object_small object).1
-name_within (Cell column id) small = cell_name_within column id small
+name_within (kinds.Scalar object) small = object_name_within (scalar_number object).0 (scalar_number object).1 (object_small object).0 (object_small object).1
+name_within (kinds.Cell column id) small = cell_name_within column id small
 
 -- what an instance of a sign is called and reads
 pub instance_within : (s : SignState) (i : Instance) → IsSignInRange s → IsInstance s.table i → IsNameInLimits (name_of i) × IfSome (value_at s i) IsValueInLimits

@@ -9,7 +9,7 @@ use Rattle.dms_table.specs.Activation.{message_at}
 use Rattle.dms_objects.specs.declared.scalar.Scalar.{Scalar}
 use Rattle.dms_objects.specs.declared.scalar.Scalar.TheVariants.{SignHeightPixels, SignWidthPixels, DefaultBackgroundColor, DefaultForegroundColor, DefaultFlashOn, DefaultFlashOff, DefaultFont, DefaultJustificationLine, DefaultJustificationPage, DefaultPageOnTime, DefaultPageOffTime, ColorScheme, NumPermanentMsg, NumChangeableMsg, MaxChangeableMsg, FreeChangeableMemory, NumVolatileMsg, MaxVolatileMsg, FreeVolatileMemory, ValidateMessageError, ActivateMessage, MessageTimeRemaining, MsgTableSource, MsgRequesterId, MsgSourceMode, ShortPowerRecoveryMessage, LongPowerRecoveryMessage, ShortPowerLossTime, CommunicationsLossMessage, TimeCommLoss, PowerLossMessage, EndDurationMessage, ActivateMsgError, MultiSyntaxError, MultiSyntaxErrorPosition, ActivateErrorMsgCode}
 use Rattle.dms_objects.specs.declared.instance.Instance.{Instance}
-use Rattle.dms_objects.specs.declared.instance.Instance.TheVariants.{The, Cell}
+use Rattle.dms_objects.specs.declared.instance.Instance.TheVariants as kinds
 use Rattle.dms_objects.specs.Names.{name_of}
 use Rattle.dms_instances.specs.Objects.{instance_named, next_instance}
 use Rattle.dms_access.specs.Cells.{number_value, cell_value}
@@ -70,8 +70,8 @@ scalar_value s ActivateErrorMsgCode = octet_string s.reports.failed_code
 
 -- what an instance reads; the row of the current buffer is what is shown
 unfoldable pub value_at : SignState → Instance → Option ObjectValue
-value_at s (The object) = Some (scalar_value s object)
-value_at s (Cell column id) = option_map (cell_value s.table.order column id) (message_at s.table s.shown id)
+value_at s (kinds.Scalar object) = Some (scalar_value s object)
+value_at s (kinds.Cell column id) = option_map (cell_value s.table.order column id) (message_at s.table s.shown id)
 
 -- what a name reads, where it is that of an instance
 unfoldable pub value_of : SignState → List ℕ → Option ObjectValue

@@ -19,7 +19,7 @@ use Rattle.dms_table.specs.Activation.{ShownModel, decided}
 use Rattle.dms_objects.specs.declared.scalar.Scalar.{Scalar}
 use Rattle.dms_objects.specs.declared.scalar.Scalar.TheVariants.{DefaultBackgroundColor, DefaultForegroundColor, DefaultFlashOn, DefaultFlashOff, DefaultFont, DefaultJustificationLine, DefaultJustificationPage, DefaultPageOnTime, DefaultPageOffTime, ActivateMessage, MessageTimeRemaining, ShortPowerRecoveryMessage, LongPowerRecoveryMessage, ShortPowerLossTime, CommunicationsLossMessage, TimeCommLoss, PowerLossMessage, EndDurationMessage}
 use Rattle.dms_objects.specs.declared.instance.Instance.{Instance}
-use Rattle.dms_objects.specs.declared.instance.Instance.TheVariants.{The, Cell}
+use Rattle.dms_objects.specs.declared.instance.Instance.TheVariants as kinds
 use Rattle.dms_objects.specs.Names.{scalar_number, name_of}
 use Rattle.dms_instances.specs.Objects.{instance_named}
 use Rattle.dms_sign.specs.State.{SignState}
@@ -51,7 +51,7 @@ is_twelve octets h =
 
 -- a value that is the twelve octets of an activation
 pub record IsActivating (i : Instance) (value : ObjectValue) (octets : List ℕ) : Type 0 where
-  pub object : i ≡ The ActivateMessage
+  pub object : i ≡ kinds.Scalar ActivateMessage
   pub value_is : value ≡ octet_string octets
   pub size : length octets ≡ 12
 
@@ -64,32 +64,32 @@ twelve _ octets e = absurd (cc)
 activating : (face : FaceModel) (i : Instance) (value : ObjectValue) (octets : List ℕ) → write_of face i value ≡ Some (Activate octets)
     → IsActivating i value octets
 unfolding write_of object_write cell_write
-activating face (The ActivateMessage) value octets e = let both = twelve value octets e in record { object = refl; value_is = both.0; size = both.1 }
-activating face (The MessageTimeRemaining) value octets e = absurd (no_activation _ _ octets (λ x h. cc) e)
-activating face (The ShortPowerRecoveryMessage) value octets e = absurd (no_activation _ _ octets (λ x h. cc) e)
-activating face (The LongPowerRecoveryMessage) value octets e = absurd (no_activation _ _ octets (λ x h. cc) e)
-activating face (The CommunicationsLossMessage) value octets e = absurd (no_activation _ _ octets (λ x h. cc) e)
-activating face (The PowerLossMessage) value octets e = absurd (no_activation _ _ octets (λ x h. cc) e)
-activating face (The EndDurationMessage) value octets e = absurd (no_activation _ _ octets (λ x h. cc) e)
-activating face (The ShortPowerLossTime) value octets e = absurd (no_activation _ _ octets (λ x h. cc) e)
-activating face (The TimeCommLoss) value octets e = absurd (no_activation _ _ octets (λ x h. cc) e)
-activating face (The DefaultBackgroundColor) value octets e = absurd (no_activation _ _ octets (λ x h. cc) e)
-activating face (The DefaultForegroundColor) value octets e = absurd (no_activation _ _ octets (λ x h. cc) e)
-activating face (The DefaultFlashOn) value octets e = absurd (no_activation _ _ octets (λ x h. cc) e)
-activating face (The DefaultFlashOff) value octets e = absurd (no_activation _ _ octets (λ x h. cc) e)
-activating face (The DefaultFont) value octets e = absurd (no_activation _ _ octets (λ x h. cc) e)
-activating face (The DefaultJustificationLine) value octets e = absurd (no_activation _ _ octets (λ x h. cc) e)
-activating face (The DefaultJustificationPage) value octets e = absurd (no_activation _ _ octets (λ x h. cc) e)
-activating face (The DefaultPageOnTime) value octets e = absurd (no_activation _ _ octets (λ x h. cc) e)
-activating face (The DefaultPageOffTime) value octets e = absurd (no_activation _ _ octets (λ x h. cc) e)
-activating face (The _) value octets e = absurd (cc)
-activating face (Cell columns.MultiString id) value octets e = absurd (no_activation _ _ octets (λ x h. cc) e)
-activating face (Cell columns.Owner id) value octets e = absurd (no_activation _ _ octets (λ x h. cc) e)
-activating face (Cell columns.Beacon id) value octets e = absurd (no_activation _ _ octets (λ x h. cc) e)
-activating face (Cell columns.PixelService id) value octets e = absurd (no_activation _ _ octets (λ x h. cc) e)
-activating face (Cell columns.RunTimePriority id) value octets e = absurd (no_activation _ _ octets (λ x h. cc) e)
-activating face (Cell columns.Status id) value octets e = absurd (no_activation _ _ octets (λ x h. cc) e)
-activating face (Cell _ id) value octets e = absurd (cc)
+activating face (kinds.Scalar ActivateMessage) value octets e = let both = twelve value octets e in record { object = refl; value_is = both.0; size = both.1 }
+activating face (kinds.Scalar MessageTimeRemaining) value octets e = absurd (no_activation _ _ octets (λ x h. cc) e)
+activating face (kinds.Scalar ShortPowerRecoveryMessage) value octets e = absurd (no_activation _ _ octets (λ x h. cc) e)
+activating face (kinds.Scalar LongPowerRecoveryMessage) value octets e = absurd (no_activation _ _ octets (λ x h. cc) e)
+activating face (kinds.Scalar CommunicationsLossMessage) value octets e = absurd (no_activation _ _ octets (λ x h. cc) e)
+activating face (kinds.Scalar PowerLossMessage) value octets e = absurd (no_activation _ _ octets (λ x h. cc) e)
+activating face (kinds.Scalar EndDurationMessage) value octets e = absurd (no_activation _ _ octets (λ x h. cc) e)
+activating face (kinds.Scalar ShortPowerLossTime) value octets e = absurd (no_activation _ _ octets (λ x h. cc) e)
+activating face (kinds.Scalar TimeCommLoss) value octets e = absurd (no_activation _ _ octets (λ x h. cc) e)
+activating face (kinds.Scalar DefaultBackgroundColor) value octets e = absurd (no_activation _ _ octets (λ x h. cc) e)
+activating face (kinds.Scalar DefaultForegroundColor) value octets e = absurd (no_activation _ _ octets (λ x h. cc) e)
+activating face (kinds.Scalar DefaultFlashOn) value octets e = absurd (no_activation _ _ octets (λ x h. cc) e)
+activating face (kinds.Scalar DefaultFlashOff) value octets e = absurd (no_activation _ _ octets (λ x h. cc) e)
+activating face (kinds.Scalar DefaultFont) value octets e = absurd (no_activation _ _ octets (λ x h. cc) e)
+activating face (kinds.Scalar DefaultJustificationLine) value octets e = absurd (no_activation _ _ octets (λ x h. cc) e)
+activating face (kinds.Scalar DefaultJustificationPage) value octets e = absurd (no_activation _ _ octets (λ x h. cc) e)
+activating face (kinds.Scalar DefaultPageOnTime) value octets e = absurd (no_activation _ _ octets (λ x h. cc) e)
+activating face (kinds.Scalar DefaultPageOffTime) value octets e = absurd (no_activation _ _ octets (λ x h. cc) e)
+activating face (kinds.Scalar _) value octets e = absurd (cc)
+activating face (kinds.Cell columns.MultiString id) value octets e = absurd (no_activation _ _ octets (λ x h. cc) e)
+activating face (kinds.Cell columns.Owner id) value octets e = absurd (no_activation _ _ octets (λ x h. cc) e)
+activating face (kinds.Cell columns.Beacon id) value octets e = absurd (no_activation _ _ octets (λ x h. cc) e)
+activating face (kinds.Cell columns.PixelService id) value octets e = absurd (no_activation _ _ octets (λ x h. cc) e)
+activating face (kinds.Cell columns.RunTimePriority id) value octets e = absurd (no_activation _ _ octets (λ x h. cc) e)
+activating face (kinds.Cell columns.Status id) value octets e = absurd (no_activation _ _ octets (λ x h. cc) e)
+activating face (kinds.Cell _ id) value octets e = absurd (cc)
 
 -- the instance of a name that can be set
 settable_if : (b : Bool) (j i : Instance) → cond b (Some j) None ≡ Some i → j ≡ i
@@ -119,7 +119,7 @@ writes_at : (s : SignState) (binding : VarBind) (write : Write) → write_at s b
 unfolding write_at
 writes_at s binding write e = writes_by s binding write (settable_instance s binding.name) refl e
 
-activate_name : name_of (The ActivateMessage) ≡ activate_message
+activate_name : name_of (kinds.Scalar ActivateMessage) ≡ activate_message
 unfolding name_of
 activate_name = refl
 
@@ -245,17 +245,17 @@ only_object _ group number = absurd (omega arith)
 other_group : (group : ℕ) → group ≡ 5 → group ≡ 6 → ⊥
 other_group group five six = omega arith
 
-only_activate : (i : Instance) → name_of i ≡ activate_message → i ≡ The ActivateMessage
+only_activate : (i : Instance) → name_of i ≡ activate_message → i ≡ kinds.Scalar ActivateMessage
 unfolding name_of
-only_activate (The object) e = ap The (only_object object (ap (λ name. get_or name 10 0) e) (ap (λ name. get_or name 11 0) e))
-only_activate (Cell column id) e = absurd (other_group 5 refl (ap (λ name. get_or name 10 0) e))
+only_activate (kinds.Scalar object) e = ap kinds.Scalar (only_object object (ap (λ name. get_or name 10 0) e) (ap (λ name. get_or name 11 0) e))
+only_activate (kinds.Cell column id) e = absurd (other_group 5 refl (ap (λ name. get_or name 10 0) e))
 
 writes_twelve : (b : Bool) (octets : List ℕ) (write : Write) → option_map Activate (cond b (Some octets) None) ≡ Some write → write ≡ Activate octets
 writes_twelve true octets write e = cc
 writes_twelve false octets write e = absurd (cc)
 
 activate_writes : (face : FaceModel) (octets : List ℕ) (write : Write)
-    → write_of face (The ActivateMessage) (octet_string octets) ≡ Some write → write ≡ Activate octets
+    → write_of face (kinds.Scalar ActivateMessage) (octet_string octets) ≡ Some write → write ≡ Activate octets
 unfolding write_of object_write
 activate_writes face octets write e = writes_twelve (nat_le 12 (length octets) && nat_le (length octets) 12) octets write e
 
@@ -264,7 +264,7 @@ pub what_is_written : (s : SignState) (octets : List ℕ) (o : Option Write) →
 what_is_written s octets None is some = absurd (cc)
 what_is_written s octets (Some write) is some =
     let at = writes_at s (activates octets) write is in
-    let object : at.instance ≡ The ActivateMessage = only_activate at.instance at.named in
+    let object : at.instance ≡ kinds.Scalar ActivateMessage = only_activate at.instance at.named in
     ap Some (activate_writes s.config.face octets write (rw object at at.writes))
 
 second_passes : (one two : Bool) (m n : ErrorStatus) (index : ℕ) (tests : List (Bool × ErrorStatus)) (more : List SetCause)

@@ -23,7 +23,7 @@ use Rattle.dms_table.specs.Rows.{RowModel, TableModel, unused}
 use Rattle.dms_codes.specs.Codes.{octets_of_id}
 use Rattle.dms_objects.specs.declared.scalar.Scalar.TheVariants.{ActivateMessage}
 use Rattle.dms_objects.specs.declared.instance.Instance.{Instance}
-use Rattle.dms_objects.specs.declared.instance.Instance.TheVariants.{The, Cell}
+use Rattle.dms_objects.specs.declared.instance.Instance.TheVariants.{Scalar, Cell}
 use Rattle.dms_objects.specs.Names.{name_of}
 use Rattle.dms_instances.specs.Objects.{instances}
 use Rattle.dms_sign.specs.State.{ConfigModel, SignState, start}
@@ -94,7 +94,7 @@ octets i these = bound i (octet_string these)
 
 -- the activation code of these digits
 abbrev pub code : List ℕ → VarBind
-code twelve = octets (The ActivateMessage) (octets_of twelve)
+code twelve = octets (Scalar ActivateMessage) (octets_of twelve)
 
 -- ---- what comes of them; who unfolds these unfolds what computes them
 

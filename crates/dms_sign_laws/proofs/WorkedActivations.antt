@@ -6,7 +6,7 @@ use Rattle.dms_wire.specs.declared.message.Kind.TheVariants.{Set}
 use Rattle.dms_wire.specs.Message.{integer, octet_string}
 use Rattle.dms_face.proofs.Bench.{bench}
 use Rattle.dms_objects.specs.declared.scalar.Scalar.TheVariants.{MessageTimeRemaining, ShortPowerLossTime, ActivateMessage, ActivateMsgError, ActivateErrorMsgCode, EndDurationMessage}
-use Rattle.dms_objects.specs.declared.instance.Instance.TheVariants.{The}
+use Rattle.dms_objects.specs.declared.instance.Instance.TheVariants.{Scalar}
 use Rattle.dms_sign.specs.State.{SignState}
 use Rattle.dms_sign_laws.proofs.BenchSign.{octets_of, lettered_sign, number, octets, code, answer, status_and_index, after_set, reads, later, seen, letter_a, blank_one}
 
@@ -60,7 +60,7 @@ unfolding answer
 second_is_not_accepted = refl
 
 -- its cause is priority
-second_has_a_cause : reads (after_set lettered (code five_minutes ∷ [])) (The ActivateMsgError) ≡ Some (integer (pos 3))
+second_has_a_cause : reads (after_set lettered (code five_minutes ∷ [])) (Scalar ActivateMsgError) ≡ Some (integer (pos 3))
 unfolding answer reads
 second_has_a_cause = refl
 
@@ -77,7 +77,7 @@ unfolding answer later
 last_second = refl
 
 -- dmsMessageTimeRemaining reads 1
-last_minute : reads (later 299 lettered) (The MessageTimeRemaining) ≡ Some (integer (pos 1))
+last_minute : reads (later 299 lettered) (Scalar MessageTimeRemaining) ≡ Some (integer (pos 1))
 unfolding answer reads later
 last_minute = refl
 
@@ -96,7 +96,7 @@ unfolding answer
 no_minutes_are_up = refl
 
 -- dmsMessageTimeRemaining reads 0
-no_minutes_read : reads no_minutes (The MessageTimeRemaining) ≡ Some (integer (pos 0))
+no_minutes_read : reads no_minutes (Scalar MessageTimeRemaining) ≡ Some (integer (pos 0))
 unfolding answer reads
 no_minutes_read = refl
 
@@ -106,28 +106,28 @@ unfolding answer later
 no_minutes_end = refl
 
 -- no time is to remain: noError, and blank 1 is up at once
-ended_at_once : status_and_index lettered (number (The MessageTimeRemaining) 0 ∷ []) ≡ (0, 0)
+ended_at_once : status_and_index lettered (number (Scalar MessageTimeRemaining) 0 ∷ []) ≡ (0, 0)
 unfolding answer
 ended_at_once = refl
 
 -- its mode is endDuration
-blank_at_once : seen (after_set lettered (number (The MessageTimeRemaining) 0 ∷ [])) ≡ blank_one 14
+blank_at_once : seen (after_set lettered (number (Scalar MessageTimeRemaining) 0 ∷ [])) ≡ blank_one 14
 unfolding answer
 blank_at_once = refl
 
 -- two minutes are to remain
-two_minutes : seen (after_set lettered (number (The MessageTimeRemaining) 2 ∷ [])) ≡ letter_a 8 (Some 120)
+two_minutes : seen (after_set lettered (number (Scalar MessageTimeRemaining) 2 ∷ [])) ≡ letter_a 8 (Some 120)
 unfolding answer
 two_minutes = refl
 
 -- 65535 is without an end
-no_end : seen (after_set lettered (number (The MessageTimeRemaining) 65535 ∷ [])) ≡ letter_a 8 None
+no_end : seen (after_set lettered (number (Scalar MessageTimeRemaining) 65535 ∷ [])) ≡ letter_a 8 None
 unfolding answer
 no_end = refl
 
 -- dmsEndDurationMessage is of the current buffer: "A" stays, without an end
 abbrev staying_at_its_end : SignState
-staying_at_its_end = after_set lettered (octets (The EndDurationMessage) (octets_of (codes "0500010000")) ∷ [])
+staying_at_its_end = after_set lettered (octets (Scalar EndDurationMessage) (octets_of (codes "0500010000")) ∷ [])
 
 -- at the end of the duration
 stays_at_its_end : seen (later 300 staying_at_its_end) ≡ letter_a 14 None
@@ -135,7 +135,7 @@ unfolding answer later
 stays_at_its_end = refl
 
 -- and where no time is to remain
-stays_at_once : seen (after_set staying_at_its_end (number (The MessageTimeRemaining) 0 ∷ [])) ≡ letter_a 14 None
+stays_at_once : seen (after_set staying_at_its_end (number (Scalar MessageTimeRemaining) 0 ∷ [])) ≡ letter_a 14 None
 unfolding answer
 stays_at_once = refl
 
@@ -192,34 +192,34 @@ unfolding answer
 blank_has_its_priority = refl
 
 -- a code that was judged and refused is kept, beside the one last accepted
-refused_code_is_kept : reads (after_set lettered (code (codes "ffffff0300039a6600000000") ∷ [])) (The ActivateErrorMsgCode)
+refused_code_is_kept : reads (after_set lettered (code (codes "ffffff0300039a6600000000") ∷ [])) (Scalar ActivateErrorMsgCode)
     ≡ Some (octet_string (octets_of (codes "ffffff0300039a6600000000")))
 unfolding answer reads
 refused_code_is_kept = refl
 
 -- the code that was accepted before it is still told
-accepted_code_is_kept : reads (after_set lettered (code (codes "ffffff0300039a6600000000") ∷ [])) (The ActivateMessage)
+accepted_code_is_kept : reads (after_set lettered (code (codes "ffffff0300039a6600000000") ∷ [])) (Scalar ActivateMessage)
     ≡ Some (octet_string (octets_of five_minutes))
 unfolding answer reads
 accepted_code_is_kept = refl
 
 -- a code that would be refused and a time in one SET: a second command, genErr, index 2
-two_commands : status_and_index lettered (code (codes "ffffff0300039a6600000000") ∷ number (The MessageTimeRemaining) 9 ∷ []) ≡ (5, 2)
+two_commands : status_and_index lettered (code (codes "ffffff0300039a6600000000") ∷ number (Scalar MessageTimeRemaining) 9 ∷ []) ≡ (5, 2)
 unfolding answer
 two_commands = refl
 
 -- the code is not judged, and nothing is told of it
-two_commands_change_nothing : after_set lettered (code (codes "ffffff0300039a6600000000") ∷ number (The MessageTimeRemaining) 9 ∷ []) ≡ lettered
+two_commands_change_nothing : after_set lettered (code (codes "ffffff0300039a6600000000") ∷ number (Scalar MessageTimeRemaining) 9 ∷ []) ≡ lettered
 unfolding answer
 two_commands_change_nothing = refl
 
 -- a value that is wrong after a code that would be refused: badValue, index 2
-wrong_value_after_a_code : status_and_index lettered (code (codes "ffffff0300039a6600000000") ∷ number (The ShortPowerLossTime) 65536 ∷ []) ≡ (3, 2)
+wrong_value_after_a_code : status_and_index lettered (code (codes "ffffff0300039a6600000000") ∷ number (Scalar ShortPowerLossTime) 65536 ∷ []) ≡ (3, 2)
 unfolding answer
 wrong_value_after_a_code = refl
 
 -- the code is not judged
-wrong_value_hides_the_code : (after_set lettered (code (codes "ffffff0300039a6600000000") ∷ number (The ShortPowerLossTime) 65536 ∷ [])).reports.activate_error ≡ 2
+wrong_value_hides_the_code : (after_set lettered (code (codes "ffffff0300039a6600000000") ∷ number (Scalar ShortPowerLossTime) 65536 ∷ [])).reports.activate_error ≡ 2
 unfolding answer
 wrong_value_hides_the_code = refl
 
@@ -244,7 +244,7 @@ no_second_buffer = refl
 
 -- this code is set for the end, and no time is to remain
 abbrev ended_by : List ℕ → SignState
-ended_by five = after_set lettered (octets (The EndDurationMessage) (octets_of five) ∷ number (The MessageTimeRemaining) 0 ∷ [])
+ended_by five = after_set lettered (octets (Scalar EndDurationMessage) (octets_of five) ∷ number (Scalar MessageTimeRemaining) 0 ∷ [])
 
 -- of the current buffer neither the number nor the checksum is looked at
 any_current_buffer : seen (ended_by (codes "05ffffabcd")) ≡ letter_a 14 None

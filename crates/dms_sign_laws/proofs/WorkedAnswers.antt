@@ -5,7 +5,7 @@ use Rattle.dms_wire.specs.Message.{integer}
 use Rattle.dms_codes.specs.declared.codes.Order.TheVariants.{Swapped}
 use Rattle.dms_objects.specs.declared.column.Column.TheVariants.{Crc}
 use Rattle.dms_objects.specs.declared.scalar.Scalar.TheVariants.{ShortPowerLossTime}
-use Rattle.dms_objects.specs.declared.instance.Instance.TheVariants.{The}
+use Rattle.dms_objects.specs.declared.instance.Instance.TheVariants.{Scalar}
 use Rattle.dms_sign.specs.Reply.{dropped}
 use Rattle.dms_sign_laws.proofs.BenchSign.{octets_of, bench_table, bench_sign, cell, number, datagram, answer, status_and_index, after_set, reads}
 
@@ -79,7 +79,7 @@ unfolding datagram
 wrong_length = refl
 
 -- dmsShortPowerLossTime still reads 0
-still_zero : reads (datagram bench_sign four_octets_of_five).after (The ShortPowerLossTime) ≡ Some (integer (pos 0))
+still_zero : reads (datagram bench_sign four_octets_of_five).after (Scalar ShortPowerLossTime) ≡ Some (integer (pos 0))
 unfolding datagram reads
 still_zero = refl
 
@@ -92,17 +92,17 @@ nothing_asked = refl
 -- ---- messages
 
 -- one name twice: genErr, index 2
-named_twice : status_and_index bench_sign (number (The ShortPowerLossTime) 5 ∷ number (The ShortPowerLossTime) 5 ∷ []) ≡ (5, 2)
+named_twice : status_and_index bench_sign (number (Scalar ShortPowerLossTime) 5 ∷ number (Scalar ShortPowerLossTime) 5 ∷ []) ≡ (5, 2)
 unfolding answer
 named_twice = refl
 
 -- and nothing is set
-named_twice_sets_nothing : after_set bench_sign (number (The ShortPowerLossTime) 5 ∷ number (The ShortPowerLossTime) 5 ∷ []) ≡ bench_sign
+named_twice_sets_nothing : after_set bench_sign (number (Scalar ShortPowerLossTime) 5 ∷ number (Scalar ShortPowerLossTime) 5 ∷ []) ≡ bench_sign
 unfolding answer
 named_twice_sets_nothing = refl
 
 -- the first of the two is out of range: badValue, index 1
-first_is_out_of_range : status_and_index bench_sign (number (The ShortPowerLossTime) 65536 ∷ number (The ShortPowerLossTime) 5 ∷ []) ≡ (3, 1)
+first_is_out_of_range : status_and_index bench_sign (number (Scalar ShortPowerLossTime) 65536 ∷ number (Scalar ShortPowerLossTime) 5 ∷ []) ≡ (3, 1)
 unfolding answer
 first_is_out_of_range = refl
 

@@ -8,7 +8,7 @@ use Rattle.dms_codes.specs.declared.status.Status.TheVariants.{Modifying}
 use Rattle.dms_objects.specs.declared.column.Column.TheVariants.{Status}
 use Rattle.dms_table.specs.Rows.{unused}
 use Rattle.dms_objects.specs.declared.scalar.Scalar.TheVariants.{DefaultBackgroundColor, DefaultForegroundColor, DefaultFlashOn, DefaultFlashOff, DefaultFont, DefaultJustificationLine, DefaultJustificationPage, DefaultPageOnTime, DefaultPageOffTime, ActivateMsgError, MultiSyntaxError, MultiSyntaxErrorPosition, LongPowerRecoveryMessage}
-use Rattle.dms_objects.specs.declared.instance.Instance.TheVariants.{The}
+use Rattle.dms_objects.specs.declared.instance.Instance.TheVariants.{Scalar}
 use Rattle.dms_sign.specs.State.{SignState}
 use Rattle.dms_sign_laws.proofs.BenchSign.{octets_of, bench_sign, with_changeable_rows, lettered_sign, valid_row, cell, number, octets, code, datagram, answer, status_and_index, after_set, reads, later, without_power, with_power, seen, blank_one}
 
@@ -20,7 +20,7 @@ abbrev small_sign : SignState
 small_sign = (datagram bench_sign font_two).after
 
 -- it reads 2
-font_is_two : reads small_sign (The DefaultFont) ≡ Some (integer (pos 2))
+font_is_two : reads small_sign (Scalar DefaultFont) ≡ Some (integer (pos 2))
 unfolding datagram reads
 font_is_two = refl
 
@@ -43,17 +43,17 @@ unfolding datagram answer
 blank_stays = refl
 
 -- dmsActivateMsgError is syntaxMULTI
-cause_is_the_text : reads refused_sign (The ActivateMsgError) ≡ Some (integer (pos 8))
+cause_is_the_text : reads refused_sign (Scalar ActivateMsgError) ≡ Some (integer (pos 8))
 unfolding datagram answer reads
 cause_is_the_text = refl
 
 -- dmsMultiSyntaxError is characterNotDefined
-character_is_not_defined : reads refused_sign (The MultiSyntaxError) ≡ Some (integer (pos 7))
+character_is_not_defined : reads refused_sign (Scalar MultiSyntaxError) ≡ Some (integer (pos 7))
 unfolding datagram answer reads
 character_is_not_defined = refl
 
 -- at the first octet of the text
-first_character_is_not : reads refused_sign (The MultiSyntaxErrorPosition) ≡ Some (integer (pos 0))
+first_character_is_not : reads refused_sign (Scalar MultiSyntaxErrorPosition) ≡ Some (integer (pos 0))
 unfolding datagram answer reads
 first_character_is_not = refl
 
@@ -63,7 +63,7 @@ unfolding datagram answer reads
 row_stays_valid = refl
 
 -- a later acceptance leaves what is told of the text
-fault_stays_told : reads (after_set refused_sign (code (codes "ffffff0700ff000000000000") ∷ [])) (The MultiSyntaxError) ≡ Some (integer (pos 7))
+fault_stays_told : reads (after_set refused_sign (code (codes "ffffff0700ff000000000000") ∷ [])) (Scalar MultiSyntaxError) ≡ Some (integer (pos 7))
 unfolding datagram answer reads
 fault_stays_told = refl
 
@@ -103,7 +103,7 @@ current_buffer_keeps_font_one = refl
 
 -- so does a loss of power, after which what was up stays
 abbrev returned_sign : SignState
-returned_sign = with_power 9 (without_power (after_set copied_sign (octets (The LongPowerRecoveryMessage) (octets_of (codes "0500010000")) ∷ [])))
+returned_sign = with_power 9 (without_power (after_set copied_sign (octets (Scalar LongPowerRecoveryMessage) (octets_of (codes "0500010000")) ∷ [])))
 
 -- what comes up again has its old copy
 loss_of_power_keeps_font_one : returned_sign.shown.defaults.font ≡ 1
@@ -118,7 +118,7 @@ loss_of_power_keeps_font_two = refl
 -- ---- a default and a code in one SET: the code is judged under the new default
 
 abbrev font_and_code : List VarBind
-font_and_code = number (The DefaultFont) 2 ∷ code permanent_one ∷ []
+font_and_code = number (Scalar DefaultFont) 2 ∷ code permanent_one ∷ []
 
 -- genErr, index 2
 code_is_refused : status_and_index bench_sign font_and_code ≡ (5, 2)
@@ -126,12 +126,12 @@ unfolding answer
 code_is_refused = refl
 
 -- the default is not set
-font_is_still_one : reads (after_set bench_sign font_and_code) (The DefaultFont) ≡ Some (integer (pos 1))
+font_is_still_one : reads (after_set bench_sign font_and_code) (Scalar DefaultFont) ≡ Some (integer (pos 1))
 unfolding answer reads
 font_is_still_one = refl
 
 -- dmsActivateMsgError is syntaxMULTI
-cause_is_told : reads (after_set bench_sign font_and_code) (The ActivateMsgError) ≡ Some (integer (pos 8))
+cause_is_told : reads (after_set bench_sign font_and_code) (Scalar ActivateMsgError) ≡ Some (integer (pos 8))
 unfolding answer reads
 cause_is_told = refl
 
@@ -156,7 +156,7 @@ unfolding datagram answer reads later
 valid_after = refl
 
 -- it stays so when the font goes back
-stays_valid : reads (after_set validated_after (number (The DefaultFont) 1 ∷ [])) (cell Status 3 1) ≡ Some (integer (pos 4))
+stays_valid : reads (after_set validated_after (number (Scalar DefaultFont) 1 ∷ [])) (cell Status 3 1) ≡ Some (integer (pos 4))
 unfolding datagram answer reads later
 stays_valid = refl
 
@@ -168,19 +168,19 @@ statuses bindings = map (λ binding. error_status_number (answer bench_sign Set 
 
 -- out of range, or not a font of the face: badValue
 bad_values : statuses
-    (number (The DefaultBackgroundColor) 10 ∷ number (The DefaultForegroundColor) 10 ∷ number (The DefaultFlashOn) 256
-    ∷ number (The DefaultFlashOff) 256 ∷ number (The DefaultFont) 3 ∷ number (The DefaultFont) 0 ∷ number (The DefaultFont) 258
-    ∷ number (The DefaultJustificationLine) 1 ∷ number (The DefaultJustificationLine) 5 ∷ number (The DefaultJustificationPage) 1
-    ∷ number (The DefaultJustificationPage) 5 ∷ number (The DefaultPageOnTime) 256 ∷ number (The DefaultPageOffTime) 256 ∷ [])
+    (number (Scalar DefaultBackgroundColor) 10 ∷ number (Scalar DefaultForegroundColor) 10 ∷ number (Scalar DefaultFlashOn) 256
+    ∷ number (Scalar DefaultFlashOff) 256 ∷ number (Scalar DefaultFont) 3 ∷ number (Scalar DefaultFont) 0 ∷ number (Scalar DefaultFont) 258
+    ∷ number (Scalar DefaultJustificationLine) 1 ∷ number (Scalar DefaultJustificationLine) 5 ∷ number (Scalar DefaultJustificationPage) 1
+    ∷ number (Scalar DefaultJustificationPage) 5 ∷ number (Scalar DefaultPageOnTime) 256 ∷ number (Scalar DefaultPageOffTime) 256 ∷ [])
     ≡ 3 ∷ 3 ∷ 3 ∷ 3 ∷ 3 ∷ 3 ∷ 3 ∷ 3 ∷ 3 ∷ 3 ∷ 3 ∷ 3 ∷ 3 ∷ []
 unfolding answer
 bad_values = refl
 
 -- the greatest values and the least
 good_values : statuses
-    (number (The DefaultBackgroundColor) 9 ∷ number (The DefaultForegroundColor) 0 ∷ number (The DefaultFlashOn) 255
-    ∷ number (The DefaultFlashOff) 0 ∷ number (The DefaultFont) 2 ∷ number (The DefaultJustificationLine) 2
-    ∷ number (The DefaultJustificationPage) 4 ∷ number (The DefaultPageOnTime) 255 ∷ number (The DefaultPageOffTime) 0 ∷ [])
+    (number (Scalar DefaultBackgroundColor) 9 ∷ number (Scalar DefaultForegroundColor) 0 ∷ number (Scalar DefaultFlashOn) 255
+    ∷ number (Scalar DefaultFlashOff) 0 ∷ number (Scalar DefaultFont) 2 ∷ number (Scalar DefaultJustificationLine) 2
+    ∷ number (Scalar DefaultJustificationPage) 4 ∷ number (Scalar DefaultPageOnTime) 255 ∷ number (Scalar DefaultPageOffTime) 0 ∷ [])
     ≡ 0 ∷ 0 ∷ 0 ∷ 0 ∷ 0 ∷ 0 ∷ 0 ∷ 0 ∷ 0 ∷ []
 unfolding answer
 good_values = refl

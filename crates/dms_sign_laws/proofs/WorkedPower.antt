@@ -4,7 +4,7 @@ use Rattle.std.specs.Prelude.{pos, codes}
 use Rattle.dms_wire.specs.Message.{integer}
 use Rattle.dms_objects.specs.declared.column.Column.TheVariants.{Status}
 use Rattle.dms_objects.specs.declared.scalar.Scalar.TheVariants.{ShortPowerLossTime, ShortPowerRecoveryMessage, LongPowerRecoveryMessage, ActivateMsgError}
-use Rattle.dms_objects.specs.declared.instance.Instance.TheVariants.{The}
+use Rattle.dms_objects.specs.declared.instance.Instance.TheVariants.{Scalar}
 use Rattle.dms_sign.specs.State.{SignState}
 use Rattle.dms_sign.specs.Reply.{dropped}
 use Rattle.dms_sign.specs.Events.{after_tick, after_power_loss, after_power_return}
@@ -18,7 +18,7 @@ abbrev volatile_sign : SignState
 volatile_sign =
     let stored = record bench_sign { table = record bench_table { volatile = valid_row (codes "A") 200 ∷ [] } } in
     after_set (after_set stored (code (codes "ffffff0400019a6600000000") ∷ []))
-    (number (The ShortPowerLossTime) 10 ∷ octets (The ShortPowerRecoveryMessage) (octets_of (codes "0400019a66")) ∷ [])
+    (number (Scalar ShortPowerLossTime) 10 ∷ octets (Scalar ShortPowerRecoveryMessage) (octets_of (codes "0400019a66")) ∷ [])
 
 -- it is up without an end
 volatile_is_up : seen volatile_sign ≡ record { text = codes "A"; source = octets_of (codes "0400019a66"); mode = 8; remaining = None }
@@ -31,7 +31,7 @@ unfolding answer without_power with_power
 volatile_is_gone = refl
 
 -- the cause is its status
-volatile_has_a_cause : reads (with_power 10 (without_power volatile_sign)) (The ActivateMsgError) ≡ Some (integer (pos 4))
+volatile_has_a_cause : reads (with_power 10 (without_power volatile_sign)) (Scalar ActivateMsgError) ≡ Some (integer (pos 4))
 unfolding answer reads without_power with_power
 volatile_has_a_cause = refl
 
@@ -40,7 +40,7 @@ volatile_has_a_cause = refl
 -- "A" is up for five minutes, and after a long loss what was up is to stay
 abbrev kept_sign : SignState
 kept_sign =
-    after_set (after_set lettered_sign (octets (The LongPowerRecoveryMessage) (octets_of (codes "0500010000")) ∷ []))
+    after_set (after_set lettered_sign (octets (Scalar LongPowerRecoveryMessage) (octets_of (codes "0500010000")) ∷ []))
     (code (codes "00050a0300019a66c0000201") ∷ [])
 
 abbrev off : SignState
@@ -84,12 +84,12 @@ unfolding answer without_power with_power
 comes_back_at_once = refl
 
 -- with a short time of 1 a loss of one second is short, and the code for it is that of blank 1
-short_loss : seen (with_power 1 (without_power (after_set kept_sign (number (The ShortPowerLossTime) 1 ∷ [])))) ≡ blank_one 10
+short_loss : seen (with_power 1 (without_power (after_set kept_sign (number (Scalar ShortPowerLossTime) 1 ∷ [])))) ≡ blank_one 10
 unfolding answer without_power with_power
 short_loss = refl
 
 -- one of two seconds is long
-longer_loss : seen (with_power 2 (without_power (after_set kept_sign (number (The ShortPowerLossTime) 1 ∷ [])))) ≡ letter_a 10 None
+longer_loss : seen (with_power 2 (without_power (after_set kept_sign (number (Scalar ShortPowerLossTime) 1 ∷ [])))) ≡ letter_a 10 None
 unfolding answer without_power with_power
 longer_loss = refl
 

@@ -4,7 +4,7 @@ use Rattle.std.specs.Prelude.{codes}
 use Rattle.dms_wire.specs.declared.message.Kind.TheVariants.{GetNext}
 use Rattle.dms_wire.specs.Message.{null}
 use Rattle.dms_objects.specs.declared.scalar.Scalar.TheVariants.{ShortPowerLossTime, CommunicationsLossMessage, TimeCommLoss, EndDurationMessage}
-use Rattle.dms_objects.specs.declared.instance.Instance.TheVariants.{The}
+use Rattle.dms_objects.specs.declared.instance.Instance.TheVariants.{Scalar}
 use Rattle.dms_table.specs.Activation.{blank_code}
 use Rattle.dms_sign.specs.State.{SignState}
 use Rattle.dms_sign.specs.Values.{bound}
@@ -12,8 +12,8 @@ use Rattle.dms_sign.specs.Reply.{dropped}
 use Rattle.dms_sign_laws.proofs.BenchSign.{octets_of, bench_sign, lettered_sign, number, octets, code, datagram, answer, after_set, later, without_power, with_power, seen, letter_a, blank_one}
 
 -- after dmsShortPowerLossTime.0 comes dmsCommunicationsLossMessage.0
-after_short_power_loss_time : (answer bench_sign GetNext (bound (The ShortPowerLossTime) null ∷ [])).bindings
-    ≡ octets (The CommunicationsLossMessage) blank_code ∷ []
+after_short_power_loss_time : (answer bench_sign GetNext (bound (Scalar ShortPowerLossTime) null ∷ [])).bindings
+    ≡ octets (Scalar CommunicationsLossMessage) blank_code ∷ []
 unfolding answer
 after_short_power_loss_time = refl
 
@@ -113,7 +113,7 @@ power_was_there = refl
 abbrev staying_sign : SignState
 staying_sign =
     after_set
-    (after_set lettered_sign (octets (The CommunicationsLossMessage) (octets_of (codes "0500010000")) ∷ number (The TimeCommLoss) 1 ∷ []))
+    (after_set lettered_sign (octets (Scalar CommunicationsLossMessage) (octets_of (codes "0500010000")) ∷ number (Scalar TimeCommLoss) 1 ∷ []))
     (code (codes "00050a0300019a66c0000201") ∷ [])
 
 -- "A" stays, without an end
@@ -123,7 +123,7 @@ message_stays = refl
 
 -- "A" is up for one minute, and a minute of silence is a loss
 abbrev both_end : SignState
-both_end = after_set (after_set lettered_sign (number (The TimeCommLoss) 1 ∷ [])) (code (codes "00010a0300019a66c0000201") ∷ [])
+both_end = after_set (after_set lettered_sign (number (Scalar TimeCommLoss) 1 ∷ [])) (code (codes "00010a0300019a66c0000201") ∷ [])
 
 -- a second before it "A" is up, with a second left
 before_both_end : seen (later 59 both_end) ≡ letter_a 8 (Some 1)
@@ -140,8 +140,8 @@ abbrev end_stays : SignState
 end_stays =
     after_set
     (after_set lettered_sign
-    (number (The TimeCommLoss) 1 ∷ octets (The CommunicationsLossMessage) (octets_of (codes "0500010000"))
-    ∷ octets (The EndDurationMessage) (octets_of (codes "0700090000")) ∷ []))
+    (number (Scalar TimeCommLoss) 1 ∷ octets (Scalar CommunicationsLossMessage) (octets_of (codes "0500010000"))
+    ∷ octets (Scalar EndDurationMessage) (octets_of (codes "0700090000")) ∷ []))
     (code (codes "00010a0300019a66c0000201") ∷ [])
 
 -- it has the mode of the silence

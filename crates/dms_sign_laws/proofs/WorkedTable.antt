@@ -6,7 +6,7 @@ use Rattle.dms_codes.specs.declared.status.Status.TheVariants.{Modifying}
 use Rattle.dms_objects.specs.declared.column.Column.TheVariants.{MultiString, Crc, Status}
 use Rattle.dms_table.specs.Rows.{RowModel, unused}
 use Rattle.dms_objects.specs.declared.scalar.Scalar.TheVariants.{ValidateMessageError, MultiSyntaxError, MultiSyntaxErrorPosition}
-use Rattle.dms_objects.specs.declared.instance.Instance.TheVariants.{The}
+use Rattle.dms_objects.specs.declared.instance.Instance.TheVariants.{Scalar}
 use Rattle.dms_sign.specs.State.{SignState}
 use Rattle.dms_sign_laws.proofs.BenchSign.{bench_sign, with_changeable_rows, lettered_sign, valid_row, cell, number, octets, code, answer, status_and_index, after_set, reads, later, seen, letter_a}
 
@@ -99,7 +99,7 @@ one_at_a_time = refl
 abbrev told_of : RowModel → List (Option ObjectValue)
 told_of row =
     let s = later 1 (after_set (with_changeable_rows (row ∷ unused ∷ [])) (number (cell Status 3 1) 7 ∷ [])) in
-    reads s (cell Status 3 1) ∷ reads s (The ValidateMessageError) ∷ reads s (The MultiSyntaxError) ∷ reads s (The MultiSyntaxErrorPosition) ∷ []
+    reads s (cell Status 3 1) ∷ reads s (Scalar ValidateMessageError) ∷ reads s (Scalar MultiSyntaxError) ∷ reads s (Scalar MultiSyntaxErrorPosition) ∷ []
 
 abbrev numbers : List ℕ → List (Option ObjectValue)
 numbers these = map (λ n. Some (integer (pos n))) these

@@ -15,16 +15,16 @@ fn instances(rt: HostRuntime) -> Result<(), Fail> {
     let table = Table::new(rt.alloc(), stock(&[]), &face(rt.alloc())?)?;
     let counts = Counts::of(&table);
     let name = name_of(&[43, 6, 1, 4, 1, 137, 54, 4, 2, 3, 6, 3, 0]).ok_or("no name")?;
-    assert!(rt; counts.named(&name) == Some(Instance::The(Scalar::ActivateMessage)));
-    assert!(rt; counts.next(&name) == Some(Instance::The(Scalar::MessageTimeRemaining)));
+    assert!(rt; counts.named(&name) == Some(Instance::Scalar(Scalar::ActivateMessage)));
+    assert!(rt; counts.next(&name) == Some(Instance::Scalar(Scalar::MessageTimeRemaining)));
     Ok(())
 }
 
 #[test]
 fn access(rt: HostRuntime) -> Result<(), Fail> {
     let face = face(rt.alloc())?;
-    let seconds = Instance::The(Scalar::ShortPowerLossTime);
-    assert!(rt; is_settable(seconds) && !is_settable(Instance::The(Scalar::SignWidthPixels)));
+    let seconds = Instance::Scalar(Scalar::ShortPowerLossTime);
+    assert!(rt; is_settable(seconds) && !is_settable(Instance::Scalar(Scalar::SignWidthPixels)));
     assert!(rt; write_of(&face, seconds, &Value::Integer(65536)).is_none());
     let change = write_of(&face, seconds, &Value::Integer(60)).ok_or("no change")?;
     let mut settings = Settings::new(face.defaults());

@@ -28,7 +28,7 @@ fn columns(rt: HostRuntime) {
 
 #[test]
 fn example(rt: HostRuntime) {
-    let name = Name::of(Instance::The(Scalar::ActivateMessage));
+    let name = Name::of(Instance::Scalar(Scalar::ActivateMessage));
     assert_eq!(rt;
         name.oid().content(),
         [43, 6, 1, 4, 1, 137, 54, 4, 2, 3, 6, 3, 0].as_slice()

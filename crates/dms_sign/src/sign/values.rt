@@ -48,7 +48,7 @@ impl Sign {
         ensures { option_map object_value result ≡ value_at self.now instance }
     {
         match instance {
-            Instance::The(object) => Some(self.scalar_value(object)),
+            Instance::Scalar(object) => Some(self.scalar_value(object)),
             Instance::Cell(column, id) => self.cell(column, id),
         }
     }

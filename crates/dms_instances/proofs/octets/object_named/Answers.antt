@@ -1,6 +1,6 @@
 use Rattle.std.proofs.Common.{◌≡◌, ℕ, Some, ap, sym, refl, ◌∙◌}
 use Rattle.dms_objects.proofs.NameLaws.{object_named}
-use Rattle.dms_objects.specs.declared.instance.Instance.TheVariants.{The}
+use Rattle.dms_objects.specs.declared.instance.Instance.TheVariants.{Scalar}
 use Rattle.dms_instances.specs.Told.{scalar_at}
 use Rattle.dms_instances.proofs.Inverses.{scalar_back}
 use Rattle.dms_instances.proofs.Members.{some_is}
@@ -14,4 +14,4 @@ returns-clause-told c = λ object is.
     let same : c.in_ok-scalar_of.field-0 ≡ object =
     some_is c.in_ok-scalar_of.field-0 object
     (c.in_ok-scalar_of.ensures.told ∙ ap (λ (n : ℕ × ℕ). scalar_at n.0 n.1) (sym is) ∙ scalar_back object) in
-    ap (λ x. Some (The x)) same
+    ap (λ x. Some (Scalar x)) same

@@ -4,9 +4,9 @@ use Rattle.dms_instances.specs.Objects.{IsInstance}
 use Rattle.dms_instances.proofs.WhichInstances.{object_there, counted_there, there_counted}
 use Rattle.dms_instances.proofs.counts.Counts.has.Goals as goal
 
-pub returns-in-The : goal.returns-in-The
-returns-in-The c = record {
-  is = λ is table has. subst (IsInstance table) (sym c.in-The.is) (object_there table c.in-The.field-0);
+pub returns-in-Scalar : goal.returns-in-Scalar
+returns-in-Scalar c = record {
+  is = λ is table has. subst (IsInstance table) (sym c.in-Scalar.is) (object_there table c.in-Scalar.field-0);
   each = λ table has there. refl;
 }
 
