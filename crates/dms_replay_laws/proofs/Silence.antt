@@ -92,7 +92,7 @@ unfolding after hex request
 both_at_once = refl
 
 -- It acts once: what is put up then stays.
-acts_once : (after bench (one_minute ∷ seconds 70)).sign.silent ≡ 60
+acts_once : (after bench (one_minute ∷ seconds 70)).sign.silent_seconds ≡ 60
 unfolding after hex
 acts_once = refl
 

@@ -6,7 +6,7 @@ use Rattle.dms_codes.specs.declared.codes.Order.TheVariants.{High}
 use Rattle.dms_codes.specs.declared.codes.Activation.{Activation}
 use Rattle.dms_codes.specs.declared.status.Status.TheVariants.{Valid}
 use Rattle.dms_codes.specs.Codes.{activation_of, octets_of_activation}
-use Rattle.dms_sign.specs.Requests.{primary}
+use Rattle.dms_sign.specs.Requests.{answer_of_any_size}
 use Rattle.dms_centre.specs.declared.outcome.Outcome.TheVariants.{Accepted, Refused}
 use Rattle.dms_centre.specs.State.{Entry}
 use Rattle.dms_wire.specs.declared.message.Kind.TheVariants.{Set}
@@ -110,7 +110,7 @@ unfolding after hex
 first_accepted = refl
 
 -- the second is refused, since its message is up by then
-second_refused : (primary (world_at bench twice 2).sign asked_twice).status ≡ GenErr
+second_refused : (answer_of_any_size (world_at bench twice 2).sign asked_twice).status ≡ GenErr
 unfolding after hex
 second_refused = refl
 

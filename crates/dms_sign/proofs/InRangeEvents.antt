@@ -127,35 +127,35 @@ duration_in_range : (s : SignState) → IsSignInRange s → IsSignInRange (after
 unfolding after_duration
 duration_in_range s is = down_in_range s s.shown.remaining is is.shown.remaining
 
-pub with_silence : (s : SignState) (silent : ℕ) → IsSignInRange s → silent ≤ 60 * most_minutes → IsSignInRange (record s { silent = silent })
-with_silence s silent is few = record {
+pub with_silence : (s : SignState) (silent_seconds : ℕ) → IsSignInRange s → silent_seconds ≤ 60 * most_minutes → IsSignInRange (record s { silent_seconds = silent_seconds })
+with_silence s silent_seconds is few = record {
   config = is.config;
   table = is.table;
   fallbacks = is.fallbacks;
   short_power_loss_time = is.short_power_loss_time;
   time_comm_loss = is.time_comm_loss;
-  silent = few;
+  silent_seconds = few;
   defaults = is.defaults;
   shown = is.shown;
-  kept = is.kept;
+  shown_at_power_loss = is.shown_at_power_loss;
   reports = is.reports;
 }
 
-silence_by : (s : SignState) (b : Bool) → ltb s.silent (longest_silence s) ≡ b → IsSignInRange s
+silence_by : (s : SignState) (b : Bool) → ltb s.silent_seconds (longest_silence s) ≡ b → IsSignInRange s
     → IsSignInRange (cond b
-    (cond (s.silent + 1 == longest_silence s) (put_up_code (quieter s) s.fallbacks.communications_loss communications_loss_mode) (quieter s))
+    (cond (s.silent_seconds + 1 == longest_silence s) (put_up_code (quieter s) s.fallbacks.communications_loss communications_loss_mode) (quieter s))
     s)
 silence_by s false e is = is
 silence_by s true e is =
-    let less : s.silent < 60 * s.time_comm_loss = ltb-true s.silent (longest_silence s) e in
+    let less : s.silent_seconds < 60 * s.time_comm_loss = ltb-true s.silent_seconds (longest_silence s) e in
     let most : s.time_comm_loss ≤ most_minutes = is.time_comm_loss in
-    let quiet : IsSignInRange (quieter s) = with_silence s (s.silent + 1) is (omega arith) in
-    either IsSignInRange (s.silent + 1 == longest_silence s) _ (quieter s)
+    let quiet : IsSignInRange (quieter s) = with_silence s (s.silent_seconds + 1) is (omega arith) in
+    either IsSignInRange (s.silent_seconds + 1 == longest_silence s) _ (quieter s)
     (code_in_range (quieter s) s.fallbacks.communications_loss communications_loss_mode quiet is.fallbacks.communications_loss.below (omega arith)) quiet
 
 silence_in_range : (s : SignState) → IsSignInRange s → IsSignInRange (after_silence s)
 unfolding after_silence
-silence_in_range s is = silence_by s (ltb s.silent (longest_silence s)) refl is
+silence_in_range s is = silence_by s (ltb s.silent_seconds (longest_silence s)) refl is
 
 pub tick_in_range : (s : SignState) → IsSignInRange s → IsSignInRange (after_tick s)
 unfolding after_tick
@@ -172,24 +172,24 @@ with_power s powered is = record {
   fallbacks = is.fallbacks;
   short_power_loss_time = is.short_power_loss_time;
   time_comm_loss = is.time_comm_loss;
-  silent = is.silent;
+  silent_seconds = is.silent_seconds;
   defaults = is.defaults;
   shown = is.shown;
-  kept = is.kept;
+  shown_at_power_loss = is.shown_at_power_loss;
   reports = is.reports;
 }
 
-keeping : (s : SignState) → IsSignInRange s → IsSignInRange (record s { kept = s.shown })
+keeping : (s : SignState) → IsSignInRange s → IsSignInRange (record s { shown_at_power_loss = s.shown })
 keeping s is = record {
   config = is.config;
   table = is.table;
   fallbacks = is.fallbacks;
   short_power_loss_time = is.short_power_loss_time;
   time_comm_loss = is.time_comm_loss;
-  silent = is.silent;
+  silent_seconds = is.silent_seconds;
   defaults = is.defaults;
   shown = is.shown;
-  kept = is.shown;
+  shown_at_power_loss = is.shown;
   reports = is.reports;
 }
 
@@ -197,8 +197,8 @@ pub power_loss_in_range : (s : SignState) → IsSignInRange s → IsSignInRange 
 unfolding after_power_loss
 power_loss_in_range s is =
     either IsSignInRange s.powered _ s
-    (with_power (put_up_code (record s { kept = s.shown }) s.fallbacks.power_loss power_loss_mode) false
-    (code_in_range (record s { kept = s.shown }) s.fallbacks.power_loss power_loss_mode (keeping s is) is.fallbacks.power_loss.below (omega arith))) is
+    (with_power (put_up_code (record s { shown_at_power_loss = s.shown }) s.fallbacks.power_loss power_loss_mode) false
+    (code_in_range (record s { shown_at_power_loss = s.shown }) s.fallbacks.power_loss power_loss_mode (keeping s is) is.fallbacks.power_loss.below (omega arith))) is
 
 interrupted_in_range : (row : RowModel) → IsRowInRange row → IsRowInRange (interrupted row)
 interrupted_in_range row is = either IsRowInRange (row_is_validating row) _ row (with_status_in_range row _ is) is
@@ -220,10 +220,10 @@ restored_in_range s is = record {
   fallbacks = is.fallbacks;
   short_power_loss_time = is.short_power_loss_time;
   time_comm_loss = is.time_comm_loss;
-  silent = omega arith;
+  silent_seconds = omega arith;
   defaults = is.defaults;
-  shown = is.kept;
-  kept = is.kept;
+  shown = is.shown_at_power_loss;
+  shown_at_power_loss = is.shown_at_power_loss;
   reports = is.reports;
 }
 

@@ -38,7 +38,7 @@ use Rattle.dms_sign.specs.OwnCodes.{showing, put_up_code}
 use Rattle.dms_access.specs.Access.{Write, SetNumber, SetCode, SetField, AskRow, Activate, SetRemaining, is_command, number_in, octets_in, font_in, ask_of, object_write, cell_write, write_of}
 use Rattle.dms_access.specs.Assignment.{given, is_same, number_for, code_for}
 use Rattle.dms_sign.specs.SetRequest.{SetCause, settable_instance, write_at, causes, with_write, with_writes, assigned}
-use Rattle.dms_sign.specs.Requests.{found_unless, has_no_value, is_last, as_decided, as_asked, with_remaining, commanded, commanded_if, writes_of, command_index, set_unless, may_write, answer_by, primary}
+use Rattle.dms_sign.specs.Requests.{found_unless, has_no_value, is_last, as_decided, as_asked, with_remaining, commanded, commanded_if, writes_of, command_index, set_unless, may_write, answer_by, answer_of_any_size}
 use Rattle.dms_sign.specs.Reply.{is_heard, dropped, heard, on_message, on_message_if, received}
 use Rattle.dms_sign.specs.InRange.{AreOctets, AreOctetsUpTo, IsRowInRange, IsTableInRange, AreReportsInRange, IsSignInRange, IsBindingInLimits}
 use Rattle.dms_sign.proofs.InRangeLists.{either, if_either, if_mapped, if_then, if_or, if_found, if_at, all_filtered}
@@ -367,7 +367,7 @@ assigned_in_range s writes is all = record {
   };
   short_power_loss_time = given_number ShortPowerLossTime writes s.short_power_loss_time all is.short_power_loss_time;
   time_comm_loss = given_number TimeCommLoss writes s.time_comm_loss all is.time_comm_loss;
-  silent = is.silent;
+  silent_seconds = is.silent_seconds;
   defaults = record {
     background = given_number DefaultBackgroundColor writes s.defaults.background all is.defaults.background;
     foreground = given_number DefaultForegroundColor writes s.defaults.foreground all is.defaults.foreground;
@@ -380,7 +380,7 @@ assigned_in_range s writes is all = record {
     off = given_number DefaultPageOffTime writes s.defaults.off all is.defaults.off;
   };
   shown = is.shown;
-  kept = is.kept;
+  shown_at_power_loss = is.shown_at_power_loss;
   reports = is.reports;
 }
 
@@ -459,15 +459,15 @@ answer_after s m GetNext is within = found_after s m.bindings _ (position_from (
 answer_after s m Response is within = is
 answer_after s m Set is within = set_unless_after s m.bindings (causes s (may_write s m) m.bindings) is within
 
-primary_after : (s : SignState) (m : SnmpMessage) → IsSignInRange s → AreBindingsInLimits m.bindings → IsSignInRange (primary s m).after
-unfolding primary
-primary_after s m is within = answer_after s m m.kind is within
+answer_in_range : (s : SignState) (m : SnmpMessage) → IsSignInRange s → AreBindingsInLimits m.bindings → IsSignInRange (answer_of_any_size s m).after
+unfolding answer_of_any_size
+answer_in_range s m is within = answer_after s m m.kind is within
 
 -- ---- datagrams
 
 heard_after : (s : SignState) (m : SnmpMessage) (b : Bool) → IsSignInRange s → AreBindingsInLimits m.bindings
     → IsSignInRange (cond b (heard s m) (dropped s)).after
-heard_after s m true is within = with_silence (primary s m).after 0 (primary_after s m is within) (omega arith)
+heard_after s m true is within = with_silence (answer_of_any_size s m).after 0 (answer_in_range s m is within) (omega arith)
 heard_after s m false is within = is
 
 pub message_keeps_range : (s : SignState) (m : SnmpMessage) → IsSignInRange s → AreBindingsInLimits m.bindings → IsSignInRange (on_message s m).after

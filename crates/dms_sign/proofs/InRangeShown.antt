@@ -41,10 +41,10 @@ showing_in_range s shown is new = record {
   fallbacks = is.fallbacks;
   short_power_loss_time = is.short_power_loss_time;
   time_comm_loss = is.time_comm_loss;
-  silent = is.silent;
+  silent_seconds = is.silent_seconds;
   defaults = is.defaults;
   shown = new;
-  kept = is.kept;
+  shown_at_power_loss = is.shown_at_power_loss;
   reports = is.reports;
 }
 
@@ -56,10 +56,10 @@ telling_in_range s reports is new = record {
   fallbacks = is.fallbacks;
   short_power_loss_time = is.short_power_loss_time;
   time_comm_loss = is.time_comm_loss;
-  silent = is.silent;
+  silent_seconds = is.silent_seconds;
   defaults = is.defaults;
   shown = is.shown;
-  kept = is.kept;
+  shown_at_power_loss = is.shown_at_power_loss;
   reports = new;
 }
 
@@ -70,10 +70,10 @@ with_table_in_range s table is new = record {
   fallbacks = is.fallbacks;
   short_power_loss_time = is.short_power_loss_time;
   time_comm_loss = is.time_comm_loss;
-  silent = is.silent;
+  silent_seconds = is.silent_seconds;
   defaults = is.defaults;
   shown = is.shown;
-  kept = is.kept;
+  shown_at_power_loss = is.shown_at_power_loss;
   reports = is.reports;
 }
 

@@ -46,10 +46,10 @@ start_in_range config table is defaults rows = record {
   };
   short_power_loss_time = omega arith;
   time_comm_loss = omega arith;
-  silent = omega arith;
+  silent_seconds = omega arith;
   defaults = defaults;
   shown = blank_in_range config.face.defaults power_recovery_mode defaults (omega arith);
-  kept = blank_in_range config.face.defaults power_recovery_mode defaults (omega arith);
+  shown_at_power_loss = blank_in_range config.face.defaults power_recovery_mode defaults (omega arith);
   reports = record {
     validate_error = omega arith;
     activate_error = omega arith;

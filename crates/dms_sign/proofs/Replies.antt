@@ -24,7 +24,7 @@ use Rattle.dms_sign.specs.State.{SignState}
 use Rattle.dms_access.specs.Access.{Write, SetNumber, SetCode, SetField, AskRow, Activate, SetRemaining, is_command}
 use Rattle.dms_sign.specs.SetRequest.{SetCause, is_command_at, tests_at, cause_if, causes_at, causes_after, causes, assigned}
 use Rattle.dms_sign.specs.Reply.{too_big}
-use Rattle.dms_sign.specs.Requests.{Answer, refused, granted, as_decided, as_asked, commanded, commanded_if, with_remaining, command_index, writes_of, set_unless, may_write, answer_by, primary}
+use Rattle.dms_sign.specs.Requests.{Answer, refused, granted, as_decided, as_asked, commanded, commanded_if, with_remaining, command_index, writes_of, set_unless, may_write, answer_by, answer_of_any_size}
 use Rattle.dms_sign.specs.Reply.{response_of, most_octets, reply_to, is_heard, heard, dropped, on_message_if, received}
 use Rattle.dms_sign.specs.Promises.{IsResponseTo, IsReplyTo}
 
@@ -46,8 +46,8 @@ heard_reply : (s : SignState) (datagram reply : List ℕ) (m : SnmpMessage) (b :
     → (cond b (heard s m) (dropped s)).reply ≡ Some reply → IsReplyTo datagram reply
 heard_reply s datagram reply m false spelled is e = absurd (cc)
 heard_reply s datagram reply m true spelled is e =
-    let same : reply_to m (primary s m) ≡ reply = cc in
-    record { request = m; spelled = spelled; asks = asks_by s.powered _ _ is; responds = subst (IsResponseTo m) same (responds m (primary s m)) }
+    let same : reply_to m (answer_of_any_size s m) ≡ reply = cc in
+    record { request = m; spelled = spelled; asks = asks_by s.powered _ _ is; responds = subst (IsResponseTo m) same (responds m (answer_of_any_size s m)) }
 
 message_reply : (s : SignState) (datagram reply : List ℕ) (o : Option SnmpMessage) → message_of datagram ≡ o
     → (on_message_if s o).reply ≡ Some reply → IsReplyTo datagram reply
@@ -171,8 +171,8 @@ answer_by_is s m kind is =
     (sym is)
     (set_unless_is s m.bindings (causes s (may_write s m) m.bindings) (are_causes s (may_write s m) m.bindings))
 
-pub is_set_answer : (s : SignState) (m : SnmpMessage) → m.kind ≡ Set → IsSetAnswer m.bindings (primary s m)
-unfolding primary
+pub is_set_answer : (s : SignState) (m : SnmpMessage) → m.kind ≡ Set → IsSetAnswer m.bindings (answer_of_any_size s m)
+unfolding answer_of_any_size
 is_set_answer s m is = answer_by_is s m m.kind is
 
 -- ---- its reply is not replaced
@@ -194,13 +194,13 @@ not_replaced m datagram a spells is small =
     reply_if m a (omega (arith, spells.size, ap length same)) ∙ same
 
 pub one_binding_fits : (s : SignState) (m : SnmpMessage) (datagram : List ℕ) → message_of datagram ≡ Some m → m.kind ≡ Set → length m.bindings ≡ 1
-    → reply_to m (primary s m) ≡ canonical (response_to m (error_status_number (primary s m).status) (primary s m).index)
+    → reply_to m (answer_of_any_size s m) ≡ canonical (response_to m (error_status_number (answer_of_any_size s m).status) (answer_of_any_size s m).index)
 one_binding_fits s m datagram spelled is one =
-    let answer : IsSetAnswer m.bindings (primary s m) = is_set_answer s m is in
-    not_replaced m datagram (primary s m) ((read_is_spelled datagram m).0 spelled) answer (omega (arith, answer.index))
+    let answer : IsSetAnswer m.bindings (answer_of_any_size s m) = is_set_answer s m is in
+    not_replaced m datagram (answer_of_any_size s m) ((read_is_spelled datagram m).0 spelled) answer (omega (arith, answer.index))
 
-pub success_fits : (s : SignState) (m : SnmpMessage) (datagram : List ℕ) → message_of datagram ≡ Some m → m.kind ≡ Set → (primary s m).status ≡ NoError
-    → reply_to m (primary s m) ≡ canonical (response_to m (error_status_number (primary s m).status) (primary s m).index)
+pub success_fits : (s : SignState) (m : SnmpMessage) (datagram : List ℕ) → message_of datagram ≡ Some m → m.kind ≡ Set → (answer_of_any_size s m).status ≡ NoError
+    → reply_to m (answer_of_any_size s m) ≡ canonical (response_to m (error_status_number (answer_of_any_size s m).status) (answer_of_any_size s m).index)
 success_fits s m datagram spelled is done =
-    let answer : IsSetAnswer m.bindings (primary s m) = is_set_answer s m is in
-    not_replaced m datagram (primary s m) ((read_is_spelled datagram m).0 spelled) answer (omega (arith, answer.success done))
+    let answer : IsSetAnswer m.bindings (answer_of_any_size s m) = is_set_answer s m is in
+    not_replaced m datagram (answer_of_any_size s m) ((read_is_spelled datagram m).0 spelled) answer (omega (arith, answer.success done))

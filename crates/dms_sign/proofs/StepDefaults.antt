@@ -28,7 +28,7 @@ use Rattle.dms_sign.specs.OwnCodes.{showing, put_up_code}
 use Rattle.dms_access.specs.Access.{Write, SetNumber, SetCode, SetField, AskRow, Activate, SetRemaining, is_command, number_in, octets_in, font_in, ask_of, object_write, cell_write, write_of}
 use Rattle.dms_access.specs.Assignment.{given, is_same, number_for}
 use Rattle.dms_sign.specs.SetRequest.{SetCause, settable_instance, write_at, causes, assigned}
-use Rattle.dms_sign.specs.Requests.{found_unless, with_value, has_no_value, next_after, is_last, as_decided, as_asked, with_remaining, commanded, commanded_if, writes_of, set_unless, may_write, answer_by, primary}
+use Rattle.dms_sign.specs.Requests.{found_unless, with_value, has_no_value, next_after, is_last, as_decided, as_asked, with_remaining, commanded, commanded_if, writes_of, set_unless, may_write, answer_by, answer_of_any_size}
 use Rattle.dms_sign.specs.Reply.{is_heard, heard, dropped, on_message_if, received}
 use Rattle.dms_sign.specs.Events.{after_settling, counted_down, after_duration, longest_silence, quieter, after_silence, after_tick, recovery_code, restored, after_power_loss, after_power_return}
 use Rattle.dms_sign.specs.Transitions.{HasFitDefaults}
@@ -293,12 +293,12 @@ kind_fits s m GetNext is = found_fits s m.bindings (map (next_after s) m.binding
 kind_fits s m Response is = is
 kind_fits s m Set is = set_fits s m.bindings (causes s (may_write s m) m.bindings) is
 
-primary_fits : (s : SignState) (m : SnmpMessage) → HasFitDefaults s → HasFitDefaults (primary s m).after
-unfolding primary
-primary_fits s m is = kind_fits s m m.kind is
+answer_fits : (s : SignState) (m : SnmpMessage) → HasFitDefaults s → HasFitDefaults (answer_of_any_size s m).after
+unfolding answer_of_any_size
+answer_fits s m is = kind_fits s m m.kind is
 
 heard_fits : (s : SignState) (m : SnmpMessage) (b : Bool) → HasFitDefaults s → HasFitDefaults (cond b (heard s m) (dropped s)).after
-heard_fits s m true is = primary_fits s m is
+heard_fits s m true is = answer_fits s m is
 heard_fits s m false is = is
 
 message_fits : (s : SignState) (o : Option SnmpMessage) → HasFitDefaults s → HasFitDefaults (on_message_if s o).after
@@ -327,8 +327,8 @@ duration_fits s is = down_fits s s.shown.remaining is
 silence_fits : (s : SignState) → HasFitDefaults s → HasFitDefaults (after_silence s)
 unfolding after_silence
 silence_fits s is =
-    fits_if (nat_lt s.silent (longest_silence s)) _ s
-    (fits_if (s.silent + 1 == longest_silence s) (put_up_code (quieter s) s.fallbacks.communications_loss communications_loss_mode) (quieter s)
+    fits_if (nat_lt s.silent_seconds (longest_silence s)) _ s
+    (fits_if (s.silent_seconds + 1 == longest_silence s) (put_up_code (quieter s) s.fallbacks.communications_loss communications_loss_mode) (quieter s)
     (code_fits (quieter s) s.fallbacks.communications_loss communications_loss_mode is) is) is
 
 pub tick_fits : (s : SignState) → HasFitDefaults s → HasFitDefaults (after_tick s)
@@ -340,8 +340,8 @@ tick_fits s is =
 pub power_loss_fits : (s : SignState) → HasFitDefaults s → HasFitDefaults (after_power_loss s)
 unfolding after_power_loss
 power_loss_fits s is =
-    fits_if s.powered (record (put_up_code (record s { kept = s.shown }) s.fallbacks.power_loss power_loss_mode) { powered = false }) s
-    (code_fits (record s { kept = s.shown }) s.fallbacks.power_loss power_loss_mode is) is
+    fits_if s.powered (record (put_up_code (record s { shown_at_power_loss = s.shown }) s.fallbacks.power_loss power_loss_mode) { powered = false }) s
+    (code_fits (record s { shown_at_power_loss = s.shown }) s.fallbacks.power_loss power_loss_mode is) is
 
 pub power_return_fits : (s : SignState) (seconds : ℕ) → HasFitDefaults s → HasFitDefaults (after_power_return s seconds)
 unfolding after_power_return

@@ -217,7 +217,7 @@ pub record KeepsRest (old new : SignState) : Type 0 where
   pub table : new.table ≡ old.table
   pub fallbacks : new.fallbacks ≡ old.fallbacks
   pub defaults : new.defaults ≡ old.defaults
-  pub kept : new.kept ≡ old.kept
+  pub shown_at_power_loss : new.shown_at_power_loss ≡ old.shown_at_power_loss
 
 pub record PutsUp (old : SignState) (id : MessageId) (new : SignState) : Type 0 where
   pub kept_rest : KeepsRest old new
@@ -226,19 +226,19 @@ pub record PutsUp (old : SignState) (id : MessageId) (new : SignState) : Type 0 
 by_decision : (s : SignState) (id : MessageId) (mode : ℕ) (r : Result ShownModel Cause)
     → decided s.config.face s.defaults s.table s.shown (own_activation id) ≡ r → PutsUp s id (put_up_as_decided s id mode r)
 by_decision s id mode (Ok shown) e = record {
-  kept_rest = record { config = refl; table = refl; fallbacks = refl; defaults = refl; kept = refl };
+  kept_rest = record { config = refl; table = refl; fallbacks = refl; defaults = refl; shown_at_power_loss = refl };
   shown = displays_as s.config.face s.defaults s.table s.shown id shown (record shown { mode = mode })
       (record { text = refl; owner = refl; beacon = refl; pixel = refl; priority = refl; source = refl; defaults = refl })
       (decided_displays s.config.face s.defaults s.table s.shown (own_activation id) shown e);
 }
 by_decision s id mode (Err cause) e = record {
-  kept_rest = record { config = refl; table = refl; fallbacks = refl; defaults = refl; kept = refl };
+  kept_rest = record { config = refl; table = refl; fallbacks = refl; defaults = refl; shown_at_power_loss = refl };
   shown = empty (record { memory = refl; text = refl; beacon = refl; pixel = refl; copied = refl });
 }
 
 by_staying : (s : SignState) (id : MessageId) (mode : ℕ) → PutsUp s id (staying s mode)
 by_staying s id mode = record {
-  kept_rest = record { config = refl; table = refl; fallbacks = refl; defaults = refl; kept = refl };
+  kept_rest = record { config = refl; table = refl; fallbacks = refl; defaults = refl; shown_at_power_loss = refl };
   shown = still (record { text = refl; owner = refl; beacon = refl; pixel = refl; priority = refl; source = refl; defaults = refl });
 }
 

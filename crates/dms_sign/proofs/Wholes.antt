@@ -100,7 +100,7 @@ refused_whole old cause code reports is small octets e =
     reports_whole old reports is
     (subst AreReportsInRange (sym e) (refused_in_range (reports_of old.reports) cause code is.kept.in_range.reports small octets))
 
-pub kept_whole : (old : Inside) → IsWhole old → IsWhole (record old { kept = old.shown })
+pub kept_whole : (old : Inside) → IsWhole old → IsWhole (record old { shown_at_power_loss = old.shown })
 kept_whole old is = record {
   kept = record {
     in_range = record {
@@ -109,10 +109,10 @@ kept_whole old is = record {
       fallbacks = is.kept.in_range.fallbacks;
       short_power_loss_time = is.kept.in_range.short_power_loss_time;
       time_comm_loss = is.kept.in_range.time_comm_loss;
-      silent = is.kept.in_range.silent;
+      silent_seconds = is.kept.in_range.silent_seconds;
       defaults = is.kept.in_range.defaults;
       shown = is.kept.in_range.shown;
-      kept = is.kept.in_range.shown;
+      shown_at_power_loss = is.kept.in_range.shown;
       reports = is.kept.in_range.reports;
     };
     fit = is.kept.fit;
@@ -122,9 +122,9 @@ kept_whole old is = record {
   known = is.known;
 }
 
-pub silent_whole : (old : Inside) (silent : ℕ) → IsWhole old → silent ≤ 60 * most_minutes → IsWhole (record old { silent = silent })
-silent_whole old silent is few = record {
-  kept = record { in_range = with_silence (state_of old) silent is.kept.in_range few; fit = is.kept.fit; communities = is.kept.communities };
+pub silent_whole : (old : Inside) (silent_seconds : ℕ) → IsWhole old → silent_seconds ≤ 60 * most_minutes → IsWhole (record old { silent_seconds = silent_seconds })
+silent_whole old silent_seconds is few = record {
+  kept = record { in_range = with_silence (state_of old) silent_seconds is.kept.in_range few; fit = is.kept.fit; communities = is.kept.communities };
   source = is.source;
   known = is.known;
 }
@@ -188,13 +188,13 @@ settled_whole old place table o reports known is changeable volatile placed t v 
 }
 
 pub restored_whole : (old : Inside) (table : TableModel) (shown : ShownModel) (source : List ℕ) → IsWhole old → table ≡ after_power old.table
-    → shown ≡ old.kept → source ≡ octets_of_id table.order shown.source
-    → IsWhole (record old { table = table; shown = shown; source = source; powered = true; silent = 0 })
+    → shown ≡ old.shown_at_power_loss → source ≡ octets_of_id table.order shown.source
+    → IsWhole (record old { table = table; shown = shown; source = source; powered = true; silent_seconds = 0 })
 restored_whole old table shown source is t e octets = record {
   kept = record {
     in_range = subst (λ s. IsSignInRange s)
-        (ap (λ (t : TableModel). record (state_of old) { table = t; shown = old.kept; powered = true; silent = 0 }) (sym t)
-        ∙ ap (λ (shown : ShownModel). record (state_of old) { table = table; shown = shown; powered = true; silent = 0 }) (sym e))
+        (ap (λ (t : TableModel). record (state_of old) { table = t; shown = old.shown_at_power_loss; powered = true; silent_seconds = 0 }) (sym t)
+        ∙ ap (λ (shown : ShownModel). record (state_of old) { table = table; shown = shown; powered = true; silent_seconds = 0 }) (sym e))
         (restored_in_range (state_of old) is.kept.in_range);
     fit = is.kept.fit;
     communities = is.kept.communities;
@@ -293,17 +293,17 @@ pub made_state : (config : ConfigModel) (table : TableModel) (defaults : Default
       time_comm_loss = settings.time_comm_loss;
       defaults = settings.defaults;
       shown = shown;
-      kept = kept;
+      shown_at_power_loss = kept;
       reports = reports_of reports;
     })
 made_state config table defaults settings reports shown kept d e r s k is =
     let same : blank_shown config.face.defaults power_recovery_mode ≡ blank_shown defaults power_recovery_mode =
     ap (λ (d : Defaults). blank_shown d power_recovery_mode) (sym d)
     in
-    let all : IsKept (record (start config table) { defaults = defaults; shown = shown; kept = kept }) =
-    subst (λ (x : Defaults). IsKept (record (start config table) { defaults = x; shown = shown; kept = kept })) (sym d)
-    (subst (λ (x : ShownModel). IsKept (record (start config table) { shown = x; kept = kept })) (same ∙ sym s)
-    (subst (λ (x : ShownModel). IsKept (record (start config table) { kept = x })) (same ∙ sym k) is))
+    let all : IsKept (record (start config table) { defaults = defaults; shown = shown; shown_at_power_loss = kept }) =
+    subst (λ (x : Defaults). IsKept (record (start config table) { defaults = x; shown = shown; shown_at_power_loss = kept })) (sym d)
+    (subst (λ (x : ShownModel). IsKept (record (start config table) { shown = x; shown_at_power_loss = kept })) (same ∙ sym s)
+    (subst (λ (x : ShownModel). IsKept (record (start config table) { shown_at_power_loss = x })) (same ∙ sym k) is))
     in
     subst (λ (x : ReportsModel). IsKept (record (start config table) {
       fallbacks = fallbacks_of settings.fallbacks;
@@ -311,7 +311,7 @@ made_state config table defaults settings reports shown kept d e r s k is =
       time_comm_loss = settings.time_comm_loss;
       defaults = settings.defaults;
       shown = shown;
-      kept = kept;
+      shown_at_power_loss = kept;
       reports = x;
     })) (sym r)
     (subst (λ (x : Settings). IsKept (record (start config table) {
@@ -320,7 +320,7 @@ made_state config table defaults settings reports shown kept d e r s k is =
       time_comm_loss = x.time_comm_loss;
       defaults = x.defaults;
       shown = shown;
-      kept = kept;
+      shown_at_power_loss = kept;
     })) (sym e) all)
 
 pub made_source : (order : Order) (defaults : Defaults) (shown : ShownModel) → shown ≡ blank_shown defaults power_recovery_mode

@@ -31,14 +31,14 @@ longest_silence s = 60 * s.time_comm_loss
 
 -- one more second of silence
 abbrev pub quieter : SignState → SignState
-quieter s = record s { silent = s.silent + 1 }
+quieter s = record s { silent_seconds = s.silent_seconds + 1 }
 
 -- Silence is counted up to its limit, where the code of a communications loss is activated: once, until a datagram is
 -- answered.
 unfoldable pub after_silence : SignState → SignState
 after_silence s =
-    if nat_lt s.silent (longest_silence s)
-    then (if s.silent + 1 == longest_silence s then put_up_code (quieter s) s.fallbacks.communications_loss communications_loss_mode else quieter s)
+    if nat_lt s.silent_seconds (longest_silence s)
+    then (if s.silent_seconds + 1 == longest_silence s then put_up_code (quieter s) s.fallbacks.communications_loss communications_loss_mode else quieter s)
     else s
 
 -- A second: a row is settled, the duration goes on, and then the silence. A sign without power does nothing.
@@ -50,7 +50,7 @@ after_tick s = if s.powered then after_silence (after_duration (after_settling s
 -- The power is lost: what is shown is kept, and the code of a power loss is activated.
 unfoldable pub after_power_loss : SignState → SignState
 after_power_loss s =
-    if s.powered then record (put_up_code (record s { kept = s.shown }) s.fallbacks.power_loss power_loss_mode) { powered = false }
+    if s.powered then record (put_up_code (record s { shown_at_power_loss = s.shown }) s.fallbacks.power_loss power_loss_mode) { powered = false }
     else s
 
 -- the code that comes up after a loss of so many seconds
@@ -61,7 +61,7 @@ recovery_code s seconds =
 
 -- what is there as the power comes back: what was kept is shown, volatile rows are gone, and the silence begins anew
 abbrev pub restored : SignState → SignState
-restored s = record s { table = after_power s.table; shown = s.kept; powered = true; silent = 0 }
+restored s = record s { table = after_power s.table; shown = s.shown_at_power_loss; powered = true; silent_seconds = 0 }
 
 -- The power is back after so many seconds, and the code of the recovery is activated.
 unfoldable pub after_power_return : SignState → ℕ → SignState

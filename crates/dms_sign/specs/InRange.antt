@@ -19,7 +19,7 @@ use Rattle.dms_access.specs.Ranges.{AreDefaultsInRange}
 use Rattle.dms_access.specs.Reports.{ReportsModel}
 use Rattle.dms_sign.specs.State.{ConfigModel, FallbacksModel, SignState}
 use Rattle.dms_sign.specs.Reply.{too_big}
-use Rattle.dms_sign.specs.Requests.{Answer, primary}
+use Rattle.dms_sign.specs.Requests.{Answer, answer_of_any_size}
 use Rattle.dms_sign.specs.Reply.{response_of, most_octets}
 
 -- ---- parts
@@ -104,10 +104,10 @@ pub record IsSignInRange (s : SignState) : Type 0 where
   pub fallbacks : AreFallbacksInRange s.fallbacks
   pub short_power_loss_time : s.short_power_loss_time ≤ 65535
   pub time_comm_loss : s.time_comm_loss ≤ most_minutes
-  pub silent : s.silent ≤ 60 * most_minutes
+  pub silent_seconds : s.silent_seconds ≤ 60 * most_minutes
   pub defaults : AreDefaultsInRange s.defaults
   pub shown : IsShownInRange s.shown
-  pub kept : IsShownInRange s.kept
+  pub shown_at_power_loss : IsShownInRange s.shown_at_power_loss
   pub reports : AreReportsInRange s.reports
 
 -- ---- how a sign is made
@@ -146,7 +146,7 @@ pub record IsSpelledReply (s : SignState) (datagram reply : List ℕ) : Type 0 w
   pub request : SnmpMessage
   pub asked : message_of datagram ≡ Some request
   pub response : SnmpMessage
-  pub meant : response ≡ response_sent request (primary s request)
+  pub meant : response ≡ response_sent request (answer_of_any_size s request)
   pub kind : response.kind ≡ Response
   pub community : response.community ≡ request.community
   pub number : response.request ≡ request.request

@@ -10,7 +10,7 @@ use Rattle.dms_wire.specs.Canonical.{canonical}
 use Rattle.dms_wire.specs.Response.{response_to}
 use Rattle.dms_codes.specs.declared.codes.Activation.{Activation}
 use Rattle.dms_sign.specs.State.{SignState}
-use Rattle.dms_sign.specs.Requests.{Answer, is_community, primary}
+use Rattle.dms_sign.specs.Requests.{Answer, is_community, answer_of_any_size}
 use Rattle.dms_ber.specs.Limits.{longest_datagram}
 
 -- ---- replies
@@ -55,7 +55,7 @@ dropped s = record { reply = None; after = s; accepted = None }
 
 -- a datagram that is answered ends the silence
 abbrev pub awake : SignState → SignState
-awake s = record s { silent = 0 }
+awake s = record s { silent_seconds = 0 }
 
 -- What a Get or a GetNext that is answered leaves: the silence is over, and all else is as it was. A sign without power
 -- answers none, and stays as it is.
@@ -63,7 +63,7 @@ abbrev pub after_get : SignState → SignState
 after_get s = if s.powered then awake s else s
 
 abbrev pub heard : SignState → SnmpMessage → Received
-heard s m = record { reply = Some (reply_to m (primary s m)); after = awake (primary s m).after; accepted = (primary s m).accepted }
+heard s m = record { reply = Some (reply_to m (answer_of_any_size s m)); after = awake (answer_of_any_size s m).after; accepted = (answer_of_any_size s m).accepted }
 
 abbrev pub on_message : SignState → SnmpMessage → Received
 on_message s m = if is_heard s m then heard s m else dropped s

@@ -132,5 +132,5 @@ answer_by s m Response = granted s m.bindings
 answer_by s m Set = set s (may_write s m) m.bindings
 
 -- what is answered, where a reply may have any size
-unfoldable pub primary : SignState → SnmpMessage → Answer
-primary s m = answer_by s m m.kind
+unfoldable pub answer_of_any_size : SignState → SnmpMessage → Answer
+answer_of_any_size s m = answer_by s m m.kind

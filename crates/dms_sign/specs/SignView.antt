@@ -15,10 +15,10 @@ state_of s = record {
   fallbacks = fallbacks_of s.settings.fallbacks;
   short_power_loss_time = s.settings.short_power_loss_time;
   time_comm_loss = s.settings.time_comm_loss;
-  silent = s.silent;
+  silent_seconds = s.silent_seconds;
   defaults = s.settings.defaults;
   shown = s.shown;
-  kept = s.kept;
+  shown_at_power_loss = s.shown_at_power_loss;
   reports = reports_of s.reports;
   powered = s.powered;
 }

@@ -38,12 +38,12 @@ pub record SignState : Type 0 where
   -- dmsTimeCommLoss: the minutes of silence that are a loss of communications; 0 is never
   pub time_comm_loss : ℕ
   -- the seconds since a datagram was answered
-  pub silent : ℕ
+  pub silent_seconds : ℕ
   -- what holds where a text says nothing else (NTCIP 1203, multiCfg)
   pub defaults : Defaults
   pub shown : ShownModel
   -- what was shown when the power was lost
-  pub kept : ShownModel
+  pub shown_at_power_loss : ShownModel
   pub reports : ReportsModel
   pub powered : Bool
 
@@ -77,10 +77,10 @@ start config table = record {
   };
   short_power_loss_time = 0;
   time_comm_loss = 0;
-  silent = 0;
+  silent_seconds = 0;
   defaults = config.face.defaults;
   shown = blank_shown config.face.defaults power_recovery_mode;
-  kept = blank_shown config.face.defaults power_recovery_mode;
+  shown_at_power_loss = blank_shown config.face.defaults power_recovery_mode;
   reports = first_reports;
   powered = true;
 }

@@ -74,7 +74,7 @@ IsOwnCode order fallbacks id =
 -- came up; or a row did, by the code that was accepted or by one of the sign's own.
 pub data ShowsNow (old new : SignState) (accepted : Option Activation) : Type 0 where
   stayed : IsSameMessage old.shown new.shown → ShowsNow old new accepted
-  came_back : IsSameMessage old.kept new.shown → ShowsNow old new accepted
+  came_back : IsSameMessage old.shown_at_power_loss new.shown → ShowsNow old new accepted
   blanked : IsBlankedUnder new.defaults new.shown → ShowsNow old new accepted
   activated : (code : Activation) → accepted ≡ Some code → new.shown.source ≡ code.id
       → IsRowOf new.config.face new.defaults new.table new.shown → ShowsNow old new accepted
@@ -89,7 +89,7 @@ pub record IsSignStep (old new : SignState) (accepted : Option Activation) : Typ
   pub config : new.config ≡ old.config
   pub table : TableStep (under old.config.face old.defaults) old.table new.table
   pub shown : ShowsNow old new accepted
-  pub kept : (new.kept ≡ old.kept) ⊎ (new.kept ≡ old.shown)
+  pub shown_at_power_loss : (new.shown_at_power_loss ≡ old.shown_at_power_loss) ⊎ (new.shown_at_power_loss ≡ old.shown)
 
 -- the defaults are in their ranges, and name a font of the face
 abbrev pub HasFitDefaults : SignState → Type 0

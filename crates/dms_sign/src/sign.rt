@@ -49,12 +49,12 @@ pub struct Sign {
     table: Table,
     settings: Settings,
     /// The seconds since a datagram was answered.
-    silent: u32,
+    silent_seconds: u32,
     shown: Shown,
     /// The octets of the code of what is shown, which `value` lends.
     source: [u8; 5],
     /// What was shown when the power was lost.
-    kept: Shown,
+    shown_at_power_loss: Shown,
     reports: Reports,
     powered: bool,
     /// Under which defaults the text of each valid row is good on the face.
@@ -117,10 +117,10 @@ impl Sign {
             writer,
             table,
             settings: Settings::new(defaults),
-            silent: 0,
+            silent_seconds: 0,
             shown: Shown::blank(&defaults, mode::POWER_RECOVERY),
             source: [7, 0, 1, 0, 0],
-            kept: Shown::blank(&defaults, mode::POWER_RECOVERY),
+            shown_at_power_loss: Shown::blank(&defaults, mode::POWER_RECOVERY),
             reports: Reports::new(),
             powered: true,
             known: KnownTexts::new(defaults),
@@ -225,9 +225,9 @@ impl Sign {
 
     /// What is shown is kept.
     fn keep(&mut self)
-        ensures { self.new ≡ record self.old { kept = self.old.shown } }
+        ensures { self.new ≡ record self.old { shown_at_power_loss = self.old.shown } }
     {
-        self.kept = self.shown.again();
+        self.shown_at_power_loss = self.shown.again();
     }
 
     fn set_powered(&mut self, powered: bool)
@@ -237,11 +237,11 @@ impl Sign {
     }
 
     /// So many seconds have passed since a datagram was answered.
-    fn set_silent(&mut self, silent: u32)
-        requires { silent ≤ 60 * most_minutes }
-        ensures { self.new ≡ record self.old { silent = silent } }
+    fn set_silent_seconds(&mut self, silent_seconds: u32)
+        requires { silent_seconds ≤ 60 * most_minutes }
+        ensures { self.new ≡ record self.old { silent_seconds = silent_seconds } }
     {
-        self.silent = silent;
+        self.silent_seconds = silent_seconds;
     }
 
     /// The row that is being validated is settled, under the defaults of now.
@@ -263,11 +263,11 @@ impl Sign {
         ensures { self.new ≡ restored self.old }
     {
         self.table.after_power();
-        let shown = self.kept.again();
+        let shown = self.shown_at_power_loss.again();
         self.source = source_of(&shown, self.table.order());
         self.shown = shown;
         self.powered = true;
-        self.silent = 0;
+        self.silent_seconds = 0;
     }
 }
 

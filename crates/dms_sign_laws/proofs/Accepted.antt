@@ -26,7 +26,7 @@ use Rattle.dms_sign.specs.State.{SignState}
 use Rattle.dms_access.specs.Access.{Write, SetNumber, SetCode, SetField, AskRow, Activate, SetRemaining, is_command, is_settable, octets_in, object_write, cell_write, write_of}
 use Rattle.dms_access.specs.MetNames.{is_among}
 use Rattle.dms_sign.specs.SetRequest.{SetCause, if_settable, settable_instance, write_at, is_command_at, is_refused_field, cause_if, causes, assigned}
-use Rattle.dms_sign.specs.Requests.{found_unless, as_decided, as_asked, commanded, commanded_if, writes_of, set_unless, set, may_write, answer_by, primary}
+use Rattle.dms_sign.specs.Requests.{found_unless, as_decided, as_asked, commanded, commanded_if, writes_of, set_unless, set, may_write, answer_by, answer_of_any_size}
 use Rattle.dms_sign.specs.Promises.{activates, AsksFor}
 use Rattle.dms_instances.proofs.InOrder.{named_is}
 use Rattle.dms_sign.proofs.Replies.{IsCause, are_causes}
@@ -231,9 +231,9 @@ answer_accepts s m GetNext a e = absurd (found_accepts s m.bindings _ _ a e)
 answer_accepts s m Response a e = absurd (cc)
 answer_accepts s m Set a e = let done = set_accepts s m.bindings (causes s (may_write s m) m.bindings) a e in (done.0, asks_for s m a done.1)
 
-pub accepted_was_asked_for : (s : SignState) (m : SnmpMessage) (a : Activation) → (primary s m).accepted ≡ Some a
-    → ((primary s m).status ≡ NoError) × AsksFor s m a
-unfolding primary
+pub accepted_was_asked_for : (s : SignState) (m : SnmpMessage) (a : Activation) → (answer_of_any_size s m).accepted ≡ Some a
+    → ((answer_of_any_size s m).status ≡ NoError) × AsksFor s m a
+unfolding answer_of_any_size
 accepted_was_asked_for s m a e = answer_accepts s m m.kind a e
 
 -- ---- a SET of one activation that succeeds
@@ -327,11 +327,11 @@ answer_succeeds s m octets GetNext is one e = absurd (cc)
 answer_succeeds s m octets Response is one e = absurd (cc)
 
 success_is_accepted : (s : SignState) (m : SnmpMessage) (octets : List ℕ) → m.kind ≡ Set → m.bindings ≡ activates octets ∷ []
-    → (primary s m).status ≡ NoError → (primary s m).accepted ≡ Some (activation_of s.table.order octets)
-unfolding primary
+    → (answer_of_any_size s m).status ≡ NoError → (answer_of_any_size s m).accepted ≡ Some (activation_of s.table.order octets)
+unfolding answer_of_any_size
 success_is_accepted s m octets is one e = answer_succeeds s m octets m.kind is one e
 
 pub accepted_where_no_error : (s : SignState) (m : SnmpMessage) (octets : List ℕ) → m.kind ≡ Set → m.bindings ≡ activates octets ∷ []
-    → ((primary s m).status ≡ NoError) ↔ ((primary s m).accepted ≡ Some (activation_of s.table.order octets))
+    → ((answer_of_any_size s m).status ≡ NoError) ↔ ((answer_of_any_size s m).accepted ≡ Some (activation_of s.table.order octets))
 accepted_where_no_error s m octets is one =
     (success_is_accepted s m octets is one, λ e. (accepted_was_asked_for s m (activation_of s.table.order octets) e).0)

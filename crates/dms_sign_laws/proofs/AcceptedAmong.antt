@@ -12,7 +12,7 @@ use Rattle.dms_access.specs.Access.{Write, Activate, is_command}
 use Rattle.dms_access.specs.MetNames.{is_among}
 use Rattle.dms_sign.specs.State.{SignState}
 use Rattle.dms_sign.specs.SetRequest.{SetCause, settable_instance, write_at, is_command_at, is_refused_field, cause_if, causes_after, causes, assigned}
-use Rattle.dms_sign.specs.Requests.{writes_of, set_unless, may_write, answer_by, primary}
+use Rattle.dms_sign.specs.Requests.{writes_of, set_unless, may_write, answer_by, answer_of_any_size}
 use Rattle.dms_sign.specs.Promises.{activates}
 use Rattle.dms_sign.proofs.Replies.{IsCause, are_causes}
 use Rattle.dms_sign_laws.proofs.Accepted.{what_is_written, if_succeeds}
@@ -145,6 +145,6 @@ answer_among s m octets GetNext is there e = absurd (cc)
 answer_among s m octets Response is there e = absurd (cc)
 
 pub accepted_among : (s : SignState) (m : SnmpMessage) (octets : List ℕ) → m.kind ≡ Set → Contains m.bindings (activates octets)
-    → (primary s m).status ≡ NoError → (primary s m).accepted ≡ Some (activation_of s.table.order octets)
-unfolding primary
+    → (answer_of_any_size s m).status ≡ NoError → (answer_of_any_size s m).accepted ≡ Some (activation_of s.table.order octets)
+unfolding answer_of_any_size
 accepted_among s m octets is there e = answer_among s m octets m.kind is there e

@@ -31,7 +31,7 @@ use Rattle.dms_sign.specs.Values.{scalar_value, value_at, value_of, value_after,
 use Rattle.dms_sign.specs.OwnCodes.{put_up_code}
 use Rattle.dms_access.specs.Access.{is_settable_object, object_write, cell_write, write_of}
 use Rattle.dms_sign.specs.SetRequest.{settable_instance, write_at, causes, assigned}
-use Rattle.dms_sign.specs.Requests.{Answer, primary}
+use Rattle.dms_sign.specs.Requests.{Answer, answer_of_any_size}
 use Rattle.dms_sign.specs.Reply.{Received, reply_to, received}
 use Rattle.dms_sign.specs.Events.{after_settling, after_duration, after_silence, after_tick, after_power_loss, after_power_return}
 
@@ -100,13 +100,13 @@ code twelve = octets (Scalar ActivateMessage) (octets_of twelve)
 
 -- what comes of a datagram of these digits
 unfoldable pub datagram : SignState → List ℕ → Received
-unfolding octet_bits element integer_octets name_octets binding_octets numbers_octets pdu_octets canonical message_of instances name_of scalar_value value_at value_of value_after is_settable_object object_write cell_write write_of settable_instance write_at causes assigned primary reply_to received
+unfolding octet_bits element integer_octets name_octets binding_octets numbers_octets pdu_octets canonical message_of instances name_of scalar_value value_at value_of value_after is_settable_object object_write cell_write write_of settable_instance write_at causes assigned answer_of_any_size reply_to received
 datagram s pairs = received s (octets_of pairs)
 
 -- what is answered, where a reply may have any size
 unfoldable pub answer : SignState → Kind → List VarBind → Answer
-unfolding octet_bits fault_of outcomes_within item_at item_after_opening item_after_closing tag_at body_item name_at letters_name end_name item_of flash_of font_of times_of page_time_of digits.number_of digits.decimal_of digits.value_of digits.cut digits.version_of instances name_of scalar_value value_at value_of value_after is_settable_object object_write cell_write write_of settable_instance write_at causes assigned put_up_code primary
-answer s kind bindings = primary s (request kind bindings)
+unfolding octet_bits fault_of outcomes_within item_at item_after_opening item_after_closing tag_at body_item name_at letters_name end_name item_of flash_of font_of times_of page_time_of digits.number_of digits.decimal_of digits.value_of digits.cut digits.version_of instances name_of scalar_value value_at value_of value_after is_settable_object object_write cell_write write_of settable_instance write_at causes assigned put_up_code answer_of_any_size
+answer s kind bindings = answer_of_any_size s (request kind bindings)
 
 -- the status and the index that a SET is answered
 abbrev pub status_and_index : SignState → List VarBind → ℕ × ℕ

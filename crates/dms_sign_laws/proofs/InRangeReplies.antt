@@ -28,7 +28,7 @@ use Rattle.dms_sign.specs.Values.{value_of, value_after}
 use Rattle.dms_access.specs.Access.{Write, SetNumber, SetCode, SetField, AskRow, Activate, SetRemaining, is_command}
 use Rattle.dms_sign.specs.SetRequest.{SetCause, is_command_at, tests_at, cause_if, causes_at, causes_after, causes, assigned}
 use Rattle.dms_sign.specs.Reply.{too_big}
-use Rattle.dms_sign.specs.Requests.{Answer, refused, granted, found_unless, has_no_value, with_value, get, is_last, next_after, get_next, as_decided, as_asked, with_remaining, commanded, commanded_if, writes_of, command_index, set_unless, may_write, answer_by, primary}
+use Rattle.dms_sign.specs.Requests.{Answer, refused, granted, found_unless, has_no_value, with_value, get, is_last, next_after, get_next, as_decided, as_asked, with_remaining, commanded, commanded_if, writes_of, command_index, set_unless, may_write, answer_by, answer_of_any_size}
 use Rattle.dms_sign.specs.Reply.{response_of, most_octets, reply_to, is_heard, dropped, heard, on_message_if, received}
 use Rattle.dms_sign.specs.InRange.{IsSignInRange, IsBindingInLimits, response_sent, IsSpelledReply}
 use Rattle.dms_sign.proofs.InRangeLists.{if_or, if_position, all_append, all_filtered}
@@ -155,17 +155,17 @@ set_unless_within s bindings (cause ∷ more) small within = refused_within s bi
 
 -- ---- answers
 
-answer_within : (s : SignState) (m : SnmpMessage) (kind : Kind) → IsSignInRange s → AreBindingsInLimits m.bindings
+answer_by_within : (s : SignState) (m : SnmpMessage) (kind : Kind) → IsSignInRange s → AreBindingsInLimits m.bindings
     → IsAnswerInLimits m.bindings (answer_by s m kind)
-answer_within s m Get is within = get_within s m.bindings is within
-answer_within s m GetNext is within = get_next_within s m.bindings is within
-answer_within s m Response is within = granted_within s m.bindings m.bindings within
-answer_within s m Set is within =
+answer_by_within s m Get is within = get_within s m.bindings is within
+answer_by_within s m GetNext is within = get_next_within s m.bindings is within
+answer_by_within s m Response is within = granted_within s m.bindings m.bindings within
+answer_by_within s m Set is within =
     set_unless_within s m.bindings (causes s (may_write s m) m.bindings) (causes_small s (may_write s m) m.bindings) within
 
-pub primary_within : (s : SignState) (m : SnmpMessage) → IsSignInRange s → AreBindingsInLimits m.bindings → IsAnswerInLimits m.bindings (primary s m)
-unfolding primary
-primary_within s m is within = answer_within s m m.kind is within
+pub answer_within : (s : SignState) (m : SnmpMessage) → IsSignInRange s → AreBindingsInLimits m.bindings → IsAnswerInLimits m.bindings (answer_of_any_size s m)
+unfolding answer_of_any_size
+answer_within s m is within = answer_by_within s m m.kind is within
 
 pub response_within : (m : SnmpMessage) (a : Answer) → IsMessageInLimits m → length m.bindings ≤ 210 → IsAnswerInLimits m.bindings a
     → IsMessageInLimits (response_of m a)
@@ -181,12 +181,12 @@ response_within m a is few within =
     }
 
 pub spelled_response_within : (s : SignState) (m : SnmpMessage) (octets : List ℕ) → IsSignInRange s → Spells m octets
-    → IsMessageInLimits (response_of m (primary s m))
+    → IsMessageInLimits (response_of m (answer_of_any_size s m))
 spelled_response_within s m octets is spells =
     let within = spelled_in_limits m octets spells in
     let few : 7 * length m.bindings ≤ length octets = few_bindings m octets spells in
     let size : length octets ≤ 1472 = spells.size in
-    response_within m (primary s m) within (omega arith) (primary_within s m is within.bindings)
+    response_within m (answer_of_any_size s m) within (omega arith) (answer_within s m is within.bindings)
 
 pub too_big_within : (m : SnmpMessage) → IsMessageInLimits m → IsMessageInLimits (response_to m too_big 0)
 too_big_within m is = record { community = is.community; request = is.request; status = refl; index = refl; bindings = is.bindings }
@@ -222,19 +222,19 @@ sent_is m a true = record { kind = refl; community = refl; number = refl }
 sent_is m a false = record { kind = refl; community = refl; number = refl }
 
 spelled_reply : (s : SignState) (m : SnmpMessage) (octets : List ℕ) → message_of octets ≡ Some m
-    → Spells (response_sent m (primary s m)) (reply_to m (primary s m))
-    → IsSpelledReply s octets (reply_to m (primary s m))
+    → Spells (response_sent m (answer_of_any_size s m)) (reply_to m (answer_of_any_size s m))
+    → IsSpelledReply s octets (reply_to m (answer_of_any_size s m))
 spelled_reply s m octets asked spells =
-    let is = sent_is m (primary s m) (nat_le (length (canonical (response_of m (primary s m)))) most_octets) in
+    let is = sent_is m (answer_of_any_size s m) (nat_le (length (canonical (response_of m (answer_of_any_size s m)))) most_octets) in
     record {
       request = m;
       asked = asked;
-      response = response_sent m (primary s m);
+      response = response_sent m (answer_of_any_size s m);
       meant = refl;
       kind = is.kind;
       community = is.community;
       number = is.number;
-      spelled = (read_is_spelled (reply_to m (primary s m)) (response_sent m (primary s m))).1 spells;
+      spelled = (read_is_spelled (reply_to m (answer_of_any_size s m)) (response_sent m (answer_of_any_size s m))).1 spells;
       short = spells.size;
     }
 
@@ -242,10 +242,10 @@ heard_reply : (s : SignState) (m : SnmpMessage) (octets reply : List ℕ) (b : B
     → (cond b (heard s m) (dropped s)).reply ≡ Some reply → IsSpelledReply s octets reply
 heard_reply s m octets reply false is asked e = absurd (cc)
 heard_reply s m octets reply true is asked e =
-    let same : reply_to m (primary s m) ≡ reply = cc in
+    let same : reply_to m (answer_of_any_size s m) ≡ reply = cc in
     let spells = (read_is_spelled octets m).0 asked in
-    let within = primary_within s m is (spelled_in_limits m octets spells).bindings in
-    subst (IsSpelledReply s octets) same (spelled_reply s m octets asked (reply_spells m (primary s m) octets spells within))
+    let within = answer_within s m is (spelled_in_limits m octets spells).bindings in
+    subst (IsSpelledReply s octets) same (spelled_reply s m octets asked (reply_spells m (answer_of_any_size s m) octets spells within))
 
 message_reply : (s : SignState) (o : Option SnmpMessage) (octets reply : List ℕ) → IsSignInRange s → message_of octets ≡ o
     → (on_message_if s o).reply ≡ Some reply → IsSpelledReply s octets reply

@@ -23,7 +23,7 @@ use Rattle.dms_sign.specs.State.{ConfigModel, SignState, start}
 use Rattle.dms_sign.specs.OwnCodes.{put_up_as_decided, staying, own_activation, put_up_code}
 use Rattle.dms_access.specs.Access.{Write, SetNumber, SetCode, SetField, AskRow, Activate, SetRemaining, is_command}
 use Rattle.dms_sign.specs.SetRequest.{SetCause, with_write, with_writes, causes, assigned}
-use Rattle.dms_sign.specs.Requests.{found_unless, as_decided, as_asked, with_remaining, commanded, commanded_if, writes_of, set_unless, may_write, answer_by, primary}
+use Rattle.dms_sign.specs.Requests.{found_unless, as_decided, as_asked, with_remaining, commanded, commanded_if, writes_of, set_unless, may_write, answer_by, answer_of_any_size}
 use Rattle.dms_sign.specs.Reply.{is_heard, heard, dropped, on_message_if, received}
 use Rattle.dms_sign.specs.Events.{after_settling, counted_down, after_duration, longest_silence, quieter, after_silence, after_tick, recovery_code, restored, after_power_loss, after_power_return}
 
@@ -186,18 +186,18 @@ one_found : (s : SignState) (bindings found : List VarBind) (o : Option ℕ) →
 one_found s bindings found None is = is
 one_found s bindings found (Some index) is = is
 
-one_answer : (s : SignState) (m : SnmpMessage) (kind : Kind) → IsTable s.table → IsTable (answer_by s m kind).after.table
-one_answer s m Get is = one_found s m.bindings _ _ is
-one_answer s m GetNext is = one_found s m.bindings _ _ is
-one_answer s m Response is = is
-one_answer s m Set is = one_set s m.bindings (causes s (may_write s m) m.bindings) is
+one_answer_by : (s : SignState) (m : SnmpMessage) (kind : Kind) → IsTable s.table → IsTable (answer_by s m kind).after.table
+one_answer_by s m Get is = one_found s m.bindings _ _ is
+one_answer_by s m GetNext is = one_found s m.bindings _ _ is
+one_answer_by s m Response is = is
+one_answer_by s m Set is = one_set s m.bindings (causes s (may_write s m) m.bindings) is
 
-one_primary : (s : SignState) (m : SnmpMessage) → IsTable s.table → IsTable (primary s m).after.table
-unfolding primary
-one_primary s m is = one_answer s m m.kind is
+one_answer : (s : SignState) (m : SnmpMessage) → IsTable s.table → IsTable (answer_of_any_size s m).after.table
+unfolding answer_of_any_size
+one_answer s m is = one_answer_by s m m.kind is
 
 one_heard : (s : SignState) (m : SnmpMessage) (b : Bool) → IsTable s.table → IsTable (cond b (heard s m) (dropped s)).after.table
-one_heard s m true is = one_primary s m is
+one_heard s m true is = one_answer s m is
 one_heard s m false is = is
 
 one_message : (s : SignState) (o : Option SnmpMessage) → IsTable s.table → IsTable (on_message_if s o).after.table
@@ -231,7 +231,7 @@ one_silence_if s false ends octets mode is = is
 one_after_silence : (s : SignState) → IsTable s.table → IsTable (after_silence s).table
 unfolding after_silence
 one_after_silence s is =
-    one_silence_if s (nat_lt s.silent (longest_silence s)) (s.silent + 1 == longest_silence s) s.fallbacks.communications_loss _ is
+    one_silence_if s (nat_lt s.silent_seconds (longest_silence s)) (s.silent_seconds + 1 == longest_silence s) s.fallbacks.communications_loss _ is
 
 one_if : (b : Bool) (x y : SignState) → IsTable x.table → IsTable y.table → IsTable (cond b x y).table
 one_if true x y is_x is_y = is_x
@@ -245,7 +245,7 @@ one_after_tick s is =
 
 pub one_after_power_loss : (s : SignState) → IsTable s.table → IsTable (after_power_loss s).table
 unfolding after_power_loss
-one_after_power_loss s is = one_if s.powered _ s (one_code (record s { kept = s.shown }) s.fallbacks.power_loss _ is) is
+one_after_power_loss s is = one_if s.powered _ s (one_code (record s { shown_at_power_loss = s.shown }) s.fallbacks.power_loss _ is) is
 
 pub one_after_power_return : (s : SignState) (seconds : ℕ) → IsTable s.table → IsTable (after_power_return s seconds).table
 unfolding after_power_return

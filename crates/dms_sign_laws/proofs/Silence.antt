@@ -6,7 +6,7 @@ use Rattle.dms_wire.specs.declared.message.Kind.TheVariants.{Get, GetNext, Respo
 use Rattle.dms_wire.specs.Message.{VarBind, SnmpMessage}
 use Rattle.dms_wire.specs.MessageOf.{message_of}
 use Rattle.dms_sign.specs.State.{SignState}
-use Rattle.dms_sign.specs.Requests.{found_unless, is_community, answer_by, primary}
+use Rattle.dms_sign.specs.Requests.{found_unless, is_community, answer_by, answer_of_any_size}
 use Rattle.dms_sign.specs.Reply.{is_request, is_heard, heard, dropped, awake, after_get, on_message_if, received}
 use Rattle.dms_sign.specs.Promises.{is_get}
 
@@ -20,9 +20,9 @@ same_by s m GetNext get = same_found s m.bindings _ _
 same_by s m Response get = refl
 same_by s m Set get = absurd (false≢true get)
 
-same_primary : (s : SignState) (m : SnmpMessage) → IsTrue (is_get m.kind) → (primary s m).after ≡ s
-unfolding primary
-same_primary s m get = same_by s m m.kind get
+same_answer : (s : SignState) (m : SnmpMessage) → IsTrue (is_get m.kind) → (answer_of_any_size s m).after ≡ s
+unfolding answer_of_any_size
+same_answer s m get = same_by s m m.kind get
 
 has_power : (s : SignState) (m : SnmpMessage) → is_heard s m ≡ true → s.powered ≡ true
 has_power s m e =
@@ -32,7 +32,7 @@ has_power s m e =
 get_if : (b : Bool) (s : SignState) (m : SnmpMessage) (reply : List ℕ) → is_heard s m ≡ b → IsTrue (is_get m.kind)
     → (cond b (heard s m) (dropped s)).reply ≡ Some reply → (cond b (heard s m) (dropped s)).after ≡ after_get s
 get_if true s m reply e get answered =
-    ap awake (same_primary s m get) ∙ ap (λ powered. cond powered (awake s) s) (sym (has_power s m e))
+    ap awake (same_answer s m get) ∙ ap (λ powered. cond powered (awake s) s) (sym (has_power s m e))
 get_if false s m reply e get answered = absurd (let none : None ≡ Some reply = answered in cc)
 
 pub answered_get : (s : SignState) (m : SnmpMessage) (datagram reply : List ℕ) → message_of datagram ≡ Some m → IsTrue (is_get m.kind)

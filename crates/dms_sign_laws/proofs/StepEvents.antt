@@ -17,7 +17,7 @@ use Rattle.dms_sign.specs.State.{ConfigModel, FallbacksModel, SignState, power_r
 use Rattle.dms_sign.specs.OwnCodes.{showing, put_up_code}
 use Rattle.dms_access.specs.Access.{Write, SetNumber, SetCode, SetField, AskRow, Activate, SetRemaining, is_command}
 use Rattle.dms_sign.specs.SetRequest.{SetCause, causes, assigned}
-use Rattle.dms_sign.specs.Requests.{Answer, found_unless, as_decided, as_asked, with_remaining, commanded, commanded_if, writes_of, set_unless, may_write, answer_by, primary}
+use Rattle.dms_sign.specs.Requests.{Answer, found_unless, as_decided, as_asked, with_remaining, commanded, commanded_if, writes_of, set_unless, may_write, answer_by, answer_of_any_size}
 use Rattle.dms_sign.specs.Reply.{is_heard, heard, dropped, on_message_if, received}
 use Rattle.dms_sign.specs.Events.{after_settling, counted_down, after_duration, longest_silence, quieter, after_silence, after_tick, recovery_code, restored, after_power_loss, after_power_return}
 use Rattle.dms_sign.specs.Transitions.{TableStep, IsSameMessage, IsBlankedUnder, IsRowOf, IsOwnCode, ShowsNow, stayed, came_back, blanked, activated, fell_back, IsSignStep}
@@ -42,7 +42,7 @@ code_moved mid new a b kept_rest same own =
 
 shows_on : (old mid new : SignState) (a : Option Activation) → KeepsRest mid new → IsSameMessage mid.shown new.shown → ShowsNow old mid a → ShowsNow old new a
 shows_on old mid new a kept_rest same (stayed is) = stayed (same_then old.shown mid.shown new.shown is same)
-shows_on old mid new a kept_rest same (came_back is) = came_back (same_then old.kept mid.shown new.shown is same)
+shows_on old mid new a kept_rest same (came_back is) = came_back (same_then old.shown_at_power_loss mid.shown new.shown is same)
 shows_on old mid new a kept_rest same (blanked is) =
     blanked (subst (λ d. IsBlankedUnder d new.shown) (sym kept_rest.defaults) (blank_as mid.defaults mid.shown new.shown same is))
 shows_on old mid new a kept_rest same (activated code accepted source is) =
@@ -57,7 +57,7 @@ step_with old mid new a step kept_rest shows = record {
   config = kept_rest.config ∙ step.config;
   table = subst (TableStep (under old.config.face old.defaults) old.table) (sym kept_rest.table) step.table;
   shown = shows;
-  kept = subst (λ k. (k ≡ old.kept) ⊎ (k ≡ old.shown)) (sym kept_rest.kept) step.kept;
+  shown_at_power_loss = subst (λ k. (k ≡ old.shown_at_power_loss) ⊎ (k ≡ old.shown)) (sym kept_rest.shown_at_power_loss) step.shown_at_power_loss;
 }
 
 -- the message stays
@@ -86,7 +86,7 @@ step_none s = record {
   config = refl;
   table = step_kept (under s.config.face s.defaults) s.table s.table (rows_same s.table);
   shown = stayed (same_as s.shown);
-  kept = inl refl;
+  shown_at_power_loss = inl refl;
 }
 
 -- ---- what a SET assigns
@@ -95,18 +95,18 @@ record IsWritten (old new : SignState) : Type 0 where
   config : new.config ≡ old.config
   rows : KeepsRows old.table new.table
   shown : new.shown ≡ old.shown
-  kept : new.kept ≡ old.kept
+  shown_at_power_loss : new.shown_at_power_loss ≡ old.shown_at_power_loss
 
 assigned_is : (s : SignState) (writes : List Write) → IsWritten s (assigned s writes)
 unfolding assigned
-assigned_is s writes = record { config = refl; rows = writes_keep s.table writes; shown = refl; kept = refl }
+assigned_is s writes = record { config = refl; rows = writes_keep s.table writes; shown = refl; shown_at_power_loss = refl }
 
 step_written : (s new : SignState) → IsWritten s new → IsSignStep s new None
 step_written s new is = record {
   config = is.config;
   table = step_kept (under s.config.face s.defaults) s.table new.table is.rows;
   shown = stayed (subst (IsSameMessage s.shown) (sym is.shown) (same_as s.shown));
-  kept = inl is.kept;
+  shown_at_power_loss = inl is.shown_at_power_loss;
 }
 
 -- what an answer makes of the sign
@@ -133,11 +133,11 @@ answers_decided s new bindings index octets (Ok shown) is e =
       config = is.config;
       table = step_kept (under s.config.face s.defaults) s.table new.table is.rows;
       shown = shows_decided s new (as_decided s new bindings index octets (Ok shown)).after code is.shown refl refl refl displays;
-      kept = inl is.kept;
+      shown_at_power_loss = inl is.shown_at_power_loss;
     }
 answers_decided s new bindings index octets (Err cause) is e =
     step_on s s (as_decided s new bindings index octets (Err cause)).after None (step_none s)
-    (record { config = refl; table = refl; fallbacks = refl; defaults = refl; kept = refl }) (same_as s.shown)
+    (record { config = refl; table = refl; fallbacks = refl; defaults = refl; shown_at_power_loss = refl }) (same_as s.shown)
 
 answers_asked : (s new : SignState) (bindings : List VarBind) (index : ℕ) (o : Option TableModel) → IsWritten s new
     → ((table : TableModel) → o ≡ Some table → KeepsRows new.table table)
@@ -145,14 +145,14 @@ answers_asked : (s new : SignState) (bindings : List VarBind) (index : ℕ) (o :
 answers_asked s new bindings index None is each = step_none s
 answers_asked s new bindings index (Some table) is each =
     step_written s (record new { table = table })
-    (record { config = is.config; rows = rows_then s.table new.table table is.rows (each table refl); shown = is.shown; kept = is.kept })
+    (record { config = is.config; rows = rows_then s.table new.table table is.rows (each table refl); shown = is.shown; shown_at_power_loss = is.shown_at_power_loss })
 
 step_remaining_if : (b : Bool) (s new : SignState) (minutes : ℕ) → IsSignStep s new None
     → IsSignStep s (cond b (put_up_code new new.fallbacks.end_duration end_duration_mode) (showing new (record new.shown { remaining = seconds_of minutes }))) None
 step_remaining_if true s new minutes step = step_code s new new.fallbacks.end_duration end_duration_mode step (inr (inr (inr (inl refl))))
 step_remaining_if false s new minutes step =
     step_on s new (showing new (record new.shown { remaining = seconds_of minutes })) None step
-    (record { config = refl; table = refl; fallbacks = refl; defaults = refl; kept = refl })
+    (record { config = refl; table = refl; fallbacks = refl; defaults = refl; shown_at_power_loss = refl })
     (record { text = refl; owner = refl; beacon = refl; pixel = refl; priority = refl; source = refl; defaults = refl })
 
 step_remaining : (s new : SignState) (minutes : ℕ) → IsSignStep s new None → IsSignStep s (with_remaining new minutes) None
@@ -187,14 +187,14 @@ answers_kind s m GetNext = answers_found s m.bindings _ _
 answers_kind s m Response = step_none s
 answers_kind s m Set = answers_set s m.bindings (causes s (may_write s m) m.bindings)
 
-answers_primary : (s : SignState) (m : SnmpMessage) → Answers s (primary s m)
-unfolding primary
-answers_primary s m = answers_kind s m m.kind
+answers_any : (s : SignState) (m : SnmpMessage) → Answers s (answer_of_any_size s m)
+unfolding answer_of_any_size
+answers_any s m = answers_kind s m m.kind
 
 step_heard : (s : SignState) (m : SnmpMessage) (b : Bool) → IsSignStep s (cond b (heard s m) (dropped s)).after (cond b (heard s m) (dropped s)).accepted
 step_heard s m true =
-    step_on s (primary s m).after (heard s m).after (primary s m).accepted (answers_primary s m)
-    (record { config = refl; table = refl; fallbacks = refl; defaults = refl; kept = refl }) (same_as (primary s m).after.shown)
+    step_on s (answer_of_any_size s m).after (heard s m).after (answer_of_any_size s m).accepted (answers_any s m)
+    (record { config = refl; table = refl; fallbacks = refl; defaults = refl; shown_at_power_loss = refl }) (same_as (answer_of_any_size s m).after.shown)
 step_heard s m false = step_none s
 
 step_message : (s : SignState) (o : Option SnmpMessage) → IsSignStep s (on_message_if s o).after (on_message_if s o).accepted
@@ -213,7 +213,7 @@ step_settling s = record {
   config = refl;
   table = settled_step (under s.config.face s.defaults) s.table;
   shown = stayed (same_as s.shown);
-  kept = inl refl;
+  shown_at_power_loss = inl refl;
 }
 
 step_down_if : (b : Bool) (s mid : SignState) (remaining : Option ℕ) → IsSignStep s mid None
@@ -221,7 +221,7 @@ step_down_if : (b : Bool) (s mid : SignState) (remaining : Option ℕ) → IsSig
 step_down_if true s mid remaining step = step_code s mid mid.fallbacks.end_duration end_duration_mode step (inr (inr (inr (inl refl))))
 step_down_if false s mid remaining step =
     step_on s mid (showing mid (record mid.shown { remaining = remaining })) None step
-    (record { config = refl; table = refl; fallbacks = refl; defaults = refl; kept = refl })
+    (record { config = refl; table = refl; fallbacks = refl; defaults = refl; shown_at_power_loss = refl })
     (record { text = refl; owner = refl; beacon = refl; pixel = refl; priority = refl; source = refl; defaults = refl })
 
 step_down : (s mid : SignState) (o : Option ℕ) → IsSignStep s mid None → IsSignStep s (counted_down mid o) None
@@ -234,7 +234,7 @@ step_duration s mid step = step_down s mid mid.shown.remaining step
 
 step_quieter : (s mid : SignState) → IsSignStep s mid None → IsSignStep s (quieter mid) None
 step_quieter s mid step =
-    step_on s mid (quieter mid) None step (record { config = refl; table = refl; fallbacks = refl; defaults = refl; kept = refl }) (same_as mid.shown)
+    step_on s mid (quieter mid) None step (record { config = refl; table = refl; fallbacks = refl; defaults = refl; shown_at_power_loss = refl }) (same_as mid.shown)
 
 step_silence_if : (counts ends : Bool) (s mid : SignState) → IsSignStep s mid None
     → IsSignStep s (cond counts (cond ends (put_up_code (quieter mid) mid.fallbacks.communications_loss communications_loss_mode) (quieter mid)) mid) None
@@ -245,7 +245,7 @@ step_silence_if false ends s mid step = step
 
 step_silence : (s mid : SignState) → IsSignStep s mid None → IsSignStep s (after_silence mid) None
 unfolding after_silence
-step_silence s mid step = step_silence_if (nat_lt mid.silent (longest_silence mid)) (mid.silent + 1 == longest_silence mid) s mid step
+step_silence s mid step = step_silence_if (nat_lt mid.silent_seconds (longest_silence mid)) (mid.silent_seconds + 1 == longest_silence mid) s mid step
 
 step_if : (b : Bool) (s x y : SignState) → IsSignStep s x None → IsSignStep s y None → IsSignStep s (cond b x y) None
 step_if true s x y first second = first
@@ -259,23 +259,23 @@ step_tick s =
 
 -- ---- power
 
-step_keeping : (s : SignState) → IsSignStep s (record s { kept = s.shown }) None
+step_keeping : (s : SignState) → IsSignStep s (record s { shown_at_power_loss = s.shown }) None
 step_keeping s = record {
   config = refl;
   table = step_kept (under s.config.face s.defaults) s.table s.table (rows_same s.table);
   shown = stayed (same_as s.shown);
-  kept = inr refl;
+  shown_at_power_loss = inr refl;
 }
 
 step_off : (s mid : SignState) → IsSignStep s mid None → IsSignStep s (record mid { powered = false }) None
 step_off s mid step =
-    step_on s mid (record mid { powered = false }) None step (record { config = refl; table = refl; fallbacks = refl; defaults = refl; kept = refl })
+    step_on s mid (record mid { powered = false }) None step (record { config = refl; table = refl; fallbacks = refl; defaults = refl; shown_at_power_loss = refl })
     (same_as mid.shown)
 
 pub step_power_loss : (s : SignState) → IsSignStep s (after_power_loss s) None
 unfolding after_power_loss
 step_power_loss s =
-    let mid : SignState = record s { kept = s.shown } in
+    let mid : SignState = record s { shown_at_power_loss = s.shown } in
     step_if s.powered s (record (put_up_code mid s.fallbacks.power_loss power_loss_mode) { powered = false }) s
     (step_off s (put_up_code mid s.fallbacks.power_loss power_loss_mode)
     (step_code s mid s.fallbacks.power_loss power_loss_mode (step_keeping s) (inr (inr (inl refl))))) (step_none s)
@@ -284,8 +284,8 @@ step_restored : (s : SignState) → IsSignStep s (restored s) None
 step_restored s = record {
   config = refl;
   table = step_kept (under s.config.face s.defaults) s.table (after_power s.table) (after_power_keeps s.table);
-  shown = came_back (same_as s.kept);
-  kept = inl refl;
+  shown = came_back (same_as s.shown_at_power_loss);
+  shown_at_power_loss = inl refl;
 }
 
 recovery_is_own : (b : Bool) (s : SignState)

@@ -38,14 +38,14 @@ unfolding later
 sixty_seconds = refl
 
 -- it acts once: the count stays
-once : (later 70 one_minute).silent ≡ 60
+once : (later 70 one_minute).silent_seconds ≡ 60
 unfolding later
 once = refl
 
 -- ---- what ends the silence
 
 abbrev half_a_minute : SignState
-half_a_minute = record one_minute { silent = 30 }
+half_a_minute = record one_minute { silent_seconds = 30 }
 
 -- thirty seconds of silence are counted
 thirty_seconds : later 30 one_minute ≡ half_a_minute
@@ -92,18 +92,18 @@ unfolding datagram later
 minute_after_the_answer = refl
 
 -- a SET that is refused is answered too
-refusal_is_an_answer : (datagram half_a_minute (codes "302c02010004067075626c6963a31f02010102010002010030143012060d2b060104018936040203060a00020105")).after.silent
+refusal_is_an_answer : (datagram half_a_minute (codes "302c02010004067075626c6963a31f02010102010002010030143012060d2b060104018936040203060a00020105")).after.silent_seconds
     ≡ 0
 unfolding datagram
 refusal_is_an_answer = refl
 
 -- power that comes back ends it
-power_ends_the_silence : (with_power 9 (without_power half_a_minute)).silent ≡ 0
+power_ends_the_silence : (with_power 9 (without_power half_a_minute)).silent_seconds ≡ 0
 unfolding without_power with_power
 power_ends_the_silence = refl
 
 -- power that was there does not
-power_was_there : (with_power 9 half_a_minute).silent ≡ 30
+power_was_there : (with_power 9 half_a_minute).silent_seconds ≡ 30
 unfolding with_power
 power_was_there = refl
 

@@ -19,7 +19,7 @@ use Rattle.dms_instances.specs.Objects.{instances}
 use Rattle.dms_sign.specs.State.{SignState}
 use Rattle.dms_sign.specs.Values.{value_at, value_after}
 use Rattle.dms_sign.specs.Reply.{too_big}
-use Rattle.dms_sign.specs.Requests.{Answer, refused, primary}
+use Rattle.dms_sign.specs.Requests.{Answer, refused, answer_of_any_size}
 use Rattle.dms_sign.specs.Reply.{response_of, reply_to, on_message}
 use Rattle.dms_sign_laws.proofs.BenchSign.{octets_of, bench_sign, with_changeable_rows, valid_row, datagram}
 
@@ -126,8 +126,8 @@ unfolding element integer_octets
 request_size = size_of many 12 1437 (numbers_size many 4 1 1 (four_octets 2147483647 (omega arith) (omega arith)) refl refl) many_octets
 
 -- after 2.5 comes nothing: noSuchName, index 205
-nothing_after_the_last : primary bench_sign many ≡ refused bench_sign many_names NoSuchName 205
-unfolding instances name_of value_at value_after primary
+nothing_after_the_last : answer_of_any_size bench_sign many ≡ refused bench_sign many_names NoSuchName 205
+unfolding instances name_of value_at value_after answer_of_any_size
 nothing_after_the_last = refl
 
 -- this would need 1,473 octets

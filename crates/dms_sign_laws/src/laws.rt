@@ -15,7 +15,7 @@ ghost use Rattle.dms_table.specs.Rows.{IsTable};
 ghost use Rattle.dms_table.specs.declared.stock.Stock.{Stock};
 ghost use Rattle.dms_table.specs.Stock.{table_of};
 ghost use Rattle.dms_sign.specs.State.{ConfigModel, SignState, start};
-ghost use Rattle.dms_sign.specs.Requests.{primary};
+ghost use Rattle.dms_sign.specs.Requests.{answer_of_any_size};
 ghost use Rattle.dms_sign.specs.Reply.{reply_to, received, after_get};
 ghost use Rattle.dms_sign.specs.Events.{after_tick, after_power_loss, after_power_return};
 ghost use Rattle.dms_sign.specs.Promises.{IsReplyTo, AsksFor, activates, is_get};
@@ -29,13 +29,13 @@ pub fn replies_name_their_request()
 /// repeats the binding.
 pub fn one_binding_set_is_never_too_big()
     ensures { (s : SignState) (m : SnmpMessage) (datagram : List ℕ) → message_of datagram ≡ Some m → m.kind ≡ Set → length m.bindings ≡ 1
-        → reply_to m (primary s m) ≡ canonical (response_to m (error_status_number (primary s m).status) (primary s m).index) }
+        → reply_to m (answer_of_any_size s m) ≡ canonical (response_to m (error_status_number (answer_of_any_size s m).status) (answer_of_any_size s m).index) }
 {}
 
 /// Nor is a SET that succeeds.
 pub fn no_success_is_replaced()
-    ensures { (s : SignState) (m : SnmpMessage) (datagram : List ℕ) → message_of datagram ≡ Some m → m.kind ≡ Set → (primary s m).status ≡ NoError
-        → reply_to m (primary s m) ≡ canonical (response_to m (error_status_number (primary s m).status) (primary s m).index) }
+    ensures { (s : SignState) (m : SnmpMessage) (datagram : List ℕ) → message_of datagram ≡ Some m → m.kind ≡ Set → (answer_of_any_size s m).status ≡ NoError
+        → reply_to m (answer_of_any_size s m) ≡ canonical (response_to m (error_status_number (answer_of_any_size s m).status) (answer_of_any_size s m).index) }
 {}
 
 /// A SET of dmsActivateMessage alone is answered by no error where its activation was accepted, and there alone. A SET
@@ -43,11 +43,11 @@ pub fn no_success_is_replaced()
 /// only where a binding of a SET asks for it, and no error is answered.
 pub fn accepted_where_no_error()
     ensures one { (s : SignState) (m : SnmpMessage) (octets : List ℕ) → m.kind ≡ Set → m.bindings ≡ activates octets ∷ []
-        → ((primary s m).status ≡ NoError) ↔ ((primary s m).accepted ≡ Some (activation_of s.table.order octets)) }
+        → ((answer_of_any_size s m).status ≡ NoError) ↔ ((answer_of_any_size s m).accepted ≡ Some (activation_of s.table.order octets)) }
     ensures among { (s : SignState) (m : SnmpMessage) (octets : List ℕ) → m.kind ≡ Set → Contains m.bindings (activates octets)
-        → (primary s m).status ≡ NoError → (primary s m).accepted ≡ Some (activation_of s.table.order octets) }
-    ensures only { (s : SignState) (m : SnmpMessage) (activation : Activation) → (primary s m).accepted ≡ Some activation
-        → ((primary s m).status ≡ NoError) × AsksFor s m activation }
+        → (answer_of_any_size s m).status ≡ NoError → (answer_of_any_size s m).accepted ≡ Some (activation_of s.table.order octets) }
+    ensures only { (s : SignState) (m : SnmpMessage) (activation : Activation) → (answer_of_any_size s m).accepted ≡ Some activation
+        → ((answer_of_any_size s m).status ≡ NoError) × AsksFor s m activation }
 {}
 
 /// A Get or a GetNext that is answered ends the silence, and leaves all else as it is; a datagram that is not answered

@@ -16,7 +16,7 @@ ghost use Rattle.dms_instances.specs.Objects.{IsInstance};
 ghost use Rattle.dms_sign.specs.State.{ConfigModel, SignState, start};
 ghost use Rattle.dms_sign.specs.Values.{value_at, value_of, value_after};
 ghost use Rattle.dms_sign.specs.Reply.{too_big};
-ghost use Rattle.dms_sign.specs.Requests.{primary};
+ghost use Rattle.dms_sign.specs.Requests.{answer_of_any_size};
 ghost use Rattle.dms_sign.specs.Reply.{response_of, on_message, received};
 ghost use Rattle.dms_sign.specs.Events.{after_tick, after_power_loss, after_power_return};
 ghost use Rattle.dms_sign.specs.InRange.{IsSignInRange, IsStocked, IsMadeOfOctets, IsBindingInLimits, IsSpelledReply};
@@ -40,7 +40,7 @@ pub fn answers_are_in_limits()
     ensures value { (s : SignState) (name : List ℕ) → IsSignInRange s → IfSome (value_of s name) IsValueInLimits }
     ensures next { (s : SignState) (name : List ℕ) → IsSignInRange s → IfSome (value_after s name) IsBindingInLimits }
     ensures response { (s : SignState) (m : SnmpMessage) (octets : List ℕ) → IsSignInRange s → Spells m octets
-        → IsMessageInLimits (response_of m (primary s m)) }
+        → IsMessageInLimits (response_of m (answer_of_any_size s m)) }
     ensures too_big { (m : SnmpMessage) → IsMessageInLimits m → IsMessageInLimits (response_to m too_big 0) }
 {}
 

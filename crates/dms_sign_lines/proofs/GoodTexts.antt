@@ -33,7 +33,7 @@ good_as_made config table is =
     record {
       own = fits;
       shown = record { defaults = fits; text = empty_is_good (under config.face config.face.defaults) };
-      kept = record { defaults = fits; text = empty_is_good (under config.face config.face.defaults) };
+      shown_at_power_loss = record { defaults = fits; text = empty_is_good (under config.face config.face.defaults) };
     }
 
 -- ---- one step
@@ -68,14 +68,14 @@ shown_next : (old new : SignState) (accepted : Option Activation) → ShowsGoodT
 shown_next old new accepted was fits same (stayed message) =
     drawn_as new.config.face old.shown new.shown message (drawn_still old.config new.config old.shown same was.shown)
 shown_next old new accepted was fits same (came_back message) =
-    drawn_as new.config.face old.kept new.shown message (drawn_still old.config new.config old.kept same was.kept)
+    drawn_as new.config.face old.shown_at_power_loss new.shown message (drawn_still old.config new.config old.shown_at_power_loss same was.shown_at_power_loss)
 shown_next old new accepted was fits same (blanked is) = drawn_blank new.config.face new.defaults new.shown fits is
 shown_next old new accepted was fits same (activated code e source is) = drawn_row new.config.face new.defaults new.table new.shown fits is
 shown_next old new accepted was fits same (fell_back own is) = drawn_row new.config.face new.defaults new.table new.shown fits is
 
-kept_next : (old new : SignState) → ShowsGoodTexts old → new.config ≡ old.config → (new.kept ≡ old.kept) ⊎ (new.kept ≡ old.shown) → CanBeDrawn new.config.face new.kept
+kept_next : (old new : SignState) → ShowsGoodTexts old → new.config ≡ old.config → (new.shown_at_power_loss ≡ old.shown_at_power_loss) ⊎ (new.shown_at_power_loss ≡ old.shown) → CanBeDrawn new.config.face new.shown_at_power_loss
 kept_next old new was same (inl e) =
-    subst (CanBeDrawn new.config.face) (sym e) (drawn_still old.config new.config old.kept same was.kept)
+    subst (CanBeDrawn new.config.face) (sym e) (drawn_still old.config new.config old.shown_at_power_loss same was.shown_at_power_loss)
 kept_next old new was same (inr e) =
     subst (CanBeDrawn new.config.face) (sym e) (drawn_still old.config new.config old.shown same was.shown)
 
@@ -83,7 +83,7 @@ good_next : (old new : SignState) (accepted : Option Activation) → IsSignStep 
 good_next old new accepted step fits was = record {
   own = fits;
   shown = shown_next old new accepted was fits step.config step.shown;
-  kept = kept_next old new was step.config step.kept;
+  shown_at_power_loss = kept_next old new was step.config step.shown_at_power_loss;
 }
 
 -- ---- lines
@@ -97,7 +97,7 @@ good_ticks zero s was = was
 good_ticks (suc seconds) s was = good_tick (after_ticks seconds s) (good_ticks seconds s was)
 
 good_awake : (powered : Bool) (s : SignState) → ShowsGoodTexts s → ShowsGoodTexts (cond powered (awake s) s)
-good_awake true s was = record { own = was.own; shown = was.shown; kept = was.kept }
+good_awake true s was = record { own = was.own; shown = was.shown; shown_at_power_loss = was.shown_at_power_loss }
 good_awake false s was = was
 
 good_call : (s : SignState) (call : SignCall) → ShowsGoodTexts s → ShowsGoodTexts (after_call s call)

@@ -16,4 +16,4 @@ pub record CanBeDrawn (face : FaceModel) (shown : ShownModel) : Type 0 where
 pub record ShowsGoodTexts (s : SignState) : Type 0 where
   pub own : HasFitDefaults s
   pub shown : CanBeDrawn s.config.face s.shown
-  pub kept : CanBeDrawn s.config.face s.kept
+  pub shown_at_power_loss : CanBeDrawn s.config.face s.shown_at_power_loss

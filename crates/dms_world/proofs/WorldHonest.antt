@@ -16,7 +16,7 @@ use Rattle.dms_codes.specs.declared.codes.Activation.{Activation}
 use Rattle.dms_codes.specs.Codes.{octets_of_activation, activation_of}
 use Rattle.dms_codes.specs.Memory.{current_buffer, blank_memory}
 use Rattle.dms_sign.specs.State.{SignState}
-use Rattle.dms_sign.specs.Requests.{primary}
+use Rattle.dms_sign.specs.Requests.{answer_of_any_size}
 use Rattle.dms_sign.specs.Reply as sign_reply
 use Rattle.dms_sign.specs.Reply.{heard, is_heard}
 use Rattle.dms_sign.specs.InRange.{response_sent, IsSpelledReply}
@@ -79,7 +79,7 @@ record IsAnsweredWith (world : WorldModel) (events : List EventModel) (count num
   puts_up : PutsUp world.centre.settings number code datagram
   hears : is_heard (world_at world events before).sign (request_for world number code) ≡ true
   heard_is : sign_reply.received (world_at world events before).sign datagram ≡ heard (world_at world events before).sign (request_for world number code)
-  status_is : pos (error_status_number (primary (world_at world events before).sign (request_for world number code)).status) ≡ status
+  status_is : pos (error_status_number (answer_of_any_size (world_at world events before).sign (request_for world number code)).status) ≡ status
 
 -- each datagram that the centre had sent with this number puts this code up
 abbrev AllPutUp : WorldModel → List EventModel → ℕ → ℕ → Activation → Type 0
@@ -104,8 +104,8 @@ answered_by_the_sign world events fresh fair count number code octets reply ther
     let up : PutsUp world.centre.settings number code is.datagram =
     all is.place is.datagram now (record { message = reads.request; spelled = reads.asked; is = number_is }) in
     let requested : reads.request ≡ request = same_Some reads.request request (sym reads.asked ∙ up) in
-    let meant : response_sent request (primary s request) ≡ reply =
-    ap (λ (m : SnmpMessage). response_sent m (primary s m)) (sym requested) ∙ sym reads.meant ∙ same in
+    let meant : response_sent request (answer_of_any_size s request) ≡ reply =
+    ap (λ (m : SnmpMessage). response_sent m (answer_of_any_size s m)) (sym requested) ∙ sym reads.meant ∙ same in
     let one : length request.bindings ≡ 1 = ap length (request_bindings world number code) in
     record {
       before = is.before;
@@ -216,17 +216,17 @@ status_zero status e = no_error_is status (number_zero (error_status_number stat
 
 -- an activation is accepted for what it says
 record IsTaken (world : WorldModel) (s : SignState) (number : ℕ) (code taken : Activation) : Type 0 where
-  accepted : (primary s (request_for world number code)).accepted ≡ Some taken
+  accepted : (answer_of_any_size s (request_for world number code)).accepted ≡ Some taken
   same : octets_of_activation world.sign.table.order taken ≡ octets_for world code
 
 is_taken : (world : WorldModel) (s : SignState) (number : ℕ) (code : Activation) (datagram : List ℕ) → s.table.order ≡ world.sign.table.order
-    → PutsUp world.centre.settings number code datagram → (primary s (request_for world number code)).status ≡ NoError
+    → PutsUp world.centre.settings number code datagram → (answer_of_any_size s (request_for world number code)).status ≡ NoError
     → IsTaken world s number code (activation_of world.sign.table.order (octets_for world code))
 is_taken world s number code datagram order up none =
     let request : SnmpMessage = request_for world number code in
     let octets : List ℕ = octets_for world code in
     let bindings : request.bindings ≡ activates octets ∷ [] = request_bindings world number code in
-    let own : (primary s request).accepted ≡ Some (activation_of s.table.order octets) =
+    let own : (answer_of_any_size s request).accepted ≡ Some (activation_of s.table.order octets) =
     (accepted_where_no_error s request octets (request_kind world number code) bindings).0 none in
     let asks = (accepted_was_asked_for s request (activation_of s.table.order octets) own).1 in
     let only : asks.octets ≡ octets = only_one octets asks.octets (subst (λ bs. Contains bs (activates asks.octets)) bindings asks.binding) in
@@ -249,7 +249,7 @@ after_it world events number code status count was =
 
 listed : (world : WorldModel) (events : List EventModel) (number : ℕ) (code taken : Activation) (status : ℤ)
     → (was : IsAnsweredWith world events (length events) number code status)
-    → (primary (world_at world events was.before).sign (request_for world number code)).accepted ≡ Some taken
+    → (answer_of_any_size (world_at world events was.before).sign (request_for world number code)).accepted ≡ Some taken
     → Has (world_after world events).accepted (suc was.before, taken)
 listed world events number code taken status was accepted =
     let before : WorldModel = world_at world events was.before in
@@ -272,7 +272,7 @@ is_up world events number code taken status count was is not_current not_blank o
     let octets : octets_of_activation world.centre.settings.order taken ≡ octets_of_activation world.centre.settings.order code =
     subst (λ o. octets_of_activation o taken ≡ octets_for world code) order is.same in
     let both = alike world.centre.settings.order taken code octets in
-    let up : shown_checksum (primary s request).after.shown ≡ taken.id.crc =
+    let up : shown_checksum (answer_of_any_size s request).after.shown ≡ taken.id.crc =
     accepted_is_up s request taken is.accepted (λ e. not_current (sym both.memory ∙ e)) (λ e. not_blank (sym both.memory ∙ e)) in
     ap (λ (w : WorldModel). shown_checksum w.sign.shown) (after_it world events number code status count was) ∙ up ∙ both.crc
 
@@ -281,7 +281,7 @@ was_accepted : (world : WorldModel) (events : List EventModel) → IsFresh world
 unfolding delivered answered
 was_accepted world events fresh are entry was =
     let s : SignState = (world_at world events was.before).sign in
-    let none : (primary s (request_for world entry.number entry.code)).status ≡ NoError = status_zero _ was.status_is in
+    let none : (answer_of_any_size s (request_for world entry.number entry.code)).status ≡ NoError = status_zero _ was.status_is in
     let taken : Activation = activation_of world.sign.table.order (octets_for world entry.code) in
     let is : IsTaken world s entry.number entry.code taken =
     is_taken world s entry.number entry.code was.datagram (sound_at world events fresh was.before).order was.puts_up none in

@@ -20,7 +20,7 @@ use Rattle.dms_table.specs.Activation.{ShownModel, shown_reading, row_id, named,
 use Rattle.dms_sign.specs.State.{SignState}
 use Rattle.dms_access.specs.Access.{Write, SetNumber, SetCode, SetField, AskRow, Activate, SetRemaining, is_command}
 use Rattle.dms_sign.specs.SetRequest.{SetCause, causes, assigned}
-use Rattle.dms_sign.specs.Requests.{found_unless, as_decided, as_asked, commanded, commanded_if, writes_of, set_unless, may_write, answer_by, primary}
+use Rattle.dms_sign.specs.Requests.{found_unless, as_decided, as_asked, commanded, commanded_if, writes_of, set_unless, may_write, answer_by, answer_of_any_size}
 use Rattle.dms_centre_laws.proofs.Lists.{by_test}
 use Rattle.dms_world.specs.Honest.{shown_checksum}
 
@@ -143,6 +143,6 @@ answer_up s m GetNext a e = absurd (found_up s m.bindings _ _ a e)
 answer_up s m Response a e = absurd (cc)
 answer_up s m Set a e = set_up s m.bindings (causes s (may_write s m) m.bindings) a e
 
-pub accepted_is_up : (s : SignState) (m : SnmpMessage) (a : Activation) → (primary s m).accepted ≡ Some a → HasItsChecksum a (primary s m).after.shown
-unfolding primary
+pub accepted_is_up : (s : SignState) (m : SnmpMessage) (a : Activation) → (answer_of_any_size s m).accepted ≡ Some a → HasItsChecksum a (answer_of_any_size s m).after.shown
+unfolding answer_of_any_size
 accepted_is_up s m a e = answer_up s m m.kind a e

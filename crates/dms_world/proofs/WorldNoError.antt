@@ -10,7 +10,7 @@ use Rattle.dms_wire.specs.Response.{response_to}
 use Rattle.dms_codes.specs.declared.codes.Activation.{Activation}
 use Rattle.dms_codes.specs.Codes.{activation_of}
 use Rattle.dms_sign.specs.State.{SignState}
-use Rattle.dms_sign.specs.Requests.{Answer, primary}
+use Rattle.dms_sign.specs.Requests.{Answer, answer_of_any_size}
 use Rattle.dms_sign.specs.Reply as sign_reply
 use Rattle.dms_sign.specs.Reply.{response_of, too_big, most_octets, heard}
 use Rattle.dms_sign.specs.InRange.{response_sent, IsSpelledReply}
@@ -63,10 +63,10 @@ accepted_then world events fresh before octets response was zero =
     replies_spell_their_response s was.datagram was.reply (in_range_at world events fresh before) was.answered in
     let requested : reads.request ≡ was.request = same_Some reads.request was.request (sym reads.asked ∙ was.asked) in
     let responded : reads.response ≡ response = same_Some reads.response response (sym reads.spelled ∙ was.spelled) in
-    let meant : response_sent was.request (primary s was.request) ≡ response =
-    ap (λ (m : SnmpMessage). response_sent m (primary s m)) (sym requested) ∙ sym reads.meant ∙ responded in
-    let none : (primary s was.request).status ≡ NoError =
-    no_error was.request (primary s was.request) (ap (λ (m : SnmpMessage). m.status) meant ∙ zero) in
+    let meant : response_sent was.request (answer_of_any_size s was.request) ≡ response =
+    ap (λ (m : SnmpMessage). response_sent m (answer_of_any_size s m)) (sym requested) ∙ sym reads.meant ∙ responded in
+    let none : (answer_of_any_size s was.request).status ≡ NoError =
+    no_error was.request (answer_of_any_size s was.request) (ap (λ (m : SnmpMessage). m.status) meant ∙ zero) in
     let hears : sign_reply.received s was.datagram ≡ heard s was.request = heard_message s was.datagram was.reply was.request was.answered was.asked in
     ap (λ (r : sign_reply.Received). r.accepted) hears
     ∙ accepted_among s was.request octets was.sets was.binding none

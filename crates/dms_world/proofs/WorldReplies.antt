@@ -13,7 +13,7 @@ use Rattle.dms_wire.proofs.MessageOfLaws.{read_is_spelled}
 use Rattle.dms_wire.proofs.ShorterSpellings.{response_no_longer}
 use Rattle.dms_sign.specs.State.{SignState}
 use Rattle.dms_sign.specs.Reply.{too_big}
-use Rattle.dms_sign.specs.Requests.{Answer, primary}
+use Rattle.dms_sign.specs.Requests.{Answer, answer_of_any_size}
 use Rattle.dms_sign.specs.Reply as sign_reply
 use Rattle.dms_sign.specs.Reply.{response_of, most_octets, is_heard, heard, dropped, on_message_if}
 use Rattle.dms_sign.specs.InRange.{response_sent}
@@ -58,9 +58,9 @@ status_by m a false e = absurd (cc)
 
 -- of a SET of one binding it is that of what is answered
 pub status_reported : (s : SignState) (m : SnmpMessage) (datagram : List ℕ) → message_of datagram ≡ Some m → m.kind ≡ Set → length m.bindings ≡ 1
-    → (response_sent m (primary s m)).status ≡ pos (error_status_number (primary s m).status)
+    → (response_sent m (answer_of_any_size s m)).status ≡ pos (error_status_number (answer_of_any_size s m).status)
 status_reported s m datagram spelled set one =
-    let a : Answer = primary s m in
+    let a : Answer = answer_of_any_size s m in
     let is = is_set_answer s m set in
     let spells = (read_is_spelled datagram m).0 spelled in
     let shorter : length (canonical (response_to m (error_status_number a.status) a.index)) ≤ length datagram =

@@ -136,7 +136,7 @@ validated_row world events count fresh is source =
 
 record IsSureAt (world : WorldModel) (events : List EventModel) (count : ℕ) : Type 0 where
   shown : IsBackedAt world events count (world_at world events count).sign.shown
-  kept : IsBackedAt world events count (world_at world events count).sign.kept
+  kept : IsBackedAt world events count (world_at world events count).sign.shown_at_power_loss
 
 was_the_signs : (world : WorldModel) (events : List EventModel) (count : ℕ) → IsFresh world
     → IsOwnCode (world_at world events count).sign.table.order (world_at world events count).sign.fallbacks (world_at world events count).sign.shown.source
@@ -153,8 +153,8 @@ shown_next world events count accepted fresh sure known (stayed same) =
     backed_as world events (suc count) (world_at world events count).sign.shown (world_at world events (suc count)).sign.shown same
     (backed_more world events count (world_at world events count).sign.shown sure.shown)
 shown_next world events count accepted fresh sure known (came_back same) =
-    backed_as world events (suc count) (world_at world events count).sign.kept (world_at world events (suc count)).sign.shown same
-    (backed_more world events count (world_at world events count).sign.kept sure.kept)
+    backed_as world events (suc count) (world_at world events count).sign.shown_at_power_loss (world_at world events (suc count)).sign.shown same
+    (backed_more world events count (world_at world events count).sign.shown_at_power_loss sure.kept)
 shown_next world events count accepted fresh sure known (blanked is) =
     inl (record { memory = is.memory; text = is.text; beacon = is.beacon; pixel = is.pixel })
 shown_next world events count accepted fresh sure known (activated code e source is) =
@@ -163,10 +163,10 @@ shown_next world events count accepted fresh sure known (fell_back own is) =
     validated_row world events (suc count) fresh is (inr (was_the_signs world events (suc count) fresh own))
 
 kept_next : (world : WorldModel) (events : List EventModel) (count : ℕ) (kept : ShownModel) → IsSureAt world events count
-    → (kept ≡ (world_at world events count).sign.kept) ⊎ (kept ≡ (world_at world events count).sign.shown)
+    → (kept ≡ (world_at world events count).sign.shown_at_power_loss) ⊎ (kept ≡ (world_at world events count).sign.shown)
     → IsBackedAt world events (suc count) kept
 kept_next world events count kept sure (inl e) =
-    subst (IsBackedAt world events (suc count)) (sym e) (backed_more world events count (world_at world events count).sign.kept sure.kept)
+    subst (IsBackedAt world events (suc count)) (sym e) (backed_more world events count (world_at world events count).sign.shown_at_power_loss sure.kept)
 kept_next world events count kept sure (inr e) =
     subst (IsBackedAt world events (suc count)) (sym e) (backed_more world events count (world_at world events count).sign.shown sure.shown)
 
@@ -175,14 +175,14 @@ sure_next world events count fresh sure =
     let next = world_step world events count in
     record {
       shown = shown_next world events count next.accepted fresh sure next.known next.step.shown;
-      kept = kept_next world events count (world_at world events (suc count)).sign.kept sure next.step.kept;
+      kept = kept_next world events count (world_at world events (suc count)).sign.shown_at_power_loss sure next.step.shown_at_power_loss;
     }
 
 -- ---- the start, and any number of events
 
-blank_first : (world : WorldModel) → IsFresh world → IsBlank world.sign.shown × IsBlank world.sign.kept
+blank_first : (world : WorldModel) → IsFresh world → IsBlank world.sign.shown × IsBlank world.sign.shown_at_power_loss
 blank_first world fresh =
-    subst (λ (w : WorldModel). IsBlank w.sign.shown × IsBlank w.sign.kept) (sym fresh.is_beginning)
+    subst (λ (w : WorldModel). IsBlank w.sign.shown × IsBlank w.sign.shown_at_power_loss) (sym fresh.is_beginning)
     (record { memory = refl; text = refl; beacon = refl; pixel = refl }, record { memory = refl; text = refl; beacon = refl; pixel = refl })
 
 sure_at : (world : WorldModel) (events : List EventModel) → IsFresh world → (count : ℕ) → IsSureAt world events count

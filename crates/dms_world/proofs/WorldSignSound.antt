@@ -16,7 +16,7 @@ pub record IsSoundAt (world : WorldModel) (events : List EventModel) (count : �
   pub services : (world_at world events count).sign.table.services ≡ world.sign.table.services
   pub order : (world_at world events count).sign.table.order ≡ world.sign.table.order
   pub shown_copy : WereDefaults world events count (world_at world events count).sign.shown.defaults
-  pub kept_copy : WereDefaults world events count (world_at world events count).sign.kept.defaults
+  pub kept_copy : WereDefaults world events count (world_at world events count).sign.shown_at_power_loss.defaults
 
 -- ---- copies of the defaults
 
@@ -40,7 +40,7 @@ copy_shown world events count accepted sound (activated code e source is) = copy
 copy_shown world events count accepted sound (fell_back own is) = copy_now world events (suc count) _ is.copied
 
 copy_kept : (world : WorldModel) (events : List EventModel) (count : ℕ) (kept : ShownModel) → IsSoundAt world events count
-    → (kept ≡ (world_at world events count).sign.kept) ⊎ (kept ≡ (world_at world events count).sign.shown)
+    → (kept ≡ (world_at world events count).sign.shown_at_power_loss) ⊎ (kept ≡ (world_at world events count).sign.shown)
     → WereDefaults world events (suc count) kept.defaults
 copy_kept world events count kept sound (inl e) =
     subst (λ (k : ShownModel). WereDefaults world events (suc count) k.defaults) (sym e) (copy_more world events count _ sound.kept_copy)
@@ -58,7 +58,7 @@ sound_next world events count sound =
       services = step.table.services ∙ sound.services;
       order = step.table.order ∙ sound.order;
       shown_copy = copy_shown world events count next.accepted sound step.shown;
-      kept_copy = copy_kept world events count (world_at world events (suc count)).sign.kept sound step.kept;
+      kept_copy = copy_kept world events count (world_at world events (suc count)).sign.shown_at_power_loss sound step.shown_at_power_loss;
     }
 
 sound_first : (world : WorldModel) (events : List EventModel) → IsFresh world → IsSoundAt world events zero
@@ -67,7 +67,7 @@ sound_first world events fresh = record {
   services = refl;
   order = refl;
   shown_copy = (0, omega arith, subst (λ (w : WorldModel). w.sign.defaults ≡ w.sign.shown.defaults) (sym fresh.is_beginning) refl);
-  kept_copy = (0, omega arith, subst (λ (w : WorldModel). w.sign.defaults ≡ w.sign.kept.defaults) (sym fresh.is_beginning) refl);
+  kept_copy = (0, omega arith, subst (λ (w : WorldModel). w.sign.defaults ≡ w.sign.shown_at_power_loss.defaults) (sym fresh.is_beginning) refl);
 }
 
 pub sound_at : (world : WorldModel) (events : List EventModel) → IsFresh world → (count : ℕ) → IsSoundAt world events count

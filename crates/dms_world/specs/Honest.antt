@@ -7,7 +7,7 @@ use Rattle.dms_codes.specs.Checksum.{message_checksum}
 use Rattle.dms_codes.specs.Codes.{octets_of_activation}
 use Rattle.dms_codes.specs.Memory.{current_buffer, blank_memory}
 use Rattle.dms_table.specs.Activation.{ShownModel}
-use Rattle.dms_sign.specs.Requests.{Answer, primary}
+use Rattle.dms_sign.specs.Requests.{Answer, answer_of_any_size}
 use Rattle.dms_sign.specs.Reply.{is_heard}
 use Rattle.dms_sign.specs.Promises.{activates}
 use Rattle.dms_centre.specs.declared.outcome.Outcome.TheVariants.{Accepted, Refused}
@@ -61,7 +61,7 @@ request_in answered = answered.delivered.has_number.message
 
 -- what it answered
 abbrev pub answer_in : {world : WorldModel} {events : List EventModel} {number before : ℕ} → WasAnswered world events number before → Answer
-answer_in {world} {events} {number} {before} answered = primary (world_at world events before).sign (request_in answered)
+answer_in {world} {events} {number} {before} answered = answer_of_any_size (world_at world events before).sign (request_in answered)
 
 -- ---- what the ledger says
 

@@ -17,7 +17,7 @@ use Rattle.dms_world.specs.Backed.{Has, IsBackedAt}
 
 -- the copy that a sign keeps at a loss of power is blank, or a validated message, as what is shown is
 abbrev pub KeptIsBacked : WorldModel → List EventModel → Type 0
-KeptIsBacked world events = IsBackedAt world events (length events) (world_after world events).sign.kept
+KeptIsBacked world events = IsBackedAt world events (length events) (world_after world events).sign.shown_at_power_loss
 
 -- The reply is what the sign sent at an event that handed over a request, and has that request's number.
 pub record WasReplied (world : WorldModel) (events : List EventModel) (reply : List ℕ) : Type 0 where

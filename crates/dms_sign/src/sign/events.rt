@@ -27,7 +27,7 @@ impl Sign {
         if self.powered {
             self.settle();
             self.count_down();
-            self.grow_silent();
+            self.count_silence();
         }
     }
 
@@ -48,14 +48,14 @@ impl Sign {
     /// Silence is counted up to its limit, where the code of a communications loss is activated: once, until a datagram
     /// is answered.
     #[tactic(auto, unfolding(crate::specs::Events::after_silence))]
-    fn grow_silent(&mut self)
+    fn count_silence(&mut self)
         ensures { self.new ≡ after_silence self.old }
     {
         let longest = 60 * u32::from(self.settings.time_comm_loss);
-        if self.silent < longest {
-            let silent = self.silent + 1;
-            self.set_silent(silent);
-            if silent == longest {
+        if self.silent_seconds < longest {
+            let silent_seconds = self.silent_seconds + 1;
+            self.set_silent_seconds(silent_seconds);
+            if silent_seconds == longest {
                 self.put_up(
                     self.fallbacks().communications_loss,
                     mode::COMMUNICATIONS_LOSS,
@@ -69,7 +69,7 @@ impl Sign {
         ensures { self.new ≡ after_get self.old }
     {
         if self.powered {
-            self.set_silent(0);
+            self.set_silent_seconds(0);
         }
     }
 

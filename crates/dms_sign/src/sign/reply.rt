@@ -50,7 +50,7 @@ impl Sign {
     }
 
     /// Answers a request.
-    #[tactic(auto, unfolding(crate::specs::Requests::primary))]
+    #[tactic(auto, unfolding(crate::specs::Requests::answer_of_any_size))]
     fn answer(&mut self, message: &Message<'_>, out: &mut Out) -> Receipt
         requires read { IsRead (snmp_message message.now) }
         requires asks { IsTrue (is_request message.now.kind) }
@@ -70,7 +70,7 @@ impl Sign {
             }
             Kind::Set | Kind::Response => self.answer_set(message, out),
         };
-        self.set_silent(0);
+        self.set_silent_seconds(0);
         receipt
     }
 
