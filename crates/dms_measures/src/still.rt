@@ -10,7 +10,7 @@ use dms_multi::{Item, items, render};
 use dms_pages::{Page, pages};
 use dms_sign::{Config, Receipt, Sign};
 use dms_streams::{Counted, Gathered, Source};
-use dms_table::{Field, Shown, Stock, Table};
+use dms_table::{Field, Mode, Shown, Stock, Table};
 use dms_wire::{ErrorStatus, Out, heard, write_response};
 use dms_world::World;
 use std::alloc::Global;
@@ -71,7 +71,7 @@ pub extern "C" fn dms_still_table(alloc: Global, fonts: &[u8], text: &[u8], time
     let Ok(mut table) = Table::new(alloc, STOCK, &face) else {
         return 0;
     };
-    let mut shown = Shown::blank(&face.defaults(), 10);
+    let mut shown = Shown::blank(&face.defaults(), Mode::PowerRecovery);
     let mut sum = 0_u64;
     for _ in 0..times {
         sum = sum.wrapping_add(one_message(&mut table, &face, &mut shown, text));

@@ -21,7 +21,9 @@ use Rattle.dms_codes.specs.Limits.{longest_text}
 use Rattle.dms_codes.specs.Codes.{number_at, id_of, activation_of, octets_of_id, octets_of_activation, IsMessageId}
 use Rattle.dms_table.specs.Activation.{ShownModel, is_memory, named, row_id, has_checksum, text_error, activation_error, cause_number, seconds_of, put_up, unless_refused, decided_on, decided}
 use Rattle.dms_access.specs.Reports.{ReportsModel}
-use Rattle.dms_table.specs.Activation.{no_address, blank_shown}
+use Rattle.dms_table.specs.declared.shown.Mode.{Mode}
+use Rattle.dms_table.specs.declared.shown.Mode.TheVariants.{Central, PowerRecovery, CommunicationsLoss, PowerLoss, EndDuration}
+use Rattle.dms_table.specs.Activation.{no_address, blank_shown, mode_number}
 use Rattle.dms_sign.specs.State.{SignState}
 use Rattle.dms_access.specs.Reports.{with_fault, with_cause, refused_reports}
 use Rattle.dms_sign.specs.OwnCodes.{showing, with_refused_code, own_activation, put_up_as_decided, staying, put_up_code}
@@ -274,6 +276,13 @@ refused_code_in_range s cause code is small octets =
     telling_in_range s (refused_reports s.reports cause code) is (refused_in_range s.reports cause code is.reports small octets)
 
 -- ---- codes of the sign's own
+
+pub mode_in_range : (mode : Mode) → mode_number mode ≤ 255
+mode_in_range Central = omega arith
+mode_in_range PowerRecovery = omega arith
+mode_in_range CommunicationsLoss = omega arith
+mode_in_range PowerLoss = omega arith
+mode_in_range EndDuration = omega arith
 
 pub with_mode : (shown : ShownModel) (mode : ℕ) → IsShownInRange shown → mode ≤ 255 → IsShownInRange (record shown { mode = mode })
 with_mode shown mode is small =

@@ -19,7 +19,8 @@ use Rattle.dms_codes.specs.Checksum.{message_checksum}
 use Rattle.dms_codes.specs.Codes.{id_of}
 use Rattle.dms_table.specs.Rows.{RowModel, TableModel, RowReading, blank, rows_of, numbered, blank_at, reading, blank_reading, row_checksum}
 use Rattle.dms_codes.specs.Memory.{current_buffer, blank_memory}
-use Rattle.dms_table.specs.Activation.{ShownModel, shown_reading, is_memory, named, seconds_of, central_mode, unless_refused, decided}
+use Rattle.dms_table.specs.declared.shown.Mode.TheVariants.{Central}
+use Rattle.dms_table.specs.Activation.{ShownModel, shown_reading, is_memory, named, seconds_of, mode_number, unless_refused, decided}
 use Rattle.dms_sign.specs.State.{SignState}
 use Rattle.dms_sign.specs.OwnCodes.{own_activation, put_up_as_decided, staying, put_up_code}
 use Rattle.dms_sign.specs.Transitions.{IsSameMessage, IsBlankedUnder, IsRowOf}
@@ -92,7 +93,7 @@ put_up_if current defaults shown code message = record {
   pixel = message.row.pixel;
   priority = message.row.priority;
   source = cond current shown.source code.id;
-  mode = central_mode;
+  mode = mode_number Central;
   address = code.address;
   remaining = seconds_of code.minutes;
   defaults = cond current shown.defaults defaults;

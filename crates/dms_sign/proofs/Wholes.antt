@@ -25,7 +25,8 @@ use Rattle.dms_table.specs.Activation.{ShownModel, shown_by, refusal, unless_ref
 use Rattle.dms_access.specs.declared.reports.Reports.{Reports}
 use Rattle.dms_sign.specs.declared.sign.Sign.TheInside.{Inside}
 use Rattle.dms_sign.specs.Communities.{are_communities}
-use Rattle.dms_table.specs.Activation.{blank_id, blank_shown}
+use Rattle.dms_table.specs.declared.shown.Mode.{Mode}
+use Rattle.dms_table.specs.Activation.{blank_id, blank_shown, mode_number}
 use Rattle.dms_table.specs.Activation.{blank_code}
 use Rattle.dms_sign.specs.State.{ConfigModel, SignState, start, power_recovery_mode}
 use Rattle.dms_sign.specs.Kept.{IsKept}
@@ -46,7 +47,7 @@ use Rattle.dms_table.proofs.Decisions.{accepted_decision, refused_decision}
 use Rattle.dms_table.proofs.Places.{placed_settling}
 use Rattle.dms_table.proofs.Settlement.{nothing_settled, no_verdict}
 use Rattle.dms_sign.specs.Events.{after_settling}
-use Rattle.dms_sign.proofs.InRangeShown.{showing_in_range, telling_in_range, with_table_in_range, with_mode, with_time, own_is, id_is, IsDecisionInRange, decided_in_range, refused_in_range}
+use Rattle.dms_sign.proofs.InRangeShown.{showing_in_range, telling_in_range, with_table_in_range, mode_in_range, with_mode, with_time, own_is, id_is, IsDecisionInRange, decided_in_range, refused_in_range}
 use Rattle.dms_sign.proofs.KnownTexts.{HasEntries, only_within, known_kept, known_settled}
 use Rattle.dms_sign.proofs.StepRows.{after_power_keeps}
 use Rattle.dms_sign.proofs.InRangeStart.{start_in_range, stocked_in_range}
@@ -60,12 +61,13 @@ shown_whole old shown source is range octets = record {
   known = is.known;
 }
 
-pub staying_whole : (old : Inside) (mode : ℕ) → IsWhole old → mode ≤ 255
-    → IsWhole (record old { shown = record old.shown { mode = mode; remaining = None } })
-staying_whole old mode is small = record {
+pub staying_whole : (old : Inside) (mode : Mode) → IsWhole old
+    → IsWhole (record old { shown = record old.shown { mode = mode_number mode; remaining = None } })
+staying_whole old mode is = record {
   kept = record {
-    in_range = showing_in_range (state_of old) (record old.shown { mode = mode; remaining = None }) is.kept.in_range
-        (with_time (record old.shown { mode = mode }) None (with_mode old.shown mode is.kept.in_range.shown small) tt);
+    in_range = showing_in_range (state_of old) (record old.shown { mode = mode_number mode; remaining = None }) is.kept.in_range
+        (with_time (record old.shown { mode = mode_number mode }) None
+        (with_mode old.shown (mode_number mode) is.kept.in_range.shown (mode_in_range mode)) tt);
     fit = is.kept.fit;
     communities = is.kept.communities;
   };

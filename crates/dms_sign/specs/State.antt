@@ -3,7 +3,8 @@ use Rattle.std.specs.Prelude.{ℕ, Bool, true, List}
 use Rattle.dms_face.specs.declared.defaults.Defaults.{Defaults}
 use Rattle.dms_face.specs.Face.{FaceModel}
 use Rattle.dms_table.specs.Rows.{TableModel}
-use Rattle.dms_table.specs.Activation.{ShownModel, blank_code, blank_shown}
+use Rattle.dms_table.specs.declared.shown.Mode.TheVariants.{PowerRecovery, CommunicationsLoss, PowerLoss, EndDuration}
+use Rattle.dms_table.specs.Activation.{ShownModel, blank_code, blank_shown, mode_number}
 use Rattle.dms_access.specs.Reports.{ReportsModel, first_reports}
 
 -- ---- states
@@ -47,19 +48,19 @@ pub record SignState : Type 0 where
   pub reports : ReportsModel
   pub powered : Bool
 
--- ---- modes: how a message came up (NTCIP 1203, dmsMsgSourceMode); central_mode is that of a SET
+-- ---- modes: what put a message up, beside a SET (NTCIP 1203, dmsMsgSourceMode)
 
 abbrev pub power_recovery_mode : ℕ
-power_recovery_mode = 10
+power_recovery_mode = mode_number PowerRecovery
 
 abbrev pub communications_loss_mode : ℕ
-communications_loss_mode = 12
+communications_loss_mode = mode_number CommunicationsLoss
 
 abbrev pub power_loss_mode : ℕ
-power_loss_mode = 13
+power_loss_mode = mode_number PowerLoss
 
 abbrev pub end_duration_mode : ℕ
-end_duration_mode = 14
+end_duration_mode = mode_number EndDuration
 
 -- ---- the start
 

@@ -12,19 +12,18 @@ ghost use Rattle.dms_sign.specs.InRange.{IsStocked, AreOctets, IsShownInRange, I
 ghost use Rattle.dms_sign.specs.Transitions.{HasFitDefaults};
 ghost use Rattle.dms_sign.specs.KnownTexts.{AreKnown};
 ghost use Rattle.dms_face.specs.Face.{fit};
-ghost use Rattle.dms_table.specs.Activation.{refusal, shown_by, unless_refused};
+ghost use Rattle.dms_table.specs.Activation.{mode_number, refusal, shown_by, unless_refused};
 ghost use Rattle.dms_sign.specs.OwnCodes.{showing, staying, with_refused_code};
 ghost use Rattle.dms_sign.specs.Events.{after_settling, restored};
 ghost use Rattle.dms_sign.specs.FallbacksView.{fallbacks_of};
 
 use crate::config::{Config, ConfigFault, are_communities};
 use crate::known_texts::KnownTexts;
-use crate::sign::events::mode;
 use arrayvec::ArrayVec;
 use dms_access::{Fallbacks, Reports, Settings};
 use dms_codes::{Activation, Order};
 use dms_face::{Defaults, Face};
-use dms_table::{Cause, Shown, Table};
+use dms_table::{Cause, Mode, Shown, Table};
 use std::alloc::Global;
 use std::marker::Model;
 
@@ -118,9 +117,9 @@ impl Sign {
             table,
             settings: Settings::new(defaults),
             silent_seconds: 0,
-            shown: Shown::blank(&defaults, mode::POWER_RECOVERY),
+            shown: Shown::blank(&defaults, Mode::PowerRecovery),
             source: [7, 0, 1, 0, 0],
-            shown_at_power_loss: Shown::blank(&defaults, mode::POWER_RECOVERY),
+            shown_at_power_loss: Shown::blank(&defaults, Mode::PowerRecovery),
             reports: Reports::new(),
             powered: true,
             known: KnownTexts::new(defaults),
@@ -189,9 +188,9 @@ impl Sign {
     }
 
     /// The message that a code names is up, in the place of what was shown, with this mode.
-    fn show_named(&mut self, code: &Activation, mode: u8)
-        requires { IsShownInRange (record (shown_by self.old.defaults self.old.table self.old.shown code.now) { mode = mode }) }
-        ensures { self.new ≡ showing self.old (record (shown_by self.old.defaults self.old.table self.old.shown code.now) { mode = mode }) }
+    fn show_named(&mut self, code: &Activation, mode: Mode)
+        requires { IsShownInRange (record (shown_by self.old.defaults self.old.table self.old.shown code.now) { mode = mode_number mode }) }
+        ensures { self.new ≡ showing self.old (record (shown_by self.old.defaults self.old.table self.old.shown code.now) { mode = mode_number mode }) }
     {
         self.table
             .put_up(&self.settings.defaults, code, &mut self.shown);
@@ -200,8 +199,8 @@ impl Sign {
     }
 
     /// What is shown stays, with this mode and without an end.
-    fn stay(&mut self, mode: u8)
-        ensures { self.new ≡ staying self.old mode }
+    fn stay(&mut self, mode: Mode)
+        ensures { self.new ≡ staying self.old (mode_number mode) }
     {
         self.shown.stay(mode);
     }

@@ -10,6 +10,8 @@ use Rattle.dms_codes.specs.declared.codes.Activation.{Activation}
 use Rattle.dms_codes.specs.declared.row_id.RowId.{RowId}
 use Rattle.dms_table.specs.declared.activation.Cause.{Cause}
 use Rattle.dms_table.specs.declared.activation.Cause.TheVariants as causes
+use Rattle.dms_table.specs.declared.shown.Mode.{Mode}
+use Rattle.dms_table.specs.declared.shown.Mode.TheVariants.{Central, PowerRecovery, CommunicationsLoss, PowerLoss, EndDuration}
 use Rattle.dms_codes.specs.Status.{is_valid}
 use Rattle.dms_table.specs.Rows.{RowModel, TableModel, RowReading, row_read, row_checksum}
 use Rattle.dms_codes.specs.Memory.{permanent_memory, changeable_memory, volatile_memory, current_buffer, blank_memory}
@@ -27,6 +29,14 @@ pub record ShownModel : Type 0 where
   pub address : List ℕ
   pub remaining : Option ℕ
   pub defaults : Defaults
+
+-- what put a message up (NTCIP 1203, dmsMsgSourceMode)
+abbrev pub mode_number : Mode → ℕ
+mode_number Central = 8
+mode_number PowerRecovery = 10
+mode_number CommunicationsLoss = 12
+mode_number PowerLoss = 13
+mode_number EndDuration = 14
 
 -- ---- the blank message
 
@@ -125,9 +135,6 @@ cause_number (causes.Syntax fault) = 8
 abbrev pub seconds_of : ℕ → Option ℕ
 seconds_of minutes = if minutes == 65535 then None else Some (minutes * 60)
 
-abbrev pub central_mode : ℕ
-central_mode = 8
-
 -- A code of the current buffer keeps the source and the defaults of what is shown.
 abbrev pub put_up : Defaults → ShownModel → Activation → RowReading → ShownModel
 put_up defaults shown code message = record {
@@ -137,7 +144,7 @@ put_up defaults shown code message = record {
   pixel = message.row.pixel;
   priority = message.row.priority;
   source = if code.id.memory == current_buffer then shown.source else code.id;
-  mode = central_mode;
+  mode = mode_number Central;
   address = code.address;
   remaining = seconds_of code.minutes;
   defaults = if code.id.memory == current_buffer then shown.defaults else defaults;

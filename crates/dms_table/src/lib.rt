@@ -25,7 +25,7 @@ pub use dms_codes::{
     memory,
 };
 pub use row::{Field, Refused, RowView, Services};
-pub use shown::Shown;
+pub use shown::{Mode, Shown};
 pub use stock::{Permanent, Stock, TableFault};
 pub use table::{Place, Table};
 pub use validation::Verdict;

@@ -3,8 +3,9 @@
 ghost use Rattle.std.specs.Prelude.{◌≡◌, ◌==◌, None, false};
 ghost use Rattle.dms_codes.specs.Memory.{current_buffer};
 ghost use Rattle.dms_table.specs.RowsView.{reading_of, IsShort};
-ghost use Rattle.dms_table.specs.Activation.{blank_shown, shown_reading, seconds_of, central_mode, put_up};
+ghost use Rattle.dms_table.specs.Activation.{blank_shown, shown_reading, seconds_of, mode_number, put_up};
 ghost use Rattle.dms_table.specs.ShownView.{shown_checksum, HasItWhereValid};
+ghost use Rattle.dms_table.specs.declared.shown.Mode.TheVariants.{Central};
 
 use crate::row::{RowView, copy_of, replace};
 use arrayvec::ArrayVec;
@@ -12,8 +13,35 @@ use dms_codes::{Activation, MAX_OWNER, MAX_TEXT, MessageId, Status, crc, memory}
 use dms_face::Defaults;
 use std::marker::Model;
 
-/// The mode of a message that a code activated (dmsMsgSourceMode).
-pub const CENTRAL: u8 = 8;
+/// What put a message up: the values of dmsMsgSourceMode.
+#[derive(Clone, Copy, Debug, PartialEq, Eq)]
+pub enum Mode {
+    /// A code that came by a SET.
+    Central,
+    /// The return of the power.
+    PowerRecovery,
+    /// A loss of communications.
+    CommunicationsLoss,
+    /// A loss of power.
+    PowerLoss,
+    /// The end of the duration of the message before it.
+    EndDuration,
+}
+
+impl Mode {
+    /// The mode's number in dmsMsgSourceMode.
+    pub fn number(self) -> u8
+        ensures { result ≡ mode_number self }
+    {
+        match self {
+            Mode::Central => 8,
+            Mode::PowerRecovery => 10,
+            Mode::CommunicationsLoss => 12,
+            Mode::PowerLoss => 13,
+            Mode::EndDuration => 14,
+        }
+    }
+}
 
 /// What is shown: a copy of a row, so that later changes of the row do not show.
 #[derive(Debug, Drop)]
@@ -30,7 +58,7 @@ pub struct Shown {
     pub priority: u8,
     /// The row, as the code that activated it named it (dmsMsgTableSource).
     pub source: MessageId,
-    /// How it came up (dmsMsgSourceMode).
+    /// What put it up, by its number in dmsMsgSourceMode (`Mode`).
     pub mode: u8,
     /// The network address of the one who activated it.
     pub address: [u8; 4],
@@ -54,9 +82,9 @@ impl Model for Shown {
 }
 
 impl Shown {
-    /// Blank message 1, activated by nobody under these defaults, without an end; the mode says how it came up (dmsMsgSourceMode).
-    pub fn blank(defaults: &Defaults, mode: u8) -> Shown
-        ensures { result ≡ blank_shown defaults.now mode }
+    /// Blank message 1, activated by nobody under these defaults, without an end.
+    pub fn blank(defaults: &Defaults, mode: Mode) -> Shown
+        ensures { result ≡ blank_shown defaults.now (mode_number mode) }
     {
         Shown {
             text: ArrayVec::new(),
@@ -69,7 +97,7 @@ impl Shown {
                 number: 1,
                 crc: 0,
             },
-            mode,
+            mode: mode.number(),
             address: [0; 4],
             remaining: None,
             defaults: *defaults,
@@ -78,18 +106,18 @@ impl Shown {
     }
 
     /// It stays, with this mode and without an end.
-    pub fn stay(&mut self, mode: u8)
-        ensures { self.new ≡ record self.old { mode = mode; remaining = None } }
+    pub fn stay(&mut self, mode: Mode)
+        ensures { self.new ≡ record self.old { mode = mode_number mode; remaining = None } }
     {
         self.set_mode(mode);
         self.remain(None);
     }
 
-    /// It came up so (dmsMsgSourceMode).
-    pub fn set_mode(&mut self, mode: u8)
-        ensures { self.new ≡ record self.old { mode = mode } }
+    /// This put it up (dmsMsgSourceMode).
+    pub fn set_mode(&mut self, mode: Mode)
+        ensures { self.new ≡ record self.old { mode = mode_number mode } }
     {
-        self.mode = mode;
+        self.mode = mode.number();
     }
 
     /// It has so many seconds left, or no end.
@@ -143,9 +171,9 @@ impl Shown {
 
     /// It stays, and is up again by this code.
     pub(crate) fn renew(&mut self, code: &Activation)
-        ensures { self.new ≡ record self.old { mode = central_mode; address = code.now.address; remaining = seconds_of code.now.minutes } }
+        ensures { self.new ≡ record self.old { mode = mode_number Central; address = code.now.address; remaining = seconds_of code.now.minutes } }
     {
-        self.mode = CENTRAL;
+        self.mode = Mode::Central.number();
         self.address = code.address;
         self.remaining = seconds(code.minutes);
     }

@@ -4,8 +4,8 @@
 use dms_bench_sign::{B, DEFAULTS, face, stock};
 use dms_face::{Defaults, Face, MultiFault, MultiFaultCode};
 use dms_table::{
-    Activation, Ask, Cause, Field, Order, Permanent, Place, Refused, RowId, Shown, Status, Stock,
-    Table, TableFault, Verdict, memory,
+    Activation, Ask, Cause, Field, Mode, Order, Permanent, Place, Refused, RowId, Shown, Status,
+    Stock, Table, TableFault, Verdict, memory,
 };
 use std::alloc::Global;
 use std::process::Abort;
@@ -24,7 +24,7 @@ const FIRST: RowId = RowId {
 
 /// The sign at its start: a blank message.
 fn blank() -> Shown {
-    Shown::blank(&DEFAULTS, 10)
+    Shown::blank(&DEFAULTS, Mode::PowerRecovery)
 }
 
 fn status(table: &Table, id: RowId) -> Option<Status> {

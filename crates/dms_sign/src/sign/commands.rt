@@ -12,12 +12,12 @@ ghost use Rattle.dms_sign.specs.SetView.{AreSettings, IsCommandInRange, Says, St
 ghost use Rattle.dms_sign.specs.SetRequest.{assigned};
 ghost use Rattle.dms_sign.specs.Requests.{activated, with_remaining, writes_of, commanded, commanded_if, set};
 
-use crate::sign::events::mode;
 use crate::sign::own_codes::{BLANK, own_activation};
 use crate::sign::set_request::{Judged, Refusal, write_fields};
 use crate::sign::{Sign, judge};
 use dms_access::{Change, Settings};
 use dms_codes::{Activation, Ask, Order, RowId};
+use dms_table::Mode;
 use dms_wire::{Binds, ErrorStatus};
 
 impl Sign {
@@ -196,7 +196,7 @@ impl Sign {
         ensures { self.new ≡ with_remaining self.old minutes }
     {
         if minutes == 0 {
-            self.put_up(self.fallbacks().end_duration, mode::END_DURATION);
+            self.put_up(self.fallbacks().end_duration, Mode::EndDuration);
         } else {
             self.remain(seconds_of(minutes));
         }

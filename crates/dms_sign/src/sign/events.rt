@@ -6,17 +6,7 @@ ghost use Rattle.dms_sign.specs.Events.{after_duration, after_silence, after_tic
 ghost use Rattle.dms_sign.specs.Reply.{after_get};
 
 use crate::sign::Sign;
-
-/// How a message came up (dmsMsgSourceMode), beside the activation by a SET.
-pub(super) mod mode {
-    pub const POWER_RECOVERY: u8 = 10;
-
-    pub const COMMUNICATIONS_LOSS: u8 = 12;
-
-    pub const POWER_LOSS: u8 = 13;
-
-    pub const END_DURATION: u8 = 14;
-}
+use dms_table::Mode;
 
 impl Sign {
     /// A second: a row is settled, the duration goes on, and then the silence. A sign without power does nothing.
@@ -39,7 +29,7 @@ impl Sign {
         match self.shown.remaining {
             None => {}
             Some(seconds) if seconds <= 1 => {
-                self.put_up(self.fallbacks().end_duration, mode::END_DURATION)
+                self.put_up(self.fallbacks().end_duration, Mode::EndDuration)
             }
             Some(seconds) => self.remain(Some(seconds - 1)),
         }
@@ -58,7 +48,7 @@ impl Sign {
             if silent_seconds == longest {
                 self.put_up(
                     self.fallbacks().communications_loss,
-                    mode::COMMUNICATIONS_LOSS,
+                    Mode::CommunicationsLoss,
                 );
             }
         }
@@ -81,7 +71,7 @@ impl Sign {
     {
         if self.powered {
             self.keep();
-            self.put_up(self.fallbacks().power_loss, mode::POWER_LOSS);
+            self.put_up(self.fallbacks().power_loss, Mode::PowerLoss);
             self.set_powered(false);
         }
     }
@@ -95,7 +85,7 @@ impl Sign {
         if !self.powered {
             let code = self.recovery_code(seconds);
             self.restore();
-            self.put_up(code, mode::POWER_RECOVERY);
+            self.put_up(code, Mode::PowerRecovery);
         }
     }
 

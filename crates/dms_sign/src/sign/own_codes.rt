@@ -3,11 +3,12 @@
 ghost use Rattle.std.specs.Prelude.{◌≡◌};
 ghost use Rattle.std.specs.Int.Digits.{AllBelowBase};
 ghost use Rattle.dms_codes.specs.Codes.{id_of};
+ghost use Rattle.dms_table.specs.Activation.{mode_number};
 ghost use Rattle.dms_sign.specs.OwnCodes.{own_activation, put_up_code};
 
 use crate::sign::{Sign, judge};
 use dms_codes::{Activation, MessageId, Order, memory};
-use dms_table::Shown;
+use dms_table::{Mode, Shown};
 
 /// Blank message 1.
 pub(super) const BLANK: MessageId = MessageId {
@@ -20,9 +21,9 @@ impl Sign {
     /// Activates the message that these five octets name: what is shown stays for a code of the current buffer; any
     /// other code is decided on, and where it is refused the blank message is up.
     #[tactic(auto, unfolding(crate::specs::OwnCodes::put_up_code))]
-    pub(super) fn put_up(&mut self, octets: [u8; 5], mode: u8)
+    pub(super) fn put_up(&mut self, octets: [u8; 5], mode: Mode)
         requires { AllBelowBase 256 octets }
-        ensures { self.new ≡ put_up_code self.old octets mode }
+        ensures { self.new ≡ put_up_code self.old octets (mode_number mode) }
     {
         let id = id_of(self.table.order(), &octets);
         if id.memory == memory::CURRENT_BUFFER {
