@@ -24,12 +24,16 @@ pub record ReportsModel : Type 0 where
   -- dmsActivateErrorMsgCode: the code last refused
   pub failed_code : List ℕ
 
--- nothing was judged, no code came: the errors are none (2), the codes zeros
+-- the error of nothing that is wrong: none, in each of the three objects of errors
+abbrev pub no_error : ℕ
+no_error = 2
+
+-- nothing was judged, no code came: the errors are none, the codes zeros
 abbrev pub first_reports : ReportsModel
 first_reports = record {
-  validate_error = 2;
-  activate_error = 2;
-  syntax_error = 2;
+  validate_error = no_error;
+  activate_error = no_error;
+  syntax_error = no_error;
   syntax_error_position = 0;
   accepted_code = replicate 12 0;
   failed_code = replicate 12 0;
@@ -42,7 +46,7 @@ with_fault reports fault = record reports { syntax_error = number_of_code fault.
 
 -- what is reported of a text: its fault, or that it has none (NTCIP 1203, dmsMultiSyntaxError)
 abbrev pub text_reports : ReportsModel → Option MultiFault → ReportsModel
-text_reports reports None = record reports { syntax_error = 2; syntax_error_position = 0 }
+text_reports reports None = record reports { syntax_error = no_error; syntax_error_position = 0 }
 text_reports reports (Some fault) = with_fault reports fault
 
 -- what is reported where a row was settled (NTCIP 1203, dmsValidateMessageError)
@@ -63,7 +67,7 @@ refused_reports reports cause code = record (with_cause reports cause) { activat
 
 -- what is reported of a code that is accepted
 abbrev pub accepted_reports : ReportsModel → List ℕ → ReportsModel
-accepted_reports reports code = record reports { activate_error = 2; accepted_code = code }
+accepted_reports reports code = record reports { activate_error = no_error; accepted_code = code }
 
 -- the place of a fault lies in a text or at its end
 abbrev pub IsCauseInRange : Cause → Type 0

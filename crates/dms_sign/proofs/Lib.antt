@@ -16,3 +16,4 @@ pub mod Sending
 pub mod Writes
 pub mod Causes
 pub mod Assigned
+pub mod Activations
