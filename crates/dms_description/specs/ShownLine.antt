@@ -5,7 +5,7 @@ use Rattle.dms_codes.specs.declared.codes.Order.{Order}
 use Rattle.dms_codes.specs.declared.codes.Activation.{Activation}
 use Rattle.dms_codes.specs.Codes.{two_octets, octets_of_activation}
 use Rattle.dms_table.specs.Activation.{ShownModel}
-use Rattle.dms_sign.specs.Values.{minutes_left}
+use Rattle.dms_table.specs.Activation.{minutes_left}
 
 -- ---- words
 

@@ -3,7 +3,7 @@
 ghost use Rattle.std.specs.Prelude.{◌≡◌, ◌++◌, IfOk, OnOk, codes, decimal, string_bytes};
 ghost use Rattle.hex.specs.Hex.{encode_lower};
 ghost use Rattle.dms_codes.specs.Codes.{two_octets};
-ghost use Rattle.dms_sign.specs.Values.{minutes_left};
+ghost use Rattle.dms_table.specs.Activation.{minutes_left};
 ghost use Rattle.dms_description.specs.ShownLine.{octets_text, shown_line};
 
 use dms_table::Shown;
@@ -40,7 +40,7 @@ fn put_manner(report: &mut Vec<u8>, shown: &Shown) -> Result<(), AllocError>
 fn put_remaining(report: &mut Vec<u8>, shown: &Shown) -> Result<(), AllocError>
     ensures { OnOk result (report.new.items ≡ report.old.items ++ (codes " remaining " ++ decimal (minutes_left shown.now.remaining))) }
 {
-    let minutes = minutes_left(shown.remaining);
+    let minutes = shown.minutes_left();
     write!(report, " remaining {minutes}").or(Err(AllocError))
 }
 
@@ -65,15 +65,5 @@ fn octets_text(alloc: Global, octets: &[u8]) -> Result<String, AllocError>
         String::from_str(alloc, "-")
     } else {
         hex::encode(alloc, octets)
-    }
-}
-
-/// Seconds as minutes, rounded up; 65535 is without an end.
-fn minutes_left(remaining: Option<u32>) -> u32
-    ensures { result ≡ minutes_left remaining }
-{
-    match remaining {
-        None => 65535,
-        Some(seconds) => seconds.div_ceil(60),
     }
 }

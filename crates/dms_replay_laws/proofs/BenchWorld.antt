@@ -26,7 +26,8 @@ use Rattle.dms_codes.specs.Checksum.{octet_bits}
 use Rattle.dms_codes.specs.Codes.{activation_of}
 use Rattle.dms_objects.specs.Names.{name_of}
 use Rattle.dms_instances.specs.Objects.{instances}
-use Rattle.dms_sign.specs.Values.{scalar_value, value_at, value_after, minutes_left}
+use Rattle.dms_table.specs.Activation.{minutes_left}
+use Rattle.dms_sign.specs.Values.{scalar_value, value_at, value_after}
 use Rattle.dms_sign.specs.Values as values
 use Rattle.dms_access.specs.Access.{is_settable_object, object_write, cell_write, write_of}
 use Rattle.dms_sign.specs.SetRequest.{settable_instance, write_at, causes, assigned}

@@ -34,7 +34,8 @@ use Rattle.dms_objects.specs.Names.{scalar_number, name_of}
 use Rattle.dms_instances.specs.Objects.{before_table, after_table, columns, numbers_to, memories, rows_in, row_ids, cells, instances, instance_named, next_instance, IsInstance}
 use Rattle.dms_sign.specs.State.{SignState}
 use Rattle.dms_access.specs.Cells.{number_value, cell_value}
-use Rattle.dms_sign.specs.Values.{minutes_left, scalar_value, value_at, value_of, bound, binding_at, value_after}
+use Rattle.dms_table.specs.Activation.{minutes_left}
+use Rattle.dms_sign.specs.Values.{scalar_value, value_at, value_of, bound, binding_at, value_after}
 use Rattle.dms_sign.specs.InRange.{IsRowInRange, IsTableInRange, IsTimeInRange, IsShownInRange, IsSignInRange, IsBindingInLimits}
 use Rattle.dms_sign.proofs.InRangeLists.{either, if_either, if_mapped, if_then, all_append, all_mapped, all_flat, all_any, if_found, if_at}
 

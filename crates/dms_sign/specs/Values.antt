@@ -1,11 +1,11 @@
 -- What the objects of a sign read (NTCIP 1203, each by its name).
-use Rattle.std.specs.Prelude.{ℕ, ◌+◌, ◌*◌, ◌/◌, List, Option, Some, None, option_map, option_and_then}
+use Rattle.std.specs.Prelude.{ℕ, ◌*◌, List, Option, Some, option_map, option_and_then}
 use Rattle.dms_wire.specs.Message.{ObjectValue, octet_string, ip_address, VarBind}
 use Rattle.dms_codes.specs.Codes.{octets_of_id}
 use Rattle.dms_table.specs.Rows.{TableModel, valid_count, unused_count, row_count}
 use Rattle.dms_codes.specs.Memory.{permanent_memory, changeable_memory, volatile_memory}
 use Rattle.dms_codes.specs.Limits.{longest_text}
-use Rattle.dms_table.specs.Activation.{message_at}
+use Rattle.dms_table.specs.Activation.{message_at, minutes_left}
 use Rattle.dms_objects.specs.declared.scalar.Scalar.{Scalar}
 use Rattle.dms_objects.specs.declared.scalar.Scalar.TheVariants.{SignHeightPixels, SignWidthPixels, DefaultBackgroundColor, DefaultForegroundColor, DefaultFlashOn, DefaultFlashOff, DefaultFont, DefaultJustificationLine, DefaultJustificationPage, DefaultPageOnTime, DefaultPageOffTime, ColorScheme, NumPermanentMsg, NumChangeableMsg, MaxChangeableMsg, FreeChangeableMemory, NumVolatileMsg, MaxVolatileMsg, FreeVolatileMemory, ValidateMessageError, ActivateMessage, MessageTimeRemaining, MsgTableSource, MsgRequesterId, MsgSourceMode, ShortPowerRecoveryMessage, LongPowerRecoveryMessage, ShortPowerLossTime, CommunicationsLossMessage, TimeCommLoss, PowerLossMessage, EndDurationMessage, ActivateMsgError, MultiSyntaxError, MultiSyntaxErrorPosition, ActivateErrorMsgCode}
 use Rattle.dms_objects.specs.declared.instance.Instance.{Instance}
@@ -16,11 +16,6 @@ use Rattle.dms_access.specs.Cells.{number_value, cell_value}
 use Rattle.dms_sign.specs.State.{SignState}
 
 -- ---- objects with one instance
-
--- seconds as minutes, rounded up; 65535 is without an end (this profile)
-abbrev pub minutes_left : Option ℕ → ℕ
-minutes_left None = 65535
-minutes_left (Some seconds) = (seconds + 59) / 60
 
 -- the octets that are free in a type of memory: each row that is not used has room for the longest text (this profile)
 abbrev pub free_octets : TableModel → ℕ → ℕ

@@ -1,5 +1,5 @@
 -- What puts a message up, and what keeps it from being shown (NTCIP 1203, dmsActivateMessage and dmsActivateMsgError).
-use Rattle.std.specs.Prelude.{ℕ, ◌*◌, ◌==◌, ◌||◌, Bool, not, if◌then◌else◌, List, [], ◌∷◌, Option, Some, None, Result, Ok, Err, option_map, nat_lt}
+use Rattle.std.specs.Prelude.{ℕ, ◌+◌, ◌*◌, ◌/◌, ◌==◌, ◌||◌, Bool, not, if◌then◌else◌, List, [], ◌∷◌, Option, Some, None, Result, Ok, Err, option_map, nat_lt}
 use Rattle.dms_face.specs.declared.defaults.Defaults.{Defaults}
 use Rattle.dms_face.specs.Face.{FaceModel}
 use Rattle.dms_face.specs.Layout.{under}
@@ -134,6 +134,11 @@ cause_number (causes.Syntax fault) = 8
 -- the seconds of a number of minutes; 65535 is without end
 abbrev pub seconds_of : ℕ → Option ℕ
 seconds_of minutes = if minutes == 65535 then None else Some (minutes * 60)
+
+-- seconds as minutes, rounded up; 65535 is without end (this profile)
+abbrev pub minutes_left : Option ℕ → ℕ
+minutes_left None = 65535
+minutes_left (Some seconds) = (seconds + 59) / 60
 
 -- A code of the current buffer keeps the source and the defaults of what is shown.
 abbrev pub put_up : Defaults → ShownModel → Activation → RowReading → ShownModel

@@ -3,7 +3,7 @@
 ghost use Rattle.std.specs.Prelude.{◌≡◌, ◌==◌, None, false};
 ghost use Rattle.dms_codes.specs.Memory.{current_buffer};
 ghost use Rattle.dms_table.specs.RowsView.{reading_of, IsShort};
-ghost use Rattle.dms_table.specs.Activation.{blank_shown, shown_reading, seconds_of, mode_number, put_up};
+ghost use Rattle.dms_table.specs.Activation.{blank_shown, shown_reading, seconds_of, minutes_left, mode_number, put_up};
 ghost use Rattle.dms_table.specs.ShownView.{shown_checksum, HasItWhereValid};
 ghost use Rattle.dms_table.specs.declared.shown.Mode.TheVariants.{Central};
 
@@ -125,6 +125,16 @@ impl Shown {
         ensures { self.new ≡ record self.old { remaining = remaining } }
     {
         self.remaining = remaining;
+    }
+
+    /// The seconds that are left as minutes, rounded up; 65535 is without an end.
+    pub fn minutes_left(&self) -> u32
+        ensures { result ≡ minutes_left self.now.remaining }
+    {
+        match self.remaining {
+            None => 65535,
+            Some(seconds) => seconds.div_ceil(60),
+        }
     }
 
     /// What is shown, as a row of the current buffer.

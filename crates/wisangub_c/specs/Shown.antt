@@ -3,7 +3,7 @@ use Rattle.std.specs.Prelude.{ℕ, Result, Ok, Err}
 use Rattle.dms_face.specs.declared.multi_fault.MultiFault.{MultiFault}
 use Rattle.dms_face.specs.FaultCode.{number_of_code}
 use Rattle.dms_table.specs.Activation.{ShownModel}
-use Rattle.dms_sign.specs.Values.{minutes_left}
+use Rattle.dms_table.specs.Activation.{minutes_left}
 use Rattle.wisangub_c.specs.Answers.{done, at_fault}
 use Rattle.wisangub_c.specs.declared.shown_calls.ShownNow.{ShownNow}
 use Rattle.wisangub_c.specs.declared.shown_calls.TextFault.{TextFault}

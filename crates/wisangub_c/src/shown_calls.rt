@@ -2,7 +2,6 @@
 
 ghost use Rattle.std.specs.Prelude.{◌≡◌, length};
 ghost use Rattle.dms_face.specs.Fit.{checked_text};
-ghost use Rattle.dms_sign.specs.Values.{minutes_left};
 ghost use Rattle.wisangub_c.specs.Answers.{given_answer, given_buffer};
 ghost use Rattle.wisangub_c.specs.Shown.{shown_now, text_fault, fault_after, check_answer, count_after};
 
@@ -43,22 +42,12 @@ pub struct TextFault {
     pub code: u8,
 }
 
-/// Seconds as minutes, rounded up; 65535 is without an end.
-fn minutes_left(remaining: Option<u32>) -> u32
-    ensures { result ≡ minutes_left remaining }
-{
-    match remaining {
-        None => 65535,
-        Some(seconds) => seconds.div_ceil(60),
-    }
-}
-
 fn shown_now(sign: &Sign) -> ShownNow
     ensures { result ≡ shown_now sign.now.shown }
 {
     let shown = sign.shown();
     ShownNow {
-        minutes: minutes_left(shown.remaining),
+        minutes: shown.minutes_left(),
         number: shown.source.number,
         checksum: shown.source.crc,
         memory: shown.source.memory,

@@ -7,9 +7,8 @@ ghost use Rattle.dms_table.specs.Rows.{valid_count, row_count};
 ghost use Rattle.dms_wire.specs.View.{object_value};
 ghost use Rattle.dms_instances.specs.Objects.{instance_named};
 ghost use Rattle.dms_instances.specs.Places.{HasCounts};
-ghost use Rattle.dms_sign.specs.InRange.{IsTimeInRange};
 ghost use Rattle.dms_access.specs.Cells.{number_value, cell_value};
-ghost use Rattle.dms_sign.specs.Values.{minutes_left, free_octets, scalar_value, value_at, value_of};
+ghost use Rattle.dms_sign.specs.Values.{free_octets, scalar_value, value_at, value_of};
 
 use crate::sign::Sign;
 use dms_access::{cell_value, number_value, shown_value};
@@ -105,7 +104,7 @@ impl Sign {
             Scalar::FreeVolatileMemory => count(self.free_octets(memory::VOLATILE)),
             Scalar::ValidateMessageError => small(reports.validate_error),
             Scalar::ActivateMessage => Value::Octets(&reports.accepted_code),
-            Scalar::MessageTimeRemaining => number_value(minutes_left(self.shown.remaining)),
+            Scalar::MessageTimeRemaining => minutes(self.shown.minutes_left()),
             Scalar::MsgTableSource => Value::Octets(&self.source),
             Scalar::MsgRequesterId => Value::Address(self.shown.address),
             Scalar::MsgSourceMode => small(self.shown.mode),
@@ -137,13 +136,8 @@ fn count<'a>(value: usize) -> Value<'a>
     Value::Integer(value as i64)
 }
 
-/// Seconds as minutes, rounded up; 65535 is without an end.
-fn minutes_left(remaining: Option<u32>) -> u16
-    requires { IsTimeInRange remaining }
-    ensures { result ≡ minutes_left remaining }
+fn minutes<'a>(value: u32) -> Value<'a>
+    ensures { object_value result ≡ number_value value }
 {
-    match remaining {
-        Some(seconds) => ((seconds + 59) / 60) as u16,
-        None => u16::MAX,
-    }
+    Value::Integer(i64::from(value))
 }

@@ -1,7 +1,7 @@
 use Rattle.std.proofs.Common.{◌++◌, codes, decimal}
 use Rattle.hex.specs.Hex.{encode_lower}
 use Rattle.dms_codes.specs.Codes.{two_octets}
-use Rattle.dms_sign.specs.Values.{minutes_left}
+use Rattle.dms_table.specs.Activation.{minutes_left}
 use Rattle.dms_description.specs.ShownLine.{octets_text}
 use Rattle.dms_description.proofs.ShownParts.{four_parts, on_ok}
 use Rattle.dms_description.proofs.shown_text.put_shown.Goals as goal
