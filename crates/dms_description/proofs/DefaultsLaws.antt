@@ -4,15 +4,15 @@ use Rattle.std.specs.Prelude.{codes}
 use Rattle.std.proofs.lemmas.Option.{same_Some}
 use Rattle.dms_text.proofs.WordLaws.{begun, goes_on, keyword_found, keyword_only, decimal_found, decimal_only}
 use Rattle.dms_face.specs.declared.defaults.Defaults.{Defaults}
-use Rattle.dms_description.specs.declared.head.FirstDefaults.{FirstDefaults}
+use Rattle.dms_description.specs.declared.head.ColoursAndFlash.{ColoursAndFlash}
 use Rattle.dms_description.specs.Fields.{SpellsEach, SpellsOctet}
 use Rattle.dms_description.specs.Description.{SpellsDefaults, numbers_of}
-use Rattle.dms_description.specs.DescriptionReading.{first_defaults_at, all_defaults, defaults_of}
+use Rattle.dms_description.specs.DescriptionReading.{colours_and_flash_at, defaults_with, defaults_of}
 use Rattle.dms_description.proofs.WordReading.{last_found}
 
 -- ---- read, and so spelled
 
-record FoundFirst (words : List (List ℕ)) (found : FirstDefaults × List (List ℕ)) : Type 0 where
+record FoundFirst (words : List (List ℕ)) (found : ColoursAndFlash × List (List ℕ)) : Type 0 where
   background_word : List ℕ
   foreground_word : List ℕ
   flash_on_word : List ℕ
@@ -23,8 +23,8 @@ record FoundFirst (words : List (List ℕ)) (found : FirstDefaults × List (List
   flash_on : SpellsOctet found.0.flash_on flash_on_word
   flash_off : SpellsOctet found.0.flash_off flash_off_word
 
-first_found : (words : List (List ℕ)) (found : FirstDefaults × List (List ℕ)) → first_defaults_at words ≡ Some found → FoundFirst words found
-unfolding first_defaults_at
+first_found : (words : List (List ℕ)) (found : ColoursAndFlash × List (List ℕ)) → colours_and_flash_at words ≡ Some found → FoundFirst words found
+unfolding colours_and_flash_at
 first_found words found e =
     let background = begun _ _ _ e in
     let foreground = begun _ _ _ background.2 in
@@ -34,7 +34,7 @@ first_found words found e =
     let at_foreground = decimal_found 0 255 background.0.1 foreground.0 foreground.1 in
     let at_flash_on = decimal_found 0 255 foreground.0.1 flash_on.0 flash_on.1 in
     let at_flash_off = decimal_found 0 255 flash_on.0.1 flash_off.0 flash_off.1 in
-    subst (λ (pair : FirstDefaults × List (List ℕ)). FoundFirst words pair) (same_Some _ _ flash_off.2) (record {
+    subst (λ (pair : ColoursAndFlash × List (List ℕ)). FoundFirst words pair) (same_Some _ _ flash_off.2) (record {
       background_word = at_background.word;
       foreground_word = at_foreground.word;
       flash_on_word = at_flash_on.word;
@@ -48,7 +48,7 @@ first_found words found e =
       flash_off = at_flash_off.spelled;
     })
 
-record FoundAll (first : FirstDefaults) (words : List (List ℕ)) (found : Defaults) : Type 0 where
+record FoundAll (first : ColoursAndFlash) (words : List (List ℕ)) (found : Defaults) : Type 0 where
   font_word : List ℕ
   line_word : List ℕ
   page_word : List ℕ
@@ -65,8 +65,8 @@ record FoundAll (first : FirstDefaults) (words : List (List ℕ)) (found : Defau
   flash_on : first.flash_on ≡ found.flash_on
   flash_off : first.flash_off ≡ found.flash_off
 
-all_found : (first : FirstDefaults) (words : List (List ℕ)) (found : Defaults) → all_defaults first words ≡ Some found → FoundAll first words found
-unfolding all_defaults
+all_found : (first : ColoursAndFlash) (words : List (List ℕ)) (found : Defaults) → defaults_with first words ≡ Some found → FoundAll first words found
+unfolding defaults_with
 all_found first words found e =
     let font = begun _ _ _ e in
     let line = begun _ _ _ font.2 in
@@ -101,7 +101,7 @@ all_found first words found e =
       flash_off = refl;
     })
 
-both_found : (first : FirstDefaults) (defaults : Defaults) (words after rest : List (List ℕ)) → words ≡ codes "defaults" ∷ after → FoundFirst after (first, rest)
+both_found : (first : ColoursAndFlash) (defaults : Defaults) (words after rest : List (List ℕ)) → words ≡ codes "defaults" ∷ after → FoundFirst after (first, rest)
     → FoundAll first rest defaults → SpellsDefaults defaults words
 both_found first defaults words after rest are begins goes = record {
   number_words = begins.background_word ∷ begins.foreground_word ∷ begins.flash_on_word ∷ begins.flash_off_word ∷ goes.font_word ∷ goes.line_word ∷ goes.page_word
@@ -186,12 +186,12 @@ nine_words d (a ∷ b ∷ c ∷ e ∷ f ∷ g ∷ h ∷ k ∷ l ∷ rest) s = re
   at_off = s.1.1.1.1.1.1.1.1.0;
 }
 
-abbrev first_of_all : Defaults → FirstDefaults
+abbrev first_of_all : Defaults → ColoursAndFlash
 first_of_all d = record { background = d.background; foreground = d.foreground; flash_on = d.flash_on; flash_off = d.flash_off }
 
 first_only : (d : Defaults) (a b c e : List ℕ) (rest : List (List ℕ)) → SpellsOctet d.background a → SpellsOctet d.foreground b → SpellsOctet d.flash_on c → SpellsOctet d.flash_off e
-    → first_defaults_at (a ∷ b ∷ c ∷ e ∷ rest) ≡ Some (first_of_all d, rest)
-unfolding first_defaults_at
+    → colours_and_flash_at (a ∷ b ∷ c ∷ e ∷ rest) ≡ Some (first_of_all d, rest)
+unfolding colours_and_flash_at
 first_only d a b c e rest at_a at_b at_c at_e =
     goes_on _ _ _ (decimal_only 0 255 d.background a (b ∷ c ∷ e ∷ rest) at_a)
     ∙ goes_on _ _ _ (decimal_only 0 255 d.foreground b (c ∷ e ∷ rest) at_b)
@@ -199,8 +199,8 @@ first_only d a b c e rest at_a at_b at_c at_e =
     ∙ goes_on _ _ _ (decimal_only 0 255 d.flash_off e rest at_e)
 
 all_only : (d : Defaults) (a b c e f : List ℕ) → SpellsOctet d.font a → SpellsOctet d.line b → SpellsOctet d.page c → SpellsOctet d.on e → SpellsOctet d.off f
-    → all_defaults (first_of_all d) (a ∷ b ∷ c ∷ e ∷ f ∷ []) ≡ Some d
-unfolding all_defaults
+    → defaults_with (first_of_all d) (a ∷ b ∷ c ∷ e ∷ f ∷ []) ≡ Some d
+unfolding defaults_with
 all_only d a b c e f at_a at_b at_c at_e at_f =
     goes_on _ _ _ (decimal_only 0 255 d.font a (b ∷ c ∷ e ∷ f ∷ []) at_a)
     ∙ goes_on _ _ _ (decimal_only 0 255 d.line b (c ∷ e ∷ f ∷ []) at_b)

@@ -13,7 +13,7 @@ use Rattle.dms_table.specs.declared.row.Services.{Services}
 use Rattle.dms_table.specs.Rows.{RowModel, unused}
 use Rattle.dms_description.specs.declared.head.Size.{Size}
 use Rattle.dms_description.specs.declared.head.RowCounts.{RowCounts}
-use Rattle.dms_description.specs.declared.head.FirstDefaults.{FirstDefaults}
+use Rattle.dms_description.specs.declared.head.ColoursAndFlash.{ColoursAndFlash}
 use Rattle.dms_description.specs.Description.{Description}
 use Rattle.dms_description.specs.FieldsReading.{if_last, octet_at}
 
@@ -65,18 +65,18 @@ services_of words = do
   pixel ← decimal_at 5 0 1 beacon.1
   if_last (record { beacon = beacon.0 == 1; pixel = pixel.0 == 1 }) pixel.1
 
--- the four defaults that stand first, and the words after them
-unfoldable pub first_defaults_at : List (List ℕ) → Option (FirstDefaults × List (List ℕ))
-first_defaults_at words = do
+-- the defaults of colours and of flashing, which stand first, and the words after them
+unfoldable pub colours_and_flash_at : List (List ℕ) → Option (ColoursAndFlash × List (List ℕ))
+colours_and_flash_at words = do
   background ← decimal_at 5 0 255 words
   foreground ← decimal_at 5 0 255 background.1
   flash_on ← decimal_at 5 0 255 foreground.1
   flash_off ← decimal_at 5 0 255 flash_on.1
   Some (record { background = background.0; foreground = foreground.0; flash_on = flash_on.0; flash_off = flash_off.0 }, flash_off.1)
 
--- the defaults that begin so, and go on in these words
-unfoldable pub all_defaults : FirstDefaults → List (List ℕ) → Option Defaults
-all_defaults first words = do
+-- the defaults that begin so: the font, the justifications and the page times follow
+unfoldable pub defaults_with : ColoursAndFlash → List (List ℕ) → Option Defaults
+defaults_with first words = do
   font ← decimal_at 5 0 255 words
   line ← decimal_at 5 0 255 font.1
   page ← decimal_at 5 0 255 line.1
@@ -97,8 +97,8 @@ all_defaults first words = do
 unfoldable pub defaults_of : List (List ℕ) → Option Defaults
 defaults_of words = do
   after ← keyword_at (codes "defaults") words
-  first ← first_defaults_at after
-  all_defaults first.0 first.1
+  first ← colours_and_flash_at after
+  defaults_with first.0 first.1
 
 unfoldable pub first_of : List (List ℕ) → Option ℕ
 first_of words = do

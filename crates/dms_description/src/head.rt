@@ -4,7 +4,7 @@ ghost use Rattle.std.specs.Prelude.{◌≡◌, ◌∷◌, [], Some, None, option
 ghost use Rattle.dms_text.specs.Words.{words_of};
 ghost use Rattle.dms_description.specs.Setups.{octets_left};
 ghost use Rattle.dms_description.specs.Views.{communities_seen, beginning_seen, head_seen};
-ghost use Rattle.dms_description.specs.DescriptionReading.{size_of, communities_of, row_counts_of, order_named, order_of, services_of, first_defaults_at, all_defaults, defaults_of, first_of, beginning_at, head_at};
+ghost use Rattle.dms_description.specs.DescriptionReading.{size_of, communities_of, row_counts_of, order_named, order_of, services_of, colours_and_flash_at, defaults_with, defaults_of, first_of, beginning_at, head_at};
 
 use crate::fault::DescriptionFault;
 use crate::fields::{are_same, octet};
@@ -34,9 +34,9 @@ pub(crate) struct RowCounts {
     pub volatile: u8,
 }
 
-/// The four defaults that stand first.
+/// The defaults that stand first: of colours, and of flashing in tenths of a second.
 #[derive(Clone, Copy)]
-pub(crate) struct FirstDefaults {
+pub(crate) struct ColoursAndFlash {
     pub background: u8,
     pub foreground: u8,
     pub flash_on: u8,
@@ -153,26 +153,27 @@ fn services_of(line: &[u8]) -> Option<Services>
     }
 }
 
-#[tactic(auto, unfolding(crate::specs::DescriptionReading::first_defaults_at))]
-fn first_defaults(words: Words<'_>) -> Option<(FirstDefaults, Words<'_>)>
-    ensures { result ≡ first_defaults_at words.entry }
+#[tactic(auto, unfolding(crate::specs::DescriptionReading::colours_and_flash_at))]
+fn colours_and_flash(words: Words<'_>) -> Option<(ColoursAndFlash, Words<'_>)>
+    ensures { result ≡ colours_and_flash_at words.entry }
 {
     let (background, words) = octet(words)?;
     let (foreground, words) = octet(words)?;
     let (flash_on, words) = octet(words)?;
     let (flash_off, words) = octet(words)?;
-    let first = FirstDefaults {
+    let found = ColoursAndFlash {
         background,
         foreground,
         flash_on,
         flash_off,
     };
-    Some((first, words))
+    Some((found, words))
 }
 
-#[tactic(auto, unfolding(crate::specs::DescriptionReading::all_defaults))]
-fn all_defaults(first: FirstDefaults, words: Words<'_>) -> Option<Defaults>
-    ensures { result ≡ all_defaults first words.entry }
+/// The defaults that begin so: the font, the justifications and the page times follow.
+#[tactic(auto, unfolding(crate::specs::DescriptionReading::defaults_with))]
+fn defaults_with(first: ColoursAndFlash, words: Words<'_>) -> Option<Defaults>
+    ensures { result ≡ defaults_with first words.entry }
 {
     let (font, words) = octet(words)?;
     let (line, words) = octet(words)?;
@@ -202,8 +203,8 @@ fn defaults_of(line: &[u8]) -> Option<Defaults>
     ensures { result ≡ defaults_of (words_of line.now) }
 {
     let words = Words::of(line).keyword(b"defaults")?;
-    let (first, words) = first_defaults(words)?;
-    all_defaults(first, words)
+    let (first, words) = colours_and_flash(words)?;
+    defaults_with(first, words)
 }
 
 /// `first NUMBER`.
