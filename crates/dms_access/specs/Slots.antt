@@ -6,13 +6,24 @@ use Rattle.dms_ber.specs.ObjectIdentifier.{name_octets}
 use Rattle.dms_wire.specs.Message.{VarBind}
 use Rattle.dms_access.specs.MetNames.{is_among}
 
--- the slot of a name with these content octets: the last three of them tell objects that can be set apart
+-- two slots for each name that can be set, or more
+abbrev pub slot_count : ℕ
+slot_count = 1024
+
+-- the first pair of factors, from 0 and 0 upwards, by which no two names that can be set share a slot
+abbrev pub group_factor : ℕ
+group_factor = 108
+
+abbrev pub object_factor : ℕ
+object_factor = 305
+
+-- the slot of a name with these content octets: the last three of them say which of those that can be set it is
 unfoldable pub content_slot : List ℕ → ℕ
 content_slot content =
     if nat_lt (length content) 3 then 0
-    else (slice_index_or content (length content - 3) 0 * 108 + slice_index_or content (length content - 2) 0 * 305
+    else (slice_index_or content (length content - 3) 0 * group_factor + slice_index_or content (length content - 2) 0 * object_factor
     + slice_index_or content (length content - 1) 0)
-    % 1024
+    % slot_count
 
 abbrev pub slot_of : List ℕ → ℕ
 slot_of name = content_slot (name_octets name)

@@ -8,8 +8,19 @@ ghost use Rattle.dms_access.specs.Slots.{content_slot, slot_of, is_taken, AreTak
 
 use dms_wire::{Binds, Oid};
 
+/// How many slots there are: about two for each of the 498 names that can be set where a sign has its most rows, 64
+/// changeable and 16 volatile.
+const SLOTS: usize = 1024;
+
+/// What the last octet but two of a name is multiplied by to give its slot: a group or a column. With `OBJECT_FACTOR`
+/// it is the first pair of numbers, tried from 0 and 0 upwards, by which no two of those names share a slot.
+const GROUP_FACTOR: usize = 108;
+
+/// What the last octet but one is multiplied by: an object, or a type of memory.
+const OBJECT_FACTOR: usize = 305;
+
 /// A bit for each slot.
-pub type Slots = [u64; 16];
+pub type Slots = [u64; SLOTS / 64];
 
 /// Whether the name is that of one of the first `count` bindings, whose names have their slots taken: they are looked
 /// at only where its slot is.
@@ -40,8 +51,7 @@ fn is_among(name: &Oid<'_>, binds: Binds<'_>, count: u32) -> bool
     false
 }
 
-/// The slot of a name with these content octets. No two objects that can be set, of a table of at most 64 changeable
-/// and 16 volatile rows, share a slot; other names may.
+/// The slot of a name with these content octets. No two names that can be set share a slot; other names may.
 #[tactic(auto, unfolding(crate::specs::Slots::content_slot))]
 fn content_slot(content: &[u8]) -> usize
     ensures slot { result ≡ content_slot content.now }
@@ -54,7 +64,7 @@ fn content_slot(content: &[u8]) -> usize
     let group = usize::from(content[size - 3]);
     let object = usize::from(content[size - 2]);
     let number = usize::from(content[size - 1]);
-    (group * 108 + object * 305 + number) % 1024
+    (group * GROUP_FACTOR + object * OBJECT_FACTOR + number) % SLOTS
 }
 
 /// Whether the slot of a name is marked.
