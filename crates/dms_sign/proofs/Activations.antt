@@ -29,8 +29,8 @@ shown_after s bindings code =
     shown_by new.defaults new.table new.shown code
 
 -- the answer is that to this decision
-abbrev pub IsAnswered : SignState → List VarBind → ℕ → List ℕ → Result ShownModel Cause → Type 0
-IsAnswered s bindings index octets decision =
+abbrev pub IsDecided : SignState → List VarBind → ℕ → List ℕ → Result ShownModel Cause → Type 0
+IsDecided s bindings index octets decision =
     commanded s (assigned s (writes_of s bindings)) bindings index (Activate octets)
     ≡ as_decided s (assigned s (writes_of s bindings)) bindings index octets decision
 
@@ -49,10 +49,10 @@ accepted_in_range a s now bindings settings octets code view are is ok range wit
 pub accepted_answer : {A : Type 0} (a : A) (s now : SignState) (bindings : List VarBind) (settings : Settings) (octets : List ℕ) (code : Activation)
     → s ≡ now → AreLeft settings bindings now → code ≡ activation_of s.table.order octets
     → Ok a ≡ unless_refused a (refusal s.config.face settings.defaults s.table s.shown code)
-    → (index : ℕ) → IsAnswered now bindings index octets (Ok (shown_after now bindings code))
+    → (index : ℕ) → IsDecided now bindings index octets (Ok (shown_after now bindings code))
 accepted_answer a s now bindings settings octets code view are is ok index =
     let left = subst (AreLeft settings bindings) (sym view) are in
-    subst (λ (s : SignState). IsAnswered s bindings index octets (Ok (shown_after s bindings code))) view
+    subst (λ (s : SignState). IsDecided s bindings index octets (Ok (shown_after s bindings code))) view
     (activation_answer s (writes_of s bindings) bindings index settings octets code (Ok (shown_after s bindings code)) left is
     (accepted_new a s (writes_of s bindings) settings octets code left is ok))
 
@@ -70,9 +70,9 @@ refused_in_range a s now bindings settings octets code cause view are is err ran
 pub refused_answer : {A : Type 0} (a : A) (s now : SignState) (bindings : List VarBind) (settings : Settings) (octets : List ℕ) (code : Activation)
     (cause : Cause) → s ≡ now → AreLeft settings bindings now → code ≡ activation_of s.table.order octets
     → Err cause ≡ unless_refused a (refusal s.config.face settings.defaults s.table s.shown code)
-    → (index : ℕ) → IsAnswered now bindings index octets (Err cause)
+    → (index : ℕ) → IsDecided now bindings index octets (Err cause)
 refused_answer a s now bindings settings octets code cause view are is err index =
     let left = subst (AreLeft settings bindings) (sym view) are in
-    subst (λ (s : SignState). IsAnswered s bindings index octets (Err cause)) view
+    subst (λ (s : SignState). IsDecided s bindings index octets (Err cause)) view
     (activation_answer s (writes_of s bindings) bindings index settings octets code (Err cause) left is
     (refused_decision a s.config.face settings.defaults s.table s.shown code cause err))

@@ -167,6 +167,7 @@ impl Sign {
         ensures fit { HasFitDefaults self.now }
         ensures communities { IsTrue (are_communities self.now.config.reader self.now.config.writer) }
     {
+        // the invariant is known where a field is looked at
         let _ = &self.powered;
     }
 
