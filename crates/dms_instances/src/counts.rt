@@ -1,5 +1,5 @@
 //! The instances that a sign has by how many rows it has: no list of them is made. Which one a name names, and which
-//! comes next, is told by where the octets of the name first differ from those of names that there are; nothing is
+//! comes next, follows from where the octets of the name first differ from those of names that there are; nothing is
 //! searched for.
 
 ghost use Rattle.std.specs.Prelude.{◌≡◌, ◌≤◌, ◌<◌, ◌+◌, ◌==◌, ◌&&◌, ◌∷◌, [], ℕ, List, true, length, IfSome, IfNone};
@@ -115,7 +115,8 @@ impl Counts {
         }
     }
 
-    /// The same, where the first octet is the group's: whole, or of a number of 128 or more, which no group has.
+    /// The first instance after a name below the group of this first octet, or of a number of 128 or more, which no
+    /// group has.
     #[inline]
     fn next_in_group(&self, group: u8, octets: &[u8]) -> Option<Instance>
         ensures { (numbers : List ℕ) → octets_below numbers ≡ group ∷ octets.now → (table : TableModel) → HasCounts table self.now
@@ -127,7 +128,7 @@ impl Counts {
         }
     }
 
-    /// The same, where the second is the number's in the group.
+    /// The first instance after a name below the object of this number in the group.
     #[inline]
     fn next_in_object(&self, group: u8, number: u8, octets: &[u8]) -> Option<Instance>
         ensures { (numbers : List ℕ) → octets_below numbers ≡ group ∷ number ∷ octets.now → (table : TableModel) → HasCounts table self.now
@@ -142,7 +143,7 @@ impl Counts {
         }
     }
 
-    /// The same below dmsMessageTable, 5.8.
+    /// The first instance after a name below dmsMessageTable, 5.8.
     #[inline]
     fn next_in_table(&self, octets: &[u8]) -> Option<Instance>
         ensures { (numbers : List ℕ) → octets_below numbers ≡ octets.now → (table : TableModel) → HasCounts table self.now
@@ -162,7 +163,7 @@ impl Counts {
         }
     }
 
-    /// The same below dmsMessageEntry, 5.8.1.
+    /// The first instance after a name below dmsMessageEntry, 5.8.1.
     #[inline]
     fn next_in_entry(&self, octets: &[u8]) -> Option<Instance>
         ensures { (numbers : List ℕ) → octets_below numbers ≡ octets.now → (table : TableModel) → HasCounts table self.now
@@ -183,7 +184,7 @@ impl Counts {
         }
     }
 
-    /// The same below a column of it.
+    /// The first instance after a name below a column of it.
     #[inline]
     fn next_in_column(&self, column: Column, octets: &[u8]) -> Option<Instance>
         ensures { (numbers : List ℕ) → octets_below numbers ≡ octets.now → (table : TableModel) → HasCounts table self.now

@@ -18,7 +18,7 @@ config_fault config =
     if are_communities config.reader.now config.writer.now then option_map faults.Table (stock_fault config.face config.stock)
     else Some faults.Community
 
--- Where there is nothing wrong with it, memory may be wanting.
+-- Where nothing is wrong with it, there may be no memory for it.
 abbrev pub IsFirstConfigFault : Option ConfigFault → ConfigFault → Type 0
 IsFirstConfigFault None fault = fault ≡ faults.Table Memory
 IsFirstConfigFault (Some first) fault = fault ≡ first

@@ -53,13 +53,14 @@ after_power_loss s =
     if s.powered then record (put_up_code (record s { shown_at_power_loss = s.shown }) s.fallbacks.power_loss power_loss_mode) { powered = false }
     else s
 
--- the code that comes up after a loss of so many seconds
+-- the code that is activated after a loss of so many seconds
 abbrev pub recovery_code : SignState → ℕ → List ℕ
 recovery_code s seconds =
     if nat_lt 0 s.short_power_loss_time && nat_le seconds s.short_power_loss_time then s.fallbacks.short_power_recovery
     else s.fallbacks.long_power_recovery
 
--- what is there as the power comes back: what was kept is shown, volatile rows are gone, and the silence begins anew
+-- what is there as the power returns: what was shown at its loss is shown, volatile rows are gone, and no second was
+-- silent
 abbrev pub restored : SignState → SignState
 restored s = record s { table = after_power s.table; shown = s.shown_at_power_loss; powered = true; silent_seconds = 0 }
 

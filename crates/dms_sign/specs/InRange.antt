@@ -76,7 +76,7 @@ abbrev pub IsTimeInRange : Option ℕ → Type 0
 IsTimeInRange None = ⊤
 IsTimeInRange (Some seconds) = seconds ≤ most_minutes * 60
 
--- what is shown: its row, its code, how it came up and by whom, and its defaults
+-- what is shown: its row, its code, what put it up and who, and its defaults
 pub record IsShownInRange (shown : ShownModel) : Type 0 where
   pub row : IsRowInRange (shown_row shown)
   pub source : IsMessageId shown.source

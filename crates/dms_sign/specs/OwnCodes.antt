@@ -24,7 +24,7 @@ with_refused_code s cause code = record s { reports = refused_reports s.reports 
 abbrev pub own_activation : MessageId → Activation
 own_activation id = record { minutes = 65535; priority = 255; id = id; address = no_address }
 
--- What comes of a decision: the message is up with this mode, or else the blank message is, and the refusal is
+-- What comes of a decision: the message is shown with this mode, or else the blank message is, and the refusal is
 -- reported.
 abbrev pub put_up_as_decided : SignState → MessageId → ℕ → Result ShownModel Cause → SignState
 put_up_as_decided s id mode (Ok shown) = showing s (record shown { mode = mode })

@@ -30,7 +30,7 @@ pub record TableStep (face : FaceModel) (old new : TableModel) : Type 0 where
 
 -- ---- what is shown
 
--- the same message, however it came up and however long it stays
+-- one message, whatever put it up and however long it stays
 pub record IsSameMessage (old new : ShownModel) : Type 0 where
   pub text : new.text ≡ old.text
   pub owner : new.owner ≡ old.owner
@@ -70,8 +70,8 @@ IsOwnCode order fallbacks id =
     ⊎ (id ≡ id_of order fallbacks.power_loss) ⊎ (id ≡ id_of order fallbacks.end_duration)
     ⊎ (id ≡ id_of order fallbacks.communications_loss)
 
--- How what is shown now came up: it stayed; or what was kept over a loss of power is shown again; or a blank message
--- came up; or a row did, by the code that was accepted or by one of the sign's own.
+-- Why this is shown now: it stayed; or what was shown at a loss of power is shown once more; or a blank message is; or
+-- a row is, by the code that was accepted or by one of the sign's own.
 pub data ShowsNow (old new : SignState) (accepted : Option Activation) : Type 0 where
   stayed : IsSameMessage old.shown new.shown → ShowsNow old new accepted
   came_back : IsSameMessage old.shown_at_power_loss new.shown → ShowsNow old new accepted
@@ -83,8 +83,8 @@ pub data ShowsNow (old new : SignState) (accepted : Option Activation) : Type 0 
 
 -- ---- the step
 
--- The sign stays the one that was made; rows become valid under the defaults of before; and what is kept is what was,
--- or what was shown.
+-- The sign stays the one that was made; rows become valid under the defaults of before; and what was shown at a loss
+-- of power is what was before, or what was shown.
 pub record IsSignStep (old new : SignState) (accepted : Option Activation) : Type 0 where
   pub config : new.config ≡ old.config
   pub table : TableStep (under old.config.face old.defaults) old.table new.table

@@ -73,7 +73,8 @@ impl Model for Sign {
 }
 
 impl Sign {
-    /// The sign of a configuration, or the first thing that is wrong with it; memory is wanting only where nothing is.
+    /// The sign of a configuration, or the first thing that is wrong with it; out of memory is answered only where
+    /// nothing is.
     pub fn new(alloc: Global, config: Config<'_>) -> Result<Sign, ConfigFault>
         ensures made { IfOk result (λ sign. sign ≡ start (config_of config.entry) (table_of config.entry.stock)) }
         ensures faultless { OnOk result (config_fault config.entry ≡ None) }
@@ -179,7 +180,7 @@ impl Sign {
         self.settings.fallbacks
     }
 
-    /// This is shown.
+    /// Shows this.
     fn show(&mut self, shown: Shown)
         requires { IsShownInRange shown }
         ensures { self.new ≡ showing self.old shown }
@@ -188,7 +189,7 @@ impl Sign {
         self.shown = shown;
     }
 
-    /// The message that a code names is up, in the place of what was shown, with this mode.
+    /// Shows the message that a code names, in place of what was shown, with this mode.
     fn show_named(&mut self, code: &Activation, mode: Mode)
         requires { IsShownInRange (record (shown_by self.old.defaults self.old.table self.old.shown code.now) { mode = mode_number mode }) }
         ensures { self.new ≡ showing self.old (record (shown_by self.old.defaults self.old.table self.old.shown code.now) { mode = mode_number mode }) }
@@ -223,7 +224,7 @@ impl Sign {
         self.reports = self.reports.with_refusal(cause, code);
     }
 
-    /// What is shown is kept.
+    /// What is shown is what was shown at the loss of power.
     fn keep(&mut self)
         ensures { self.new ≡ record self.old { shown_at_power_loss = self.old.shown } }
     {
@@ -257,8 +258,8 @@ impl Sign {
         self.known.note(place, &self.settings.defaults);
     }
 
-    /// What is there as the power comes back: what was kept is shown, volatile rows are gone, and the silence begins
-    /// anew.
+    /// What is there as the power returns: what was shown at its loss is shown, volatile rows are gone, and no second was
+    /// silent.
     fn restore(&mut self)
         ensures { self.new ≡ restored self.old }
     {

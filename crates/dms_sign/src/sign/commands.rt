@@ -179,7 +179,7 @@ impl Sign {
         let _ = self.table.ask(id, ask);
     }
 
-    /// The message of a code that was accepted is up, in the place of what was shown.
+    /// Shows the message of a code that was accepted, in place of what was shown.
     fn accept(&mut self, code: &Activation, octets: [u8; 12])
         requires shown { IsShownInRange (shown_by self.old.defaults self.old.table self.old.shown code.now) }
         requires octets { AreOctets 12 octets }

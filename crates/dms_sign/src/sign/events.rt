@@ -89,7 +89,7 @@ impl Sign {
         }
     }
 
-    /// The code that comes up after a loss of so many seconds.
+    /// The code that is activated after a loss of so many seconds.
     fn recovery_code(&self, seconds: u32) -> [u8; 5]
         ensures code { result ≡ recovery_code self.now seconds }
         ensures octets { AllBelowBase 256 result }

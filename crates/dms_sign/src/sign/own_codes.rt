@@ -19,7 +19,7 @@ pub(super) const BLANK: MessageId = MessageId {
 
 impl Sign {
     /// Activates the message that these five octets name: what is shown stays for a code of the current buffer; any
-    /// other code is decided on, and where it is refused the blank message is up.
+    /// other code is decided on, and where it is refused the blank message is shown.
     #[tactic(auto, unfolding(crate::specs::OwnCodes::put_up_code))]
     pub(super) fn put_up(&mut self, octets: [u8; 5], mode: Mode)
         requires { AllBelowBase 256 octets }
