@@ -10,6 +10,5 @@ pub mod Cells
 -- what the changes, the settings and the reports of the code are in these words
 pub mod ChangeView
 pub mod SettingsView
-pub mod ReportsView
 -- what only proofs go through
 pub mod Slots

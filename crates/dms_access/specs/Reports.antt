@@ -8,28 +8,14 @@ use Rattle.dms_table.specs.declared.activation.Cause.{Cause}
 use Rattle.dms_table.specs.declared.activation.Cause.TheVariants as causes
 use Rattle.dms_table.specs.declared.validation.Verdict.{Verdict}
 use Rattle.dms_table.specs.Activation.{cause_number}
-
--- errors by the numbers of their objects; codes are the twelve octets that came (NTCIP 1203, MessageActivationCode)
-pub record ReportsModel : Type 0 where
-  -- dmsValidateMessageError
-  pub validate_error : ℕ
-  -- dmsActivateMsgError
-  pub activate_error : ℕ
-  -- dmsMultiSyntaxError
-  pub syntax_error : ℕ
-  -- dmsMultiSyntaxErrorPosition
-  pub syntax_error_position : ℕ
-  -- dmsActivateMessage: the code last accepted by SET
-  pub accepted_code : List ℕ
-  -- dmsActivateErrorMsgCode: the code last refused
-  pub failed_code : List ℕ
+use Rattle.dms_access.specs.declared.reports.Reports.{Reports}
 
 -- the error of nothing that is wrong: none, in each of the three objects of errors
 abbrev pub no_error : ℕ
 no_error = 2
 
 -- nothing was judged, no code came: the errors are none, the codes zeros
-abbrev pub first_reports : ReportsModel
+abbrev pub first_reports : Reports
 first_reports = record {
   validate_error = no_error;
   activate_error = no_error;
@@ -41,32 +27,34 @@ first_reports = record {
 
 -- ---- texts
 
-abbrev pub with_fault : ReportsModel → MultiFault → ReportsModel
-with_fault reports fault = record reports { syntax_error = number_of_code fault.code; syntax_error_position = fault.place }
+abbrev pub with_fault : Reports → MultiFault → Reports
+with_fault reports fault =
+    record reports { syntax_error = number_of_code fault.code; syntax_error_position = fault.place }
 
 -- what is reported of a text: its fault, or that it has none (NTCIP 1203, dmsMultiSyntaxError)
-abbrev pub text_reports : ReportsModel → Option MultiFault → ReportsModel
+abbrev pub text_reports : Reports → Option MultiFault → Reports
 text_reports reports None = record reports { syntax_error = no_error; syntax_error_position = 0 }
 text_reports reports (Some fault) = with_fault reports fault
 
 -- what is reported where a row was settled (NTCIP 1203, dmsValidateMessageError)
-abbrev pub settled_reports : ReportsModel → Option Verdict → ReportsModel
+abbrev pub settled_reports : Reports → Option Verdict → Reports
 settled_reports reports None = reports
 settled_reports reports (Some verdict) = record (text_reports reports verdict.fault) { validate_error = verdict.error }
 
 -- ---- codes
 
 -- A text that is wrong has its fault reported; other causes leave what is reported of texts.
-abbrev pub with_cause : ReportsModel → Cause → ReportsModel
+abbrev pub with_cause : Reports → Cause → Reports
 with_cause reports (causes.Syntax fault) = with_fault reports fault
 with_cause reports _ = reports
 
 -- what is reported of a code that is refused (NTCIP 1203, dmsActivateMsgError and dmsActivateErrorMsgCode)
-abbrev pub refused_reports : ReportsModel → Cause → List ℕ → ReportsModel
-refused_reports reports cause code = record (with_cause reports cause) { activate_error = cause_number cause; failed_code = code }
+abbrev pub refused_reports : Reports → Cause → List ℕ → Reports
+refused_reports reports cause code =
+    record (with_cause reports cause) { activate_error = cause_number cause; failed_code = code }
 
 -- what is reported of a code that is accepted
-abbrev pub accepted_reports : ReportsModel → List ℕ → ReportsModel
+abbrev pub accepted_reports : Reports → List ℕ → Reports
 accepted_reports reports code = record reports { activate_error = no_error; accepted_code = code }
 
 -- the place of a fault lies in a text or at its end

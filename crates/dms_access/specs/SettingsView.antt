@@ -8,22 +8,21 @@ use Rattle.dms_table.specs.Activation.{blank_code}
 use Rattle.dms_access.specs.Access.{Write}
 use Rattle.dms_access.specs.Assignment.{given, number_for, code_for}
 
--- each code is that of blank message 1, and the times are 0
-abbrev pub first_settings : Defaults → Settings
-first_settings defaults = record {
-  fallbacks = record {
-    short_power_recovery = blank_code;
-    long_power_recovery = blank_code;
-    power_loss = blank_code;
-    end_duration = blank_code;
-    communications_loss = blank_code;
-  };
-  short_power_loss_time = 0;
-  time_comm_loss = 0;
-  defaults = defaults;
+-- each code is that of blank message 1
+abbrev pub first_fallbacks : Fallbacks
+first_fallbacks = record {
+  short_power_recovery = blank_code;
+  long_power_recovery = blank_code;
+  power_loss = blank_code;
+  end_duration = blank_code;
+  communications_loss = blank_code;
 }
 
-unfoldable pub codes_by : Fallbacks → List Write → Fallbacks
+-- the times are 0
+abbrev pub first_settings : Defaults → Settings
+first_settings defaults = record { fallbacks = first_fallbacks; short_power_loss_time = 0; time_comm_loss = 0; defaults = defaults }
+
+abbrev pub codes_by : Fallbacks → List Write → Fallbacks
 codes_by f writes = record {
   short_power_recovery = given (code_for ShortPowerRecoveryMessage) writes f.short_power_recovery;
   long_power_recovery = given (code_for LongPowerRecoveryMessage) writes f.long_power_recovery;
@@ -32,20 +31,23 @@ codes_by f writes = record {
   communications_loss = given (code_for CommunicationsLossMessage) writes f.communications_loss;
 }
 
+abbrev pub defaults_by : Defaults → List Write → Defaults
+defaults_by d writes = record {
+  background = given (number_for DefaultBackgroundColor) writes d.background;
+  foreground = given (number_for DefaultForegroundColor) writes d.foreground;
+  flash_on = given (number_for DefaultFlashOn) writes d.flash_on;
+  flash_off = given (number_for DefaultFlashOff) writes d.flash_off;
+  font = given (number_for DefaultFont) writes d.font;
+  line = given (number_for DefaultJustificationLine) writes d.line;
+  page = given (number_for DefaultJustificationPage) writes d.page;
+  on = given (number_for DefaultPageOnTime) writes d.on;
+  off = given (number_for DefaultPageOffTime) writes d.off;
+}
+
 unfoldable pub set_by : Settings → List Write → Settings
 set_by s writes = record {
   fallbacks = codes_by s.fallbacks writes;
   short_power_loss_time = given (number_for ShortPowerLossTime) writes s.short_power_loss_time;
   time_comm_loss = given (number_for TimeCommLoss) writes s.time_comm_loss;
-  defaults = record {
-    background = given (number_for DefaultBackgroundColor) writes s.defaults.background;
-    foreground = given (number_for DefaultForegroundColor) writes s.defaults.foreground;
-    flash_on = given (number_for DefaultFlashOn) writes s.defaults.flash_on;
-    flash_off = given (number_for DefaultFlashOff) writes s.defaults.flash_off;
-    font = given (number_for DefaultFont) writes s.defaults.font;
-    line = given (number_for DefaultJustificationLine) writes s.defaults.line;
-    page = given (number_for DefaultJustificationPage) writes s.defaults.page;
-    on = given (number_for DefaultPageOnTime) writes s.defaults.on;
-    off = given (number_for DefaultPageOffTime) writes s.defaults.off;
-  };
+  defaults = defaults_by s.defaults writes;
 }

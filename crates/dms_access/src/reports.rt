@@ -3,7 +3,6 @@
 ghost use Rattle.std.specs.Prelude.{◌≡◌, ◌≤◌, IfSome};
 ghost use Rattle.dms_codes.specs.Limits.{longest_text};
 ghost use Rattle.dms_access.specs.Reports.{first_reports, with_fault, with_cause, text_reports, settled_reports, refused_reports, accepted_reports, IsCauseInRange};
-ghost use Rattle.dms_access.specs.ReportsView.{reports_of};
 
 use dms_face::MultiFault;
 use dms_table::{Cause, Verdict};
@@ -31,7 +30,7 @@ pub struct Reports {
 impl Reports {
     /// Nothing was judged, and no code came: the errors are none, the codes zeros.
     pub fn new() -> Reports
-        ensures { reports_of result ≡ first_reports }
+        ensures { result ≡ first_reports }
     {
         Reports {
             validate_error: NO_ERROR,
@@ -47,7 +46,7 @@ impl Reports {
     /// none.
     pub fn with_verdict(self, verdict: &Option<Verdict>) -> Reports
         requires { IfSome verdict.now (λ verdict. IfSome verdict.fault (λ fault. fault.place ≤ longest_text)) }
-        ensures { reports_of result ≡ settled_reports (reports_of self) verdict.now }
+        ensures { result ≡ settled_reports self verdict.now }
     {
         match verdict {
             None => self,
@@ -61,7 +60,7 @@ impl Reports {
     /// With the cause for which a code was refused (dmsActivateMsgError), and the code (dmsActivateErrorMsgCode).
     pub fn with_refusal(self, cause: &Cause, code: [u8; 12]) -> Reports
         requires { IsCauseInRange cause.now }
-        ensures { reports_of result ≡ refused_reports (reports_of self) cause.now code }
+        ensures { result ≡ refused_reports self cause.now code }
     {
         Reports {
             activate_error: cause.number(),
@@ -72,7 +71,7 @@ impl Reports {
 
     /// With the code of an activation that was accepted (dmsActivateMessage), and no error (dmsActivateMsgError).
     pub fn with_accepted(self, code: [u8; 12]) -> Reports
-        ensures { reports_of result ≡ accepted_reports (reports_of self) code }
+        ensures { result ≡ accepted_reports self code }
     {
         Reports {
             activate_error: NO_ERROR,
@@ -84,7 +83,7 @@ impl Reports {
     /// With the fault of a text.
     fn with_fault(self, fault: &MultiFault) -> Reports
         requires { fault.now.place ≤ longest_text }
-        ensures { reports_of result ≡ with_fault (reports_of self) fault.now }
+        ensures { result ≡ with_fault self fault.now }
     {
         Reports {
             syntax_error: fault.code.number(),
@@ -96,7 +95,7 @@ impl Reports {
     /// With what was found of a text: its fault, or that it has none.
     fn with_text(self, found: &Option<MultiFault>) -> Reports
         requires { IfSome found.now (λ fault. fault.place ≤ longest_text) }
-        ensures { reports_of result ≡ text_reports (reports_of self) found.now }
+        ensures { result ≡ text_reports self found.now }
     {
         match found {
             Some(fault) => self.with_fault(fault),
@@ -111,7 +110,7 @@ impl Reports {
     /// A text that is wrong has its fault reported; other causes leave what is reported of texts.
     fn with_cause(self, cause: &Cause) -> Reports
         requires { IsCauseInRange cause.now }
-        ensures { reports_of result ≡ with_cause (reports_of self) cause.now }
+        ensures { result ≡ with_cause self cause.now }
     {
         match cause {
             Cause::Syntax(fault) => self.with_fault(fault),

@@ -61,7 +61,7 @@ impl Settings {
     }
 
     /// Assigns what a binding writes beside the fields of rows.
-    #[tactic(auto, unfolding(crate::specs::SettingsView::set_by, crate::specs::SettingsView::codes_by))]
+    #[tactic(auto, unfolding(crate::specs::SettingsView::set_by))]
     pub fn assign(&mut self, change: &Change<'_>)
         requires { IsChange change.now }
         ensures { self.new ≡ set_by self.old (write_by change.now ∷ []) }
@@ -74,7 +74,7 @@ impl Settings {
     }
 }
 
-#[tactic(auto, unfolding(crate::specs::SettingsView::set_by, crate::specs::SettingsView::codes_by))]
+#[tactic(auto, unfolding(crate::specs::SettingsView::set_by))]
 fn assign_number(settings: &mut Settings, object: Scalar, number: u16)
     requires { IsChange (changes.Number object number) }
     ensures { settings.new ≡ set_by settings.old (SetNumber object number ∷ []) }
@@ -95,7 +95,6 @@ fn assign_number(settings: &mut Settings, object: Scalar, number: u16)
     }
 }
 
-#[tactic(auto, unfolding(crate::specs::SettingsView::codes_by))]
 fn assign_code(fallbacks: &mut Fallbacks, object: Scalar, code: &[u8; 5])
     ensures { fallbacks.new ≡ codes_by fallbacks.old (SetCode object code.now ∷ []) }
 {

@@ -14,7 +14,7 @@ use Rattle.dms_codes.specs.declared.codes.Activation.{Activation}
 use Rattle.dms_codes.specs.declared.row_id.RowId.{RowId}
 use Rattle.dms_codes.specs.declared.status.Ask.{Ask}
 use Rattle.dms_codes.specs.Codes.{octets_of_id, activation_of}
-use Rattle.dms_objects.specs.declared.scalar.Scalar.TheVariants.{ShortPowerRecoveryMessage, LongPowerRecoveryMessage, PowerLossMessage, EndDurationMessage, CommunicationsLossMessage, DefaultBackgroundColor, DefaultForegroundColor, DefaultFlashOn, DefaultFlashOff, DefaultFont, DefaultJustificationLine, DefaultJustificationPage, DefaultPageOnTime, DefaultPageOffTime, ShortPowerLossTime, TimeCommLoss}
+use Rattle.dms_objects.specs.declared.scalar.Scalar.TheVariants.{ShortPowerLossTime, TimeCommLoss}
 use Rattle.dms_objects.specs.declared.instance.Instance.{Instance}
 use Rattle.dms_instances.specs.Objects.{instance_named}
 use Rattle.dms_table.specs.declared.row.Refused.{Refused}
@@ -25,9 +25,9 @@ use Rattle.dms_access.specs.declared.settings.Settings.{Settings}
 use Rattle.dms_access.specs.declared.reports.Reports.{Reports}
 use Rattle.dms_sign.specs.declared.sign.Sign.TheInside.{Inside}
 use Rattle.dms_sign.specs.Communities.{are_communities}
-use Rattle.dms_sign.specs.State.{ConfigModel, FallbacksModel, SignState}
+use Rattle.dms_sign.specs.State.{ConfigModel, SignState}
 use Rattle.dms_access.specs.Access.{Write, SetNumber, SetCode, SetField, AskRow, Activate, SetRemaining, is_command, is_settable, write_of}
-use Rattle.dms_access.specs.Assignment.{given, number_for, code_for}
+use Rattle.dms_access.specs.Assignment.{given, number_for}
 use Rattle.dms_sign.specs.SetRequest.{with_writes, assigned, SetCause, causes, if_settable, settable_instance, write_at}
 use Rattle.dms_sign.specs.Requests.{as_decided, as_asked, commanded, commanded_if, command_index, writes_of, set, set_unless}
 use Rattle.dms_sign.specs.OwnCodes.{showing}
@@ -35,13 +35,12 @@ use Rattle.dms_access.specs.Reports.{IsCauseInRange}
 use Rattle.dms_sign.specs.InRange.{AreOctets, IsTableInRange, IsShownInRange, AreReportsInRange, IsSignInRange}
 use Rattle.dms_sign.specs.Transitions.{HasFitDefaults}
 use Rattle.dms_sign.specs.Kept.{IsKept}
-use Rattle.dms_sign.specs.FallbacksView.{fallbacks_of}
-use Rattle.dms_access.specs.ReportsView.{reports_of}
 use Rattle.dms_sign.specs.SignView.{state_of, IsWhole}
-use Rattle.dms_access.specs.SettingsView.{codes_by, set_by}
+use Rattle.dms_access.specs.SettingsView.{codes_by, defaults_by, set_by}
 use Rattle.dms_sign.specs.SetView.{AreSettings}
 use Rattle.dms_sign.specs.SetView.{IsCommandInRange}
 use Rattle.dms_table.proofs.Decisions.{accepted_decision, accepted_elsewhere}
+use Rattle.dms_access.specs.declared.settings.Fallbacks.{Fallbacks}
 use Rattle.dms_sign.proofs.InRangeLists.{if_found}
 use Rattle.dms_sign.proofs.InRangeShown.{showing_in_range, telling_in_range, with_table_in_range, activation_is, IsDecisionInRange, decided_in_range}
 use Rattle.dms_sign.proofs.InRangeSets.{IsWriteInRange, writes_in_range, assigned_in_range, asked_in_range, accepted_reports}
@@ -55,28 +54,12 @@ use Rattle.dms_sign.proofs.Writes.{writes_like, asked_alike, decided_alike}
 -- ---- settings
 
 pub set_by_is : (settings : Settings) (s : SignState) (ws : List Write) → AreSettings settings s → AreSettings (set_by settings ws) (assigned s ws)
-unfolding set_by codes_by assigned
+unfolding set_by assigned
 set_by_is settings s ws is = record {
-  fallbacks = ap (λ (f : FallbacksModel). record {
-    short_power_recovery = given (code_for ShortPowerRecoveryMessage) ws f.short_power_recovery;
-    long_power_recovery = given (code_for LongPowerRecoveryMessage) ws f.long_power_recovery;
-    power_loss = given (code_for PowerLossMessage) ws f.power_loss;
-    end_duration = given (code_for EndDurationMessage) ws f.end_duration;
-    communications_loss = given (code_for CommunicationsLossMessage) ws f.communications_loss;
-  }) is.fallbacks;
+  fallbacks = ap (λ (f : Fallbacks). codes_by f ws) is.fallbacks;
   short_power_loss_time = ap (given (number_for ShortPowerLossTime) ws) is.short_power_loss_time;
   time_comm_loss = ap (given (number_for TimeCommLoss) ws) is.time_comm_loss;
-  defaults = ap (λ (d : Defaults). record {
-    background = given (number_for DefaultBackgroundColor) ws d.background;
-    foreground = given (number_for DefaultForegroundColor) ws d.foreground;
-    flash_on = given (number_for DefaultFlashOn) ws d.flash_on;
-    flash_off = given (number_for DefaultFlashOff) ws d.flash_off;
-    font = given (number_for DefaultFont) ws d.font;
-    line = given (number_for DefaultJustificationLine) ws d.line;
-    page = given (number_for DefaultJustificationPage) ws d.page;
-    on = given (number_for DefaultPageOnTime) ws d.on;
-    off = given (number_for DefaultPageOffTime) ws d.off;
-  }) is.defaults;
+  defaults = ap (λ (d : Defaults). defaults_by d ws) is.defaults;
 }
 
 pub judged_settings : (old : Inside) (settings : Settings) (ws : List Write) → settings ≡ set_by old.settings ws → AreSettings settings (assigned (state_of old) ws)
@@ -90,12 +73,12 @@ unfolding assigned
 state_assigned old ws settings table t is =
     ap (λ (t : TableModel). record (state_of old) {
       table = t;
-      fallbacks = fallbacks_of settings.fallbacks;
+      fallbacks = settings.fallbacks;
       short_power_loss_time = settings.short_power_loss_time;
       time_comm_loss = settings.time_comm_loss;
       defaults = settings.defaults;
     }) t
-    ∙ ap (λ (f : FallbacksModel). record (state_of old) {
+    ∙ ap (λ (f : Fallbacks). record (state_of old) {
       table = with_writes old.table ws;
       fallbacks = f;
       short_power_loss_time = settings.short_power_loss_time;
@@ -169,12 +152,12 @@ ask_granted s new bindings index (Some table) result e =
 -- ---- activations
 
 pub accepted_whole : (old : Inside) (shown : ShownModel) (source octets : List ℕ) (reports : Reports) → IsWhole old → IsShownInRange shown → AreOctets 12 octets
-    → source ≡ octets_of_id old.table.order shown.source → reports_of reports ≡ record (reports_of old.reports) { activate_error = 2; accepted_code = octets }
+    → source ≡ octets_of_id old.table.order shown.source → reports ≡ record old.reports { activate_error = 2; accepted_code = octets }
     → IsWhole (record old { shown = shown; source = source; reports = reports })
 accepted_whole old shown source octets reports is range twelve s r = record {
   kept = record {
-    in_range = telling_in_range (showing (state_of old) shown) (reports_of reports) (showing_in_range (state_of old) shown is.kept.in_range range)
-        (subst AreReportsInRange (sym r) (accepted_reports (reports_of old.reports) octets is.kept.in_range.reports twelve));
+    in_range = telling_in_range (showing (state_of old) shown) reports (showing_in_range (state_of old) shown is.kept.in_range range)
+        (subst AreReportsInRange (sym r) (accepted_reports old.reports octets is.kept.in_range.reports twelve));
     fit = is.kept.fit;
     communities = is.kept.communities;
   };

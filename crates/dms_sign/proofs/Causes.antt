@@ -37,7 +37,6 @@ given_append pick [] ys old = refl
 given_append pick (x ∷ xs) ys old = given_append pick xs ys (unwrap_or (pick x) old)
 
 codes_append : (f : Fallbacks) (xs ys : List Write) → codes_by f (xs ++ ys) ≡ codes_by (codes_by f xs) ys
-unfolding codes_by
 codes_append f xs ys = simp given_append
 
 set_append : (s : Settings) (xs ys : List Write) → set_by s (xs ++ ys) ≡ set_by (set_by s xs) ys
@@ -45,7 +44,6 @@ unfolding set_by
 set_append s xs ys = simp (given_append, codes_append)
 
 codes_empty : (f : Fallbacks) → f ≡ codes_by f []
-unfolding codes_by
 codes_empty f = refl
 
 set_empty : (s : Settings) → s ≡ set_by s []

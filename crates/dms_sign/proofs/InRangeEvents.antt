@@ -13,7 +13,7 @@ use Rattle.dms_table.specs.declared.validation.Verdict.{Verdict}
 use Rattle.dms_table.specs.Rows.{RowModel, TableModel, row_is_validating, interrupted, released, unused, after_power}
 use Rattle.dms_codes.specs.Limits.{longest_text}
 use Rattle.dms_table.specs.Validation.{text_verdict, verdict_of, settled_row, settled, settling_row, verdict}
-use Rattle.dms_access.specs.Reports.{ReportsModel}
+use Rattle.dms_access.specs.declared.reports.Reports.{Reports}
 use Rattle.dms_sign.specs.State.{SignState, power_recovery_mode, communications_loss_mode, power_loss_mode, end_duration_mode}
 use Rattle.dms_sign.specs.OwnCodes.{showing, put_up_code}
 use Rattle.dms_access.specs.Reports.{text_reports, settled_reports}
@@ -49,7 +49,7 @@ any_if P f (Some x) each = each x
 pub settled_verdict : (face : FaceModel) (table : TableModel) → IfSome (verdict face table) IsVerdictInRange
 settled_verdict face table = any_if IsVerdictInRange (verdict_of table.services face) (settling_row table) (verdict_in_range table.services face)
 
-text_reported : (reports : ReportsModel) (o : Option MultiFault) → AreReportsInRange reports → IsFaultPlaced o
+text_reported : (reports : Reports) (o : Option MultiFault) → AreReportsInRange reports → IsFaultPlaced o
     → AreReportsInRange (text_reports reports o)
 text_reported reports None are placed = record {
   validate_error = are.validate_error;
@@ -61,7 +61,7 @@ text_reported reports None are placed = record {
 }
 text_reported reports (Some fault) are placed = fault_in_range reports fault are placed
 
-pub verdict_reported : (reports : ReportsModel) (o : Option Verdict) → AreReportsInRange reports → IfSome o IsVerdictInRange
+pub verdict_reported : (reports : Reports) (o : Option Verdict) → AreReportsInRange reports → IfSome o IsVerdictInRange
     → AreReportsInRange (settled_reports reports o)
 verdict_reported reports None are verdict = are
 verdict_reported reports (Some found) are verdict =

@@ -32,7 +32,7 @@ use Rattle.dms_objects.specs.declared.scalar.Scalar.TheVariants.{SignHeightPixel
 use Rattle.dms_objects.specs.declared.instance.Instance.{Instance}
 use Rattle.dms_objects.specs.declared.instance.Instance.TheVariants as kinds
 use Rattle.dms_objects.specs.Names.{scalar_number}
-use Rattle.dms_access.specs.Reports.{ReportsModel}
+use Rattle.dms_access.specs.declared.reports.Reports.{Reports}
 use Rattle.dms_sign.specs.State.{SignState, end_duration_mode}
 use Rattle.dms_sign.specs.OwnCodes.{showing, put_up_code}
 use Rattle.dms_access.specs.Access.{Write, SetNumber, SetCode, SetField, AskRow, Activate, SetRemaining, is_command, number_in, octets_in, font_in, ask_of, object_write, cell_write, write_of}
@@ -386,7 +386,7 @@ assigned_in_range s writes is all = record {
 
 -- ---- commands
 
-pub accepted_reports : (reports : ReportsModel) (octets : List ℕ) → AreReportsInRange reports → AreOctets 12 octets
+pub accepted_reports : (reports : Reports) (octets : List ℕ) → AreReportsInRange reports → AreOctets 12 octets
     → AreReportsInRange (record reports { activate_error = 2; accepted_code = octets })
 accepted_reports reports octets are twelve = record {
   validate_error = are.validate_error;

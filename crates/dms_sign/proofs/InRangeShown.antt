@@ -20,10 +20,10 @@ use Rattle.dms_codes.specs.Memory.{current_buffer}
 use Rattle.dms_codes.specs.Limits.{longest_text}
 use Rattle.dms_codes.specs.Codes.{number_at, id_of, activation_of, octets_of_id, octets_of_activation, IsMessageId}
 use Rattle.dms_table.specs.Activation.{ShownModel, is_memory, named, row_id, has_checksum, text_error, activation_error, cause_number, seconds_of, put_up, unless_refused, decided_on, decided}
-use Rattle.dms_access.specs.Reports.{ReportsModel}
 use Rattle.dms_table.specs.declared.shown.Mode.{Mode}
 use Rattle.dms_table.specs.declared.shown.Mode.TheVariants.{Central, PowerRecovery, CommunicationsLoss, PowerLoss, EndDuration}
 use Rattle.dms_table.specs.Activation.{no_address, blank_shown, mode_number}
+use Rattle.dms_access.specs.declared.reports.Reports.{Reports}
 use Rattle.dms_sign.specs.State.{SignState}
 use Rattle.dms_access.specs.Reports.{with_fault, with_cause, refused_reports}
 use Rattle.dms_sign.specs.OwnCodes.{showing, with_refused_code, own_activation, put_up_as_decided, staying, put_up_code}
@@ -50,7 +50,7 @@ showing_in_range s shown is new = record {
   reports = is.reports;
 }
 
-pub telling_in_range : (s : SignState) (reports : ReportsModel) → IsSignInRange s → AreReportsInRange reports
+pub telling_in_range : (s : SignState) (reports : Reports) → IsSignInRange s → AreReportsInRange reports
     → IsSignInRange (record s { reports = reports })
 telling_in_range s reports is new = record {
   config = is.config;
@@ -229,7 +229,7 @@ decided_in_range face defaults table shown code are rows is coded =
 
 -- ---- codes that are refused
 
-pub fault_in_range : (reports : ReportsModel) (fault : MultiFault) → AreReportsInRange reports → fault.place ≤ longest_text
+pub fault_in_range : (reports : Reports) (fault : MultiFault) → AreReportsInRange reports → fault.place ≤ longest_text
     → AreReportsInRange (with_fault reports fault)
 fault_in_range reports fault are placed = record {
   validate_error = are.validate_error;
@@ -240,7 +240,7 @@ fault_in_range reports fault are placed = record {
   failed_code = are.failed_code;
 }
 
-cause_in_range : (reports : ReportsModel) (cause : Cause) → AreReportsInRange reports → IsCauseInRange cause
+cause_in_range : (reports : Reports) (cause : Cause) → AreReportsInRange reports → IsCauseInRange cause
     → AreReportsInRange (with_cause reports cause)
 cause_in_range reports (causes.Syntax fault) are is = fault_in_range reports fault are is
 cause_in_range reports causes.MemoryType are is = are
@@ -257,7 +257,7 @@ cause_small causes.Number = omega arith
 cause_small causes.Checksum = omega arith
 cause_small (causes.Syntax fault) = omega arith
 
-pub refused_in_range : (reports : ReportsModel) (cause : Cause) (code : List ℕ) → AreReportsInRange reports → IsCauseInRange cause → AreOctets 12 code
+pub refused_in_range : (reports : Reports) (cause : Cause) (code : List ℕ) → AreReportsInRange reports → IsCauseInRange cause → AreOctets 12 code
     → AreReportsInRange (refused_reports reports cause code)
 refused_in_range reports cause code are is octets =
     let new = cause_in_range reports cause are is in

@@ -32,14 +32,12 @@ use Rattle.dms_sign.specs.State.{ConfigModel, SignState, start, power_recovery_m
 use Rattle.dms_sign.specs.Kept.{IsKept}
 use Rattle.dms_access.specs.declared.settings.Settings.{Settings}
 use Rattle.dms_access.specs.SettingsView.{first_settings}
-use Rattle.dms_sign.specs.FallbacksView.{fallbacks_of}
-use Rattle.dms_access.specs.Reports.{ReportsModel, first_reports, refused_reports}
+use Rattle.dms_access.specs.Reports.{first_reports, refused_reports}
 use Rattle.dms_sign.specs.OwnCodes.{showing, with_refused_code, own_activation, put_up_as_decided, staying, put_up_code}
 use Rattle.dms_access.specs.Reports.{settled_reports}
 use Rattle.dms_access.specs.Reports.{IsCauseInRange}
 use Rattle.dms_access.specs.Ranges.{AreDefaultsInRange}
 use Rattle.dms_sign.specs.InRange.{IsStocked, AreOctets, IsTableInRange, IsShownInRange, IsTimeInRange, AreReportsInRange, IsSignInRange, most_minutes}
-use Rattle.dms_access.specs.ReportsView.{reports_of}
 use Rattle.dms_sign.specs.declared.known_texts.KnownTexts.{KnownTexts}
 use Rattle.dms_sign.specs.KnownTexts.{HasRoom, noted, AreKnown}
 use Rattle.dms_sign.specs.SignView.{state_of, IsWhole}
@@ -88,19 +86,19 @@ remaining_whole old remaining is time = record {
   known = is.known;
 }
 
-pub reports_whole : (old : Inside) (reports : Reports) → IsWhole old → AreReportsInRange (reports_of reports)
+pub reports_whole : (old : Inside) (reports : Reports) → IsWhole old → AreReportsInRange reports
     → IsWhole (record old { reports = reports })
 reports_whole old reports is range = record {
-  kept = record { in_range = telling_in_range (state_of old) (reports_of reports) is.kept.in_range range; fit = is.kept.fit; communities = is.kept.communities };
+  kept = record { in_range = telling_in_range (state_of old) reports is.kept.in_range range; fit = is.kept.fit; communities = is.kept.communities };
   source = is.source;
   known = is.known;
 }
 
 pub refused_whole : (old : Inside) (cause : Cause) (code : List ℕ) (reports : Reports) → IsWhole old → IsCauseInRange cause → AreOctets 12 code
-    → reports_of reports ≡ refused_reports (reports_of old.reports) cause code → IsWhole (record old { reports = reports })
+    → reports ≡ refused_reports old.reports cause code → IsWhole (record old { reports = reports })
 refused_whole old cause code reports is small octets e =
     reports_whole old reports is
-    (subst AreReportsInRange (sym e) (refused_in_range (reports_of old.reports) cause code is.kept.in_range.reports small octets))
+    (subst AreReportsInRange (sym e) (refused_in_range old.reports cause code is.kept.in_range.reports small octets))
 
 pub kept_whole : (old : Inside) → IsWhole old → IsWhole (record old { shown_at_power_loss = old.shown })
 kept_whole old is = record {
@@ -142,13 +140,13 @@ verdict_placed s o e =
 
 settled_as_reported : (old : Inside) (table : TableModel) (reports : Reports) → IsWhole old
     → table ≡ settled (under old.face old.settings.defaults) old.table
-    → reports_of reports ≡ settled_reports (reports_of old.reports) (verdict (under old.face old.settings.defaults) old.table)
+    → reports ≡ settled_reports old.reports (verdict (under old.face old.settings.defaults) old.table)
     → IsSignInRange (state_of (record old { table = table; reports = reports }))
 settled_as_reported old table reports is t r =
     let face = under old.face old.settings.defaults in
     let range = is.kept.in_range in
-    let reported = verdict_reported (reports_of old.reports) (verdict face old.table) range.reports (settled_verdict face old.table) in
-    telling_in_range (record (state_of old) { table = table }) (reports_of reports)
+    let reported = verdict_reported old.reports (verdict face old.table) range.reports (settled_verdict face old.table) in
+    telling_in_range (record (state_of old) { table = table }) reports
     (with_table_in_range (state_of old) table range (subst (λ t. IsTableInRange t) (sym t) (settled_in_range face old.table range.table)))
     (subst AreReportsInRange (sym r) reported)
 
@@ -175,11 +173,11 @@ entries_there old is changeable volatile = record {
 pub settled_whole : (old : Inside) (place : Place) (table : TableModel) (o : Option Verdict) (reports : Reports) (known : KnownTexts) → IsWhole old
     → length old.known.changeable ≡ 64 → length old.known.volatile ≡ 16 → IsPlaced (Some place) old.table.changeable old.table.volatile
     → table ≡ settled (under old.face old.settings.defaults) old.table → o ≡ verdict (under old.face old.settings.defaults) old.table
-    → reports_of reports ≡ settled_reports (reports_of old.reports) o → known ≡ noted old.known place old.settings.defaults
+    → reports ≡ settled_reports old.reports o → known ≡ noted old.known place old.settings.defaults
     → IsWhole (record old { table = table; reports = reports; known = known })
 settled_whole old place table o reports known is changeable volatile placed t v r n = record {
   kept = record {
-    in_range = settled_as_reported old table reports is t (r ∙ ap (settled_reports (reports_of old.reports)) v);
+    in_range = settled_as_reported old table reports is t (r ∙ ap (settled_reports old.reports) v);
     fit = is.kept.fit;
     communities = is.kept.communities;
   };
@@ -287,16 +285,16 @@ made_kept config table width height fits communities are reader writer stocked o
 }
 
 pub made_state : (config : ConfigModel) (table : TableModel) (defaults : Defaults) (settings : Settings) (reports : Reports) (shown kept : ShownModel)
-    → defaults ≡ config.face.defaults → settings ≡ first_settings defaults → reports_of reports ≡ first_reports
+    → defaults ≡ config.face.defaults → settings ≡ first_settings defaults → reports ≡ first_reports
     → shown ≡ blank_shown defaults power_recovery_mode → kept ≡ blank_shown defaults power_recovery_mode → IsKept (start config table)
     → IsKept (record (start config table) {
-      fallbacks = fallbacks_of settings.fallbacks;
+      fallbacks = settings.fallbacks;
       short_power_loss_time = settings.short_power_loss_time;
       time_comm_loss = settings.time_comm_loss;
       defaults = settings.defaults;
       shown = shown;
       shown_at_power_loss = kept;
-      reports = reports_of reports;
+      reports = reports;
     })
 made_state config table defaults settings reports shown kept d e r s k is =
     let same : blank_shown config.face.defaults power_recovery_mode ≡ blank_shown defaults power_recovery_mode =
@@ -307,8 +305,8 @@ made_state config table defaults settings reports shown kept d e r s k is =
     (subst (λ (x : ShownModel). IsKept (record (start config table) { shown = x; shown_at_power_loss = kept })) (same ∙ sym s)
     (subst (λ (x : ShownModel). IsKept (record (start config table) { shown_at_power_loss = x })) (same ∙ sym k) is))
     in
-    subst (λ (x : ReportsModel). IsKept (record (start config table) {
-      fallbacks = fallbacks_of settings.fallbacks;
+    subst (λ (x : Reports). IsKept (record (start config table) {
+      fallbacks = settings.fallbacks;
       short_power_loss_time = settings.short_power_loss_time;
       time_comm_loss = settings.time_comm_loss;
       defaults = settings.defaults;
@@ -317,7 +315,7 @@ made_state config table defaults settings reports shown kept d e r s k is =
       reports = x;
     })) (sym r)
     (subst (λ (x : Settings). IsKept (record (start config table) {
-      fallbacks = fallbacks_of x.fallbacks;
+      fallbacks = x.fallbacks;
       short_power_loss_time = x.short_power_loss_time;
       time_comm_loss = x.time_comm_loss;
       defaults = x.defaults;

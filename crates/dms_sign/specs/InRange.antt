@@ -15,9 +15,10 @@ use Rattle.dms_table.specs.Rows.{RowModel, TableModel, unused}
 use Rattle.dms_codes.specs.Limits.{longest_text, longest_owner}
 use Rattle.dms_table.specs.Stock.{has_ranges}
 use Rattle.dms_table.specs.Activation.{ShownModel, shown_row}
+use Rattle.dms_access.specs.declared.reports.Reports.{Reports}
+use Rattle.dms_access.specs.declared.settings.Fallbacks.{Fallbacks}
 use Rattle.dms_access.specs.Ranges.{AreDefaultsInRange}
-use Rattle.dms_access.specs.Reports.{ReportsModel}
-use Rattle.dms_sign.specs.State.{ConfigModel, FallbacksModel, SignState}
+use Rattle.dms_sign.specs.State.{ConfigModel, SignState}
 use Rattle.dms_sign.specs.Reply.{too_big}
 use Rattle.dms_sign.specs.Requests.{Answer, answer_of_any_size}
 use Rattle.dms_sign.specs.Reply.{response_of, most_octets}
@@ -60,7 +61,7 @@ pub record IsTableInRange (table : TableModel) : Type 0 where
   pub volatile_count : length table.volatile ≤ 16
 
 -- each code is five octets (NTCIP 1203, MessageIDCode)
-pub record AreFallbacksInRange (fallbacks : FallbacksModel) : Type 0 where
+pub record AreFallbacksInRange (fallbacks : Fallbacks) : Type 0 where
   pub short_power_recovery : AreOctets 5 fallbacks.short_power_recovery
   pub long_power_recovery : AreOctets 5 fallbacks.long_power_recovery
   pub power_loss : AreOctets 5 fallbacks.power_loss
@@ -87,7 +88,7 @@ pub record IsShownInRange (shown : ShownModel) : Type 0 where
 
 -- the errors are octets, a place lies in a text or at its end, and each code is twelve octets (NTCIP 1203,
 -- MessageActivationCode)
-pub record AreReportsInRange (reports : ReportsModel) : Type 0 where
+pub record AreReportsInRange (reports : Reports) : Type 0 where
   pub validate_error : reports.validate_error ≤ 255
   pub activate_error : reports.activate_error ≤ 255
   pub syntax_error : reports.syntax_error ≤ 255

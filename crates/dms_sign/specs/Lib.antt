@@ -15,7 +15,6 @@ pub mod InRange
 pub mod Transitions
 pub mod Kept
 -- what the code's fields and receipts are in these words
-pub mod FallbacksView
 pub mod KnownTexts
 pub mod SignView
 pub mod ReplyView

@@ -7,13 +7,14 @@ use Rattle.dms_wire.specs.declared.error_status.ErrorStatus.TheVariants.{NoSuchN
 use Rattle.dms_wire.specs.Message.{VarBind}
 use Rattle.dms_codes.specs.Status.{is_modifying}
 use Rattle.dms_table.specs.Rows.{TableModel, RowReading, row_read, written}
-use Rattle.dms_objects.specs.declared.scalar.Scalar.TheVariants.{DefaultBackgroundColor, DefaultForegroundColor, DefaultFlashOn, DefaultFlashOff, DefaultFont, DefaultJustificationLine, DefaultJustificationPage, DefaultPageOnTime, DefaultPageOffTime, ShortPowerRecoveryMessage, LongPowerRecoveryMessage, ShortPowerLossTime, CommunicationsLossMessage, TimeCommLoss, PowerLossMessage, EndDurationMessage}
+use Rattle.dms_objects.specs.declared.scalar.Scalar.TheVariants.{ShortPowerLossTime, TimeCommLoss}
 use Rattle.dms_objects.specs.declared.instance.Instance.{Instance}
 use Rattle.dms_instances.specs.Objects.{instance_named}
 use Rattle.dms_sign.specs.State.{SignState}
 use Rattle.dms_access.specs.Access.{Write, SetField, is_command, is_settable, write_of}
 use Rattle.dms_access.specs.MetNames.{is_among}
-use Rattle.dms_access.specs.Assignment.{given, number_for, code_for}
+use Rattle.dms_access.specs.Assignment.{given, number_for}
+use Rattle.dms_access.specs.SettingsView.{codes_by, defaults_by}
 
 -- ---- what keeps a SET from writing
 
@@ -88,24 +89,8 @@ with_writes table (write ∷ writes) = with_writes (with_write table write) writ
 unfoldable pub assigned : SignState → List Write → SignState
 assigned s writes = record s {
   table = with_writes s.table writes;
-  fallbacks = record {
-    short_power_recovery = given (code_for ShortPowerRecoveryMessage) writes s.fallbacks.short_power_recovery;
-    long_power_recovery = given (code_for LongPowerRecoveryMessage) writes s.fallbacks.long_power_recovery;
-    power_loss = given (code_for PowerLossMessage) writes s.fallbacks.power_loss;
-    end_duration = given (code_for EndDurationMessage) writes s.fallbacks.end_duration;
-    communications_loss = given (code_for CommunicationsLossMessage) writes s.fallbacks.communications_loss;
-  };
+  fallbacks = codes_by s.fallbacks writes;
   short_power_loss_time = given (number_for ShortPowerLossTime) writes s.short_power_loss_time;
   time_comm_loss = given (number_for TimeCommLoss) writes s.time_comm_loss;
-  defaults = record {
-    background = given (number_for DefaultBackgroundColor) writes s.defaults.background;
-    foreground = given (number_for DefaultForegroundColor) writes s.defaults.foreground;
-    flash_on = given (number_for DefaultFlashOn) writes s.defaults.flash_on;
-    flash_off = given (number_for DefaultFlashOff) writes s.defaults.flash_off;
-    font = given (number_for DefaultFont) writes s.defaults.font;
-    line = given (number_for DefaultJustificationLine) writes s.defaults.line;
-    page = given (number_for DefaultJustificationPage) writes s.defaults.page;
-    on = given (number_for DefaultPageOnTime) writes s.defaults.on;
-    off = given (number_for DefaultPageOffTime) writes s.defaults.off;
-  };
+  defaults = defaults_by s.defaults writes;
 }

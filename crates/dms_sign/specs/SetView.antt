@@ -8,7 +8,6 @@ use Rattle.dms_access.specs.Access.{Write, SetNumber, SetCode, SetField, AskRow,
 use Rattle.dms_sign.specs.declared.sign.set_request.Refusal.{Refusal}
 use Rattle.dms_sign.specs.State.{SignState}
 use Rattle.dms_sign.specs.InRange.{AreOctets}
-use Rattle.dms_sign.specs.FallbacksView.{fallbacks_of}
 use Rattle.dms_sign.specs.SetRequest.{SetCause, with_writes}
 use Rattle.dms_sign.specs.Requests.{Answer, writes_of}
 
@@ -44,7 +43,7 @@ StaysWithout fields s bindings = fields ≡ false → with_writes s.table (write
 
 -- the settings are those of the state
 pub record AreSettings (settings : Settings) (s : SignState) : Type 0 where
-  pub fallbacks : fallbacks_of settings.fallbacks ≡ s.fallbacks
+  pub fallbacks : settings.fallbacks ≡ s.fallbacks
   pub short_power_loss_time : settings.short_power_loss_time ≡ s.short_power_loss_time
   pub time_comm_loss : settings.time_comm_loss ≡ s.time_comm_loss
   pub defaults : settings.defaults ≡ s.defaults

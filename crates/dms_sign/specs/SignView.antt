@@ -4,22 +4,20 @@ use Rattle.dms_codes.specs.Codes.{octets_of_id}
 use Rattle.dms_sign.specs.declared.sign.Sign.TheInside.{Inside}
 use Rattle.dms_sign.specs.Kept.{IsKept}
 use Rattle.dms_sign.specs.KnownTexts.{AreKnown}
-use Rattle.dms_sign.specs.FallbacksView.{fallbacks_of}
-use Rattle.dms_access.specs.ReportsView.{reports_of}
 use Rattle.dms_sign.specs.State.{SignState}
 
 abbrev pub state_of : Inside → SignState
 state_of s = record {
   config = record { face = s.face; reader = s.reader.items; writer = s.writer.items };
   table = s.table;
-  fallbacks = fallbacks_of s.settings.fallbacks;
+  fallbacks = s.settings.fallbacks;
   short_power_loss_time = s.settings.short_power_loss_time;
   time_comm_loss = s.settings.time_comm_loss;
   silent_seconds = s.silent_seconds;
   defaults = s.settings.defaults;
   shown = s.shown;
   shown_at_power_loss = s.shown_at_power_loss;
-  reports = reports_of s.reports;
+  reports = s.reports;
   powered = s.powered;
 }
 

@@ -4,8 +4,11 @@ use Rattle.dms_face.specs.declared.defaults.Defaults.{Defaults}
 use Rattle.dms_face.specs.Face.{FaceModel}
 use Rattle.dms_table.specs.Rows.{TableModel}
 use Rattle.dms_table.specs.declared.shown.Mode.TheVariants.{PowerRecovery, CommunicationsLoss, PowerLoss, EndDuration}
-use Rattle.dms_table.specs.Activation.{ShownModel, blank_code, blank_shown, mode_number}
-use Rattle.dms_access.specs.Reports.{ReportsModel, first_reports}
+use Rattle.dms_table.specs.Activation.{ShownModel, blank_shown, mode_number}
+use Rattle.dms_access.specs.declared.reports.Reports.{Reports}
+use Rattle.dms_access.specs.declared.settings.Fallbacks.{Fallbacks}
+use Rattle.dms_access.specs.SettingsView.{first_fallbacks}
+use Rattle.dms_access.specs.Reports.{first_reports}
 
 -- ---- states
 
@@ -15,25 +18,12 @@ pub record ConfigModel : Type 0 where
   pub reader : List ℕ
   pub writer : List ℕ
 
--- The codes of the messages that a sign activates by itself, each the five octets that were written (NTCIP 1203,
--- MessageIDCode).
-pub record FallbacksModel : Type 0 where
-  -- dmsShortPowerRecoveryMessage
-  pub short_power_recovery : List ℕ
-  -- dmsLongPowerRecoveryMessage
-  pub long_power_recovery : List ℕ
-  -- dmsPowerLossMessage
-  pub power_loss : List ℕ
-  -- dmsEndDurationMessage
-  pub end_duration : List ℕ
-  -- dmsCommunicationsLossMessage
-  pub communications_loss : List ℕ
-
 pub record SignState : Type 0 where
   pub config : ConfigModel
   -- its rows, what the sign has, and the order of the octets of its checksums
   pub table : TableModel
-  pub fallbacks : FallbacksModel
+  -- the codes of the messages that it activates by itself
+  pub fallbacks : Fallbacks
   -- dmsShortPowerLossTime: the seconds of a loss of power that is still short
   pub short_power_loss_time : ℕ
   -- dmsTimeCommLoss: the minutes of silence that are a loss of communications; 0 is never
@@ -45,7 +35,7 @@ pub record SignState : Type 0 where
   pub shown : ShownModel
   -- what was shown when the power was lost
   pub shown_at_power_loss : ShownModel
-  pub reports : ReportsModel
+  pub reports : Reports
   pub powered : Bool
 
 -- ---- modes: what put a message up, beside a SET (NTCIP 1203, dmsMsgSourceMode)
@@ -69,13 +59,7 @@ abbrev pub start : ConfigModel → TableModel → SignState
 start config table = record {
   config = config;
   table = table;
-  fallbacks = record {
-    short_power_recovery = blank_code;
-    long_power_recovery = blank_code;
-    power_loss = blank_code;
-    end_duration = blank_code;
-    communications_loss = blank_code;
-  };
+  fallbacks = first_fallbacks;
   short_power_loss_time = 0;
   time_comm_loss = 0;
   silent_seconds = 0;

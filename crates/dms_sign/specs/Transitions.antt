@@ -15,7 +15,8 @@ use Rattle.dms_table.specs.Rows.{RowModel, TableModel, rows_of, numbered}
 use Rattle.dms_codes.specs.Memory.{blank_memory}
 use Rattle.dms_table.specs.Validation.{CameToBeValid}
 use Rattle.dms_table.specs.Activation.{ShownModel}
-use Rattle.dms_sign.specs.State.{FallbacksModel, SignState}
+use Rattle.dms_access.specs.declared.settings.Fallbacks.{Fallbacks}
+use Rattle.dms_sign.specs.State.{SignState}
 
 -- ---- rows
 
@@ -64,7 +65,7 @@ pub record IsRowOf (face : FaceModel) (defaults : Defaults) (table : TableModel)
   pub copied : shown.defaults ≡ defaults
 
 -- the code stands in one of the objects that hold a sign's own codes
-abbrev pub IsOwnCode : Order → FallbacksModel → MessageId → Type 0
+abbrev pub IsOwnCode : Order → Fallbacks → MessageId → Type 0
 IsOwnCode order fallbacks id =
     (id ≡ id_of order fallbacks.short_power_recovery) ⊎ (id ≡ id_of order fallbacks.long_power_recovery)
     ⊎ (id ≡ id_of order fallbacks.power_loss) ⊎ (id ≡ id_of order fallbacks.end_duration)

@@ -15,7 +15,6 @@ ghost use Rattle.dms_face.specs.Face.{fit};
 ghost use Rattle.dms_table.specs.Activation.{mode_number, refusal, shown_by, unless_refused};
 ghost use Rattle.dms_sign.specs.OwnCodes.{showing, staying, with_refused_code};
 ghost use Rattle.dms_sign.specs.Events.{after_settling, restored};
-ghost use Rattle.dms_sign.specs.FallbacksView.{fallbacks_of};
 
 use crate::config::{Config, ConfigFault, are_communities};
 use crate::known_texts::KnownTexts;
@@ -174,8 +173,8 @@ impl Sign {
 
     /// The codes of the messages that the sign activates by itself.
     fn fallbacks(&self) -> Fallbacks
-        ensures value { fallbacks_of result ≡ self.now.fallbacks }
-        ensures in_range { AreFallbacksInRange (fallbacks_of result) }
+        ensures value { result ≡ self.now.fallbacks }
+        ensures in_range { AreFallbacksInRange result }
     {
         self.settings.fallbacks
     }

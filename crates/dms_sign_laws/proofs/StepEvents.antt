@@ -13,7 +13,8 @@ use Rattle.dms_codes.specs.declared.codes.Activation.{Activation}
 use Rattle.dms_codes.specs.Codes.{activation_of, id_of}
 use Rattle.dms_table.specs.Rows.{TableModel, asked, after_power}
 use Rattle.dms_table.specs.Activation.{ShownModel, seconds_of, decided}
-use Rattle.dms_sign.specs.State.{ConfigModel, FallbacksModel, SignState, power_recovery_mode, communications_loss_mode, power_loss_mode, end_duration_mode}
+use Rattle.dms_access.specs.declared.settings.Fallbacks.{Fallbacks}
+use Rattle.dms_sign.specs.State.{ConfigModel, SignState, power_recovery_mode, communications_loss_mode, power_loss_mode, end_duration_mode}
 use Rattle.dms_sign.specs.OwnCodes.{showing, put_up_code}
 use Rattle.dms_access.specs.Access.{Write, SetNumber, SetCode, SetField, AskRow, Activate, SetRemaining, is_command}
 use Rattle.dms_sign.specs.SetRequest.{SetCause, causes, assigned}
@@ -37,7 +38,7 @@ code_moved : (mid new : SignState) (a b : MessageId) → KeepsRest mid new → b
     → IsOwnCode new.table.order new.fallbacks b
 code_moved mid new a b kept_rest same own =
     subst (λ (t : TableModel). IsOwnCode t.order new.fallbacks b) (sym kept_rest.table)
-    (subst (λ (f : FallbacksModel). IsOwnCode mid.table.order f b) (sym kept_rest.fallbacks)
+    (subst (λ (f : Fallbacks). IsOwnCode mid.table.order f b) (sym kept_rest.fallbacks)
     (subst (IsOwnCode mid.table.order mid.fallbacks) (sym same) own))
 
 shows_on : (old mid new : SignState) (a : Option Activation) → KeepsRest mid new → IsSameMessage mid.shown new.shown → ShowsNow old mid a → ShowsNow old new a

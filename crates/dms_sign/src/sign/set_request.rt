@@ -155,7 +155,7 @@ impl Sign {
 
 impl<'a> Judged<'a> {
     /// Notes what the binding of this index writes.
-    #[tactic(auto, unfolding(dms_access::specs::SettingsView::set_by, dms_access::specs::SettingsView::codes_by))]
+    #[tactic(auto, unfolding(dms_access::specs::SettingsView::set_by))]
     fn note(&mut self, index: u32, change: Change<'a>)
         requires { IsChange change }
         ensures settings { self.new.settings ≡ set_by self.old.settings (write_by change.entry ∷ []) }
