@@ -13,6 +13,7 @@ pub mod StepDefaults
 pub mod Wholes
 pub mod Walks
 pub mod Sending
+pub mod Addressed
 pub mod Writes
 pub mod Causes
 pub mod Assigned

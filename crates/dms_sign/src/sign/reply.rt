@@ -1,6 +1,6 @@
 //! The reply to a datagram.
 
-ghost use Rattle.std.specs.Prelude.{◌≡◌, List, [], ◌∷◌, Some, IsTrue};
+ghost use Rattle.std.specs.Prelude.{◌≡◌, List, [], ◌∷◌};
 ghost use Rattle.dms_wire.specs.ErrorStatus.{error_status_number};
 ghost use Rattle.dms_wire.specs.Message.{VarBind};
 ghost use Rattle.dms_wire.specs.View.{snmp_message, var_bind};
@@ -8,8 +8,8 @@ ghost use Rattle.dms_wire.specs.Canonical.{canonical};
 ghost use Rattle.dms_wire.specs.Response.{response_to};
 ghost use Rattle.dms_wire.specs.Written.{octets_of_bindings};
 ghost use Rattle.dms_sign.specs.Requests.{get, get_next, set, is_community, may_write};
-ghost use Rattle.dms_sign.specs.Reply.{too_big, reply_to, is_request, is_heard, heard, received};
-ghost use Rattle.dms_sign.specs.ReplyView.{reply_with, IsRead, IsAnswered, sent, accepted_by};
+ghost use Rattle.dms_sign.specs.Reply.{too_big, reply_to, received};
+ghost use Rattle.dms_sign.specs.ReplyView.{reply_with, IsRead, IsAnswered, sent, accepted_by, is_addressed, answered};
 ghost use Rattle.dms_sign.specs.declared.sign.reply.Receipt.TheVariants.{Dropped};
 
 use crate::sign::Sign;
@@ -35,7 +35,7 @@ impl Sign {
     /// What comes of a datagram: the reply is left in `out`, which is empty where nothing is sent. Octets that spell no
     /// message, a Response, a message of another community and all that comes while the power is off are dropped, and
     /// nothing changes.
-    #[tactic(auto, unfolding(crate::specs::Reply::received))]
+    #[tactic(auto, unfolding(crate::specs::Reply::received), using(crate::proofs::Addressed::on_addressed, crate::proofs::Addressed::not_addressed))]
     pub fn receive(&mut self, datagram: &[u8], out: &mut Out) -> Receipt
         ensures after { self.new ≡ (received self.old datagram.now).after }
         ensures reply { sent result out.new.items ≡ (received self.old datagram.now).reply }
@@ -44,22 +44,23 @@ impl Sign {
     {
         out.clear();
         match heard(datagram) {
-            Some(message) if self.is_heard(&message) => self.answer(&message, out),
+            Some(message) if self.is_addressed(&message) => self.answer(&message, out),
             _ => Receipt::Dropped,
         }
     }
 
-    /// Answers a request.
+    /// Answers a request; a Response is dropped.
     #[tactic(auto, unfolding(crate::specs::Requests::answer_of_any_size))]
     fn answer(&mut self, message: &Message<'_>, out: &mut Out) -> Receipt
         requires read { IsRead (snmp_message message.now) }
-        requires asks { IsTrue (is_request message.now.kind) }
-        ensures after { self.new ≡ (heard self.old (snmp_message message.now)).after }
-        ensures reply { Some out.new.items ≡ (heard self.old (snmp_message message.now)).reply }
-        ensures accepted { accepted_by result ≡ (heard self.old (snmp_message message.now)).accepted }
-        ensures answered { IsAnswered result }
+        requires cleared { out.old.items ≡ [] }
+        ensures after { self.new ≡ (answered self.old (snmp_message message.now) message.now.kind).after }
+        ensures reply { sent result out.new.items ≡ (answered self.old (snmp_message message.now) message.now.kind).reply }
+        ensures accepted { accepted_by result ≡ (answered self.old (snmp_message message.now) message.now.kind).accepted }
+        ensures empty { result ≡ Dropped → out.new.items ≡ [] }
     {
         let receipt = match message.kind {
+            Kind::Response => return Receipt::Dropped,
             Kind::Get => {
                 self.answer_get(message, out);
                 Receipt::Replied
@@ -68,7 +69,7 @@ impl Sign {
                 self.answer_next(message, out);
                 Receipt::Replied
             }
-            Kind::Set | Kind::Response => self.answer_set(message, out),
+            Kind::Set => self.answer_set(message, out),
         };
         self.set_silent_seconds(0);
         receipt
@@ -94,13 +95,11 @@ impl Sign {
         }
     }
 
-    /// A sign with power hears requests of its two communities.
-    fn is_heard(&self, message: &Message<'_>) -> bool
-        ensures { result ≡ is_heard self.now (snmp_message message.now) }
+    /// Whether the sign has power, and the message is of one of its two communities.
+    fn is_addressed(&self, message: &Message<'_>) -> bool
+        ensures { result ≡ is_addressed self.now (snmp_message message.now) }
     {
-        self.powered
-            && message.kind != Kind::Response
-            && (message.community == self.reader.as_slice() || self.may_write(message))
+        self.powered && (message.community == self.reader.as_slice() || self.may_write(message))
     }
 
     fn may_write(&self, message: &Message<'_>) -> bool
