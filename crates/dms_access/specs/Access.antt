@@ -1,6 +1,7 @@
 -- What may be written to the objects of a sign, and what a value writes there (NTCIP 1203, each object's ACCESS and
 -- SYNTAX).
-use Rattle.std.specs.Prelude.{ℕ, pos, ◌==◌, ◌&&◌, ◌||◌, Bool, true, false, if◌then◌else◌, List, length, nat_le, Option, Some, None, option_map, option_and_then}
+use Rattle.std.specs.Prelude.{ℕ, pos, ◌==◌, ◌&&◌, ◌||◌, Bool, true, false, if◌then◌else◌, List}
+use Rattle.std.specs.Prelude.{length, nat_le, Option, Some, None, option_map, option_and_then}
 use Rattle.dms_wire.specs.Message.{ObjectValue, integer, octet_string}
 use Rattle.dms_face.specs.Face.{FaceModel, has_font}
 use Rattle.dms_objects.specs.declared.column.Column.{Column}
@@ -12,7 +13,14 @@ use Rattle.dms_table.specs.Rows.{FieldModel, Text, Owner, Beacon, Pixel, Priorit
 use Rattle.dms_codes.specs.Memory.{changeable_memory, volatile_memory}
 use Rattle.dms_codes.specs.Limits.{longest_text, longest_owner}
 use Rattle.dms_objects.specs.declared.scalar.Scalar.{Scalar}
-use Rattle.dms_objects.specs.declared.scalar.Scalar.TheVariants.{DefaultBackgroundColor, DefaultForegroundColor, DefaultFlashOn, DefaultFlashOff, DefaultFont, DefaultJustificationLine, DefaultJustificationPage, DefaultPageOnTime, DefaultPageOffTime, ActivateMessage, MessageTimeRemaining, ShortPowerRecoveryMessage, LongPowerRecoveryMessage, ShortPowerLossTime, CommunicationsLossMessage, TimeCommLoss, PowerLossMessage, EndDurationMessage}
+use Rattle.dms_objects.specs.declared.scalar.Scalar.TheVariants.{DefaultBackgroundColor, DefaultForegroundColor}
+use Rattle.dms_objects.specs.declared.scalar.Scalar.TheVariants.{DefaultFlashOn, DefaultFlashOff, DefaultFont}
+use Rattle.dms_objects.specs.declared.scalar.Scalar.TheVariants.{DefaultJustificationLine, DefaultJustificationPage}
+use Rattle.dms_objects.specs.declared.scalar.Scalar.TheVariants.{DefaultPageOnTime, DefaultPageOffTime}
+use Rattle.dms_objects.specs.declared.scalar.Scalar.TheVariants.{ActivateMessage, MessageTimeRemaining}
+use Rattle.dms_objects.specs.declared.scalar.Scalar.TheVariants.{ShortPowerRecoveryMessage, LongPowerRecoveryMessage}
+use Rattle.dms_objects.specs.declared.scalar.Scalar.TheVariants.{ShortPowerLossTime, CommunicationsLossMessage}
+use Rattle.dms_objects.specs.declared.scalar.Scalar.TheVariants.{TimeCommLoss, PowerLossMessage, EndDurationMessage}
 use Rattle.dms_objects.specs.declared.instance.Instance.{Instance}
 use Rattle.dms_objects.specs.declared.instance.Instance.TheVariants as kinds
 
@@ -80,12 +88,14 @@ number_in low high _ = None
 
 -- the octets that a value is, from low to high of them
 abbrev pub octets_in : (low high : ℕ) → ObjectValue → Option (List ℕ)
-octets_in low high (octet_string octets) = if nat_le low (length octets) && nat_le (length octets) high then Some octets else None
+octets_in low high (octet_string octets) =
+    if nat_le low (length octets) && nat_le (length octets) high then Some octets else None
 octets_in low high _ = None
 
 -- the number of a font of the face that a value is
 abbrev pub font_in : FaceModel → ObjectValue → Option ℕ
-font_in face value = option_and_then (λ number. if has_font face.fonts number then Some number else None) (number_in 1 255 value)
+font_in face value =
+    option_and_then (λ number. if has_font face.fonts number then Some number else None) (number_in 1 255 value)
 
 -- What is asked of a row: modifyReq 6, validateReq 7, notUsedReq 8 (NTCIP 1203, dmsMessageStatus).
 abbrev pub ask_of : ℕ → Ask
@@ -114,11 +124,13 @@ object_write face EndDurationMessage value = option_map (SetCode EndDurationMess
 object_write face _ value = None
 
 unfoldable pub cell_write : Column → RowId → ObjectValue → Option Write
-cell_write columns.MultiString id value = option_map (λ octets. SetField id (Text octets)) (octets_in 0 longest_text value)
+cell_write columns.MultiString id value =
+    option_map (λ octets. SetField id (Text octets)) (octets_in 0 longest_text value)
 cell_write columns.Owner id value = option_map (λ octets. SetField id (Owner octets)) (octets_in 0 longest_owner value)
 cell_write columns.Beacon id value = option_map (λ number. SetField id (Beacon number)) (number_in 0 1 value)
 cell_write columns.PixelService id value = option_map (λ number. SetField id (Pixel number)) (number_in 0 1 value)
-cell_write columns.RunTimePriority id value = option_map (λ number. SetField id (Priority number)) (number_in 1 255 value)
+cell_write columns.RunTimePriority id value =
+    option_map (λ number. SetField id (Priority number)) (number_in 1 255 value)
 cell_write columns.Status id value = option_map (λ number. AskRow id (ask_of number)) (number_in 6 8 value)
 cell_write _ id value = None
 

@@ -1,7 +1,13 @@
 -- The settings as a sign is made, and those that the writes of a SET leave (this profile).
 use Rattle.std.specs.Prelude.{List}
 use Rattle.dms_face.specs.declared.defaults.Defaults.{Defaults}
-use Rattle.dms_objects.specs.declared.scalar.Scalar.TheVariants.{ShortPowerRecoveryMessage, LongPowerRecoveryMessage, PowerLossMessage, EndDurationMessage, CommunicationsLossMessage, DefaultBackgroundColor, DefaultForegroundColor, DefaultFlashOn, DefaultFlashOff, DefaultFont, DefaultJustificationLine, DefaultJustificationPage, DefaultPageOnTime, DefaultPageOffTime, ShortPowerLossTime, TimeCommLoss}
+use Rattle.dms_objects.specs.declared.scalar.Scalar.TheVariants.{ShortPowerRecoveryMessage, LongPowerRecoveryMessage}
+use Rattle.dms_objects.specs.declared.scalar.Scalar.TheVariants.{PowerLossMessage, EndDurationMessage}
+use Rattle.dms_objects.specs.declared.scalar.Scalar.TheVariants.{CommunicationsLossMessage, DefaultBackgroundColor}
+use Rattle.dms_objects.specs.declared.scalar.Scalar.TheVariants.{DefaultForegroundColor, DefaultFlashOn}
+use Rattle.dms_objects.specs.declared.scalar.Scalar.TheVariants.{DefaultFlashOff, DefaultFont, DefaultJustificationLine}
+use Rattle.dms_objects.specs.declared.scalar.Scalar.TheVariants.{DefaultJustificationPage, DefaultPageOnTime}
+use Rattle.dms_objects.specs.declared.scalar.Scalar.TheVariants.{DefaultPageOffTime, ShortPowerLossTime, TimeCommLoss}
 use Rattle.dms_access.specs.declared.settings.Fallbacks.{Fallbacks}
 use Rattle.dms_access.specs.declared.settings.Settings.{Settings}
 use Rattle.dms_table.specs.Activation.{blank_code}
@@ -20,7 +26,8 @@ first_fallbacks = record {
 
 -- the times are 0
 abbrev pub first_settings : Defaults → Settings
-first_settings defaults = record { fallbacks = first_fallbacks; short_power_loss_time = 0; time_comm_loss = 0; defaults = defaults }
+first_settings defaults =
+    record { fallbacks = first_fallbacks; short_power_loss_time = 0; time_comm_loss = 0; defaults = defaults }
 
 abbrev pub codes_by : Fallbacks → List Write → Fallbacks
 codes_by f writes = record {

@@ -21,7 +21,8 @@ object_factor = 305
 unfoldable pub content_slot : List ℕ → ℕ
 content_slot content =
     if nat_lt (length content) 3 then 0
-    else (slice_index_or content (length content - 3) 0 * group_factor + slice_index_or content (length content - 2) 0 * object_factor
+    else (slice_index_or content (length content - 3) 0 * group_factor
+    + slice_index_or content (length content - 2) 0 * object_factor
     + slice_index_or content (length content - 1) 0)
     % slot_count
 

@@ -3,7 +3,9 @@
 ghost use Rattle.std.specs.Prelude.{◌≡◌, ◌≤◌, option_map, IfSome};
 ghost use Rattle.dms_wire.specs.View.{object_value};
 ghost use Rattle.dms_objects.specs.declared.scalar.Scalar.TheVariants.{DefaultFont};
-ghost use Rattle.dms_access.specs.Access.{has_writable_rows, is_settable_column, is_settable_object, is_settable, is_command, number_in, octets_in, font_in, ask_of, SetNumber, SetCode, Activate, SetRemaining, object_write, cell_write, write_of};
+ghost use Rattle.dms_access.specs.Access.{has_writable_rows, is_settable_column, is_settable_object, is_settable};
+ghost use Rattle.dms_access.specs.Access.{is_command, number_in, octets_in, font_in, ask_of, SetNumber, SetCode};
+ghost use Rattle.dms_access.specs.Access.{Activate, SetRemaining, object_write, cell_write, write_of};
 ghost use Rattle.dms_access.specs.ChangeView.{write_by, IsChange};
 
 use dms_codes::{Ask, MAX_OWNER, MAX_TEXT, RowId, memory};
@@ -133,7 +135,8 @@ fn ask_of(number: u16) -> Ask
 }
 
 fn number<'a>(object: Scalar, low: u16, high: u16, value: &Value<'_>) -> Option<Change<'a>>
-    ensures exact { option_map write_by result ≡ option_map (SetNumber object) (number_in low high (object_value value.now)) }
+    ensures exact { option_map write_by result
+        ≡ option_map (SetNumber object) (number_in low high (object_value value.now)) }
     ensures change { high ≤ 255 → IfSome result IsChange }
 {
     Some(Change::Number(object, number_in(low, high, value)?))
@@ -167,7 +170,8 @@ fn remaining<'a>(value: &Value<'_>) -> Option<Change<'a>>
 }
 
 fn font<'a>(face: &Face, value: &Value<'_>) -> Option<Change<'a>>
-    ensures exact { option_map write_by result ≡ option_map (SetNumber DefaultFont) (font_in face.now (object_value value.now)) }
+    ensures exact { option_map write_by result
+        ≡ option_map (SetNumber DefaultFont) (font_in face.now (object_value value.now)) }
     ensures change { IfSome result IsChange }
 {
     Some(Change::Number(Scalar::DefaultFont, font_in(face, value)?))

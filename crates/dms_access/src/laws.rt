@@ -7,5 +7,6 @@ ghost use Rattle.dms_access.specs.Settable.{is_settable_in};
 
 /// What can be set are the objects and the columns that the table of objects says are written.
 pub fn settable_objects_are_those_of_the_table()
-    ensures { map (λ (object : Object). is_settable_in object.instances) listed ≡ map (λ (object : Object). is_written object.access) listed }
+    ensures { map (λ (object : Object). is_settable_in object.instances) listed
+        ≡ map (λ (object : Object). is_written object.access) listed }
 {}

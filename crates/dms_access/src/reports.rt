@@ -2,7 +2,8 @@
 
 ghost use Rattle.std.specs.Prelude.{◌≡◌, ◌≤◌, IfSome};
 ghost use Rattle.dms_codes.specs.Limits.{longest_text};
-ghost use Rattle.dms_access.specs.Reports.{first_reports, with_fault, with_cause, text_reports, settled_reports, refused_reports, accepted_reports, IsCauseInRange};
+ghost use Rattle.dms_access.specs.Reports.{first_reports, with_fault, with_cause, text_reports};
+ghost use Rattle.dms_access.specs.Reports.{settled_reports, refused_reports, accepted_reports, IsCauseInRange};
 
 use dms_face::MultiFault;
 use dms_table::{Cause, Verdict};

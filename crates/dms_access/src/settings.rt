@@ -136,5 +136,15 @@ fn nine_octets(
     on: u8,
     off: u8,
 )
-    ensures { AreDefaultsInRange (record { background = background; foreground = foreground; flash_on = flash_on; flash_off = flash_off; font = font; line = line; page = page; on = on; off = off }) }
+    ensures { AreDefaultsInRange (record {
+      background = background;
+      foreground = foreground;
+      flash_on = flash_on;
+      flash_off = flash_off;
+      font = font;
+      line = line;
+      page = page;
+      on = on;
+      off = off;
+    }) }
 {}

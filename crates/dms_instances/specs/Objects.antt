@@ -1,17 +1,33 @@
 -- The objects of a sign: which instances it has, by which names, and in which order they are walked (NTCIP 1203, dms).
-use Rattle.std.specs.Prelude.{◌⊎◌, ◌≡◌, ℕ, Bool, true, false, List, [], ◌∷◌, ◌++◌, map, length, nat_eq, Option, Some, None, slice_get}
+use Rattle.std.specs.Prelude.{◌⊎◌, ◌≡◌, ℕ, Bool, true, false, List, [], ◌∷◌, ◌++◌}
+use Rattle.std.specs.Prelude.{map, length, nat_eq, Option, Some, None, slice_get}
 use Rattle.std.specs.List.{find, flat_map, range_with_len}
 use Rattle.std.specs.Cmp.Lexicographic.{pointwise}
 use Rattle.std.specs.Ordering.{is_lt}
 use Rattle.dms_ber.specs.NameOrder.{numbers_cmp}
 use Rattle.dms_objects.specs.declared.column.Column.{Column}
-use Rattle.dms_objects.specs.declared.column.Column.TheVariants.{MemoryType, Number, MultiString, Owner, Crc, Beacon, PixelService, RunTimePriority, Status}
+use Rattle.dms_objects.specs.declared.column.Column.TheVariants.{MemoryType, Number, MultiString, Owner, Crc}
+use Rattle.dms_objects.specs.declared.column.Column.TheVariants.{Beacon, PixelService, RunTimePriority, Status}
 use Rattle.dms_codes.specs.declared.row_id.RowId.{RowId}
 use Rattle.dms_objects.specs.Names.{name_of}
 use Rattle.dms_table.specs.Rows.{TableModel}
 use Rattle.dms_codes.specs.Memory.{permanent_memory, changeable_memory, volatile_memory, current_buffer, blank_memory}
 use Rattle.dms_objects.specs.declared.scalar.Scalar.{Scalar}
-use Rattle.dms_objects.specs.declared.scalar.Scalar.TheVariants.{SignHeightPixels, SignWidthPixels, DefaultBackgroundColor, DefaultForegroundColor, DefaultFlashOn, DefaultFlashOff, DefaultFont, DefaultJustificationLine, DefaultJustificationPage, DefaultPageOnTime, DefaultPageOffTime, ColorScheme, NumPermanentMsg, NumChangeableMsg, MaxChangeableMsg, FreeChangeableMemory, NumVolatileMsg, MaxVolatileMsg, FreeVolatileMemory, ValidateMessageError, ActivateMessage, MessageTimeRemaining, MsgTableSource, MsgRequesterId, MsgSourceMode, ShortPowerRecoveryMessage, LongPowerRecoveryMessage, ShortPowerLossTime, CommunicationsLossMessage, TimeCommLoss, PowerLossMessage, EndDurationMessage, ActivateMsgError, MultiSyntaxError, MultiSyntaxErrorPosition, ActivateErrorMsgCode}
+use Rattle.dms_objects.specs.declared.scalar.Scalar.TheVariants.{SignHeightPixels, SignWidthPixels}
+use Rattle.dms_objects.specs.declared.scalar.Scalar.TheVariants.{DefaultBackgroundColor, DefaultForegroundColor}
+use Rattle.dms_objects.specs.declared.scalar.Scalar.TheVariants.{DefaultFlashOn, DefaultFlashOff, DefaultFont}
+use Rattle.dms_objects.specs.declared.scalar.Scalar.TheVariants.{DefaultJustificationLine, DefaultJustificationPage}
+use Rattle.dms_objects.specs.declared.scalar.Scalar.TheVariants.{DefaultPageOnTime, DefaultPageOffTime, ColorScheme}
+use Rattle.dms_objects.specs.declared.scalar.Scalar.TheVariants.{NumPermanentMsg, NumChangeableMsg, MaxChangeableMsg}
+use Rattle.dms_objects.specs.declared.scalar.Scalar.TheVariants.{FreeChangeableMemory, NumVolatileMsg, MaxVolatileMsg}
+use Rattle.dms_objects.specs.declared.scalar.Scalar.TheVariants.{FreeVolatileMemory, ValidateMessageError}
+use Rattle.dms_objects.specs.declared.scalar.Scalar.TheVariants.{ActivateMessage, MessageTimeRemaining}
+use Rattle.dms_objects.specs.declared.scalar.Scalar.TheVariants.{MsgTableSource, MsgRequesterId, MsgSourceMode}
+use Rattle.dms_objects.specs.declared.scalar.Scalar.TheVariants.{ShortPowerRecoveryMessage, LongPowerRecoveryMessage}
+use Rattle.dms_objects.specs.declared.scalar.Scalar.TheVariants.{ShortPowerLossTime, CommunicationsLossMessage}
+use Rattle.dms_objects.specs.declared.scalar.Scalar.TheVariants.{TimeCommLoss, PowerLossMessage, EndDurationMessage}
+use Rattle.dms_objects.specs.declared.scalar.Scalar.TheVariants.{ActivateMsgError, MultiSyntaxError}
+use Rattle.dms_objects.specs.declared.scalar.Scalar.TheVariants.{MultiSyntaxErrorPosition, ActivateErrorMsgCode}
 use Rattle.dms_objects.specs.declared.instance.Instance.{Instance}
 use Rattle.dms_objects.specs.declared.instance.Instance.TheVariants as kinds
 
@@ -41,9 +57,8 @@ numbers_to n = range_with_len 1 n
 
 -- each type of memory with how many rows it has; what is shown is one, and blank messages have the numbers 1 to 255
 abbrev pub memories : TableModel → List (ℕ × ℕ)
-memories table =
-    (permanent_memory, length table.permanent) ∷ (changeable_memory, length table.changeable) ∷ (volatile_memory, length table.volatile)
-    ∷ (current_buffer, 1) ∷ (blank_memory, 255) ∷ []
+memories table = (permanent_memory, length table.permanent) ∷ (changeable_memory, length table.changeable)
+    ∷ (volatile_memory, length table.volatile) ∷ (current_buffer, 1) ∷ (blank_memory, 255) ∷ []
 
 -- the rows of a type of memory, from number 1
 abbrev pub rows_in : ℕ × ℕ → List RowId
@@ -90,7 +105,8 @@ IsInstance table i = (k : ℕ) × (slice_get (instances table) k ≡ Some i)
 pub record IsFirstAfter (table : TableModel) (name : List ℕ) (i : Instance) : Type 0 where
   pub there : IsInstance table i
   pub after : comes_after name i ≡ true
-  pub first : (j : Instance) → IsInstance table j → comes_after name j ≡ true → (i ≡ j) ⊎ (comes_after (name_of i) j ≡ true)
+  pub first : (j : Instance) → IsInstance table j → comes_after name j ≡ true
+      → (i ≡ j) ⊎ (comes_after (name_of i) j ≡ true)
 
 -- no instance comes after this name
 abbrev pub IsLast : TableModel → List ℕ → Type 0

@@ -1,5 +1,6 @@
 -- What the octets of a name tell of the instance whose name they are (X.690, 8.19; this profile).
-use Rattle.std.specs.Prelude.{◌≡◌, ◌<◌, ◌+◌, ◌==◌, ◌&&◌, ◌++◌, ℕ, List, [], ◌∷◌, Option, Some, nat_lt, get_or, if◌then◌else◌}
+use Rattle.std.specs.Prelude.{◌≡◌, ◌<◌, ◌+◌, ◌==◌, ◌&&◌, ◌++◌, ℕ, List, []}
+use Rattle.std.specs.Prelude.{◌∷◌, Option, Some, nat_lt, get_or, if◌then◌else◌}
 use Rattle.std.specs.List.{find, flat_map}
 use Rattle.dms_ber.specs.ObjectIdentifier.{sub_identifier_octets}
 use Rattle.dms_objects.specs.Names.{column_number, scalar_number}
@@ -15,15 +16,15 @@ column_at number = find (λ column. column_number column == number) columns
 
 -- the object of this number in this group
 abbrev pub scalar_at : (group number : ℕ) → Option Scalar
-scalar_at group number =
-    find (λ object. ((scalar_number object).0 == group) && ((scalar_number object).1 == number)) (before_table ++ after_table)
+scalar_at group number = find (λ object. ((scalar_number object).0 == group) && ((scalar_number object).1 == number))
+    (before_table ++ after_table)
 
 -- the octets of the numbers of a name behind its first two (X.690, 8.19)
 abbrev pub octets_below : List ℕ → List ℕ
 octets_below numbers = flat_map sub_identifier_octets numbers
 
--- the number of a row that these numbers begin with: 0 where there is none, and 255, the last that a row has, where it is
--- above
+-- the number of a row that these numbers begin with: 0 where there is none, and 255, the last that a row has, where it
+-- is above
 abbrev pub row_number_of : List ℕ → ℕ
 row_number_of numbers = if nat_lt (get_or numbers 0 0) 256 then get_or numbers 0 0 else 255
 
@@ -47,7 +48,9 @@ long_cell_content column memory low = under_dms (5 ∷ 8 ∷ 1 ∷ column_number
 -- name: it is told
 pub record IsTold (octets : List ℕ) (told : Option Instance) : Type 0 where
   pub object : (object : Scalar) → octets ≡ object_content object → told ≡ Some (kinds.Scalar object)
-  pub short : (column : Column) (memory number : ℕ) → memory < 128 → number < 128 → octets ≡ cell_content column memory number
+  pub short : (column : Column) (memory number : ℕ) → memory < 128
+      → number < 128 → octets ≡ cell_content column memory number
       → told ≡ Some (kinds.Cell column (record { memory = memory; number = number }))
-  pub long : (column : Column) (memory low : ℕ) → memory < 128 → low < 128 → octets ≡ long_cell_content column memory low
+  pub long : (column : Column) (memory low : ℕ) → memory < 128
+      → low < 128 → octets ≡ long_cell_content column memory low
       → told ≡ Some (kinds.Cell column (record { memory = memory; number = 128 + low }))

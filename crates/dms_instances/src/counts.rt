@@ -106,8 +106,8 @@ impl Counts {
     /// The first instance after the name whose numbers below dms have these octets.
     #[inline]
     fn next_below(&self, octets: &[u8]) -> Option<Instance>
-        ensures { (numbers : List ℕ) → octets_below numbers ≡ octets.now → (table : TableModel) → HasCounts table self.now
-            → result ≡ next_instance table (below_dms numbers) }
+        ensures { (numbers : List ℕ) → octets_below numbers ≡ octets.now → (table : TableModel)
+            → HasCounts table self.now → result ≡ next_instance table (below_dms numbers) }
     {
         match first_octet(octets) {
             Some((group, rest)) => self.next_in_group(group, rest),
@@ -119,8 +119,8 @@ impl Counts {
     /// group has.
     #[inline]
     fn next_in_group(&self, group: u8, octets: &[u8]) -> Option<Instance>
-        ensures { (numbers : List ℕ) → octets_below numbers ≡ group ∷ octets.now → (table : TableModel) → HasCounts table self.now
-            → result ≡ next_instance table (below_dms numbers) }
+        ensures { (numbers : List ℕ) → octets_below numbers ≡ group ∷ octets.now → (table : TableModel)
+            → HasCounts table self.now → result ≡ next_instance table (below_dms numbers) }
     {
         match first_octet(octets) {
             Some((number, rest)) => self.next_in_object(group, number, rest),
@@ -131,8 +131,8 @@ impl Counts {
     /// The first instance after a name below the object of this number in the group.
     #[inline]
     fn next_in_object(&self, group: u8, number: u8, octets: &[u8]) -> Option<Instance>
-        ensures { (numbers : List ℕ) → octets_below numbers ≡ group ∷ number ∷ octets.now → (table : TableModel) → HasCounts table self.now
-            → result ≡ next_instance table (below_dms numbers) }
+        ensures { (numbers : List ℕ) → octets_below numbers ≡ group ∷ number ∷ octets.now → (table : TableModel)
+            → HasCounts table self.now → result ≡ next_instance table (below_dms numbers) }
     {
         if is_table(group, number) {
             return self.next_in_table(octets);
@@ -146,8 +146,8 @@ impl Counts {
     /// The first instance after a name below dmsMessageTable, 5.8.
     #[inline]
     fn next_in_table(&self, octets: &[u8]) -> Option<Instance>
-        ensures { (numbers : List ℕ) → octets_below numbers ≡ octets.now → (table : TableModel) → HasCounts table self.now
-            → result ≡ next_instance table (below_dms (5 ∷ 8 ∷ numbers)) }
+        ensures { (numbers : List ℕ) → octets_below numbers ≡ octets.now → (table : TableModel)
+            → HasCounts table self.now → result ≡ next_instance table (below_dms (5 ∷ 8 ∷ numbers)) }
     {
         match first_octet(octets) {
             Some((entry, rest)) => {
@@ -166,8 +166,8 @@ impl Counts {
     /// The first instance after a name below dmsMessageEntry, 5.8.1.
     #[inline]
     fn next_in_entry(&self, octets: &[u8]) -> Option<Instance>
-        ensures { (numbers : List ℕ) → octets_below numbers ≡ octets.now → (table : TableModel) → HasCounts table self.now
-            → result ≡ next_instance table (below_dms (5 ∷ 8 ∷ 1 ∷ numbers)) }
+        ensures { (numbers : List ℕ) → octets_below numbers ≡ octets.now → (table : TableModel)
+            → HasCounts table self.now → result ≡ next_instance table (below_dms (5 ∷ 8 ∷ 1 ∷ numbers)) }
     {
         let Some((number, rest)) = first_octet(octets) else {
             return self.from_object(5, 8);
@@ -187,7 +187,8 @@ impl Counts {
     /// The first instance after a name below a column of it.
     #[inline]
     fn next_in_column(&self, column: Column, octets: &[u8]) -> Option<Instance>
-        ensures { (numbers : List ℕ) → octets_below numbers ≡ octets.now → (table : TableModel) → HasCounts table self.now
+        ensures { (numbers : List ℕ) → octets_below numbers ≡ octets.now
+            → (table : TableModel) → HasCounts table self.now
             → result ≡ next_instance table (below_dms (5 ∷ 8 ∷ 1 ∷ column_number column ∷ numbers)) }
     {
         are_octets(self.permanent, self.changeable, self.volatile);
@@ -235,7 +236,8 @@ impl Counts {
     #[inline]
     fn row_after(&self, memory: u8, number: u8) -> Option<RowId>
         ensures some { IfSome result (λ row. IsFirstRow self.now (row_place memory number) row) }
-        ensures none { IfNone result ((row : RowId) → IsRow self.now row → row_place row.memory row.number ≤ row_place memory number) }
+        ensures none { IfNone result
+            ((row : RowId) → IsRow self.now row → row_place row.memory row.number ≤ row_place memory number) }
     {
         are_octets(self.permanent, self.changeable, self.volatile);
         let number = u16::from(number);
@@ -271,7 +273,8 @@ impl Counts {
     /// The first instance of an object, or of the table, that does not come before this group and number: at most six
     /// pairs of numbers are looked at.
     fn from_object(&self, group: u8, number: u8) -> Option<Instance>
-        ensures { (table : TableModel) → HasCounts table self.now → result ≡ next_instance table (below_dms (group ∷ number ∷ [])) }
+        ensures { (table : TableModel) → HasCounts table self.now
+            → result ≡ next_instance table (below_dms (group ∷ number ∷ [])) }
     {
         let mut group = group;
         let mut number = number;

@@ -22,7 +22,8 @@ pub fn each_has_its_instances()
 /// that come after it, and an instance is found by its name, and by no other.
 pub fn objects_in_order()
     ensures next { (table : TableModel) (name : List ℕ) → FirstAfter table name (next_instance table name) }
-    ensures named { (table : TableModel) (i : Instance) → IsInstance table i → instance_named table (name_of i) ≡ Some i }
+    ensures named { (table : TableModel) (i : Instance) → IsInstance table i
+        → instance_named table (name_of i) ≡ Some i }
     ensures found { (table : TableModel) (name : List ℕ) (i : Instance) → instance_named table name ≡ Some i
         → (name_of i ≡ name) × IsInstance table i }
 {}

@@ -66,7 +66,8 @@ fn long_cell_named(column: u8, memory: u8, low: u8) -> Option<Instance>
 /// The object whose instance's name ends in these octets and 0.
 #[inline]
 fn object_named(group: u8, number: u8) -> Option<Instance>
-    ensures named { IfSome result (λ i. IsNamed i (43 ∷ 6 ∷ 1 ∷ 4 ∷ 1 ∷ 137 ∷ 54 ∷ 4 ∷ 2 ∷ 3 ∷ group ∷ number ∷ 0 ∷ [])) }
+    ensures named { IfSome result
+        (λ i. IsNamed i (43 ∷ 6 ∷ 1 ∷ 4 ∷ 1 ∷ 137 ∷ 54 ∷ 4 ∷ 2 ∷ 3 ∷ group ∷ number ∷ 0 ∷ [])) }
     ensures told { (s : Scalar) → scalar_number s ≡ (group, number) → result ≡ Some (kinds.Scalar s) }
 {
     Some(Instance::Scalar(scalar_of(group, number)?))
@@ -192,7 +193,8 @@ fn control_object(number: u8) -> Option<Scalar>
 #[inline]
 pub(crate) fn below_dms(content: &[u8]) -> Option<&[u8]>
     ensures named { IfSome result (λ rest. content.now ≡ 43 ∷ 6 ∷ 1 ∷ 4 ∷ 1 ∷ 137 ∷ 54 ∷ 4 ∷ 2 ∷ 3 ∷ rest.now) }
-    ensures told { IfNone result ((rest : List ℕ) → content.now ≡ 43 ∷ 6 ∷ 1 ∷ 4 ∷ 1 ∷ 137 ∷ 54 ∷ 4 ∷ 2 ∷ 3 ∷ rest → ⊥) }
+    ensures told { IfNone result
+        ((rest : List ℕ) → content.now ≡ 43 ∷ 6 ∷ 1 ∷ 4 ∷ 1 ∷ 137 ∷ 54 ∷ 4 ∷ 2 ∷ 3 ∷ rest → ⊥) }
 {
     match content {
         [a, b, c, d, e, f, g, h, 2, 3, rest @ ..]

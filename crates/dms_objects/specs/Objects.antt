@@ -2,11 +2,27 @@
 use Rattle.std.specs.Prelude.{◌≡◌, ℕ, ◌&&◌, Bool, true, false, List, [], ◌∷◌, ◌++◌, map, codes, Some, slice_get}
 use Rattle.std.specs.Ordering.{is_lt}
 use Rattle.dms_ber.specs.NameOrder.{numbers_cmp}
-use Rattle.dms_objects.specs.declared.column.Column.TheVariants.{MemoryType, Number, MultiString, Owner, Crc, Beacon, PixelService, RunTimePriority, Status}
-use Rattle.dms_objects.specs.declared.scalar.Scalar.TheVariants.{SignHeightPixels, SignWidthPixels, DefaultBackgroundColor, DefaultForegroundColor, DefaultFlashOn, DefaultFlashOff, DefaultFont, DefaultJustificationLine, DefaultJustificationPage, DefaultPageOnTime, DefaultPageOffTime, ColorScheme, NumPermanentMsg, NumChangeableMsg, MaxChangeableMsg, FreeChangeableMemory, NumVolatileMsg, MaxVolatileMsg, FreeVolatileMemory, ValidateMessageError, ActivateMessage, MessageTimeRemaining, MsgTableSource, MsgRequesterId, MsgSourceMode, ShortPowerRecoveryMessage, LongPowerRecoveryMessage, ShortPowerLossTime, CommunicationsLossMessage, TimeCommLoss, PowerLossMessage, EndDurationMessage, ActivateMsgError, MultiSyntaxError, MultiSyntaxErrorPosition, ActivateErrorMsgCode}
+use Rattle.dms_objects.specs.declared.column.Column.TheVariants.{MemoryType, Number, MultiString, Owner, Crc}
+use Rattle.dms_objects.specs.declared.column.Column.TheVariants.{Beacon, PixelService, RunTimePriority, Status}
+use Rattle.dms_objects.specs.declared.scalar.Scalar.TheVariants.{SignHeightPixels, SignWidthPixels}
+use Rattle.dms_objects.specs.declared.scalar.Scalar.TheVariants.{DefaultBackgroundColor, DefaultForegroundColor}
+use Rattle.dms_objects.specs.declared.scalar.Scalar.TheVariants.{DefaultFlashOn, DefaultFlashOff, DefaultFont}
+use Rattle.dms_objects.specs.declared.scalar.Scalar.TheVariants.{DefaultJustificationLine, DefaultJustificationPage}
+use Rattle.dms_objects.specs.declared.scalar.Scalar.TheVariants.{DefaultPageOnTime, DefaultPageOffTime, ColorScheme}
+use Rattle.dms_objects.specs.declared.scalar.Scalar.TheVariants.{NumPermanentMsg, NumChangeableMsg, MaxChangeableMsg}
+use Rattle.dms_objects.specs.declared.scalar.Scalar.TheVariants.{FreeChangeableMemory, NumVolatileMsg, MaxVolatileMsg}
+use Rattle.dms_objects.specs.declared.scalar.Scalar.TheVariants.{FreeVolatileMemory, ValidateMessageError}
+use Rattle.dms_objects.specs.declared.scalar.Scalar.TheVariants.{ActivateMessage, MessageTimeRemaining}
+use Rattle.dms_objects.specs.declared.scalar.Scalar.TheVariants.{MsgTableSource, MsgRequesterId, MsgSourceMode}
+use Rattle.dms_objects.specs.declared.scalar.Scalar.TheVariants.{ShortPowerRecoveryMessage, LongPowerRecoveryMessage}
+use Rattle.dms_objects.specs.declared.scalar.Scalar.TheVariants.{ShortPowerLossTime, CommunicationsLossMessage}
+use Rattle.dms_objects.specs.declared.scalar.Scalar.TheVariants.{TimeCommLoss, PowerLossMessage, EndDurationMessage}
+use Rattle.dms_objects.specs.declared.scalar.Scalar.TheVariants.{ActivateMsgError, MultiSyntaxError}
+use Rattle.dms_objects.specs.declared.scalar.Scalar.TheVariants.{MultiSyntaxErrorPosition, ActivateErrorMsgCode}
 use Rattle.dms_objects.specs.Names.{column_number, scalar_number}
 use Rattle.dms_objects.specs.declared.objects.Group.{Group}
-use Rattle.dms_objects.specs.declared.objects.Group.TheVariants.{VmsCfg, MultiCfg, DmsMessage, DmsMessageEntry, SignControl}
+use Rattle.dms_objects.specs.declared.objects.Group.TheVariants.{VmsCfg, MultiCfg, DmsMessage}
+use Rattle.dms_objects.specs.declared.objects.Group.TheVariants.{DmsMessageEntry, SignControl}
 use Rattle.dms_objects.specs.declared.objects.Access.{Access}
 use Rattle.dms_objects.specs.declared.objects.Access.TheVariants.{Read, Write, Command}
 use Rattle.dms_objects.specs.declared.objects.Syntax.{Syntax}
@@ -29,17 +45,18 @@ is_written Read = false
 is_written Write = true
 is_written Command = true
 
--- a row: the name that the MIB has, the node that the object stands under and its number there, what may be done with it, the type
--- of its values with their range, and its instances
+-- a row: the name that the MIB has, the node that the object stands under and its number there, what may be done with
+-- it, the type of its values with their range, and its instances
 abbrev pub row : List ℕ → Group → ℕ → Access → Syntax → Instances → List ℕ × Object
-row text node place may values which = (text, record { group = node; number = place; access = may; syntax = values; instances = which })
+row text node place may values which =
+    (text, record { group = node; number = place; access = may; syntax = values; instances = which })
 
 -- the numbers of an object below dms
 abbrev pub numbers_of : Object → List ℕ
 numbers_of object = group_numbers object.group ++ object.number ∷ []
 
--- Each object, in the order of names. What stands above a row is its DESCRIPTION, (own) where this profile chose, and the words
--- that the MIB has for its numbers.
+-- Each object, in the order of names. What stands above a row is its DESCRIPTION, (own) where this profile chose, and
+-- the words that the MIB has for its numbers.
 unfoldable pub objects : List (List ℕ × Object)
 objects =
     -- Rows of the matrix, in pixels.

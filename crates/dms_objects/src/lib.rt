@@ -1,5 +1,5 @@
-//! The objects of a sign (NTCIP 1203, dms), one table: the columns of dmsMessageTable and the objects with one instance; and the
-//! names of their instances.
+//! The objects of a sign (NTCIP 1203, dms), one table: the columns of dmsMessageTable and the objects with one
+//! instance; and the names of their instances.
 //!
 //! ```
 //! let name = Name::of(Instance::Scalar(Scalar::ActivateMessage));

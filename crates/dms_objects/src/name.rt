@@ -15,7 +15,8 @@ use dms_ber::Oid;
 use dms_codes::RowId;
 use std::marker::Model;
 
-/// Room for the octets of a name: fourteen up to a column, and at most three each of a type of memory and of a row's number.
+/// Room for the octets of a name: fourteen up to a column, and at most three each of a type of memory and of a row's
+/// number.
 const MAX_NAME: usize = 20;
 
 type Octets = ArrayVec<u8, MAX_NAME>;

@@ -31,3 +31,5 @@ on_addressed s m e = by_kind s m s.powered _ m.kind e
 
 pub not_addressed : (s : SignState) (m : SnmpMessage) → is_addressed s m ≡ false → on_message s m ≡ dropped s
 not_addressed s m e = by_none s m s.powered _ m.kind e
+
+pub ruleset by_address = (on_addressed, not_addressed)

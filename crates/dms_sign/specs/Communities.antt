@@ -7,4 +7,5 @@ has_community_size community = nat_le 1 (length community) && nat_le (length com
 
 -- communities have 1 to 32 octets, and differ
 abbrev pub are_communities : List ℕ → List ℕ → Bool
-are_communities reader writer = has_community_size reader && has_community_size writer && not (pointwise nat_eq reader writer)
+are_communities reader writer =
+    has_community_size reader && has_community_size writer && not (pointwise nat_eq reader writer)

@@ -15,7 +15,8 @@ config_of config = record { face = config.face; reader = config.reader.now; writ
 -- the first thing that is wrong with a configuration
 abbrev pub config_fault : Config → Option ConfigFault
 config_fault config =
-    if are_communities config.reader.now config.writer.now then option_map faults.Table (stock_fault config.face config.stock)
+    if are_communities config.reader.now config.writer.now
+    then option_map faults.Table (stock_fault config.face config.stock)
     else Some faults.Community
 
 -- Where nothing is wrong with it, there may be no memory for it.

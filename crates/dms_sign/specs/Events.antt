@@ -1,9 +1,11 @@
 -- What a second, a loss of power and its return make of a sign (this profile).
-use Rattle.std.specs.Prelude.{ℕ, ◌+◌, ◌-◌, ◌*◌, ◌==◌, ◌&&◌, true, false, List, Option, Some, None, nat_lt, nat_le, if◌then◌else◌}
+use Rattle.std.specs.Prelude.{ℕ, ◌+◌, ◌-◌, ◌*◌, ◌==◌, ◌&&◌, true, false, List}
+use Rattle.std.specs.Prelude.{Option, Some, None, nat_lt, nat_le, if◌then◌else◌}
 use Rattle.dms_face.specs.Layout.{under}
 use Rattle.dms_table.specs.Rows.{after_power}
 use Rattle.dms_table.specs.Validation.{settled, verdict}
-use Rattle.dms_sign.specs.State.{SignState, power_recovery_mode, communications_loss_mode, power_loss_mode, end_duration_mode}
+use Rattle.dms_sign.specs.State.{SignState, power_recovery_mode, communications_loss_mode}
+use Rattle.dms_sign.specs.State.{power_loss_mode, end_duration_mode}
 use Rattle.dms_access.specs.Reports.{settled_reports}
 use Rattle.dms_sign.specs.OwnCodes.{showing, put_up_code}
 
@@ -38,7 +40,8 @@ quieter s = record s { silent_seconds = s.silent_seconds + 1 }
 unfoldable pub after_silence : SignState → SignState
 after_silence s =
     if nat_lt s.silent_seconds (longest_silence s)
-    then (if s.silent_seconds + 1 == longest_silence s then put_up_code (quieter s) s.fallbacks.communications_loss communications_loss_mode else quieter s)
+    then (if s.silent_seconds + 1 == longest_silence s
+    then put_up_code (quieter s) s.fallbacks.communications_loss communications_loss_mode else quieter s)
     else s
 
 -- A second: a row is settled, the duration goes on, and then the silence. A sign without power does nothing.
@@ -50,7 +53,8 @@ after_tick s = if s.powered then after_silence (after_duration (after_settling s
 -- The power is lost: what is shown is kept, and the code of a power loss is activated.
 unfoldable pub after_power_loss : SignState → SignState
 after_power_loss s =
-    if s.powered then record (put_up_code (record s { shown_at_power_loss = s.shown }) s.fallbacks.power_loss power_loss_mode) { powered = false }
+    if s.powered then record (put_up_code (record s { shown_at_power_loss = s.shown }) s.fallbacks.power_loss
+    power_loss_mode) { powered = false }
     else s
 
 -- the code that is activated after a loss of so many seconds
@@ -66,4 +70,5 @@ restored s = record s { table = after_power s.table; shown = s.shown_at_power_lo
 
 -- The power is back after so many seconds, and the code of the recovery is activated.
 unfoldable pub after_power_return : SignState → ℕ → SignState
-after_power_return s seconds = if s.powered then s else put_up_code (restored s) (recovery_code s seconds) power_recovery_mode
+after_power_return s seconds =
+    if s.powered then s else put_up_code (restored s) (recovery_code s seconds) power_recovery_mode

@@ -1,6 +1,7 @@
 -- The ranges of what a sign holds. They hold of a sign as it is made and after every event, so that each value which
 -- its objects read can be said in a message (this profile).
-use Rattle.std.specs.Prelude.{◌≡◌, ℕ, ◌*◌, ◌≤◌, if◌then◌else◌, List, length, nat_le, Option, Some, None, ⊤, IsTrue, All, replicate}
+use Rattle.std.specs.Prelude.{◌≡◌, ℕ, ◌*◌, ◌≤◌, if◌then◌else◌, List, length, nat_le}
+use Rattle.std.specs.Prelude.{Option, Some, None, ⊤, IsTrue, All, replicate}
 use Rattle.std.specs.List.{AllByRecursion}
 use Rattle.std.specs.Int.Digits.{AllBelowBase}
 use Rattle.dms_wire.specs.declared.message.Kind.TheVariants.{Response}
@@ -139,7 +140,9 @@ pub record IsBindingInLimits (binding : VarBind) : Type 0 where
 
 -- the Response that is sent: what is answered, or that it is too big
 abbrev pub response_sent : SnmpMessage → Answer → SnmpMessage
-response_sent m answer = if nat_le (length (canonical (response_of m answer))) most_octets then response_of m answer else response_to m too_big 0
+response_sent m answer =
+    if nat_le (length (canonical (response_of m answer))) most_octets then response_of m answer
+    else response_to m too_big 0
 
 -- The reply fits a datagram, and its octets spell the Response that is sent to the request, which has the community and
 -- the request-id of the request.

@@ -33,4 +33,5 @@ noted known (Volatile place) defaults = record known { volatile = set known.vola
 
 -- the text of each row, where it is valid, is good under the defaults that are kept for it
 abbrev pub AreKnown : KnownTexts → FaceModel → TableModel → Type 0
-AreKnown known face table = (memory number : ℕ) → HasGoodTextWhereValid (under face (kept_for known memory number)) table memory number
+AreKnown known face table = (memory number : ℕ)
+    → HasGoodTextWhereValid (under face (kept_for known memory number)) table memory number

@@ -28,8 +28,8 @@ own_activation id = record { minutes = 65535; priority = 255; id = id; address =
 -- reported.
 abbrev pub put_up_as_decided : SignState → MessageId → ℕ → Result ShownModel Cause → SignState
 put_up_as_decided s id mode (Ok shown) = showing s (record shown { mode = mode })
-put_up_as_decided s id mode (Err cause) =
-    with_refused_code (showing s (blank_shown s.defaults mode)) cause (octets_of_activation s.table.order (own_activation id))
+put_up_as_decided s id mode (Err cause) = with_refused_code (showing s (blank_shown s.defaults mode)) cause
+    (octets_of_activation s.table.order (own_activation id))
 
 -- what is shown stays, without an end
 abbrev pub staying : SignState → ℕ → SignState

@@ -17,7 +17,8 @@ use Rattle.dms_ber.specs.Limits.{longest_datagram}
 
 -- the Response that says it
 abbrev pub response_of : SnmpMessage → Answer → SnmpMessage
-response_of m answer = record (response_to m (error_status_number answer.status) answer.index) { bindings = answer.bindings }
+response_of m answer =
+    record (response_to m (error_status_number answer.status) answer.index) { bindings = answer.bindings }
 
 abbrev pub too_big : ℕ
 too_big = error_status_number TooBig
@@ -41,7 +42,8 @@ is_request Set = true
 
 -- A sign with power hears requests of its two communities.
 abbrev pub is_heard : SignState → SnmpMessage → Bool
-is_heard s m = s.powered && is_request m.kind && (is_community m.community s.config.reader || is_community m.community s.config.writer)
+is_heard s m = s.powered && is_request m.kind
+    && (is_community m.community s.config.reader || is_community m.community s.config.writer)
 
 -- what comes of a datagram: the reply, the state after it, and the activation that was accepted
 pub record Received : Type 0 where
@@ -63,7 +65,11 @@ abbrev pub after_get : SignState → SignState
 after_get s = if s.powered then awake s else s
 
 abbrev pub heard : SignState → SnmpMessage → Received
-heard s m = record { reply = Some (reply_to m (answer_of_any_size s m)); after = awake (answer_of_any_size s m).after; accepted = (answer_of_any_size s m).accepted }
+heard s m = record {
+  reply = Some (reply_to m (answer_of_any_size s m));
+  after = awake (answer_of_any_size s m).after;
+  accepted = (answer_of_any_size s m).accepted;
+}
 
 abbrev pub on_message : SignState → SnmpMessage → Received
 on_message s m = if is_heard s m then heard s m else dropped s

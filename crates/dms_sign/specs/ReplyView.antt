@@ -28,7 +28,8 @@ accepted_by (Accepted activation) = Some activation
 -- the octets of a Response, or those of tooBig where they do not fit a datagram
 abbrev pub reply_with : SnmpMessage → ℕ → ℕ → List VarBind → List ℕ
 reply_with m status index bindings =
-    if nat_le (length (canonical (response_with m status index bindings))) most_octets then canonical (response_with m status index bindings)
+    if nat_le (length (canonical (response_with m status index bindings))) most_octets
+    then canonical (response_with m status index bindings)
     else canonical (response_to m too_big 0)
 
 -- octets spell the message, and they fit a datagram

@@ -1,6 +1,7 @@
 -- What a sign answers to a message, where a reply may have any size, and what it is afterwards (RFC 1157, 4.1.2 to
 -- 4.1.5).
-use Rattle.std.specs.Prelude.{ℕ, ◌==◌, Bool, if◌then◌else◌, List, [], ◌∷◌, map, nat_eq, filter_map, find, Option, Some, None, is_none, unwrap_or, Result, Ok, Err}
+use Rattle.std.specs.Prelude.{ℕ, ◌==◌, Bool, if◌then◌else◌, List, [], ◌∷◌, map, nat_eq, filter_map}
+use Rattle.std.specs.Prelude.{find, Option, Some, None, is_none, unwrap_or, Result, Ok, Err}
 use Rattle.std.specs.List.{position_from}
 use Rattle.std.specs.Cmp.Lexicographic.{pointwise}
 use Rattle.dms_wire.specs.declared.message.Kind.{Kind}
@@ -30,7 +31,8 @@ pub record Answer : Type 0 where
 
 -- an error repeats the bindings of the request
 abbrev pub refused : SignState → List VarBind → ErrorStatus → ℕ → Answer
-refused s bindings status index = record { status = status; index = index; bindings = bindings; after = s; accepted = None }
+refused s bindings status index =
+    record { status = status; index = index; bindings = bindings; after = s; accepted = None }
 
 abbrev pub granted : SignState → List VarBind → Answer
 granted s bindings = record { status = NoError; index = 0; bindings = bindings; after = s; accepted = None }
@@ -74,7 +76,8 @@ as_decided old new bindings index octets (Ok shown) = record {
   after = activated new octets shown;
   accepted = Some (activation_of old.table.order octets);
 }
-as_decided old new bindings index octets (Err cause) = refused (with_refused_code old cause octets) bindings GenErr index
+as_decided old new bindings index octets (Err cause) =
+    refused (with_refused_code old cause octets) bindings GenErr index
 
 abbrev pub as_asked : SignState → SignState → List VarBind → ℕ → Option TableModel → Answer
 as_asked old new bindings index None = refused old bindings GenErr index
@@ -88,8 +91,8 @@ with_remaining s minutes =
 
 abbrev pub commanded : SignState → SignState → List VarBind → ℕ → Write → Answer
 commanded old new bindings index (AskRow id ask) = as_asked old new bindings index (asked new.table id ask)
-commanded old new bindings index (Activate octets) =
-    as_decided old new bindings index octets (decided new.config.face new.defaults new.table new.shown (activation_of old.table.order octets))
+commanded old new bindings index (Activate octets) = as_decided old new bindings index octets
+    (decided new.config.face new.defaults new.table new.shown (activation_of old.table.order octets))
 commanded old new bindings index (SetRemaining minutes) = granted (with_remaining new minutes) bindings
 commanded old new bindings index (SetNumber object number) = granted new bindings
 commanded old new bindings index (SetCode object octets) = granted new bindings
@@ -111,8 +114,8 @@ command_index s bindings = unwrap_or (position_from (is_command_at s) 1 bindings
 -- The first cause refuses a SET; without one its values are assigned, and its command is judged.
 abbrev pub set_unless : SignState → List VarBind → List SetCause → Answer
 set_unless s bindings (cause ∷ more) = refused s bindings cause.status cause.index
-set_unless s bindings [] =
-    commanded_if s (assigned s (writes_of s bindings)) bindings (command_index s bindings) (find is_command (writes_of s bindings))
+set_unless s bindings [] = commanded_if s (assigned s (writes_of s bindings)) bindings (command_index s bindings)
+    (find is_command (writes_of s bindings))
 
 abbrev pub set : SignState → Bool → List VarBind → Answer
 set s may_write bindings = set_unless s bindings (causes s may_write bindings)

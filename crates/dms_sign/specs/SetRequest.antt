@@ -1,6 +1,7 @@
 -- What a SET writes, what keeps it from doing so, and the state in which all that it assigns is assigned at once (RFC
 -- 1157, 4.1.5, and this profile).
-use Rattle.std.specs.Prelude.{ℕ, ◌+◌, ◌&&◌, ◌||◌, Bool, false, not, if◌then◌else◌, List, [], ◌∷◌, ◌++◌, length, filter_map, Option, Some, None, is_none, option_map, option_and_then, unwrap_or}
+use Rattle.std.specs.Prelude.{ℕ, ◌+◌, ◌&&◌, ◌||◌, Bool, false, not, if◌then◌else◌, List, [], ◌∷◌, ◌++◌, length}
+use Rattle.std.specs.Prelude.{filter_map, Option, Some, None, is_none, option_map, option_and_then, unwrap_or}
 use Rattle.std.specs.List.{list_any}
 use Rattle.dms_wire.specs.declared.error_status.ErrorStatus.{ErrorStatus}
 use Rattle.dms_wire.specs.declared.error_status.ErrorStatus.TheVariants.{NoSuchName, BadValue, GenErr}
@@ -67,7 +68,8 @@ causes_at s may_write before binding = filter_map (cause_if (length before + 1))
 -- why these bindings are refused after others, all of it in order; each is judged on the state before the SET
 abbrev pub causes_after : SignState → Bool → List VarBind → List VarBind → List SetCause
 causes_after s may_write before [] = []
-causes_after s may_write before (binding ∷ more) = causes_at s may_write before binding ++ causes_after s may_write (before ++ binding ∷ []) more
+causes_after s may_write before (binding ∷ more) =
+    causes_at s may_write before binding ++ causes_after s may_write (before ++ binding ∷ []) more
 
 -- All that a SET is refused for; the first of it is reported.
 unfoldable pub causes : SignState → Bool → List VarBind → List SetCause

@@ -8,7 +8,8 @@ ghost use Rattle.dms_sign.specs.Communities.{are_communities};
 ghost use Rattle.dms_sign.specs.State.{start};
 ghost use Rattle.dms_sign.specs.Configuration.{config_of, config_fault, IsFirstConfigFault};
 ghost use Rattle.dms_access.specs.Reports.{IsCauseInRange};
-ghost use Rattle.dms_sign.specs.InRange.{IsStocked, AreOctets, IsShownInRange, IsTimeInRange, IsSignInRange, AreFallbacksInRange, most_minutes};
+ghost use Rattle.dms_sign.specs.InRange.{IsStocked, AreOctets, IsShownInRange, IsTimeInRange};
+ghost use Rattle.dms_sign.specs.InRange.{IsSignInRange, AreFallbacksInRange, most_minutes};
 ghost use Rattle.dms_sign.specs.Transitions.{HasFitDefaults};
 ghost use Rattle.dms_sign.specs.KnownTexts.{AreKnown};
 ghost use Rattle.dms_face.specs.Face.{fit};
@@ -190,8 +191,10 @@ impl Sign {
 
     /// Shows the message that a code names, in place of what was shown, with this mode.
     fn show_named(&mut self, code: &Activation, mode: Mode)
-        requires { IsShownInRange (record (shown_by self.old.defaults self.old.table self.old.shown code.now) { mode = mode_number mode }) }
-        ensures { self.new ≡ showing self.old (record (shown_by self.old.defaults self.old.table self.old.shown code.now) { mode = mode_number mode }) }
+        requires { IsShownInRange
+            (record (shown_by self.old.defaults self.old.table self.old.shown code.now) { mode = mode_number mode }) }
+        ensures { self.new ≡ showing self.old
+            (record (shown_by self.old.defaults self.old.table self.old.shown code.now) { mode = mode_number mode }) }
     {
         self.table
             .put_up(&self.settings.defaults, code, &mut self.shown);
@@ -257,8 +260,8 @@ impl Sign {
         self.known.note(place, &self.settings.defaults);
     }
 
-    /// What is there as the power returns: what was shown at its loss is shown, volatile rows are gone, and no second was
-    /// silent.
+    /// What is there as the power returns: what was shown at its loss is shown, volatile rows are gone, and no second
+    /// was silent.
     fn restore(&mut self)
         ensures { self.new ≡ restored self.old }
     {

@@ -23,14 +23,16 @@ ghost use Rattle.dms_sign.specs.InRange.{IsSignInRange, IsStocked, IsMadeOfOctet
 
 /// A sign is in range as it is made, and it stays so whatever happens to it.
 pub fn signs_stay_in_range()
-    ensures made { (config : ConfigModel) (table : TableModel) → IsTrue (is_face config.face) → IsStocked table → IsMadeOfOctets config table
-        → IsSignInRange (start config table) }
+    ensures made { (config : ConfigModel) (table : TableModel) → IsTrue (is_face config.face) → IsStocked table
+        → IsMadeOfOctets config table → IsSignInRange (start config table) }
     ensures stocked { (face : FaceModel) (stock : Stock) → stock_fault face stock ≡ None → IsStocked (table_of stock) }
     ensures datagram { (s : SignState) (octets : List ℕ) → IsSignInRange s → IsSignInRange (received s octets).after }
-    ensures message { (s : SignState) (m : SnmpMessage) → IsSignInRange s → AreBindingsInLimits m.bindings → IsSignInRange (on_message s m).after }
+    ensures message { (s : SignState) (m : SnmpMessage) → IsSignInRange s → AreBindingsInLimits m.bindings
+        → IsSignInRange (on_message s m).after }
     ensures tick { (s : SignState) → IsSignInRange s → IsSignInRange (after_tick s) }
     ensures power_loss { (s : SignState) → IsSignInRange s → IsSignInRange (after_power_loss s) }
-    ensures power_return { (s : SignState) (seconds : ℕ) → IsSignInRange s → IsSignInRange (after_power_return s seconds) }
+    ensures power_return { (s : SignState) (seconds : ℕ) → IsSignInRange s
+        → IsSignInRange (after_power_return s seconds) }
 {}
 
 /// What a sign in range reads and answers can be said in a message.

@@ -48,8 +48,10 @@ impl Sign {
         requires fields { StaysWithout judged.now.fields self.old binds.now }
         requires limits { AreBindingsInLimits binds.now }
         requires range { IfSome (option_map write_by judged.now.command) IsCommandInRange }
-        ensures after { self.new ≡ (commanded_if self.old (assigned self.old (writes_of self.old binds.now)) binds.now judged.now.index (option_map write_by judged.now.command)).after }
-        ensures says { Says result (commanded_if self.old (assigned self.old (writes_of self.old binds.now)) binds.now judged.now.index (option_map write_by judged.now.command)) }
+        ensures after { self.new ≡ (commanded_if self.old (assigned self.old (writes_of self.old binds.now)) binds.now
+            judged.now.index (option_map write_by judged.now.command)).after }
+        ensures says { Says result (commanded_if self.old (assigned self.old (writes_of self.old binds.now)) binds.now
+            judged.now.index (option_map write_by judged.now.command)) }
     {
         match judged.command {
             Some(Change::Ask(id, ask)) => self.ask_row(id, ask, judged, binds),
@@ -77,8 +79,10 @@ impl Sign {
         requires settings { AreSettings judged.now.settings (assigned self.old (writes_of self.old binds.now)) }
         requires fields { StaysWithout judged.now.fields self.old binds.now }
         requires limits { AreBindingsInLimits binds.now }
-        ensures after { self.new ≡ (commanded self.old (assigned self.old (writes_of self.old binds.now)) binds.now judged.now.index (AskRow id ask)).after }
-        ensures says { Says result (commanded self.old (assigned self.old (writes_of self.old binds.now)) binds.now judged.now.index (AskRow id ask)) }
+        ensures after { self.new ≡ (commanded self.old (assigned self.old (writes_of self.old binds.now)) binds.now
+            judged.now.index (AskRow id ask)).after }
+        ensures says { Says result (commanded self.old (assigned self.old (writes_of self.old binds.now)) binds.now
+            judged.now.index (AskRow id ask)) }
     {
         if self.takes(id, ask) {
             self.assign(judged, binds);
@@ -103,8 +107,10 @@ impl Sign {
         requires fields { StaysWithout judged.now.fields self.old binds.now }
         requires limits { AreBindingsInLimits binds.now }
         requires octets { AreOctets 12 octets }
-        ensures after { self.new ≡ (commanded self.old (assigned self.old (writes_of self.old binds.now)) binds.now judged.now.index (Activate octets)).after }
-        ensures says { Says result (commanded self.old (assigned self.old (writes_of self.old binds.now)) binds.now judged.now.index (Activate octets)) }
+        ensures after { self.new ≡ (commanded self.old (assigned self.old (writes_of self.old binds.now)) binds.now
+            judged.now.index (Activate octets)).after }
+        ensures says { Says result (commanded self.old (assigned self.old (writes_of self.old binds.now)) binds.now
+            judged.now.index (Activate octets)) }
     {
         let code = activation_of(self.table.order(), &octets);
         let defaults = &judged.settings.defaults;
@@ -174,7 +180,8 @@ impl Sign {
     /// Asks a row that takes it.
     fn ask(&mut self, id: RowId, ask: Ask)
         requires { IsSome (asked self.old.table id ask) }
-        ensures { Some self.new ≡ option_map (λ table. record self.old { table = table }) (asked self.old.table id ask) }
+        ensures { Some self.new
+            ≡ option_map (λ table. record self.old { table = table }) (asked self.old.table id ask) }
     {
         let _ = self.table.ask(id, ask);
     }
@@ -183,7 +190,8 @@ impl Sign {
     fn accept(&mut self, code: &Activation, octets: [u8; 12])
         requires shown { IsShownInRange (shown_by self.old.defaults self.old.table self.old.shown code.now) }
         requires octets { AreOctets 12 octets }
-        ensures { self.new ≡ activated self.old octets (shown_by self.old.defaults self.old.table self.old.shown code.now) }
+        ensures { self.new
+            ≡ activated self.old octets (shown_by self.old.defaults self.old.table self.old.shown code.now) }
     {
         self.table
             .put_up(&self.settings.defaults, code, &mut self.shown);

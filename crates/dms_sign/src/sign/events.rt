@@ -2,7 +2,8 @@
 
 ghost use Rattle.std.specs.Prelude.{◌≡◌};
 ghost use Rattle.std.specs.Int.Digits.{AllBelowBase};
-ghost use Rattle.dms_sign.specs.Events.{after_duration, after_silence, after_tick, after_power_loss, recovery_code, after_power_return};
+ghost use Rattle.dms_sign.specs.Events.{after_duration, after_silence, after_tick};
+ghost use Rattle.dms_sign.specs.Events.{after_power_loss, recovery_code, after_power_return};
 ghost use Rattle.dms_sign.specs.Reply.{after_get};
 
 use crate::sign::Sign;

@@ -35,7 +35,7 @@ impl Sign {
     /// What comes of a datagram: the reply is left in `out`, which is empty where nothing is sent. Octets that spell no
     /// message, a Response, a message of another community and all that comes while the power is off are dropped, and
     /// nothing changes.
-    #[tactic(auto, unfolding(crate::specs::Reply::received), using(crate::proofs::Addressed::on_addressed, crate::proofs::Addressed::not_addressed))]
+    #[tactic(auto, unfolding(crate::specs::Reply::received), using(crate::proofs::Addressed::by_address))]
     pub fn receive(&mut self, datagram: &[u8], out: &mut Out) -> Receipt
         ensures after { self.new ≡ (received self.old datagram.now).after }
         ensures reply { sent result out.new.items ≡ (received self.old datagram.now).reply }
@@ -55,8 +55,10 @@ impl Sign {
         requires read { IsRead (snmp_message message.now) }
         requires cleared { out.old.items ≡ [] }
         ensures after { self.new ≡ (answered self.old (snmp_message message.now) message.now.kind).after }
-        ensures reply { sent result out.new.items ≡ (answered self.old (snmp_message message.now) message.now.kind).reply }
-        ensures accepted { accepted_by result ≡ (answered self.old (snmp_message message.now) message.now.kind).accepted }
+        ensures reply { sent result out.new.items
+            ≡ (answered self.old (snmp_message message.now) message.now.kind).reply }
+        ensures accepted { accepted_by result
+            ≡ (answered self.old (snmp_message message.now) message.now.kind).accepted }
         ensures empty { result ≡ Dropped → out.new.items ≡ [] }
     {
         let receipt = match message.kind {
@@ -78,9 +80,12 @@ impl Sign {
     /// Answers a Set.
     fn answer_set(&mut self, message: &Message<'_>, out: &mut Out) -> Receipt
         requires { IsRead (snmp_message message.now) }
-        ensures after { self.new ≡ (set self.old (may_write self.old (snmp_message message.now)) message.now.binds).after }
-        ensures reply { out.new.items ≡ reply_to (snmp_message message.now) (set self.old (may_write self.old (snmp_message message.now)) message.now.binds) }
-        ensures accepted { accepted_by result ≡ (set self.old (may_write self.old (snmp_message message.now)) message.now.binds).accepted }
+        ensures after { self.new
+            ≡ (set self.old (may_write self.old (snmp_message message.now)) message.now.binds).after }
+        ensures reply { out.new.items ≡ reply_to (snmp_message message.now)
+            (set self.old (may_write self.old (snmp_message message.now)) message.now.binds) }
+        ensures accepted { accepted_by result
+            ≡ (set self.old (may_write self.old (snmp_message message.now)) message.now.binds).accepted }
         ensures answered { IsAnswered result }
     {
         match self.set(self.may_write(message), &message.binds) {
@@ -188,7 +193,8 @@ fn reply(message: &Message<'_>, octets: &BindingOctets, out: &mut Out)
 /// Writes the reply that repeats the request's bindings, or tooBig where it does not fit a datagram.
 fn repeat(message: &Message<'_>, status: ErrorStatus, index: u32, out: &mut Out)
     requires { IsRead (snmp_message message.now) }
-    ensures { out.new.items ≡ reply_with (snmp_message message.now) (error_status_number status) index message.now.binds }
+    ensures { out.new.items
+        ≡ reply_with (snmp_message message.now) (error_status_number status) index message.now.binds }
 {
     match write_response(message, status, index, out) {
         Ok(()) => {}

@@ -1,6 +1,7 @@
 //! What a SET writes, and what keeps it from doing so.
 
-ghost use Rattle.std.specs.Prelude.{◌≡◌, ◌≤◌, ◌+◌, ◌||◌, if◌then◌else◌, [], ◌∷◌, Some, None, true, false, length, take, find, option_map, slice_get, IfOk, IfErr, OnOk};
+ghost use Rattle.std.specs.Prelude.{◌≡◌, ◌≤◌, ◌+◌, ◌||◌, if◌then◌else◌, [], ◌∷◌, Some, None, true};
+ghost use Rattle.std.specs.Prelude.{false, length, take, find, option_map, slice_get, IfOk, IfErr, OnOk};
 ghost use Rattle.std.specs.List.{list_any, cons_option};
 ghost use Rattle.dms_wire.specs.Limits.{most_bindings};
 ghost use Rattle.dms_wire.specs.View.{var_bind};
@@ -11,7 +12,8 @@ ghost use Rattle.dms_access.specs.ChangeView.{write_by, IsChange};
 ghost use Rattle.dms_sign.specs.SetView.{refusal_of, is_field, AreSettings, StaysWithout};
 ghost use Rattle.dms_access.specs.SettingsView.{set_by};
 ghost use Rattle.dms_access.specs.MetNames.{is_among};
-ghost use Rattle.dms_sign.specs.SetRequest.{settable_instance, write_at, is_command_at, is_refused_field, causes_at, causes, with_writes};
+ghost use Rattle.dms_sign.specs.SetRequest.{settable_instance, write_at, is_command_at};
+ghost use Rattle.dms_sign.specs.SetRequest.{is_refused_field, causes_at, causes, with_writes};
 ghost use Rattle.dms_access.specs.Slots.{AreTaken};
 ghost use Rattle.dms_sign.specs.Requests.{writes_of, command_index};
 
@@ -85,7 +87,8 @@ impl Sign {
         ensures change { IfOk result (λ change. write_at self.now (var_bind binding.now) ≡ Some (write_by change)) }
         ensures number { IfOk result (λ change. IsChange change) }
         ensures alone { IfOk result (λ change. is_command (write_by change) ≡ true → commanded ≡ false) }
-        ensures refusal { IfErr result (λ status. slice_get (causes_at self.now may_write (take index before.now) (var_bind binding.now)) 0
+        ensures refusal { IfErr result
+            (λ status. slice_get (causes_at self.now may_write (take index before.now) (var_bind binding.now)) 0
             ≡ Some (record { index = length (take index before.now) + 1; status = status })) }
     {
         if !may_write {
@@ -120,9 +123,11 @@ impl Sign {
         ensures none { OnOk result (causes self.now may_write binds.now ≡ []) }
         ensures settings { IfOk result (λ judged. judged.settings ≡ set_by settings (writes_of self.now binds.now)) }
         ensures fields { IfOk result (λ judged. StaysWithout judged.fields self.now binds.now) }
-        ensures command { IfOk result (λ judged. option_map write_by judged.command ≡ find is_command (writes_of self.now binds.now)) }
+        ensures command { IfOk result
+            (λ judged. option_map write_by judged.command ≡ find is_command (writes_of self.now binds.now)) }
         ensures index { IfOk result (λ judged. judged.index ≡ command_index self.now binds.now) }
-        ensures first { IfErr result (λ refusal. slice_get (causes self.now may_write binds.now) 0 ≡ Some (refusal_of refusal)) }
+        ensures first { IfErr result
+            (λ refusal. slice_get (causes self.now may_write binds.now) 0 ≡ Some (refusal_of refusal)) }
     {
         let mut judged = Judged {
             settings,
@@ -160,7 +165,8 @@ impl<'a> Judged<'a> {
         requires { IsChange change }
         ensures settings { self.new.settings ≡ set_by self.old.settings (write_by change.entry ∷ []) }
         ensures fields { self.new.fields ≡ self.old.fields || is_field (write_by change.entry) }
-        ensures command { option_map write_by self.new.command ≡ (if is_command (write_by change.entry) then Some (write_by change.entry) else option_map write_by self.old.command) }
+        ensures command { option_map write_by self.new.command ≡ (if is_command (write_by change.entry)
+            then Some (write_by change.entry) else option_map write_by self.old.command) }
         ensures index { self.new.index ≡ (if is_command (write_by change.entry) then index else self.old.index) }
     {
         match change {

@@ -54,7 +54,8 @@ impl Sign {
 
     /// What a cell of dmsMessageTable reads; the row of the current buffer is what is shown.
     fn cell(&self, column: Column, id: RowId) -> Option<Value<'_>>
-        ensures { option_map object_value result ≡ option_map (cell_value self.now.table.order column id) (message_at self.now.table self.now.shown id) }
+        ensures { option_map object_value result
+            ≡ option_map (cell_value self.now.table.order column id) (message_at self.now.table self.now.shown id) }
     {
         let order = self.table.order();
         if id.memory != memory::CURRENT_BUFFER {
