@@ -1,14 +1,15 @@
--- what a reader must believe: what can be set, what a value writes there, what writes give to an object, which names a
--- SET has given, what a sign reports of its verdicts and decisions, and what a column of dmsMessageTable reads
+-- what a reader must believe: what can be set, what a value writes there, what writes give to an object and which
+-- settings they leave, which names a SET has given, what a sign reports of its verdicts and decisions, and what a
+-- column of dmsMessageTable reads
 pub mod Access
 pub mod Settable
 pub mod Assignment
+pub mod Settings
 pub mod MetNames
 pub mod Ranges
 pub mod Reports
 pub mod Cells
--- what the changes, the settings and the reports of the code are in these words
+-- what the changes of the code are in these words
 pub mod ChangeView
-pub mod SettingsView
 -- what only proofs go through
 pub mod Slots

@@ -4,7 +4,7 @@ ghost use Rattle.std.specs.Prelude.{◌≡◌, [], ◌∷◌};
 ghost use Rattle.dms_access.specs.declared.access.Change.TheVariants as changes;
 ghost use Rattle.dms_access.specs.Access.{SetNumber, SetCode};
 ghost use Rattle.dms_access.specs.ChangeView.{write_by, IsChange};
-ghost use Rattle.dms_access.specs.SettingsView.{first_settings, codes_by, set_by};
+ghost use Rattle.dms_access.specs.Settings.{first_settings, codes_by, set_by};
 ghost use Rattle.dms_access.specs.Ranges.{AreDefaultsInRange};
 
 use crate::access::Change;
@@ -61,7 +61,7 @@ impl Settings {
     }
 
     /// Assigns what a binding writes beside the fields of rows.
-    #[tactic(auto, unfolding(crate::specs::SettingsView::set_by))]
+    #[tactic(auto, unfolding(crate::specs::Settings::set_by))]
     pub fn assign(&mut self, change: &Change<'_>)
         requires { IsChange change.now }
         ensures { self.new ≡ set_by self.old (write_by change.now ∷ []) }
@@ -74,7 +74,7 @@ impl Settings {
     }
 }
 
-#[tactic(auto, unfolding(crate::specs::SettingsView::set_by))]
+#[tactic(auto, unfolding(crate::specs::Settings::set_by))]
 fn assign_number(settings: &mut Settings, object: Scalar, number: u16)
     requires { IsChange (changes.Number object number) }
     ensures { settings.new ≡ set_by settings.old (SetNumber object number ∷ []) }

@@ -36,7 +36,7 @@ use Rattle.dms_sign.specs.InRange.{AreOctets, IsTableInRange, IsShownInRange, Ar
 use Rattle.dms_sign.specs.Transitions.{HasFitDefaults}
 use Rattle.dms_sign.specs.Kept.{IsKept}
 use Rattle.dms_sign.specs.SignView.{state_of, IsWhole}
-use Rattle.dms_access.specs.SettingsView.{codes_by, defaults_by, set_by}
+use Rattle.dms_access.specs.Settings.{codes_by, defaults_by, set_by}
 use Rattle.dms_sign.specs.SetView.{AreSettings}
 use Rattle.dms_sign.specs.SetView.{IsCommandInRange}
 use Rattle.dms_table.proofs.Decisions.{accepted_decision, accepted_elsewhere}

@@ -16,7 +16,7 @@ use Rattle.dms_sign.specs.SetRequest.{SetCause, write_at, is_command_at, causes_
 use Rattle.dms_sign.specs.SetView.{is_field, StaysWithout}
 use Rattle.dms_sign.specs.Requests.{writes_of, command_index}
 use Rattle.dms_access.proofs.TakenSlots.{any_push}
-use Rattle.dms_access.specs.SettingsView.{codes_by, set_by}
+use Rattle.dms_access.specs.Settings.{codes_by, set_by}
 
 -- ---- lists with one element more
 

@@ -31,7 +31,7 @@ use Rattle.dms_table.specs.Activation.{blank_code}
 use Rattle.dms_sign.specs.State.{ConfigModel, SignState, start, power_recovery_mode}
 use Rattle.dms_sign.specs.Kept.{IsKept}
 use Rattle.dms_access.specs.declared.settings.Settings.{Settings}
-use Rattle.dms_access.specs.SettingsView.{first_settings}
+use Rattle.dms_access.specs.Settings.{first_settings}
 use Rattle.dms_access.specs.Reports.{first_reports, refused_reports}
 use Rattle.dms_sign.specs.OwnCodes.{showing, with_refused_code, own_activation, put_up_as_decided, staying, put_up_code}
 use Rattle.dms_access.specs.Reports.{settled_reports}

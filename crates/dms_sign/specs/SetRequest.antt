@@ -15,7 +15,7 @@ use Rattle.dms_sign.specs.State.{SignState}
 use Rattle.dms_access.specs.Access.{Write, SetField, is_command, is_settable, write_of}
 use Rattle.dms_access.specs.MetNames.{is_among}
 use Rattle.dms_access.specs.Assignment.{given, number_for}
-use Rattle.dms_access.specs.SettingsView.{codes_by, defaults_by}
+use Rattle.dms_access.specs.Settings.{codes_by, defaults_by}
 
 -- ---- what keeps a SET from writing
 

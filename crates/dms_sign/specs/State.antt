@@ -7,7 +7,7 @@ use Rattle.dms_table.specs.declared.shown.Mode.TheVariants.{PowerRecovery, Commu
 use Rattle.dms_table.specs.Activation.{ShownModel, blank_shown, mode_number}
 use Rattle.dms_access.specs.declared.reports.Reports.{Reports}
 use Rattle.dms_access.specs.declared.settings.Fallbacks.{Fallbacks}
-use Rattle.dms_access.specs.SettingsView.{first_fallbacks}
+use Rattle.dms_access.specs.Settings.{first_fallbacks}
 use Rattle.dms_access.specs.Reports.{first_reports}
 
 -- ---- states

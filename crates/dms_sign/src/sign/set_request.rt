@@ -10,7 +10,7 @@ ghost use Rattle.dms_sign.specs.State.{SignState};
 ghost use Rattle.dms_access.specs.Access.{is_command};
 ghost use Rattle.dms_access.specs.ChangeView.{write_by, IsChange};
 ghost use Rattle.dms_sign.specs.SetView.{refusal_of, is_field, AreSettings, StaysWithout};
-ghost use Rattle.dms_access.specs.SettingsView.{set_by};
+ghost use Rattle.dms_access.specs.Settings.{set_by};
 ghost use Rattle.dms_access.specs.MetNames.{is_among};
 ghost use Rattle.dms_sign.specs.SetRequest.{settable_instance, write_at, is_command_at};
 ghost use Rattle.dms_sign.specs.SetRequest.{is_refused_field, causes_at, causes, with_writes};
@@ -160,7 +160,7 @@ impl Sign {
 
 impl<'a> Judged<'a> {
     /// Notes what the binding of this index writes.
-    #[tactic(auto, unfolding(dms_access::specs::SettingsView::set_by))]
+    #[tactic(auto, unfolding(dms_access::specs::Settings::set_by))]
     fn note(&mut self, index: u32, change: Change<'a>)
         requires { IsChange change }
         ensures settings { self.new.settings ≡ set_by self.old.settings (write_by change.entry ∷ []) }

@@ -4,7 +4,7 @@ use Rattle.dms_sign.specs.State.{SignState}
 use Rattle.dms_sign.specs.SetRequest.{assigned}
 use Rattle.dms_sign.specs.Requests.{Answer, writes_of}
 use Rattle.dms_access.specs.ChangeView.{write_by}
-use Rattle.dms_access.specs.SettingsView.{set_by}
+use Rattle.dms_access.specs.Settings.{set_by}
 use Rattle.dms_sign.specs.SetView.{AreSettings}
 use Rattle.dms_sign.specs.SetView.{refusal_of, Says}
 use Rattle.dms_sign.specs.SignView.{state_of}

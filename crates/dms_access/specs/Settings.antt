@@ -24,11 +24,12 @@ first_fallbacks = record {
   communications_loss = blank_code;
 }
 
--- the times are 0
+-- the settings as a sign is made: the times are 0
 abbrev pub first_settings : Defaults → Settings
 first_settings defaults =
     record { fallbacks = first_fallbacks; short_power_loss_time = 0; time_comm_loss = 0; defaults = defaults }
 
+-- the codes of the messages that a sign activates by itself, after these writes (NTCIP 1203, signControl)
 abbrev pub codes_by : Fallbacks → List Write → Fallbacks
 codes_by f writes = record {
   short_power_recovery = given (code_for ShortPowerRecoveryMessage) writes f.short_power_recovery;
@@ -38,6 +39,7 @@ codes_by f writes = record {
   communications_loss = given (code_for CommunicationsLossMessage) writes f.communications_loss;
 }
 
+-- the defaults after these writes (NTCIP 1203, multiCfg)
 abbrev pub defaults_by : Defaults → List Write → Defaults
 defaults_by d writes = record {
   background = given (number_for DefaultBackgroundColor) writes d.background;
@@ -51,6 +53,7 @@ defaults_by d writes = record {
   off = given (number_for DefaultPageOffTime) writes d.off;
 }
 
+-- the settings after these writes
 unfoldable pub set_by : Settings → List Write → Settings
 set_by s writes = record {
   fallbacks = codes_by s.fallbacks writes;
