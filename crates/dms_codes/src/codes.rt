@@ -4,6 +4,8 @@ ghost use Rattle.std.specs.Prelude.{◌≡◌};
 ghost use Rattle.dms_codes.specs.declared.codes.MessageId.{MessageId};
 ghost use Rattle.dms_codes.specs.declared.codes.Activation.{Activation};
 
+use crate::memory::Memory;
+
 /// Which octet of a checksum comes first, in codes and in dmsMessageCRC: makers of signs differ (this profile).
 #[derive(Clone, Copy, Debug, PartialEq, Eq)]
 pub enum Order {
@@ -67,6 +69,14 @@ impl Order {
 impl MessageId {
     ghost use Rattle.std.specs.Prelude.{◌≡◌, ◌↔◌, length, IsSome, IfSome};
     ghost use Rattle.dms_codes.specs.Codes.{octets_of_id, id_of, IsMessageId};
+    ghost use Rattle.dms_codes.specs.Memory.{memory_of};
+
+    /// The type of the memory that holds the message; none where its number is no type of memory.
+    pub fn memory(&self) -> Option<Memory>
+        ensures { result ≡ memory_of self.now.memory }
+    {
+        Memory::of(self.memory)
+    }
 
     /// Its octets: type of memory, number and checksum, numbers high octet first.
     pub fn to_bytes(&self, order: Order) -> [u8; 5]

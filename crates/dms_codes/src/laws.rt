@@ -6,6 +6,8 @@ ghost use Rattle.dms_codes.specs.declared.codes.MessageId.{MessageId};
 ghost use Rattle.dms_codes.specs.declared.codes.Activation.{Activation};
 ghost use Rattle.dms_codes.specs.declared.status.Status.{Status};
 ghost use Rattle.dms_codes.specs.declared.status.Ask.{Ask};
+ghost use Rattle.dms_codes.specs.declared.memory.Memory.{Memory};
+ghost use Rattle.dms_codes.specs.Memory.{memory_number, memory_of};
 ghost use Rattle.dms_codes.specs.Checksum.{number, octet_bits, remainder, sixteen_zeros};
 ghost use Rattle.dms_codes.specs.Codes.{two_octets, octets_of_checksum, in_order, octets_of_id, octets_of_activation, id_of, activation_of, IsMessageId, IsActivation};
 ghost use Rattle.dms_codes.specs.Status.{StatusStep, next_status};
@@ -40,4 +42,9 @@ pub fn checksums_have_their_order()
 /// The next status is that of the table of statuses.
 pub fn next_statuses_are_the_table()
     ensures { (status : Status) (ask : Ask) (next : Status) → (next_status status ask ≡ Some next) ↔ StatusStep status ask next }
+{}
+
+/// A number has the type of memory whose number it is.
+pub fn types_of_memory_have_their_numbers()
+    ensures { (number : ℕ) (memory : Memory) → (memory_of number ≡ Some memory) ↔ (memory_number memory ≡ number) }
 {}

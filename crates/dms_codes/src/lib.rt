@@ -18,5 +18,6 @@ pub mod status;
 pub use checksum::crc;
 pub use codes::{Activation, MessageId, Order};
 pub use limits::{MAX_OWNER, MAX_TEXT};
+pub use memory::Memory;
 pub use row_id::RowId;
 pub use status::{Ask, Status};

@@ -1,6 +1,6 @@
-//! The example of the crate's page, and the statuses by their numbers.
+//! The example of the crate's page, and statuses and types of memory by their numbers.
 
-use dms_codes::{Ask, MessageId, Order, Status, crc, memory};
+use dms_codes::{Ask, Memory, MessageId, Order, RowId, Status, crc, memory};
 
 #[test]
 fn example(rt: HostRuntime) {
@@ -40,5 +40,43 @@ fn numbers_of_statuses(rt: HostRuntime) {
             _ => (None, None),
         };
         assert_eq!(rt; numbers(number), found);
+    }
+}
+
+/// The type of memory of a number, of a row's name and of a message's, and the number of the first.
+fn types(number: u8) -> ([Option<Memory>; 3], Option<u8>) {
+    let row = RowId {
+        memory: number,
+        number: 1,
+    };
+    let message = MessageId {
+        memory: number,
+        number: 1,
+        crc: 0,
+    };
+    let found = Memory::of(number);
+    let back = match found {
+        Some(memory) => Some(memory.number()),
+        None => None,
+    };
+    ([found, row.memory(), message.memory()], back)
+}
+
+#[test]
+fn types_of_memory(rt: HostRuntime) {
+    for number in 0..=255 {
+        let found = match number {
+            2 => Some(Memory::Permanent),
+            3 => Some(Memory::Changeable),
+            4 => Some(Memory::Volatile),
+            5 => Some(Memory::CurrentBuffer),
+            7 => Some(Memory::Blank),
+            _ => None,
+        };
+        let back = match found {
+            Some(_) => Some(number),
+            None => None,
+        };
+        assert_eq!(rt; types(number), ([found; 3], back));
     }
 }
