@@ -7,7 +7,7 @@ use Rattle.dms_ber.specs.Integer.{IsInteger}
 use Rattle.dms_ber.specs.ObjectIdentifier.{IsName}
 use Rattle.dms_ber.specs.NameReading.{is_name, numbers_of}
 use Rattle.dms_ber.specs.Element.{IsElement, ◌⨾◌}
-use Rattle.dms_ber.specs.Reading.{◌>>=◌, fault, place_of, element_at, integer_value, integer_at, name_of, name_at, natural, natural_value}
+use Rattle.dms_ber.specs.Reading.{◌>>=◌, fault, offset_of_content, element_at, integer_value, integer_at, name_of, name_at, natural, natural_value}
 use Rattle.dms_ber.proofs.Elements.{bind_ok, done, ok_is, not_ok, tested, element_found, element_only}
 use Rattle.dms_ber.proofs.Integers.{integer_found, integer_only}
 use Rattle.dms_ber.proofs.Names.{name_found, name_only}
@@ -69,15 +69,15 @@ pub integer_at_found : (end : ℕ) (bytes : List ℕ) (x : ℤ × List ℕ) → 
     → Front (IsElement 2 (IsInteger x.0)) bytes x.1
 unfolding integer_at
 integer_at_found end bytes x h =
-    with_found IsInteger (λ c. ok_or (integer_value c.0) (fault BadInteger (place_of end c.0 c.1)))
+    with_found IsInteger (λ c. ok_or (integer_value c.0) (fault BadInteger (offset_of_content end c.0 c.1)))
     (λ c z h. integer_found c.0 z (ok_or_found (integer_value c.0) _ z h)) 2 end bytes x h
 
 pub integer_at_only : (end : ℕ) (z : ℤ) (front rest : List ℕ) → IsElement 2 (IsInteger z) front
     → integer_at end (front ++ rest) ≡ Ok (z, rest)
 unfolding integer_at
 integer_at_only end z front rest e =
-    with_only IsInteger (λ c. ok_or (integer_value c.0) (fault BadInteger (place_of end c.0 c.1)))
-    (λ c z h. ap (λ o. ok_or o (fault BadInteger (place_of end c.0 c.1))) (integer_only c.0 z h)) 2 end z front rest e
+    with_only IsInteger (λ c. ok_or (integer_value c.0) (fault BadInteger (offset_of_content end c.0 c.1)))
+    (λ c z h. ap (λ o. ok_or o (fault BadInteger (offset_of_content end c.0 c.1))) (integer_only c.0 z h)) 2 end z front rest e
 
 name_of_found : (place : ℕ) (content numbers : List ℕ) → name_of place content ≡ Ok numbers → IsName numbers content
 name_of_found place content numbers h =
@@ -92,13 +92,13 @@ name_of_only place content numbers h =
 pub name_at_found : (end : ℕ) (bytes : List ℕ) (x : List ℕ × List ℕ) → name_at end bytes ≡ Ok x → Front (IsElement 6 (IsName x.0)) bytes x.1
 unfolding name_at
 name_at_found end bytes x h =
-    with_found IsName (λ c. name_of (place_of end c.0 c.1) c.0) (λ c n h. name_of_found (place_of end c.0 c.1) c.0 n h) 6 end bytes x h
+    with_found IsName (λ c. name_of (offset_of_content end c.0 c.1) c.0) (λ c n h. name_of_found (offset_of_content end c.0 c.1) c.0 n h) 6 end bytes x h
 
 pub name_at_only : (end : ℕ) (numbers front rest : List ℕ) → IsElement 6 (IsName numbers) front
     → name_at end (front ++ rest) ≡ Ok (numbers, rest)
 unfolding name_at
 name_at_only end numbers front rest e =
-    with_only IsName (λ c. name_of (place_of end c.0 c.1) c.0) (λ c n h. name_of_only (place_of end c.0 c.1) c.0 n h) 6 end numbers front rest e
+    with_only IsName (λ c. name_of (offset_of_content end c.0 c.1) c.0) (λ c n h. name_of_only (offset_of_content end c.0 c.1) c.0 n h) 6 end numbers front rest e
 
 pub some_is : {A : Type 0} (x y : A) → Some x ≡ Some y → x ≡ y
 some_is x y h = cc

@@ -1,7 +1,8 @@
 -- The numbers and the texts of faults (this profile).
 use Rattle.std.specs.Prelude.{ℕ, List, ◌++◌, codes, decimal}
 use Rattle.dms_ber.specs.declared.fault.FaultKind.{FaultKind}
-use Rattle.dms_ber.specs.declared.fault.FaultKind.TheVariants.{Truncated, BadTag, BadLength, LengthPast, BadInteger, BadName, BadVersion, TrailingBytes, TooLong}
+use Rattle.dms_ber.specs.declared.fault.FaultKind.TheVariants.{Truncated, BadTag, BadLength, LengthPast, BadInteger}
+use Rattle.dms_ber.specs.declared.fault.FaultKind.TheVariants.{BadName, BadVersion, TrailingBytes, TooLong}
 use Rattle.dms_ber.specs.declared.fault.WireFault.{WireFault}
 
 abbrev pub kind_number : FaultKind → ℕ

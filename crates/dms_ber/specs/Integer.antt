@@ -1,5 +1,6 @@
 -- A whole number as its content octets (X.690, 8.3), from -2^31 to 2^32 - 1 (the range is the profile's own).
-use Rattle.std.specs.Prelude.{◌≡◌, ℕ, ℤ, pos, negsuc, ◌-◌, ◌^◌, Bool, true, false, IsTrue, nat_lt, nat_le, ◌==◌, List, [], ◌∷◌, map, if◌then◌else◌}
+use Rattle.std.specs.Prelude.{◌≡◌, ℕ, ℤ, pos, negsuc, ◌-◌, ◌^◌, Bool, true, false, IsTrue}
+use Rattle.std.specs.Prelude.{nat_lt, nat_le, ◌==◌, List, [], ◌∷◌, map, if◌then◌else◌}
 use Rattle.std.specs.Int.Digits.{number_from_digits}
 use Rattle.std.specs.List.{slice_index_or}
 use Rattle.std.specs.Int.Digits.{digits_of}
@@ -21,7 +22,8 @@ inverted bs = map (λ b. 255 - b) bs
 
 -- the octets as a two's complement number (8.3.3): the inverted octets of a negative z are -1 - z
 abbrev pub signed_value : List ℕ → ℤ
-signed_value bs = (if is_negative bs then negsuc (number_from_digits 256 (inverted bs)) else pos (number_from_digits 256 bs))
+signed_value bs =
+    (if is_negative bs then negsuc (number_from_digits 256 (inverted bs)) else pos (number_from_digits 256 bs))
 
 abbrev pub in_range : ℤ → Bool
 in_range (pos n) = nat_lt n (2 ^ 32)
@@ -35,7 +37,8 @@ pub record IsInteger (z : ℤ) (bs : List ℕ) : Type 0 where
 
 -- the digits of a number, and a 0 before them where the first bit would not be 0 (X.690, 8.3)
 abbrev pub positive_octets : ℕ → List ℕ
-positive_octets n = (if nat_lt (slice_index_or (digits_of 256 n) 0 128) 128 then digits_of 256 n else 0 ∷ digits_of 256 n)
+positive_octets n =
+    (if nat_lt (slice_index_or (digits_of 256 n) 0 128) 128 then digits_of 256 n else 0 ∷ digits_of 256 n)
 
 -- a negative z is the inverted octets of -1 - z
 unfoldable pub integer_octets : ℤ → List ℕ

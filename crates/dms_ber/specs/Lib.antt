@@ -1,4 +1,5 @@
--- What a reader must believe: the content and the length of each element, in any accepted form and in the shortest, and their limits.
+-- What a reader must believe: the content and the length of each element, in any accepted form and in the shortest, and
+-- their limits.
 pub mod Limits
 pub mod Length
 pub mod Element

@@ -1,5 +1,6 @@
 -- The walk of an object identifier's numbers over its content.
-use Rattle.std.specs.Prelude.{ℕ, ◌+◌, ◌*◌, ◌%◌, ◌^◌, Bool, true, ◌&&◌, nat_lt, List, [], ◌∷◌, ◌++◌, Option, if◌then◌else◌}
+use Rattle.std.specs.Prelude.{ℕ, ◌+◌, ◌*◌, ◌%◌, ◌^◌, Bool, true, ◌&&◌, nat_lt}
+use Rattle.std.specs.Prelude.{List, [], ◌∷◌, ◌++◌, Option, if◌then◌else◌}
 use Rattle.std.specs.Option.{option_to_list}
 use Rattle.dms_ber.specs.NameReading.{sub_identifiers_after, numbers_of}
 
@@ -11,4 +12,5 @@ fits_after n (b ∷ bs) =
 
 -- The numbers that are left: one that was read ahead, and those of the octets. The first sub-identifier is two numbers.
 abbrev pub numbers_left : Option ℕ → Bool → List ℕ → List ℕ
-numbers_left ahead begun octets = option_to_list ahead ++ (if begun then sub_identifiers_after 0 octets else numbers_of octets)
+numbers_left ahead begun octets =
+    option_to_list ahead ++ (if begun then sub_identifiers_after 0 octets else numbers_of octets)

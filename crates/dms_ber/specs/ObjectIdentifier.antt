@@ -1,5 +1,6 @@
 -- An object identifier as its content octets (X.690, 8.19).
-use Rattle.std.specs.Prelude.{◌≡◌, ◌≢◌, ℕ, ◌+◌, ◌-◌, ◌^◌, ◌<◌, ◌≤◌, nat_lt, List, [], ◌∷◌, ◌++◌, map, length, if◌then◌else◌, get_or}
+use Rattle.std.specs.Prelude.{◌≡◌, ◌≢◌, ℕ, ◌+◌, ◌-◌, ◌^◌, ◌<◌, ◌≤◌, nat_lt, List}
+use Rattle.std.specs.Prelude.{[], ◌∷◌, ◌++◌, map, length, if◌then◌else◌, get_or}
 use Rattle.std.specs.Int.Digits.{number_from_digits, AllBelowBase}
 use Rattle.std.specs.Prelude.{◌*◌, ◌/◌, ◌%◌}
 use Rattle.std.specs.List.{flat_map}
@@ -20,15 +21,17 @@ pub record IsSubIdentifier (n : ℕ) (bytes : List ℕ) : Type 0 where
 -- the octets of sub-identifiers, one after the other, each below 2^32 (a limit of the profile's own)
 abbrev pub AreSubIdentifiers : List ℕ → List ℕ → Type 0
 AreSubIdentifiers [] bytes = bytes ≡ []
-AreSubIdentifiers (n ∷ ns) bytes =
-    (front : List ℕ) × (back : List ℕ) × (n < 2 ^ 32) × IsSubIdentifier n front × AreSubIdentifiers ns back × (bytes ≡ front ++ back)
+AreSubIdentifiers (n ∷ ns) bytes = (front : List ℕ) × (back : List ℕ) × (n < 2 ^ 32) × IsSubIdentifier n front
+    × AreSubIdentifiers ns back × (bytes ≡ front ++ back)
 
 -- the first two numbers a, b are one sub-identifier 40a + b (8.19.4): a is 0 below 40, 1 below 80, else 2
 abbrev pub numbers_from : List ℕ → List ℕ
 numbers_from [] = []
-numbers_from (n ∷ ns) = (if nat_lt n 40 then 0 ∷ n ∷ ns else if nat_lt n 80 then 1 ∷ (n - 40) ∷ ns else 2 ∷ (n - 80) ∷ ns)
+numbers_from (n ∷ ns) =
+    (if nat_lt n 40 then 0 ∷ n ∷ ns else if nat_lt n 80 then 1 ∷ (n - 40) ∷ ns else 2 ∷ (n - 80) ∷ ns)
 
--- the octets are the content of the name with these numbers; that there are not more sub-identifiers is the profile's own limit
+-- the octets are the content of the name with these numbers; that there are not more sub-identifiers is the profile's
+-- own limit
 pub record IsName (numbers : List ℕ) (bytes : List ℕ) : Type 0 where
   pub sub_identifiers : List ℕ
   pub some : 0 < length sub_identifiers
@@ -49,8 +52,8 @@ sub_identifiers_of (a ∷ b ∷ ns) = (40 * a + b) ∷ ns
 unfoldable pub name_octets : List ℕ → List ℕ
 name_octets numbers = flat_map sub_identifier_octets (sub_identifiers_of numbers)
 
--- A name is 2 to 128 numbers a, b, ..: a at most 2, b below 40 where a is 0 or 1 (X.690, 8.19.4); 40a + b and each later number
--- below 2^32.
+-- A name is 2 to 128 numbers a, b, ..: a at most 2, b below 40 where a is 0 or 1 (X.690, 8.19.4); 40a + b and each
+-- later number below 2^32.
 abbrev pub IsNameInLimits : List ℕ → Type 0
 IsNameInLimits [] = ⊥
 IsNameInLimits (a ∷ []) = ⊥

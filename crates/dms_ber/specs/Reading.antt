@@ -1,8 +1,10 @@
 -- Reading elements on lists, from left to right: what is found and the octets after it, or the first fault.
-use Rattle.std.specs.Prelude.{◌≡◌, ℕ, ℤ, pos, ◌-◌, nat_lt, ◌==◌, List, [], ◌∷◌, length, take, drop, Option, Some, None, ok_or, option_and_then, Result, Ok, Err, if◌then◌else◌}
+use Rattle.std.specs.Prelude.{◌≡◌, ℕ, ℤ, pos, ◌-◌, nat_lt, ◌==◌, List, [], ◌∷◌, length, take, drop}
+use Rattle.std.specs.Prelude.{Option, Some, None, ok_or, option_and_then, Result, Ok, Err, if◌then◌else◌}
 use Rattle.std.specs.Int.Digits.{number_from_digits}
 use Rattle.dms_ber.specs.declared.fault.FaultKind.{FaultKind}
-use Rattle.dms_ber.specs.declared.fault.FaultKind.TheVariants.{Truncated, BadTag, BadLength, LengthPast, BadInteger, BadName, TrailingBytes}
+use Rattle.dms_ber.specs.declared.fault.FaultKind.TheVariants.{Truncated, BadTag, BadLength, LengthPast}
+use Rattle.dms_ber.specs.declared.fault.FaultKind.TheVariants.{BadInteger, BadName, TrailingBytes}
 use Rattle.dms_ber.specs.declared.fault.WireFault.{WireFault}
 use Rattle.dms_ber.specs.Integer.{is_shortest, signed_value, in_range}
 use Rattle.dms_ber.specs.NameReading.{is_name, numbers_of}
@@ -44,16 +46,17 @@ content_at end bytes = do
 
 unfoldable pub element_at : ℕ → ℕ → List ℕ → Result (List ℕ × List ℕ) WireFault
 element_at tag end [] = Err (fault Truncated end)
-element_at tag end (b ∷ bytes) = (if b == tag then content_at end bytes else Err (fault BadTag (end - length (b ∷ bytes))))
+element_at tag end (b ∷ bytes) =
+    (if b == tag then content_at end bytes else Err (fault BadTag (end - length (b ∷ bytes))))
 
 -- the offset of the first octet of a content before these octets
-abbrev pub place_of : ℕ → List ℕ → List ℕ → ℕ
-place_of end content rest = end - length rest - length content
+abbrev pub offset_of_content : ℕ → List ℕ → List ℕ → ℕ
+offset_of_content end content rest = end - length rest - length content
 
 unfoldable pub integer_at : ℕ → List ℕ → Result (ℤ × List ℕ) WireFault
 integer_at end bytes = do
   c ← element_at 2 end bytes
-  z ← ok_or (integer_value c.0) (fault BadInteger (place_of end c.0 c.1))
+  z ← ok_or (integer_value c.0) (fault BadInteger (offset_of_content end c.0 c.1))
   Ok (z, c.1)
 
 abbrev pub name_of : ℕ → List ℕ → Result (List ℕ) WireFault
@@ -62,7 +65,7 @@ name_of place content = (if is_name content then Ok (numbers_of content) else Er
 unfoldable pub name_at : ℕ → List ℕ → Result (List ℕ × List ℕ) WireFault
 name_at end bytes = do
   c ← element_at 6 end bytes
-  n ← name_of (place_of end c.0 c.1) c.0
+  n ← name_of (offset_of_content end c.0 c.1) c.0
   Ok (n, c.1)
 
 -- a number from 0 to 2^32 - 1

@@ -7,7 +7,7 @@ use Rattle.dms_wire.specs.Message.{ObjectValue, VarBind}
 use Rattle.dms_ber.specs.Element.{IsElement, ◌⨾◌}
 use Rattle.dms_ber.specs.ObjectIdentifier.{IsName}
 use Rattle.dms_wire.specs.Spelling.{IsValue, IsBinding, AreBindings}
-use Rattle.dms_ber.specs.Reading.{◌>>=◌, fault, element_at, name_of, name_at, place_of, ended}
+use Rattle.dms_ber.specs.Reading.{◌>>=◌, fault, element_at, name_of, name_at, offset_of_content, ended}
 use Rattle.dms_wire.specs.Reading.{value_at, members_at, binding_at, bindings_up_to, bindings_at}
 use Rattle.dms_wire.specs.Walk.{or_none, bindings_within, bindings_of, AreWhole}
 use Rattle.dms_ber.proofs.Elements.{bind_ok, done, ok_is, not_ok, tested}
@@ -271,11 +271,11 @@ known_name end bytes b c h e =
     after (value_at end name.1) _ b h λ value value_read h.
     after (ended end value.1) (λ _. done (record { name = name.0; value = value.0 })) b h λ nothing nothing_read h.
     after (element_at 6 end bytes) _ name name_read λ x x_read h2.
-    after (name_of (place_of end x.0 x.1) x.0) (λ n. done (n, x.1)) name h2 λ n n_read h3.
+    after (name_of (offset_of_content end x.0 x.1) x.0) (λ n. done (n, x.1)) name h2 λ n n_read h3.
     let made : VarBind = record { name = name.0; value = value.0 } in
     let numbers : n ≡ b.name = ap (λ x. x.0) (ok_is (n, x.1) name h3) ∙ ap (λ b. b.name) (ok_is made b h) in
     let same : x ≡ c = ok_is x c (sym x_read ∙ e) in
-    subst (λ c. IsName b.name c.0) same (subst (λ ns. IsName ns x.0) numbers (name_of_found (place_of end x.0 x.1) x.0 n n_read))
+    subst (λ c. IsName b.name c.0) same (subst (λ ns. IsName ns x.0) numbers (name_of_found (offset_of_content end x.0 x.1) x.0 n n_read))
 
 pub known_value : (end : ℕ) (bytes : List ℕ) (b : VarBind) (c : List ℕ × List ℕ) (r : Result (ObjectValue × List ℕ) WireFault)
     → members_at end bytes ≡ Ok b → element_at 6 end bytes ≡ Ok c
@@ -286,7 +286,7 @@ known_value end bytes b c r h e v =
     after (value_at end name.1) _ b h λ value value_read h.
     after (ended end value.1) (λ _. done (record { name = name.0; value = value.0 })) b h λ nothing nothing_read h.
     after (element_at 6 end bytes) _ name name_read λ x x_read h2.
-    after (name_of (place_of end x.0 x.1) x.0) (λ n. done (n, x.1)) name h2 λ n n_read h3.
+    after (name_of (offset_of_content end x.0 x.1) x.0) (λ n. done (n, x.1)) name h2 λ n n_read h3.
     let made : VarBind = record { name = name.0; value = value.0 } in
     let is_value : value.0 ≡ b.value = ap (λ b. b.value) (ok_is made b h) in
     let back : x.1 ≡ name.1 = ap (λ x. x.1) (ok_is (n, x.1) name h3) in

@@ -12,7 +12,7 @@ use Rattle.dms_ber.specs.Length.{IsLength}
 use Rattle.dms_ber.specs.Integer.{IsInteger}
 use Rattle.dms_ber.specs.Element.{IsElement, ◌⨾◌}
 use Rattle.dms_wire.specs.Spelling.{AreBindings, tag_of, IsPdu, IsMessage, Spells}
-use Rattle.dms_ber.specs.Reading.{◌>>=◌, fault, place_of, length_at, content_at, element_at, integer_value, integer_at, ended}
+use Rattle.dms_ber.specs.Reading.{◌>>=◌, fault, offset_of_content, length_at, content_at, element_at, integer_value, integer_at, ended}
 use Rattle.dms_wire.specs.Reading.{bindings_at, is_zero, kind_of, version_of, version_at, list_at, Numbered, pdu_at, tagged_pdu_at, inside_at, outer_content, outer_at, datagram_at, message_at}
 use Rattle.dms_ber.proofs.Elements.{bind_ok, chosen, done, ok_is, not_ok, guarded, tested, length_found, length_only, content_found, content_only, element_found, element_only}
 use Rattle.dms_ber.proofs.Integers.{integer_found, integer_only}
@@ -55,12 +55,12 @@ version_found : (end : ℕ) (bytes : List ℕ) (x : Unit {0} × List ℕ) → ve
     → Front (IsElement 2 (IsInteger (pos 0))) bytes x.1
 unfolding version_at
 version_found end bytes x h =
-    with_found IsVersion (λ c. version_of (place_of end c.0 c.1) c.0) (λ c v h. version_of_found (place_of end c.0 c.1) c.0 v h) 2 end bytes x h
+    with_found IsVersion (λ c. version_of (offset_of_content end c.0 c.1) c.0) (λ c v h. version_of_found (offset_of_content end c.0 c.1) c.0 v h) 2 end bytes x h
 
 version_only : (end : ℕ) (front rest : List ℕ) → IsElement 2 (IsInteger (pos 0)) front → version_at end (front ++ rest) ≡ Ok (tt, rest)
 unfolding version_at
 version_only end front rest e =
-    with_only IsVersion (λ c. version_of (place_of end c.0 c.1) c.0) (λ c v h. version_of_only (place_of end c.0 c.1) c.0 v h) 2 end tt front rest e
+    with_only IsVersion (λ c. version_of (offset_of_content end c.0 c.1) c.0) (λ c v h. version_of_only (offset_of_content end c.0 c.1) c.0 v h) 2 end tt front rest e
 
 -- a PDU's content
 abbrev IsNumbered : Numbered → List ℕ → Type 0

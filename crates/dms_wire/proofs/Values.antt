@@ -12,7 +12,7 @@ use Rattle.dms_ber.specs.ObjectIdentifier.{IsName}
 use Rattle.dms_ber.specs.NameReading.{is_name, numbers_of}
 use Rattle.dms_ber.specs.Element.{IsElement}
 use Rattle.dms_wire.specs.Spelling.{IsValue, IsAddress}
-use Rattle.dms_ber.specs.Reading.{◌>>=◌, fault, place_of, content_at, integer_value, natural_value}
+use Rattle.dms_ber.specs.Reading.{◌>>=◌, fault, offset_of_content, content_at, integer_value, natural_value}
 use Rattle.dms_wire.specs.Reading.{value_from, is_value_tag, after_tag, value_at}
 use Rattle.dms_ber.proofs.Elements.{bind_ok, chosen, done, ok_is, not_ok, tested, content_found, content_only}
 use Rattle.dms_ber.proofs.Integers.{integer_found, integer_only}
@@ -103,10 +103,10 @@ value_element : (tag end : ℕ) (P : List ℕ → Type 0) (front rest : List ℕ
 unfolding value_at after_tag
 value_element tag end P front rest value is e law =
     let before : ℕ = end - length ((e.len ++ e.content) ++ rest) in
-    let back = λ (c : List ℕ × List ℕ). value_from tag before (place_of end c.0 c.1) c.0 >>= λ v. done (v, c.1) in
+    let back = λ (c : List ℕ × List ℕ). value_from tag before (offset_of_content end c.0 c.1) c.0 >>= λ v. done (v, c.1) in
     ap (λ bytes. value_at end (bytes ++ rest)) e.parts
     ∙ rw is
-    (ap (λ r. r >>= back) (content_only end e.len e.content rest e.form) ∙ ap (λ r. r >>= λ v. done (v, rest)) (law before (place_of end e.content rest)))
+    (ap (λ r. r >>= back) (content_only end e.len e.content rest e.form) ∙ ap (λ r. r >>= λ v. done (v, rest)) (law before (offset_of_content end e.content rest)))
 
 pub value_only : (value : ObjectValue) (end : ℕ) (front rest : List ℕ) → IsValue value front
     → value_at end (front ++ rest) ≡ Ok (value, rest)
@@ -138,12 +138,12 @@ after_found : (tag end : ℕ) (bytes : List ℕ) (x : ObjectValue × List ℕ) �
 unfolding after_tag
 after_found tag end bytes x is h =
     let before : ℕ = end - length bytes in
-    let c = bind_ok (content_at end bytes) (λ c. value_from tag before (place_of end c.0 c.1) c.0 >>= λ value. done (value, c.1)) x h in
-    let value = bind_ok (value_from tag before (place_of end c.0.0 c.0.1) c.0.0) (λ value. done (value, c.0.1)) x c.2 in
+    let c = bind_ok (content_at end bytes) (λ c. value_from tag before (offset_of_content end c.0 c.1) c.0 >>= λ value. done (value, c.1)) x h in
+    let value = bind_ok (value_from tag before (offset_of_content end c.0.0 c.0.1) c.0.0) (λ value. done (value, c.0.1)) x c.2 in
     let found = content_found end bytes c.0 c.1 in
     subst (λ x. Front (IsValue x.0) (tag ∷ bytes) x.1) (ok_is (value.0, c.0.1) x value.2) record {
       front = tag ∷ (found.0 ++ c.0.0);
-      spelled = value_from_found tag before (place_of end c.0.0 c.0.1) c.0.0 value.0 is value.1 found.0 found.1;
+      spelled = value_from_found tag before (offset_of_content end c.0.0 c.0.1) c.0.0 value.0 is value.1 found.0 found.1;
       parts = ap (λ bytes. tag ∷ bytes) found.2;
     }
 

@@ -1,8 +1,9 @@
--- The shortest spelling of a message: each length in its shortest form, each number without needless digits (X.690, 10.1, and this
--- profile).
+-- The shortest spelling of a message: each length in its shortest form, each number without needless digits (X.690,
+-- 10.1, and this profile).
 use Rattle.std.specs.Prelude.{ℕ, pos, List, [], ◌∷◌, ◌++◌}
 use Rattle.std.specs.List.{flat_map}
-use Rattle.dms_wire.specs.Message.{ObjectValue, integer, octet_string, null, object_identifier, ip_address, counter, gauge, time_ticks, opaque, VarBind, SnmpMessage}
+use Rattle.dms_wire.specs.Message.{ObjectValue, integer, octet_string, null, object_identifier}
+use Rattle.dms_wire.specs.Message.{ip_address, counter, gauge, time_ticks, opaque, VarBind, SnmpMessage}
 use Rattle.dms_wire.specs.Spelling.{tag_of}
 use Rattle.dms_ber.specs.Element.{element}
 use Rattle.dms_ber.specs.Integer.{integer_octets}
@@ -24,7 +25,8 @@ binding_octets b = element 48 (element 6 (name_octets b.name) ++ value_octets b.
 
 -- request-id, error-status and error-index
 unfoldable pub numbers_octets : SnmpMessage → List ℕ
-numbers_octets m = element 2 (integer_octets m.request) ++ element 2 (integer_octets m.status) ++ element 2 (integer_octets m.index)
+numbers_octets m = element 2 (integer_octets m.request) ++ element 2 (integer_octets m.status)
+    ++ element 2 (integer_octets m.index)
 
 unfoldable pub pdu_octets : SnmpMessage → List ℕ
 pdu_octets m = numbers_octets m ++ element 48 (flat_map binding_octets m.bindings)

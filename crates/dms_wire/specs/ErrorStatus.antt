@@ -1,4 +1,5 @@
--- The error-status of a Response: its names and numbers (RFC 1157, 4.1.1), but for readOnly, which 4.1.5 never asks for.
+-- The error-status of a Response: its names and numbers (RFC 1157, 4.1.1), but for readOnly, which 4.1.5 never asks
+-- for.
 use Rattle.std.specs.Prelude.{ℕ, ℤ, pos, negsuc, ◌==◌, if◌then◌else◌, List, codes, Option, Some, None}
 use Rattle.dms_wire.specs.declared.error_status.ErrorStatus.{ErrorStatus}
 use Rattle.dms_wire.specs.declared.error_status.ErrorStatus.TheVariants.{NoError, TooBig, NoSuchName, BadValue, GenErr}

@@ -1,7 +1,8 @@
 -- The limits of what a message can say: its numbers, its names and its values (RFC 1157 and this profile).
 use Rattle.std.specs.Prelude.{◌≡◌, ◌^◌, ◌<◌, IsTrue, List, [], ◌∷◌, length}
 use Rattle.std.specs.Int.Digits.{AllBelowBase}
-use Rattle.dms_wire.specs.Message.{ObjectValue, integer, octet_string, null, object_identifier, ip_address, counter, gauge, time_ticks, opaque, VarBind, SnmpMessage}
+use Rattle.dms_wire.specs.Message.{ObjectValue, integer, octet_string, null, object_identifier}
+use Rattle.dms_wire.specs.Message.{ip_address, counter, gauge, time_ticks, opaque, VarBind, SnmpMessage}
 use Rattle.dms_ber.specs.Integer.{in_range}
 use Rattle.dms_ber.specs.ObjectIdentifier.{IsNameInLimits}
 use Rattle.std.specs.Prelude.{ℕ}

@@ -29,4 +29,5 @@ abbrev pub message_prefix : SnmpMessage → ℕ → List ℕ
 message_prefix m pdu = element 2 (0 ∷ []) ++ element 4 m.community ++ tag_of m.kind ∷ short_length pdu
 
 abbrev pub prefix : SnmpMessage → ℕ → List ℕ
-prefix m size = (48 ∷ short_length (content_size m (pdu_size m size))) ++ message_prefix m (pdu_size m size) ++ pdu_prefix m size
+prefix m size = (48 ∷ short_length (content_size m (pdu_size m size))) ++ message_prefix m (pdu_size m size)
+    ++ pdu_prefix m size

@@ -1,13 +1,18 @@
 -- Reading on lists, from left to right, with the first fault that is met. The laws that join it to Spelling stand in
 -- proofs/.
-use Rattle.std.specs.Prelude.{ℕ, ℤ, pos, negsuc, zero, suc, ◌+◌, ◌-◌, Bool, false, nat_lt, nat_le, ◌==◌, ◌&&◌, List, [], ◌∷◌, length, take, drop, Option, Some, None, ok_or, option_map, ◌||◌, Result, Ok, Err, if◌then◌else◌}
-use Rattle.dms_ber.specs.declared.fault.FaultKind.TheVariants.{Truncated, BadTag, BadLength, BadInteger, BadName, BadVersion, TooLong}
+use Rattle.std.specs.Prelude.{ℕ, ℤ, pos, negsuc, zero, suc, ◌+◌, ◌-◌, Bool, false, nat_lt, nat_le}
+use Rattle.std.specs.Prelude.{◌==◌, ◌&&◌, List, [], ◌∷◌, length, take, drop, Option, Some, None}
+use Rattle.std.specs.Prelude.{ok_or, option_map, ◌||◌, Result, Ok, Err, if◌then◌else◌}
+use Rattle.dms_ber.specs.declared.fault.FaultKind.TheVariants.{Truncated, BadTag, BadLength, BadInteger}
+use Rattle.dms_ber.specs.declared.fault.FaultKind.TheVariants.{BadName, BadVersion, TooLong}
 use Rattle.dms_ber.specs.declared.fault.WireFault.{WireFault}
 use Rattle.dms_wire.specs.declared.message.Kind.{Kind}
 use Rattle.dms_wire.specs.declared.message.Kind.TheVariants.{Get, GetNext, Response, Set}
-use Rattle.dms_wire.specs.Message.{ObjectValue, integer, octet_string, null, object_identifier, ip_address, counter, gauge, time_ticks, opaque, VarBind, SnmpMessage}
+use Rattle.dms_wire.specs.Message.{ObjectValue, integer, octet_string, null, object_identifier}
+use Rattle.dms_wire.specs.Message.{ip_address, counter, gauge, time_ticks, opaque, VarBind, SnmpMessage}
 use Rattle.dms_ber.specs.NameReading.{is_name, numbers_of}
-use Rattle.dms_ber.specs.Reading.{◌>>=◌, fault, length_at, integer_value, content_at, element_at, place_of, integer_at, name_at, natural_value, ended}
+use Rattle.dms_ber.specs.Reading.{◌>>=◌, fault, length_at, integer_value, content_at, element_at}
+use Rattle.dms_ber.specs.Reading.{offset_of_content, integer_at, name_at, natural_value, ended}
 use Rattle.dms_ber.specs.Limits.{longest_datagram}
 
 -- The value that a tag and a content are. before is the offset of the length, and place that of the content.
@@ -16,7 +21,8 @@ value_from tag before place content =
     if tag == 2 then (ok_or (option_map integer (integer_value content)) (fault BadInteger place))
     else if tag == 4 then Ok (octet_string content)
     else if tag == 5 then (if length content == 0 then Ok null else Err (fault BadLength before))
-    else if tag == 6 then (if is_name content then Ok (object_identifier (numbers_of content)) else Err (fault BadName place))
+    else if tag == 6
+    then (if is_name content then Ok (object_identifier (numbers_of content)) else Err (fault BadName place))
     else if tag == 64 then (if length content == 4 then Ok (ip_address content) else Err (fault BadLength before))
     else if tag == 65 then (ok_or (option_map counter (natural_value content)) (fault BadInteger place))
     else if tag == 66 then (ok_or (option_map gauge (natural_value content)) (fault BadInteger place))
@@ -29,12 +35,13 @@ is_value_tag b = (b == 2) || (b == 4) || (b == 5) || (b == 6) || (nat_le 64 b &&
 unfoldable pub after_tag : ℕ → ℕ → List ℕ → Result (ObjectValue × List ℕ) WireFault
 after_tag tag end bytes = do
   c ← content_at end bytes
-  d ← value_from tag (end - length bytes) (place_of end c.0 c.1) c.0
+  d ← value_from tag (end - length bytes) (offset_of_content end c.0 c.1) c.0
   Ok (d, c.1)
 
 unfoldable pub value_at : ℕ → List ℕ → Result (ObjectValue × List ℕ) WireFault
 value_at end [] = Err (fault Truncated end)
-value_at end (b ∷ bytes) = (if is_value_tag b then after_tag b end bytes else Err (fault BadTag (end - length (b ∷ bytes))))
+value_at end (b ∷ bytes) =
+    (if is_value_tag b then after_tag b end bytes else Err (fault BadTag (end - length (b ∷ bytes))))
 
 -- a binding's two members, in its content
 unfoldable pub members_at : ℕ → List ℕ → Result VarBind WireFault
@@ -67,7 +74,8 @@ is_zero (pos n) = n == 0
 is_zero (negsuc n) = false
 
 abbrev pub kind_of : ℕ → Option Kind
-kind_of b = (if b == 160 then Some Get else if b == 161 then Some GetNext else if b == 162 then Some Response else if b == 163 then Some Set else None)
+kind_of b = (if b == 160 then Some Get
+    else if b == 161 then Some GetNext else if b == 162 then Some Response else if b == 163 then Some Set else None)
 
 -- the version, which is 0
 abbrev pub version_of : ℕ → List ℕ → Result (Unit {0}) WireFault
@@ -78,7 +86,7 @@ version_of place content = do
 unfoldable pub version_at : ℕ → List ℕ → Result (Unit {0} × List ℕ) WireFault
 version_at end bytes = do
   c ← element_at 2 end bytes
-  v ← version_of (place_of end c.0 c.1) c.0
+  v ← version_of (offset_of_content end c.0 c.1) c.0
   Ok (v, c.1)
 
 unfoldable pub list_at : ℕ → List ℕ → Result (List VarBind × List ℕ) WireFault
@@ -118,7 +126,14 @@ inside_at end bytes = do
   community ← element_at 4 end version.1
   p ← tagged_pdu_at end community.1
   _ ← ended end p.1
-  Ok (record { community = community.0; kind = p.0.0; request = p.0.1.request; status = p.0.1.status; index = p.0.1.index; bindings = p.0.1.bindings })
+  Ok (record {
+    community = community.0;
+    kind = p.0.0;
+    request = p.0.1.request;
+    status = p.0.1.status;
+    index = p.0.1.index;
+    bindings = p.0.1.bindings;
+  })
 
 -- the outermost element's content after its tag, and what follows it
 unfoldable pub outer_content : ℕ → List ℕ → Result (List ℕ × List ℕ) WireFault
@@ -138,4 +153,5 @@ datagram_at bytes = do
   Ok m
 
 unfoldable pub message_at : List ℕ → Result SnmpMessage WireFault
-message_at bytes = if nat_lt longest_datagram (length bytes) then Err (fault TooLong longest_datagram) else datagram_at bytes
+message_at bytes =
+    if nat_lt longest_datagram (length bytes) then Err (fault TooLong longest_datagram) else datagram_at bytes

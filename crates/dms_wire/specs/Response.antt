@@ -5,7 +5,8 @@ use Rattle.dms_wire.specs.Message.{VarBind, SnmpMessage}
 
 -- it repeats the community and the request-id
 abbrev pub response_with : SnmpMessage → ℕ → ℕ → List VarBind → SnmpMessage
-response_with m status index bindings = record m { kind = Response; status = pos status; index = pos index; bindings = bindings }
+response_with m status index bindings =
+    record m { kind = Response; status = pos status; index = pos index; bindings = bindings }
 
 -- and, where it is an error, the bindings
 abbrev pub response_to : SnmpMessage → ℕ → ℕ → SnmpMessage

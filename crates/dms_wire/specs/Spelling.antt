@@ -4,7 +4,8 @@ use Rattle.std.specs.Prelude.{◌≡◌, ℕ, pos, ◌≤◌, List, [], ◌∷�
 use Rattle.std.specs.Int.Digits.{AllBelowBase}
 use Rattle.dms_wire.specs.declared.message.Kind.{Kind}
 use Rattle.dms_wire.specs.declared.message.Kind.TheVariants.{Get, GetNext, Response, Set}
-use Rattle.dms_wire.specs.Message.{ObjectValue, integer, octet_string, null, object_identifier, ip_address, counter, gauge, time_ticks, opaque, VarBind, SnmpMessage}
+use Rattle.dms_wire.specs.Message.{ObjectValue, integer, octet_string, null, object_identifier}
+use Rattle.dms_wire.specs.Message.{ip_address, counter, gauge, time_ticks, opaque, VarBind, SnmpMessage}
 use Rattle.dms_ber.specs.Element.{IsElement, ◌⨾◌}
 use Rattle.dms_ber.specs.Integer.{IsInteger}
 use Rattle.dms_ber.specs.ObjectIdentifier.{IsName}
@@ -48,8 +49,8 @@ IsPdu m =
 
 -- version 0, community and PDU
 abbrev pub IsMessage : SnmpMessage → List ℕ → Type 0
-IsMessage m =
-    IsElement 48 (IsElement 2 (IsInteger (pos 0)) ⨾ IsElement 4 (λ content. content ≡ m.community) ⨾ IsElement (tag_of m.kind) (IsPdu m))
+IsMessage m = IsElement 48 (IsElement 2 (IsInteger (pos 0)) ⨾ IsElement 4 (λ content. content ≡ m.community)
+    ⨾ IsElement (tag_of m.kind) (IsPdu m))
 
 -- at most longest_datagram octets that are the message's element, with nothing after it
 pub record Spells (m : SnmpMessage) (bytes : List ℕ) : Type 0 where

@@ -1,5 +1,6 @@
 -- What writing leaves, where a datagram has at most longest_datagram octets (this profile).
-use Rattle.std.specs.Prelude.{◌≡◌, ℕ, ◌<◌, ◌≤◌, nat_le, List, [], length, Option, Some, None, Result, Ok, Err, if◌then◌else◌}
+use Rattle.std.specs.Prelude.{◌≡◌, ℕ, ◌<◌, ◌≤◌, nat_le, List, [], length, Option}
+use Rattle.std.specs.Prelude.{Some, None, Result, Ok, Err, if◌then◌else◌}
 use Rattle.std.specs.List.{flat_map}
 use Rattle.dms_wire.specs.declared.fault.TooBig.{TooBig}
 use Rattle.dms_wire.specs.Message.{VarBind}
