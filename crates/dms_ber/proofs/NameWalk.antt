@@ -4,7 +4,7 @@ use Rattle.std.specs.Prelude.{nat_lt}
 use Rattle.std.specs.Option.{option_map_or}
 use Rattle.std.proofs.lemmas.Bool.Decides.{nat_tests}
 use Rattle.dms_ber.specs.ObjectIdentifier.{numbers_from}
-use Rattle.dms_ber.specs.NameReading.{part_after, goes_on}
+use Rattle.dms_ber.specs.NameReading.{part_after, goes_on, is_name}
 use Rattle.dms_ber.specs.NameWalk.{fits_after}
 use Rattle.dms_ber.specs.NameOrder.{numbers_cmp}
 
@@ -20,6 +20,12 @@ unfolding goes_on
 fits [] count n h = refl
 fits (b ∷ bs) count n h =
     fits_more (λ p. goes_on p.0 p.1 bs) count n b _ _ h (fits bs (count + 1) 0) (fits bs count (n * 128 + b % 128))
+
+-- the octets of dms are nine sub-identifiers
+pub below_dms : (octets rest : List ℕ) → octets ≡ 43 ∷ 6 ∷ 1 ∷ 4 ∷ 1 ∷ 137 ∷ 54 ∷ 4 ∷ 2 ∷ 3 ∷ rest
+    → is_name octets ≡ goes_on 9 0 rest
+unfolding goes_on
+below_dms octets rest e = rw e refl
 
 first_order : (m n : ℕ) (ms ns : List ℕ) → numbers_cmp (m ∷ ms) (n ∷ ns) ≡ numbers_cmp (numbers_from (m ∷ ms)) (numbers_from (n ∷ ns))
 first_order m n ms ns = grind (arith, nat_tests)

@@ -1,9 +1,9 @@
 //! Elements: a tag, the length of the content, and the content (X.690, 8.1.1).
 //!
-//! Each reader is given the octets that are left of an element and `end`, the element's end as an offset in the datagram: what it
-//! reads begins at `end - octets.len()`.
+//! Each reader is given the octets that are left of an element and `end`, the element's end as an offset in the
+//! datagram: what it reads begins at `end - octets.len()`.
 
-ghost use Rattle.std.specs.Prelude.{◌≡◌, ℕ, ◌+◌, ◌^◌, ◌<◌, ◌≤◌, ◌++◌, ◌∷◌, length, IfOk};
+ghost use Rattle.std.specs.Prelude.{◌≡◌, ℕ, ◌+◌, ◌^◌, ◌<◌, ◌≤◌, ◌++◌, [], ◌∷◌, length, IfOk};
 ghost use Rattle.arrayvec.specs.ArrayVec.{array_vec_len};
 ghost use Rattle.dms_ber.specs.Length.{short_length};
 ghost use Rattle.dms_ber.specs.Element.{element};
@@ -12,10 +12,10 @@ ghost use Rattle.dms_ber.specs.Limits.{longest_datagram};
 
 use crate::Out;
 use crate::fault::{FaultKind, WireFault, fault_at, offset_of};
-use crate::length::{count_digits, put_length, read_length};
+use crate::length::{read_length, size_of_length};
 
-/// What follows a tag: a content, and the octets after it. `LengthPast` at the length where the content passes the octets, or the
-/// fault of `read_length`.
+/// What follows a tag: a content, and the octets after it. `LengthPast` at the length where the content passes the
+/// octets, or the fault of `read_length`.
 #[inline]
 #[tactic(auto, unfolding(crate::specs::Reading::content_at))]
 pub fn read_content(octets: &[u8], end: usize) -> Result<(&[u8], &[u8]), WireFault>
@@ -30,8 +30,8 @@ pub fn read_content(octets: &[u8], end: usize) -> Result<(&[u8], &[u8]), WireFau
     Ok(rest.split_at(count))
 }
 
-/// The content of an element with this tag, and the octets after it. `Truncated` at the end where there is no octet, `BadTag` at
-/// another tag, or the fault of `read_content`.
+/// The content of an element with this tag, and the octets after it. `Truncated` at the end where there is no octet,
+/// `BadTag` at another tag, or the fault of `read_content`.
 #[inline]
 #[tactic(auto, unfolding(crate::specs::Reading::element_at))]
 pub fn read_element(tag: u8, octets: &[u8], end: usize) -> Result<(&[u8], &[u8]), WireFault>
@@ -71,26 +71,38 @@ pub fn size_of_element(size: usize) -> usize
     ensures exact { result ≡ 1 + length (short_length size) + size }
     ensures small { result ≤ size + 10 }
 {
-    let length = if size < 128 {
-        1
-    } else {
-        1 + count_digits(size)
-    };
-    1 + length + size
+    1 + size_of_length(size) + size
 }
 
-/// Appends a tag and the shortest form of the length of a content of `size` octets.
+/// Appends a tag and the shortest form of the length of a content of `size` octets: below 128 one octet, else 128 more
+/// than the number of its octets, and those.
 #[inline]
+#[tactic(auto, using(crate::proofs::Shortest::length_steps))]
 pub fn put_head(out: &mut Out, tag: u8, size: usize)
     requires { array_vec_len out.old + (1 + length (short_length size) + size) ≤ longest_datagram }
     ensures { out.new.items ≡ out.old.items ++ tag ∷ short_length size }
 {
-    out.push(tag);
-    put_length(out, size);
+    if size < 128 {
+        put_content(out, &[tag, size as u8]);
+    } else if size < 256 {
+        put_content(out, &[tag, 129, size as u8]);
+    } else {
+        put_content(out, &[tag, 130, (size / 256) as u8, (size % 256) as u8]);
+    }
+}
+
+/// Appends the element with this tag and no content.
+#[inline]
+#[tactic(auto, unfolding(crate::specs::Element::element))]
+pub fn put_empty(out: &mut Out, tag: u8)
+    requires { array_vec_len out.old + length (element tag []) ≤ longest_datagram }
+    ensures { out.new.items ≡ out.old.items ++ element tag [] }
+{
+    put_content(out, &[tag, 0]);
 }
 
 /// Appends the octets of a content.
-#[inline]
+#[inline(always)]
 pub fn put_content(out: &mut Out, content: &[u8])
     requires { array_vec_len out.old + length content.now ≤ longest_datagram }
     ensures { out.new.items ≡ out.old.items ++ content.now }

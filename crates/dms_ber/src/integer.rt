@@ -1,6 +1,7 @@
 //! Integers in two's complement: their content octets and their elements (X.690, 8.3).
 
-ghost use Rattle.std.specs.Prelude.{◌≡◌, ◌↔◌, ℕ, ◌+◌, ◌*◌, ◌^◌, ◌<◌, ◌≤◌, ◌++◌, ◌<ℤ◌, List, [], ◌∷◌, pos, length, slice_index, IfOk, IfSome, IsTrue};
+ghost use Rattle.std.specs.Prelude.{◌≡◌, ◌↔◌, ℕ, ◌+◌, ◌*◌, ◌^◌, ◌<◌, ◌≤◌, ◌++◌, ◌<ℤ◌, List};
+ghost use Rattle.std.specs.Prelude.{[], ◌∷◌, pos, length, slice_index, IfOk, IfSome, IsTrue};
 ghost use Rattle.arrayvec.specs.ArrayVec.{array_vec_len};
 ghost use Rattle.std.specs.Int.Digits.{number_from_digits};
 ghost use Rattle.dms_ber.specs.Integer.{is_shortest, inverted, signed_value, positive_octets, integer_octets};
@@ -8,7 +9,7 @@ ghost use Rattle.dms_ber.specs.Element.{element};
 ghost use Rattle.dms_ber.specs.Reading.{Gives, integer_value, natural_value, integer_at};
 ghost use Rattle.dms_ber.specs.Limits.{longest_datagram};
 
-use crate::element::{put_head, read_element, size_of_element};
+use crate::element::{put_content, put_head, read_element, size_of_element};
 use crate::fault::{FaultKind, WireFault, fault_at, offset_of};
 use crate::{Out, tag};
 
@@ -64,8 +65,8 @@ fn signed(content: &[u8]) -> i64
     }
 }
 
-/// The integer with this content (X.690, 8.3), or none where the content is not in the shortest form, or the integer is not from
-/// -2^31 to 2^32 - 1 (this profile).
+/// The integer with this content (X.690, 8.3), or none where the content is not in the shortest form, or the integer is
+/// not from -2^31 to 2^32 - 1 (this profile).
 #[inline]
 #[tactic(auto, unfolding(crate::specs::Reading::integer_value))]
 pub fn integer_of(content: &[u8]) -> Option<i64>
@@ -91,10 +92,23 @@ pub fn natural_of(content: &[u8]) -> Option<u32>
     u32::try_from(value).ok()
 }
 
-/// An INTEGER, and the octets after it; `BadInteger` at its content where `integer_of` is none.
+/// An INTEGER, and the octets after it; `BadInteger` at its content where `integer_of` is none. Most have one octet.
 #[inline(always)]
-#[tactic(auto, unfolding(crate::specs::Reading::integer_at))]
 pub fn read_integer(octets: &[u8], end: usize) -> Result<(i64, &[u8]), WireFault>
+    requires { length octets.now ≤ end }
+    ensures exact { Gives (λ x. (x.0, x.1.now)) result (integer_at end octets.now) }
+    ensures rest { IfOk result (λ x. length x.1.now < length octets.now) }
+{
+    match octets {
+        [tag::INTEGER, 1, octet, rest @ ..] if *octet < 128 => Ok((i64::from(*octet), rest)),
+        _ => read_any_integer(octets, end),
+    }
+}
+
+/// An INTEGER in any form, and the octets after it, as `read_integer`.
+#[inline(never)]
+#[tactic(auto, unfolding(crate::specs::Reading::integer_at))]
+fn read_any_integer(octets: &[u8], end: usize) -> Result<(i64, &[u8]), WireFault>
     requires { length octets.now ≤ end }
     ensures exact { Gives (λ x. (x.0, x.1.now)) result (integer_at end octets.now) }
     ensures rest { IfOk result (λ x. length x.1.now < length octets.now) }
@@ -105,18 +119,14 @@ pub fn read_integer(octets: &[u8], end: usize) -> Result<(i64, &[u8]), WireFault
     Ok((value, rest))
 }
 
-/// How many octets a number not below 0 takes.
+/// How many octets a number not below 0 takes: one more than its bits fill, since the first bit is the sign's.
 #[inline]
-#[tactic(auto, using(crate::proofs::Shortest::number_sizes))]
+#[tactic(auto, using(crate::proofs::Shortest::number_size))]
 fn size_of_number(number: u64) -> usize
     ensures exact { result ≡ length (positive_octets number) }
     ensures small { result ≤ 9 }
 {
-    if number < 128 {
-        1
-    } else {
-        size_of_number(number / 256) + 1
-    }
+    (64 - number.leading_zeros()) as usize / 8 + 1
 }
 
 /// How many octets the content of an INTEGER takes.
@@ -133,7 +143,7 @@ fn size_of_integer_content(number: &i64) -> usize
     }
 }
 
-/// Writes the octets of a number not below 0.
+/// Appends the octets of a number not below 0, one after the other.
 #[tactic(auto, using(crate::proofs::Shortest::number_steps))]
 fn put_number(out: &mut Out, number: u64)
     requires { array_vec_len out.old + length (positive_octets number) ≤ longest_datagram }
@@ -147,7 +157,7 @@ fn put_number(out: &mut Out, number: u64)
     }
 }
 
-/// Writes the octets of a number not below 0, each inverted.
+/// Appends the octets of a number not below 0, each inverted.
 #[tactic(auto, using(crate::proofs::Shortest::number_steps))]
 fn put_inverted(out: &mut Out, number: u64)
     requires { array_vec_len out.old + length (positive_octets number) ≤ longest_datagram }
@@ -161,18 +171,89 @@ fn put_inverted(out: &mut Out, number: u64)
     }
 }
 
-/// Writes the content of an INTEGER.
+/// Appends the shortest element of a number not below 0, with this tag.
 #[inline]
-#[tactic(auto, using(crate::proofs::Shortest::number_steps), unfolding(crate::specs::Integer::integer_octets))]
-fn put_integer_content(out: &mut Out, number: &i64)
-    requires { array_vec_len out.old + length (integer_octets number.now) ≤ longest_datagram }
-    ensures { out.new.items ≡ out.old.items ++ integer_octets number.now }
+#[tactic(auto, using(crate::proofs::Shortest::natural_elements))]
+fn put_natural(out: &mut Out, tag: u8, number: u64)
+    requires { array_vec_len out.old + length (element tag (positive_octets number)) ≤ longest_datagram }
+    ensures { out.new.items ≡ out.old.items ++ element tag (positive_octets number) }
 {
-    if *number < 0 {
-        put_inverted(out, (-1 - *number) as u64);
+    if number < 128 {
+        put_content(out, &[tag, 1, number as u8]);
     } else {
-        put_number(out, *number as u64);
+        put_long_natural(out, tag, number);
     }
+}
+
+/// Appends the shortest element of a number of two octets or more, with this tag: up to four at once.
+#[inline(never)]
+#[tactic(auto, using(crate::proofs::Shortest::natural_elements))]
+fn put_long_natural(out: &mut Out, tag: u8, number: u64)
+    requires large { 128 ≤ number }
+    requires room { array_vec_len out.old + length (element tag (positive_octets number)) ≤ longest_datagram }
+    ensures { out.new.items ≡ out.old.items ++ element tag (positive_octets number) }
+{
+    let (low, second) = ((number % 256) as u8, (number / 256 % 256) as u8);
+    let (third, fourth) = (
+        (number / 65536 % 256) as u8,
+        (number / 16777216 % 256) as u8,
+    );
+    if number < 1 << 15 {
+        put_content(out, &[tag, 2, second, low]);
+    } else if number < 1 << 23 {
+        put_content(out, &[tag, 3, third, second, low]);
+    } else if number < 1 << 31 {
+        put_content(out, &[tag, 4, fourth, third, second, low]);
+    } else {
+        put_large_natural(out, tag, number);
+    }
+}
+
+/// Appends the shortest INTEGER -1 - `number`: up to four octets at once.
+#[inline(never)]
+#[tactic(auto, using(crate::proofs::Shortest::negative_elements))]
+fn put_negative(out: &mut Out, number: u64)
+    requires { array_vec_len out.old + length (element 2 (inverted (positive_octets number))) ≤ longest_datagram }
+    ensures { out.new.items ≡ out.old.items ++ element 2 (inverted (positive_octets number)) }
+{
+    let (low, second) = (255 - (number % 256) as u8, 255 - (number / 256 % 256) as u8);
+    let (third, fourth) = (
+        255 - (number / 65536 % 256) as u8,
+        255 - (number / 16777216 % 256) as u8,
+    );
+    if number < 1 << 7 {
+        put_content(out, &[tag::INTEGER, 1, low]);
+    } else if number < 1 << 15 {
+        put_content(out, &[tag::INTEGER, 2, second, low]);
+    } else if number < 1 << 23 {
+        put_content(out, &[tag::INTEGER, 3, third, second, low]);
+    } else if number < 1 << 31 {
+        put_content(out, &[tag::INTEGER, 4, fourth, third, second, low]);
+    } else {
+        put_large_negative(out, number);
+    }
+}
+
+/// Appends the shortest element of any number not below 0, octet by octet.
+#[cold]
+#[tactic(auto, using(crate::proofs::Shortest::element_steps), unfolding(crate::specs::Element::element))]
+fn put_large_natural(out: &mut Out, tag: u8, number: u64)
+    requires { array_vec_len out.old + length (element tag (positive_octets number)) ≤ longest_datagram }
+    ensures { out.new.items ≡ out.old.items ++ element tag (positive_octets number) }
+{
+    put_head(out, tag, size_of_number(number));
+    put_number(out, number);
+}
+
+/// Appends the shortest INTEGER -1 - `number`, octet by octet.
+#[cold]
+#[tactic(auto, using(crate::proofs::Shortest::inverted_steps), unfolding(crate::specs::Element::element))]
+fn put_large_negative(out: &mut Out, number: u64)
+    requires { array_vec_len out.old + length (element 2 (inverted (positive_octets number))) ≤ longest_datagram }
+    ensures { out.new.items ≡ out.old.items ++ element 2 (inverted (positive_octets number)) }
+{
+    put_head(out, tag::INTEGER, size_of_number(number));
+    put_inverted(out, number);
 }
 
 /// How many octets the shortest element of an INTEGER takes.
@@ -187,13 +268,16 @@ pub fn size_of_integer(number: &i64) -> usize
 
 /// Appends the shortest element of an INTEGER.
 #[inline]
-#[tactic(auto, using(crate::proofs::Shortest::element_steps), unfolding(crate::specs::Element::element))]
+#[tactic(auto, unfolding(crate::specs::Integer::integer_octets))]
 pub fn put_integer(out: &mut Out, number: &i64)
     requires { array_vec_len out.old + length (element 2 (integer_octets number.now)) ≤ longest_datagram }
     ensures { out.new.items ≡ out.old.items ++ element 2 (integer_octets number.now) }
 {
-    put_head(out, tag::INTEGER, size_of_integer_content(number));
-    put_integer_content(out, number);
+    if *number < 0 {
+        put_negative(out, (-1 - *number) as u64);
+    } else {
+        put_natural(out, tag::INTEGER, *number as u64);
+    }
 }
 
 /// How many octets the shortest element of a number from 0 to 2^32 - 1 takes, whatever its tag.
@@ -207,12 +291,10 @@ pub fn size_of_unsigned(number: u32) -> usize
 
 /// Appends the shortest element of a number from 0 to 2^32 - 1, with this tag (Counter, Gauge, TimeTicks).
 #[inline]
-#[tactic(auto, using(crate::proofs::Shortest::element_steps), unfolding(crate::specs::Element::element, crate::specs::Integer::integer_octets))]
+#[tactic(auto, unfolding(crate::specs::Integer::integer_octets))]
 pub fn put_unsigned(out: &mut Out, tag: u8, number: u32)
     requires { array_vec_len out.old + length (element tag (integer_octets (pos number))) ≤ longest_datagram }
     ensures { out.new.items ≡ out.old.items ++ element tag (integer_octets (pos number)) }
 {
-    let number = u64::from(number);
-    put_head(out, tag, size_of_number(number));
-    put_number(out, number);
+    put_natural(out, tag, u64::from(number));
 }

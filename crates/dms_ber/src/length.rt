@@ -11,8 +11,9 @@ use crate::Out;
 use crate::fault::{FaultKind, WireFault, fault_at, offset_of};
 use crate::integer::big_endian;
 
-/// The length that follows a tag, in any accepted form, and the octets after it. `Truncated` at the end where octets of the length
-/// are missing, `BadLength` at a first octet of 128 or of more than 132 (the indefinite form, and more than four octets).
+/// The length that follows a tag, in any accepted form, and the octets after it. `Truncated` at the end where octets of
+/// the length are missing, `BadLength` at a first octet of 128 or of more than 132 (the indefinite form, and more than
+/// four octets).
 #[inline]
 #[tactic(auto, unfolding(crate::specs::Reading::length_at))]
 pub fn read_length(octets: &[u8], end: usize) -> Result<(usize, &[u8]), WireFault>
@@ -32,8 +33,9 @@ pub fn read_length(octets: &[u8], end: usize) -> Result<(usize, &[u8]), WireFaul
     }
 }
 
-/// The length where its first octet is 128 or more.
-#[inline]
+/// The length where its first octet is 128 or more. Such lengths are rare: out of line, they cost the others nothing.
+#[cold]
+#[inline(never)]
 #[tactic(auto, unfolding(crate::specs::Reading::length_at))]
 fn long_length(octets: &[u8], end: usize) -> Result<(usize, &[u8]), WireFault>
     requires within { length octets.now ≤ end }
@@ -51,22 +53,28 @@ fn long_length(octets: &[u8], end: usize) -> Result<(usize, &[u8]), WireFault>
         return Err(fault_at(FaultKind::Truncated, end));
     }
     let (digits, rest) = rest.split_at(count);
-    Ok((long_number(digits), rest))
+    Ok((big_endian(digits) as usize, rest))
 }
 
-/// The number that the digits of a long length are. Such lengths are rare: out of line, they cost the others nothing.
-#[cold]
-#[inline(never)]
-fn long_number(digits: &[u8]) -> usize
-    requires { length digits.now ≤ 4 }
-    ensures { result ≡ number_from_digits 256 digits.now }
+/// How many octets the shortest form of the length of a content takes.
+#[inline]
+#[tactic(auto, using(crate::proofs::Shortest::length_sizes))]
+pub(crate) fn size_of_length(size: usize) -> usize
+    ensures exact { result ≡ length (short_length size) }
+    ensures small { result ≤ 9 }
 {
-    big_endian(digits) as usize
+    match size {
+        0..128 => 1,
+        128..256 => 2,
+        256..65536 => 3,
+        _ => 1 + count_digits(size),
+    }
 }
 
 /// How many octets a number has in base 256.
+#[cold]
 #[tactic(auto, using(crate::proofs::Shortest::digit_sizes))]
-pub(crate) fn count_digits(number: usize) -> usize
+fn count_digits(number: usize) -> usize
     requires { 0 < number }
     ensures exact { result ≡ length (digits_of 256 number) }
     ensures small { result ≤ 8 }
@@ -75,24 +83,5 @@ pub(crate) fn count_digits(number: usize) -> usize
         1
     } else {
         count_digits(number / 256) + 1
-    }
-}
-
-/// Writes the length of a content: below 128 as one octet, else as 128 more than the number of its octets, and those.
-#[inline]
-#[tactic(auto, using(crate::proofs::Shortest::length_steps))]
-pub(crate) fn put_length(out: &mut Out, size: usize)
-    requires { array_vec_len out.old + (length (short_length size) + size) ≤ longest_datagram }
-    ensures { out.new.items ≡ out.old.items ++ short_length size }
-{
-    if size < 128 {
-        out.push(size as u8);
-    } else if size < 256 {
-        out.push(129);
-        out.push(size as u8);
-    } else {
-        out.push(130);
-        out.push((size / 256) as u8);
-        out.push((size % 256) as u8);
     }
 }

@@ -1,5 +1,5 @@
-//! The Basic Encoding Rules of X.690, as far as SNMPv1 uses them: elements, lengths, integers and object identifiers. Each is read in
-//! every accepted form, up to the first fault and its offset, and written in the shortest.
+//! The Basic Encoding Rules of X.690, as far as SNMPv1 uses them: elements, lengths, integers and object identifiers.
+//! Each is read in every accepted form, up to the first fault and its offset, and written in the shortest.
 //!
 //! ```
 //! let octets: &[u8] = b"\x06\x03\x2b\x06\x01";
@@ -17,8 +17,8 @@ pub mod tag;
 
 use arrayvec::ArrayVec;
 pub use element::{
-    ended, put_content, put_head, put_octets, read_content, read_element, size_of_element,
-    size_of_octets,
+    ended, put_content, put_empty, put_head, put_octets, read_content, read_element,
+    size_of_element, size_of_octets,
 };
 pub use fault::{FaultKind, WireFault, fault_at, offset_of};
 pub use integer::{

@@ -1,5 +1,6 @@
 //! Object identifiers over their octets.
-ghost use Rattle.std.specs.Prelude.{◌≡◌, ◌↔◌, ℕ, ◌+◌, ◌<◌, ◌==◌, ◌&&◌, List, [], ◌∷◌, length, nat_eq, nat_lt, IsTrue, IsSome, IfSome, IfNone, refl};
+ghost use Rattle.std.specs.Prelude.{◌≡◌, ◌↔◌, ℕ, ◌+◌, ◌<◌, ◌==◌, ◌&&◌, List, [], ◌∷◌, length};
+ghost use Rattle.std.specs.Prelude.{nat_eq, nat_lt, IsTrue, IsSome, IfSome, IfNone, refl};
 ghost use Rattle.std.specs.Cmp.{partial_equiv_from_equiv};
 ghost use Rattle.std.specs.Cmp.Lexicographic.{pointwise, nat_list_cmp_total, nat_list_eq_equiv, texts_po, texts_ties};
 ghost use Rattle.std.specs.Ordering.{as_partial_cmp};
@@ -24,7 +25,15 @@ use std::marker::Model;
 /// The most sub-identifiers of an object identifier, and so at most 128 numbers (this profile).
 pub const MAX_SUB_IDENTIFIERS: usize = 127;
 
-/// An object identifier, over its content octets. A contract sees the list of its numbers: 2 to 128 of them, each below 2^32.
+/// The octets that stand before 2 and 3 in those of dms, 1.3.6.1.4.1.1206.4.2.3, under which all objects of a sign
+/// stand.
+const ABOVE_DMS: [u8; 8] = [43, 6, 1, 4, 1, 137, 54, 4];
+
+/// How many sub-identifiers the octets of dms are.
+const DMS_SUB_IDENTIFIERS: usize = 9;
+
+/// An object identifier, over its content octets. A contract sees the list of its numbers: 2 to 128 of them, each below
+/// 2^32.
 #[derive(Debug, Drop)]
 pub struct Oid<'a> {
     pub(crate) content: &'a [u8],
@@ -53,8 +62,8 @@ impl<'a> Oid<'a> {
         name_of(content)
     }
 
-    /// The object identifier with this content, of which it is known already that it is an object identifier's: its octets are not
-    /// read again.
+    /// The object identifier with this content, of which it is known already that it is an object identifier's: its
+    /// octets are not read again.
     pub fn known(content: &'a [u8]) -> Oid<'a>
         requires { (numbers : List ℕ) × IsName numbers content.now }
         ensures { (numbers : List ℕ) → IsName numbers content.now → result ≡ numbers }
@@ -69,7 +78,7 @@ impl<'a> Oid<'a> {
         self.content
     }
 
-    /// The same object identifier once more, over the same octets.
+    /// A copy, over the same octets.
     pub fn again(&self) -> Oid<'a>
         ensures { result ≡ self.now }
     {
@@ -133,7 +142,8 @@ impl Default for Oid<'_> {
     }
 }
 
-/// The numbers of an object identifier, in order: an iterator, which a contract sees as the list of those that are left.
+/// The numbers of an object identifier, in order: an iterator, which a contract sees as the list of those that are
+/// left.
 #[derive(Debug, Drop)]
 pub struct Numbers<'a> {
     rest: &'a [u8],
@@ -188,8 +198,8 @@ fn first_two(sub_identifier: u32) -> (u32, u32)
     }
 }
 
-/// The order of object identifiers (RFC 1157, 4.1.3): the first two numbers that differ decide, and one that another begins
-/// with comes before it.
+/// The order of object identifiers (RFC 1157, 4.1.3): the first two numbers that differ decide, and one that another
+/// begins with comes before it.
 pub fn oid_cmp(a: &Oid<'_>, b: &Oid<'_>) -> Ordering
     ensures { result ≡ numbers_cmp a.now b.now }
 {
@@ -272,7 +282,8 @@ pub fn read_name(octets: &[u8], end: usize) -> Result<(Oid<'_>, &[u8]), WireFaul
     Ok((name, rest))
 }
 
-/// The object identifier with this content, as `Oid::of`; its clauses say it by `is_name` and `numbers_of`, which compute.
+/// The object identifier with this content, as `Oid::of`; its clauses say it by `is_name` and `numbers_of`, which
+/// compute.
 pub fn name_of(content: &[u8]) -> Option<Oid<'_>>
     ensures some { IfSome result (λ o. o ≡ numbers_of content.now) }
     ensures exact { IsSome result ↔ IsTrue (is_name content.now) }
@@ -284,12 +295,38 @@ pub fn name_of(content: &[u8]) -> Option<Oid<'_>>
     }
 }
 
-/// Whether the octets are an object identifier's content.
-#[tactic(auto, unfolding(crate::specs::NameReading::goes_on))]
+/// Whether the octets are an object identifier's content. Most begin with those of dms, which need not be read one by
+/// one.
+#[inline]
 fn is_name(octets: &[u8]) -> bool
     ensures { IsTrue result ↔ IsTrue (is_name octets.now) }
 {
-    let mut count = 0;
+    match below_dms(octets) {
+        Some(rest) => goes_on(DMS_SUB_IDENTIFIERS, rest),
+        None => goes_on(0, octets),
+    }
+}
+
+/// The octets after those of dms, which eight octets of ten are compared with as one number.
+#[inline(always)]
+fn below_dms(octets: &[u8]) -> Option<&[u8]>
+    ensures { IfSome result (λ rest. octets.now ≡ 43 ∷ 6 ∷ 1 ∷ 4 ∷ 1 ∷ 137 ∷ 54 ∷ 4 ∷ 2 ∷ 3 ∷ rest.now) }
+{
+    match octets {
+        [a, b, c, d, e, f, g, h, 2, 3, rest @ ..]
+            if u64::from_le_bytes([*a, *b, *c, *d, *e, *f, *g, *h])
+                == u64::from_le_bytes(ABOVE_DMS) => Some(rest),
+        _ => None,
+    }
+}
+
+/// Whether the octets go on as an object identifier's content after `before` sub-identifiers.
+#[tactic(auto, unfolding(crate::specs::NameReading::goes_on))]
+fn goes_on(before: usize, octets: &[u8]) -> bool
+    requires { before ≤ most_sub_identifiers }
+    ensures { IsTrue result ↔ IsTrue (goes_on before 0 octets.now) }
+{
+    let mut count = before;
     let mut rest = octets;
     while let Some(others) = after_sub_identifier(count, rest) {
         count += 1;
@@ -298,8 +335,8 @@ fn is_name(octets: &[u8]) -> bool
     rest.is_empty() && 0 < count
 }
 
-/// What follows the first sub-identifier, before which there were `count`; none where there is no octet, or where it is out of
-/// form, is one too many, is 2^32 or more or lacks its last octet.
+/// What follows the first sub-identifier, before which there were `count`; none where there is no octet, or where it is
+/// out of form, is one too many, is 2^32 or more or lacks its last octet.
 #[inline(always)]
 #[tactic(auto, unfolding(crate::specs::NameReading::goes_on))]
 fn after_sub_identifier(count: usize, octets: &[u8]) -> Option<&[u8]>
@@ -361,7 +398,7 @@ fn first_sub_identifier(octets: &[u8]) -> Option<(u32, &[u8])>
     }
 }
 
-/// The same, whatever the size of the sub-identifier.
+/// The first sub-identifier of any size, and what follows it.
 fn first_long_sub_identifier(octets: &[u8]) -> Option<(u32, &[u8])>
     requires { IsTrue (fits_after 0 octets.now) }
     ensures some { IfSome result (λ x. sub_identifiers_after 0 octets.now ≡ x.0 ∷ sub_identifiers_after 0 x.1.now) }

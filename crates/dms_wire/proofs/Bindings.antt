@@ -1,9 +1,9 @@
 -- The list of bindings: what reading gives is spelled, what is spelled is read, and the walk gives the same bindings.
-use Rattle.std.proofs.Common.{◌≡◌, ◌-◌, ◌<◌, ◌≤◌, ℕ, zero, suc, ◌++◌, List, [], ◌∷◌, length, Ok, Err, Result, refl, sym, ap, ◌∙◌, subst, arith, append_assoc, append-nil, length-append}
+use Rattle.std.proofs.Common.{◌≡◌, ◌+◌, ◌-◌, ◌<◌, ◌≤◌, ℕ, zero, suc, true, inl, ◌++◌, List, [], ◌∷◌, length, Ok, Err, Result, refl, sym, ap, ◌∙◌, subst, arith, append_assoc, append-nil, length-append}
 use Rattle.std.proofs.lemmas.List.{nil_from_length}
 use Rattle.dms_ber.specs.declared.fault.WireFault.{WireFault}
 use Rattle.dms_ber.specs.declared.fault.FaultKind.TheVariants.{BadName, TrailingBytes}
-use Rattle.dms_wire.specs.Message.{ObjectValue, VarBind}
+use Rattle.dms_wire.specs.Message.{ObjectValue, null, VarBind}
 use Rattle.dms_ber.specs.Element.{IsElement, ◌⨾◌}
 use Rattle.dms_ber.specs.ObjectIdentifier.{IsName}
 use Rattle.dms_wire.specs.Spelling.{IsValue, IsBinding, AreBindings}
@@ -52,6 +52,32 @@ pub binding_only : (end : ℕ) (b : VarBind) (front rest : List ℕ) → IsBindi
 unfolding binding_at
 binding_only end b front rest e =
     with_only Members (λ c. members_at (end - length c.1) c.0) (λ c b h. members_only (end - length c.1) b c.0 h) 48 end b front rest e
+
+-- a binding of NULL, its lengths in the short form
+pub null_binding : (end size count : ℕ) (octets name rest : List ℕ) → is_name name ≡ true → count ≡ length name → size ≡ count + 4 → size < 128
+    → octets ≡ 48 ∷ size ∷ 6 ∷ count ∷ (name ++ 5 ∷ 0 ∷ rest)
+    → binding_at end octets ≡ Ok (record { name = numbers_of name; value = null }, rest)
+null_binding end size count octets name rest named counted sized small e =
+    let b : VarBind = record { name = numbers_of name; value = null } in
+    let members : List ℕ = (6 ∷ count ∷ name) ++ 5 ∷ 0 ∷ [] in
+    let name_spelled : IsElement 6 (IsName b.name) (6 ∷ count ∷ name) =
+    record { len = count ∷ []; content = name; form = inl (omega arith, refl, sym counted); spelled = name_found name named; parts = refl }
+    in
+    let value_spelled : IsValue null (5 ∷ 0 ∷ []) =
+    record { len = 0 ∷ []; content = []; form = inl (omega arith, refl, refl); spelled = refl; parts = refl }
+    in
+    let length_is : length members ≡ size = omega (arith, length-append (6 ∷ count ∷ name) (5 ∷ 0 ∷ [])) in
+    let spelled : IsBinding b (48 ∷ size ∷ members) =
+    record {
+      len = size ∷ [];
+      content = members;
+      form = inl (small, refl, length_is);
+      spelled = record { front = 6 ∷ count ∷ name; back = 5 ∷ 0 ∷ []; first = name_spelled; second = value_spelled; parts = refl };
+      parts = refl;
+    }
+    in
+    ap (binding_at end) (e ∙ ap (λ octets. 48 ∷ size ∷ 6 ∷ count ∷ octets) (sym (append_assoc name (5 ∷ 0 ∷ []) rest)))
+    ∙ binding_only end b (48 ∷ size ∷ members) rest spelled
 
 -- what is spelled as an element has octets
 pub some_octets : (tag : ℕ) (P : List ℕ → Type 0) (bytes : List ℕ) → IsElement tag P bytes → 0 < length bytes

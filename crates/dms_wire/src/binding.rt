@@ -1,6 +1,7 @@
 //! Variable bindings: their walk, their reading and their writing (RFC 1157, 4.1.1).
 
-ghost use Rattle.std.specs.Prelude.{◌≡◌, ◌≢◌, ◌↔◌, ℕ, ◌+◌, ◌^◌, ◌<◌, ◌≤◌, ◌++◌, List, [], ◌∷◌, pos, length, map, Ok, IsOk, IfOk, OnOk, OnErr, IsSome, IfSome, IfNone};
+ghost use Rattle.std.specs.Prelude.{◌≡◌, ◌≢◌, ◌↔◌, ℕ, ◌+◌, ◌^◌, ◌<◌, ◌≤◌, ◌++◌, List, [], ◌∷◌, pos, length};
+ghost use Rattle.std.specs.Prelude.{map, Ok, Err, IsOk, IfOk, IfErr, OnOk, OnErr, IsSome, IfSome, IfNone};
 ghost use Rattle.arrayvec.specs.ArrayVec.{array_vec_len};
 ghost use Rattle.std.specs.List.{flat_map};
 ghost use Rattle.dms_wire.specs.Message.{VarBind};
@@ -17,8 +18,8 @@ ghost use Rattle.dms_ber.specs.Limits.{longest_datagram};
 use crate::fault::TooBig;
 use crate::value::{Value, put_value, read_value, size_of_value};
 use dms_ber::{
-    MAX_DATAGRAM, Oid, Out, WireFault, ended, offset_of, put_head, put_octets, read_content,
-    read_element, read_name, size_of_element, size_of_octets, tag,
+    MAX_DATAGRAM, Oid, Out, WireFault, ended, name_of, offset_of, put_head, put_octets,
+    read_content, read_element, read_name, size_of_element, size_of_octets, tag,
 };
 use std::marker::Model;
 
@@ -162,6 +163,77 @@ fn first_binding(octets: &[u8]) -> Option<(Bind<'_>, &[u8])>
     Some((bind, rest))
 }
 
+/// The two lengths at the beginning of a binding where each is one octet, and what follows them.
+#[inline(always)]
+fn short_heads(octets: &[u8]) -> Option<(u8, u8, &[u8])>
+    ensures { IfSome result (λ x. octets.now ≡ 48 ∷ x.0 ∷ 6 ∷ x.1 ∷ x.2.now) }
+{
+    match octets {
+        [
+            tag::SEQUENCE,
+            size,
+            tag::OBJECT_IDENTIFIER,
+            name_size,
+            rest @ ..,
+        ] => Some((*size, *name_size, rest)),
+        _ => None,
+    }
+}
+
+/// What follows a NULL, its length in the short form.
+#[inline(always)]
+fn after_null(octets: &[u8]) -> Option<&[u8]>
+    ensures { IfSome result (λ rest. octets.now ≡ 5 ∷ 0 ∷ rest.now) }
+{
+    match octets {
+        [tag::NULL, 0, rest @ ..] => Some(rest),
+        _ => None,
+    }
+}
+
+/// The octets after a binding of NULL with lengths in the short form, as those of requests are.
+#[inline(always)]
+fn after_null_binding(octets: &[u8]) -> Option<&[u8]>
+    ensures found { IfSome result (λ rest. (b : VarBind) × ((end : ℕ) → binding_at end octets.now ≡ Ok (b, rest.now))) }
+    ensures fewer { IfSome result (λ rest. length rest.now < length octets.now) }
+{
+    let (size, name_size, rest) = short_heads(octets)?;
+    let count = usize::from(name_size);
+    if size >= 128 || usize::from(size) != count + 4 || rest.len() < count {
+        return None;
+    }
+    let (name, rest) = rest.split_at(count);
+    let rest = after_null(rest)?;
+    let _ = name_of(name)?;
+    Some(rest)
+}
+
+/// The octets after a binding, which is checked.
+#[inline(always)]
+fn after_binding(octets: &[u8], end: usize) -> Result<&[u8], WireFault>
+    requires { length octets.now ≤ end }
+    ensures found { IfOk result (λ rest. (b : VarBind) × (binding_at end octets.now ≡ Ok (b, rest.now))) }
+    ensures fault { IfErr result (λ f. binding_at end octets.now ≡ Err f) }
+    ensures fewer { IfOk result (λ rest. length rest.now < length octets.now) }
+{
+    match after_null_binding(octets) {
+        Some(rest) => Ok(rest),
+        None => after_any_binding(octets, end),
+    }
+}
+
+/// The octets after a binding of any value and with lengths in any form, as `after_binding`.
+#[inline(never)]
+fn after_any_binding(octets: &[u8], end: usize) -> Result<&[u8], WireFault>
+    requires { length octets.now ≤ end }
+    ensures found { IfOk result (λ rest. (b : VarBind) × (binding_at end octets.now ≡ Ok (b, rest.now))) }
+    ensures fault { IfErr result (λ f. binding_at end octets.now ≡ Err f) }
+    ensures fewer { IfOk result (λ rest. length rest.now < length octets.now) }
+{
+    let (_, rest) = read_binding(octets, end)?;
+    Ok(rest)
+}
+
 /// Checks the bindings up to the end of the octets, each of them once.
 #[inline(never)]
 fn check_bindings(octets: &[u8], end: usize) -> Result<(), WireFault>
@@ -170,7 +242,7 @@ fn check_bindings(octets: &[u8], end: usize) -> Result<(), WireFault>
 {
     let mut rest = octets;
     while !rest.is_empty() {
-        rest = read_binding(rest, end)?.1;
+        rest = after_binding(rest, end)?;
     }
     Ok(())
 }
@@ -213,7 +285,8 @@ fn size_of_binding(binding: &Bind<'_>) -> Result<usize, TooBig>
     Ok(size_of_element(name + value))
 }
 
-/// How many octets the shortest spelling of a binding takes, of which these are the contents of the name and of the value.
+/// How many octets the shortest spelling of a binding takes, of which these are the contents of the name and of the
+/// value.
 #[inline]
 #[tactic(auto, using(crate::proofs::Sizes::sizes))]
 fn size_of_members(name: &[u8], value: &[u8]) -> usize
@@ -223,8 +296,8 @@ fn size_of_members(name: &[u8], value: &[u8]) -> usize
     size_of_element(size_of_octets(name) + size_of_octets(value))
 }
 
-/// The octets after the first of bindings, where that one has no more octets than its shortest spelling. Lengths alone are read: a
-/// name and a value have one content each.
+/// The octets after the first of bindings, where that one has no more octets than its shortest spelling. Lengths alone
+/// are read: a name and a value have one content each.
 #[inline(always)]
 fn after_shortest(octets: &[u8]) -> Option<&[u8]>
     requires whole { AreWhole octets.now }
@@ -272,8 +345,10 @@ fn shortest_octets(octets: &[u8]) -> Option<&[u8]>
 #[inline]
 #[tactic(auto, using(crate::proofs::Sizes::element_steps))]
 fn put_binding_content(out: &mut Out, binding: &Bind<'_>)
-    requires { array_vec_len out.old + length (element 6 (name_octets binding.now.name) ++ value_octets (object_value binding.now.value)) ≤ longest_datagram }
-    ensures { out.new.items ≡ out.old.items ++ (element 6 (name_octets binding.now.name) ++ value_octets (object_value binding.now.value)) }
+    requires { array_vec_len out.old + length (element 6 (name_octets binding.now.name)
+        ++ value_octets (object_value binding.now.value)) ≤ longest_datagram }
+    ensures { out.new.items ≡ out.old.items ++ (element 6 (name_octets binding.now.name)
+        ++ value_octets (object_value binding.now.value)) }
 {
     put_octets(out, tag::OBJECT_IDENTIFIER, binding.name.content());
     put_value(out, &binding.value);
@@ -293,7 +368,8 @@ fn put_binding(out: &mut Out, binding: &Bind<'_>)
 /// How many octets bindings take, where that is no more than a datagram.
 #[tactic(auto, using(crate::proofs::Writes::written_steps))]
 pub(crate) fn size_of_bindings(bindings: &[Bind<'_>]) -> Result<usize, TooBig>
-    ensures ok { IfOk result (λ n. (n ≡ length (flat_map binding_octets (map var_bind bindings.now))) × (n ≤ longest_datagram)) }
+    ensures ok { IfOk result (λ n. (n ≡ length (flat_map binding_octets (map var_bind bindings.now)))
+        × (n ≤ longest_datagram)) }
     ensures too_big { OnErr result (longest_datagram < length (flat_map binding_octets (map var_bind bindings.now))) }
 {
     let mut size = 0;
@@ -317,9 +393,10 @@ pub(crate) fn put_bindings(out: &mut Out, bindings: &[Bind<'_>])
     }
 }
 
-/// The octets of bindings to write, one binding after the other, in their shortest spelling: who has each binding only for a
-/// moment writes them with no array of bindings. Bindings of more than `MAX_DATAGRAM` octets are none that fit a message: then no
-/// octet is kept, and `write_around` refuses them. A contract sees the octets, or none (`octets_of_bindings`).
+/// The octets of bindings to write, one binding after the other, in their shortest spelling: who has each binding only
+/// for a moment writes them with no array of bindings. Bindings of more than `MAX_DATAGRAM` octets are none that fit a
+/// message: then no octet is kept, and `write_around` refuses them. A contract sees the octets, or none
+/// (`octets_of_bindings`).
 #[derive(Debug, Drop)]
 pub struct BindingOctets {
     pub(crate) octets: Out,
@@ -346,7 +423,8 @@ impl BindingOctets {
         }
     }
 
-    /// Appends a binding. Where the bindings have more than `MAX_DATAGRAM` octets with it, they are too big from then on.
+    /// Appends a binding. Where the bindings have more than `MAX_DATAGRAM` octets with it, they are too big from then
+    /// on.
     pub fn push(&mut self, binding: &Bind<'_>)
         ensures { (bindings : List VarBind) → self.old ≡ octets_of_bindings bindings
             → self.new ≡ octets_of_bindings (bindings ++ var_bind binding.now ∷ []) }
@@ -372,7 +450,7 @@ impl BindingOctets {
         octets
     }
 
-    /// The same, where no binding was pushed: the octets stay where they are.
+    /// Appends the bindings that are left, where none was pushed: the octets stay where they are.
     pub(crate) fn fill(&mut self, binds: Binds<'_>)
         requires { self.old ≡ octets_of_bindings [] }
         ensures { self.new ≡ octets_of_bindings binds.entry }

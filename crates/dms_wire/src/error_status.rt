@@ -5,8 +5,8 @@ ghost use Rattle.dms_wire.specs.ErrorStatus.{error_status_number, error_status_o
 
 use std::fmt;
 
-/// What a Response says of the request (RFC 1157, 4.1.1). readOnly (4) is left out: no implementation sends it, since 4.1.5
-/// asks for noSuchName where a variable may not be written.
+/// What a Response says of the request (RFC 1157, 4.1.1). readOnly (4) is left out: no implementation sends it, since
+/// 4.1.5 asks for noSuchName where a variable may not be written.
 #[derive(Clone, Copy, Debug, PartialEq, Eq, Hash)]
 pub enum ErrorStatus {
     /// The request was done (0).

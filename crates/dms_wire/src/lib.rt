@@ -1,5 +1,5 @@
-//! SNMPv1 messages in BER (RFC 1157): reading a datagram, and writing the shortest one. Nothing is copied while reading, and no memory
-//! is taken.
+//! SNMPv1 messages in BER (RFC 1157): reading a datagram, and writing the shortest one. Nothing is copied while
+//! reading, and no memory is taken.
 //!
 //! ```
 //! let message = read(datagram)?;

@@ -1,9 +1,10 @@
 //! Messages: reading a datagram, and writing the shortest one (RFC 1157, 4.1).
 //!
-//! Each reader is given the octets that are left of an element and `end`, the element's end as an offset in the datagram:
-//! what it reads begins at `end - octets.len()`.
+//! Each reader is given the octets that are left of an element and `end`, the element's end as an offset in the
+//! datagram: what it reads begins at `end - octets.len()`.
 
-ghost use Rattle.std.specs.Prelude.{◌≡◌, ◌↔◌, ℕ, ◌+◌, ◌^◌, ◌<◌, ◌≤◌, ◌++◌, List, [], ◌∷◌, pos, length, map, IsOk, IfOk, OnOk, OnErr, IfSome, IfNone};
+ghost use Rattle.std.specs.Prelude.{◌≡◌, ◌↔◌, ℕ, ◌+◌, ◌^◌, ◌<◌, ◌≤◌, ◌++◌, List, [], ◌∷◌, pos};
+ghost use Rattle.std.specs.Prelude.{length, map, IsOk, IfOk, OnOk, OnErr, IfSome, IfNone};
 ghost use Rattle.arrayvec.specs.ArrayVec.{array_vec_len};
 ghost use Rattle.std.specs.Option.{option_map};
 ghost use Rattle.std.specs.List.{flat_map};
@@ -15,7 +16,8 @@ ghost use Rattle.dms_wire.specs.Canonical.{binding_octets, numbers_octets, canon
 ghost use Rattle.dms_wire.specs.Response.{response_with, response_to};
 ghost use Rattle.dms_wire.specs.Written.{octets_of_bindings, IsWritten};
 ghost use Rattle.dms_ber.specs.Reading.{Gives, fault};
-ghost use Rattle.dms_wire.specs.Reading.{version_at, pdu_at, tagged_pdu_at, kind_of, inside_at, outer_content, outer_at, datagram_at, message_at};
+ghost use Rattle.dms_wire.specs.Reading.{version_at, pdu_at, tagged_pdu_at, kind_of, inside_at};
+ghost use Rattle.dms_wire.specs.Reading.{outer_content, outer_at, datagram_at, message_at};
 ghost use Rattle.dms_wire.specs.View.{var_bind, message_around, snmp_message, snmp_message_of_parts};
 ghost use Rattle.dms_wire.specs.PduView.{numbered};
 ghost use Rattle.dms_wire.specs.Prefix.{pdu_size, content_size, message_size, pdu_prefix, message_prefix, prefix};
@@ -44,7 +46,8 @@ pub enum Kind {
     Set,
 }
 
-/// A message that was read, over the octets of its datagram (RFC 1157, 4.1). Its numbers are from -2^31 to 2^32 - 1 (this profile).
+/// A message that was read, over the octets of its datagram (RFC 1157, 4.1). Its numbers are from -2^31 to 2^32 - 1
+/// (this profile).
 #[derive(Debug, Drop)]
 pub struct Message<'a> {
     /// The octets of the community's name, of any values and number.
@@ -77,8 +80,8 @@ impl<'a> Message<'a> {
     }
 }
 
-/// What a message to write says beside its bindings (RFC 1157, 4.1). Its numbers may be any of an `i64`; `read` refuses those that
-/// are not from -2^31 to 2^32 - 1.
+/// What a message to write says beside its bindings (RFC 1157, 4.1). Its numbers may be any of an `i64`; `read` refuses
+/// those that are not from -2^31 to 2^32 - 1.
 #[derive(Debug, PartialEq, Eq, Drop)]
 pub struct Header<'a> {
     /// The octets of the community's name.
@@ -111,7 +114,8 @@ pub struct MessageParts<'a> {
 }
 
 /// Reads the message that the octets of a datagram spell, or says what is wrong with them: the first fault from left to
-/// right, and its offset. Every accepted form of a length is read, with leading zeros too (X.690, 8.1.3; RFC 1157, 4.1).
+/// right, and its offset. Every accepted form of a length is read, with leading zeros too (X.690, 8.1.3; RFC 1157,
+/// 4.1).
 pub fn read(octets: &[u8]) -> Result<Message<'_>, WireFault>
     ensures exact { Gives snmp_message result (message_at octets.now) }
     ensures accepts { IsOk result ↔ ((m : SnmpMessage) × Spells m octets.now) }
@@ -128,7 +132,8 @@ pub fn read(octets: &[u8]) -> Result<Message<'_>, WireFault>
     read_message(octets)
 }
 
-/// The message that the octets of a datagram spell, or none where they spell none: for who does not ask what is wrong with them.
+/// The message that the octets of a datagram spell, or none where they spell none: for callers that do not ask what is
+/// wrong with them.
 pub fn heard(datagram: &[u8]) -> Option<Message<'_>>
     ensures message { option_map snmp_message result ≡ message_of datagram.now }
     ensures spelled { IfSome result (λ m. Spells (snmp_message m) datagram.now) }
@@ -211,9 +216,23 @@ fn inside(octets: &[u8], end: usize) -> Result<Message<'_>, WireFault>
     })
 }
 
-/// The octets after the version, which is 0.
-#[tactic(auto, unfolding(crate::specs::Reading::version_at))]
+/// The octets after the version, which is 0: most often its length has the short form.
+#[inline]
 fn after_version(octets: &[u8], end: usize) -> Result<&[u8], WireFault>
+    requires { length octets.now ≤ end }
+    ensures exact { Gives (λ rest. (tt, rest.now)) result (version_at end octets.now) }
+    ensures rest { IfOk result (λ rest. length rest.now < length octets.now) }
+{
+    match octets {
+        [universal::INTEGER, 1, 0, rest @ ..] => Ok(rest),
+        _ => after_any_version(octets, end),
+    }
+}
+
+/// The octets after a version in any form, which is 0, as `after_version`.
+#[inline(never)]
+#[tactic(auto, unfolding(crate::specs::Reading::version_at))]
+fn after_any_version(octets: &[u8], end: usize) -> Result<&[u8], WireFault>
     requires { length octets.now ≤ end }
     ensures exact { Gives (λ rest. (tt, rest.now)) result (version_at end octets.now) }
     ensures rest { IfOk result (λ rest. length rest.now < length octets.now) }
@@ -304,7 +323,8 @@ pub fn write(parts: &MessageParts<'_>, out: &mut Out) -> Result<(), TooBig>
     Ok(())
 }
 
-/// Writes, as `write` does, the message with this header and the bindings that were pushed: their octets are copied once.
+/// Writes, as `write` does, the message with this header and the bindings that were pushed: their octets are copied
+/// once.
 pub fn write_around(
     header: &Header<'_>,
     octets: &BindingOctets,
@@ -320,20 +340,21 @@ pub fn write_around(
     write_octets(header, &octets.octets, out)
 }
 
-/// Writes the Response to a message that was read, with this error-status and error-index, and with the bindings of the message
-/// (RFC 1157, 4.1.2: "identical to the message"), as `write` does.
+/// Writes the Response to a message that was read, with this error-status and error-index, and with the bindings of the
+/// message (RFC 1157, 4.1.2: "identical to the message"), as `write` does.
 pub fn write_response(
     message: &Message<'_>,
     status: ErrorStatus,
     index: u32,
     out: &mut Out,
 ) -> Result<(), TooBig>
-    ensures { IsWritten result out.new.items (canonical (response_to (snmp_message message.now) (error_status_number status) index)) }
+    ensures { IsWritten result out.new.items
+        (canonical (response_to (snmp_message message.now) (error_status_number status) index)) }
 {
     let header = message.response(status, index);
     match message.binds.shortest() {
         Some(octets) => write_octets(&header, octets, out),
-        None => write_anew(&header, message.binds.again(), out),
+        None => write_shortest(&header, message.binds.again(), out),
     }
 }
 
@@ -351,7 +372,7 @@ fn write_octets(header: &Header<'_>, octets: &[u8], out: &mut Out) -> Result<(),
 
 /// Writes the message with this header and with bindings that were read, each in its shortest spelling.
 #[inline(never)]
-fn write_anew(header: &Header<'_>, binds: Binds<'_>, out: &mut Out) -> Result<(), TooBig>
+fn write_shortest(header: &Header<'_>, binds: Binds<'_>, out: &mut Out) -> Result<(), TooBig>
     ensures { IsWritten result out.new.items (canonical (message_around header.now binds.entry)) }
 {
     let mut octets = BindingOctets::new();
@@ -359,8 +380,8 @@ fn write_anew(header: &Header<'_>, binds: Binds<'_>, out: &mut Out) -> Result<()
     write_around(header, &octets, out)
 }
 
-/// Writes what stands before bindings of `size` octets over what `out` holds, or nothing where the message would have more
-/// than `MAX_DATAGRAM` octets.
+/// Writes what stands before bindings of `size` octets over what `out` holds, or nothing where the message would have
+/// more than `MAX_DATAGRAM` octets.
 #[tactic(auto, using(crate::proofs::Prefixes::prefix_steps))]
 fn begin(header: &Header<'_>, size: usize, out: &mut Out) -> Result<(), TooBig>
     requires { size ≤ longest_datagram }

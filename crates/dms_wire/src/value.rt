@@ -1,6 +1,7 @@
 //! Values of objects (RFC 1155, 3.2).
 
-ghost use Rattle.std.specs.Prelude.{◌≡◌, ◌↔◌, ℕ, ◌+◌, ◌^◌, ◌<◌, ◌≤◌, ◌++◌, List, [], ◌∷◌, pos, length, map, IsOk, IfOk, OnOk, OnErr, IfSome, IfNone};
+ghost use Rattle.std.specs.Prelude.{◌≡◌, ◌↔◌, ℕ, ◌+◌, ◌^◌, ◌<◌, ◌≤◌, ◌++◌, List, [], ◌∷◌, pos};
+ghost use Rattle.std.specs.Prelude.{length, map, IsOk, IfOk, OnOk, OnErr, IfSome, IfNone};
 ghost use Rattle.arrayvec.specs.ArrayVec.{array_vec_len};
 ghost use Rattle.dms_ber.specs.Reading.{Gives};
 ghost use Rattle.dms_wire.specs.Reading.{value_from, after_tag, is_value_tag, value_at};
@@ -11,8 +12,8 @@ ghost use Rattle.dms_ber.specs.Limits.{longest_datagram};
 use crate::tag;
 use dms_ber::{
     FaultKind, Oid, Out, WireFault, fault_at, integer_of, name_of, natural_of, offset_of,
-    put_integer, put_octets, put_unsigned, read_content, size_of_integer, size_of_octets,
-    size_of_unsigned, tag as universal,
+    put_empty, put_integer, put_octets, put_unsigned, read_content, size_of_integer,
+    size_of_octets, size_of_unsigned, tag as universal,
 };
 
 /// The value of an object (RFC 1155, 3.2).
@@ -141,7 +142,7 @@ pub(crate) fn put_value(out: &mut Out, value: &Value<'_>)
     match value {
         Value::Integer(number) => put_integer(out, number),
         Value::Octets(octets) => put_octets(out, universal::OCTET_STRING, octets),
-        Value::Null => put_octets(out, universal::NULL, &[]),
+        Value::Null => put_empty(out, universal::NULL),
         Value::Name(name) => put_octets(out, universal::OBJECT_IDENTIFIER, name.content()),
         Value::Address(octets) => put_octets(out, tag::IP_ADDRESS, octets),
         Value::Counter(number) => put_unsigned(out, tag::COUNTER, *number),

@@ -165,7 +165,8 @@ fn check_response(rt: &impl Abort, request: &[u8], response: &[u8]) -> Result<()
     Ok(())
 }
 
-/// A Response repeats bindings in their shortest spelling: as they lie in the request, or anew where it spells a length longer.
+/// A Response repeats bindings in their shortest spelling: as they lie in the request, or written again where it
+/// spells a length longer.
 #[test]
 fn responses(rt: HostRuntime) -> Result<(), Fail> {
     let long = b"\x30\x82\x00\x15\x06\x81\x10";
@@ -251,8 +252,8 @@ fn kinds(rt: HostRuntime) -> Result<(), Fail> {
     Ok(())
 }
 
-/// A Response in which the values have each tag, with the ends of the ranges, and its bindings, of which the Nth has the
-/// name 1.3.N.
+/// A Response in which the values have each tag, with the ends of the ranges, and its bindings, of which the Nth has
+/// the name 1.3.N.
 static RESPONSE: &[&[u8]] = &[
     b"\x30\x81\xa0\x02\x01\x00\x04\x06public\xa2\x81\x92\x02\x04\x80\x00\x00\x00\x02\x01\x02\x02\x02\x01\x2c\x30\x81\x82",
     b"\x30\x0a\x06\x02\x2b\x01\x02\x04\x80\x00\x00\x00",

@@ -43,7 +43,8 @@ fn check_row(rt: &impl Abort, memory: u8, number: u16, octets: &[u8]) {
     assert!(rt; found == Some(octets), "for row {number}");
 }
 
-/// The octets after those of dmsMessageEntry: a column, a type of memory, and a row's number of one, two and three octets.
+/// The octets after those of dmsMessageEntry: a column, a type of memory, and a row's number of one, two and three
+/// octets.
 #[test]
 fn rows(rt: HostRuntime) {
     let rows: [(u8, u16, &[u8]); 6] = [

@@ -11,5 +11,5 @@ returns-in-Some c =
 
 pub returns-in-None : goal.returns-in-None
 returns-in-None c =
-    subst (λ m. IsWritten c.write_anew.result c.write_anew.new.out.items (canonical m))
-    (ap (message_around c.response-header.result) c.again.ensures ∙ c.response-header.ensures c.args.message.now.binds) c.write_anew.ensures
+    subst (λ m. IsWritten c.write_shortest.result c.write_shortest.new.out.items (canonical m))
+    (ap (message_around c.response-header.result) c.again.ensures ∙ c.response-header.ensures c.args.message.now.binds) c.write_shortest.ensures
