@@ -280,6 +280,40 @@ pub fn put_integer(out: &mut Out, number: &i64)
     }
 }
 
+/// Appends the shortest elements of two INTEGERs: at once where each has one octet and is not below 0.
+#[inline]
+#[tactic(auto, using(crate::proofs::Shortest::element_steps), unfolding(crate::specs::Integer::integer_octets))]
+pub fn put_integers(out: &mut Out, first: &i64, second: &i64)
+    requires { array_vec_len out.old + length (element 2 (integer_octets first.now)
+        ++ element 2 (integer_octets second.now)) ≤ longest_datagram }
+    ensures { out.new.items ≡ out.old.items ++ (element 2 (integer_octets first.now)
+        ++ element 2 (integer_octets second.now)) }
+{
+    if 0 <= *first && *first < 128 && 0 <= *second && *second < 128 {
+        put_small_naturals(out, *first as u64, *second as u64);
+    } else {
+        put_integer(out, first);
+        put_integer(out, second);
+    }
+}
+
+/// Appends the shortest INTEGERs of two numbers below 128.
+#[inline]
+#[tactic(auto, using(crate::proofs::Shortest::natural_elements))]
+fn put_small_naturals(out: &mut Out, first: u64, second: u64)
+    requires first { first < 128 }
+    requires second { second < 128 }
+    requires room { array_vec_len out.old + length (element 2 (positive_octets first)
+        ++ element 2 (positive_octets second)) ≤ longest_datagram }
+    ensures { out.new.items ≡ out.old.items ++ (element 2 (positive_octets first)
+        ++ element 2 (positive_octets second)) }
+{
+    put_content(
+        out,
+        &[tag::INTEGER, 1, first as u8, tag::INTEGER, 1, second as u8],
+    );
+}
+
 /// How many octets the shortest element of a number from 0 to 2^32 - 1 takes, whatever its tag.
 #[inline]
 #[tactic(auto, using(crate::proofs::Shortest::sizes), unfolding(crate::specs::Integer::integer_octets))]

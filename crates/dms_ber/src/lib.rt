@@ -22,7 +22,7 @@ pub use element::{
 };
 pub use fault::{FaultKind, WireFault, fault_at, offset_of};
 pub use integer::{
-    integer_of, natural_of, put_integer, put_unsigned, read_integer, size_of_integer,
+    integer_of, natural_of, put_integer, put_integers, put_unsigned, read_integer, size_of_integer,
     size_of_unsigned,
 };
 pub use length::read_length;

@@ -270,7 +270,7 @@ pub(crate) fn list(octets: &[u8], end: usize) -> Result<(Binds<'_>, &[u8]), Wire
 }
 
 /// How many octets a binding takes, where its name and its value are no larger than a datagram.
-#[inline]
+#[inline(always)]
 #[tactic(auto, using(crate::proofs::Sizes::sizes), unfolding(crate::specs::Canonical::binding_octets))]
 fn size_of_binding(binding: &Bind<'_>) -> Result<usize, TooBig>
     ensures ok { IfOk result (λ n. n ≡ length (binding_octets (var_bind binding.now))) }
@@ -342,7 +342,7 @@ fn shortest_octets(octets: &[u8]) -> Option<&[u8]>
 }
 
 /// Writes the name and the value of a binding.
-#[inline]
+#[inline(always)]
 #[tactic(auto, using(crate::proofs::Sizes::element_steps))]
 fn put_binding_content(out: &mut Out, binding: &Bind<'_>)
     requires { array_vec_len out.old + length (element 6 (name_octets binding.now.name)
@@ -355,6 +355,7 @@ fn put_binding_content(out: &mut Out, binding: &Bind<'_>)
 }
 
 /// Writes a binding.
+#[inline(always)]
 #[tactic(auto, using(crate::proofs::Sizes::nested_steps), unfolding(crate::specs::Canonical::binding_octets))]
 fn put_binding(out: &mut Out, binding: &Bind<'_>)
     requires { array_vec_len out.old + length (binding_octets (var_bind binding.now)) ≤ longest_datagram }

@@ -29,8 +29,8 @@ use crate::fault::TooBig;
 use crate::tag;
 use dms_ber::{
     FaultKind, MAX_DATAGRAM, Out, WireFault, ended, fault_at, integer_of, offset_of, put_content,
-    put_head, put_integer, put_octets, read_content, read_element, read_integer, read_length,
-    size_of_element, size_of_integer, size_of_octets, tag as universal,
+    put_head, put_integer, put_integers, put_octets, read_content, read_element, read_integer,
+    read_length, size_of_element, size_of_integer, size_of_octets, tag as universal,
 };
 
 /// What a message asks or answers (RFC 1157, 4.1.2 to 4.1.5).
@@ -470,8 +470,7 @@ fn put_numbers(out: &mut Out, header: &Header<'_>)
     ensures { out.new.items ≡ out.old.items ++ numbers_octets (message_around header.now []) }
 {
     put_integer(out, &header.request);
-    put_integer(out, &header.status);
-    put_integer(out, &header.index);
+    put_integers(out, &header.status, &header.index);
 }
 
 /// The tag of a PDU.

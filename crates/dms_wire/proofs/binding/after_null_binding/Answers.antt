@@ -11,7 +11,7 @@ returns-clause-found c =
     let name = c.split_at.result.0.now in
     let back = c.split_at.result.1.now in
     let parts : c.in_ok-size.rest.now ≡ name ++ back =
-        rw (c.split_at.ensures.front, c.split_at.ensures.back) (sym (take-append-drop c.from-count.result c.in_ok-size.rest.now))
+    rw (c.split_at.ensures.front, c.split_at.ensures.back) (sym (take-append-drop c.from-count.result c.in_ok-size.rest.now))
     in
     let whole = c.in_ok-size.ensures ∙ ap (λ (octets : List ℕ). 48 ∷ size ∷ 6 ∷ count ∷ octets) (parts ∙ ap (λ (octets : List ℕ). name ++ octets) c.in_ok-rest.ensures) in
     let named = c.in_ok-name_of.ensures.exact.0 refl in (
