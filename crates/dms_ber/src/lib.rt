@@ -26,7 +26,9 @@ pub use integer::{
     size_of_unsigned,
 };
 pub use length::read_length;
-pub use object_identifier::{MAX_SUB_IDENTIFIERS, Numbers, Oid, name_of, oid_cmp, read_name};
+pub use object_identifier::{
+    MAX_SUB_IDENTIFIERS, Numbers, Oid, is_name, name_of, oid_cmp, read_name,
+};
 
 /// The most octets of a datagram, and so the most that are written (this profile).
 pub const MAX_DATAGRAM: usize = 1472;

@@ -297,8 +297,8 @@ pub fn name_of(content: &[u8]) -> Option<Oid<'_>>
 
 /// Whether the octets are an object identifier's content. Most begin with those of dms, which need not be read one by
 /// one.
-#[inline]
-fn is_name(octets: &[u8]) -> bool
+#[inline(always)]
+pub fn is_name(octets: &[u8]) -> bool
     ensures { IsTrue result ↔ IsTrue (is_name octets.now) }
 {
     match below_dms(octets) {
@@ -321,6 +321,7 @@ fn below_dms(octets: &[u8]) -> Option<&[u8]>
 }
 
 /// Whether the octets go on as an object identifier's content after `before` sub-identifiers.
+#[inline(never)]
 #[tactic(auto, unfolding(crate::specs::NameReading::goes_on))]
 fn goes_on(before: usize, octets: &[u8]) -> bool
     requires { before ≤ most_sub_identifiers }

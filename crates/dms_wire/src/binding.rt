@@ -18,7 +18,7 @@ ghost use Rattle.dms_ber.specs.Limits.{longest_datagram};
 use crate::fault::TooBig;
 use crate::value::{Value, put_value, read_value, size_of_value};
 use dms_ber::{
-    MAX_DATAGRAM, Oid, Out, WireFault, ended, name_of, offset_of, put_head, put_octets,
+    MAX_DATAGRAM, Oid, Out, WireFault, ended, is_name, offset_of, put_head, put_octets,
     read_content, read_element, read_name, size_of_element, size_of_octets, tag,
 };
 use std::marker::Model;
@@ -204,7 +204,9 @@ fn after_null_binding(octets: &[u8]) -> Option<&[u8]>
     }
     let (name, rest) = rest.split_at(count);
     let rest = after_null(rest)?;
-    let _ = name_of(name)?;
+    if !is_name(name) {
+        return None;
+    }
     Some(rest)
 }
 
