@@ -41,6 +41,7 @@ use Rattle.dms_sign.specs.SetRequest.{SetCause, settable_instance, write_at, cau
 use Rattle.dms_sign.specs.Requests.{found_unless, has_no_value, is_last, as_decided, as_asked, with_remaining, commanded, commanded_if, writes_of, command_index, set_unless, may_write, answer_by, answer_of_any_size}
 use Rattle.dms_sign.specs.Reply.{is_heard, dropped, heard, on_message, on_message_if, received}
 use Rattle.dms_sign.specs.InRange.{AreOctets, AreOctetsUpTo, IsRowInRange, IsTableInRange, AreReportsInRange, IsSignInRange, IsBindingInLimits}
+use Rattle.dms_sign.proofs.NumbersRead.{number_passes}
 use Rattle.dms_sign.proofs.InRangeLists.{either, if_either, if_mapped, if_then, if_or, if_found, if_at, all_filtered}
 use Rattle.dms_sign.proofs.InRangeShown.{IsDecisionInRange, showing_in_range, telling_in_range, with_table_in_range, activation_is, decided_in_range, seconds_in_range, refused_code_in_range, with_time, code_in_range}
 use Rattle.dms_sign.proofs.InRangeEvents.{with_status_in_range, unused_in_range, with_silence}
@@ -153,21 +154,12 @@ IsWriteInRange (SetRemaining minutes) = minutes ≤ 65535
 abbrev IsWithin : (low high : ℕ) → ℕ → Type 0
 IsWithin low high n = (low ≤ n) × (n ≤ high)
 
-number_if : (low high n : ℕ) (b : Bool) → (leb low n && leb n high) ≡ b → IfSome (cond b (Some n) None) (IsWithin low high)
-number_if low high n true e = let parts = and_parts (leb low n) (leb n high) e in (leb-true low n parts.0, leb-true n high parts.1)
-number_if low high n false e = tt
+within_if : (low high : ℕ) (o : Option ℕ) → IfSome o (λ n. (leb low n && leb n high) ≡ true) → IfSome o (IsWithin low high)
+within_if low high None is = tt
+within_if low high (Some n) is = let parts = and_parts (leb low n) (leb n high) is in (leb-true low n parts.0, leb-true n high parts.1)
 
 number_is : (low high : ℕ) (value : ObjectValue) → IfSome (number_in low high value) (IsWithin low high)
-number_is low high (integer (pos n)) = number_if low high n (leb low n && leb n high) refl
-number_is low high (integer (negsuc n)) = tt
-number_is low high (octet_string octets) = tt
-number_is low high null = tt
-number_is low high (object_identifier numbers) = tt
-number_is low high (ip_address address) = tt
-number_is low high (counter n) = tt
-number_is low high (gauge n) = tt
-number_is low high (time_ticks n) = tt
-number_is low high (opaque octets) = tt
+number_is low high value = within_if low high (number_in low high value) (number_passes low high value)
 
 record AreOctetsWithin (low high : ℕ) (octets : List ℕ) : Type 0 where
   least : low ≤ length octets

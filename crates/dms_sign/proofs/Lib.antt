@@ -1,5 +1,6 @@
 pub mod Replies
 pub mod InRangeLists
+pub mod NumbersRead
 pub mod InRangeValues
 pub mod InRangeFaults
 pub mod InRangeShown

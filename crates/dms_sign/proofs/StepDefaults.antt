@@ -32,6 +32,7 @@ use Rattle.dms_sign.specs.Requests.{found_unless, with_value, has_no_value, next
 use Rattle.dms_sign.specs.Reply.{is_heard, heard, dropped, on_message_if, received}
 use Rattle.dms_sign.specs.Events.{after_settling, counted_down, after_duration, longest_silence, quieter, after_silence, after_tick, recovery_code, restored, after_power_loss, after_power_return}
 use Rattle.dms_sign.specs.Transitions.{HasFitDefaults}
+use Rattle.dms_sign.proofs.NumbersRead.{passes_if, number_passes}
 use Rattle.dms_sign.proofs.InRangeLists.{if_or, all_filtered, all_any}
 use Rattle.dms_sign.proofs.StepShown.{KeepsRest, code_puts_up}
 
@@ -58,26 +59,10 @@ WriteFits face (AskRow id ask) = ⊤
 WriteFits face (Activate octets) = ⊤
 WriteFits face (SetRemaining minutes) = ⊤
 
-number_if : (test : ℕ → Bool) (n : ℕ) (b : Bool) → test n ≡ b → IfSome (cond b (Some n) None) (λ n. test n ≡ true)
-number_if test n true e = e
-number_if test n false e = tt
-
-number_is : (low high : ℕ) (value : ObjectValue) → IfSome (number_in low high value) (λ n. (nat_le low n && nat_le n high) ≡ true)
-number_is low high (integer (pos n)) = number_if (λ n. nat_le low n && nat_le n high) n (nat_le low n && nat_le n high) refl
-number_is low high (integer (negsuc n)) = tt
-number_is low high (octet_string octets) = tt
-number_is low high null = tt
-number_is low high (object_identifier numbers) = tt
-number_is low high (ip_address address) = tt
-number_is low high (counter n) = tt
-number_is low high (gauge n) = tt
-number_is low high (time_ticks n) = tt
-number_is low high (opaque octets) = tt
-
 font_then : (face : FaceModel) (o : Option ℕ)
     → IfSome (option_and_then (λ n. cond (has_font face.fonts n) (Some n) None) o) (λ n. has_font face.fonts n ≡ true)
 font_then face None = tt
-font_then face (Some n) = number_if (has_font face.fonts) n (has_font face.fonts n) refl
+font_then face (Some n) = passes_if (has_font face.fonts) n (has_font face.fonts n) refl
 
 -- a number that passes a test writes what fits
 number_writes : (face : FaceModel) (object : Scalar) (test : ℕ → Bool) (o : Option ℕ) → ((n : ℕ) → test n ≡ true → object_fits face object n ≡ true)
@@ -100,16 +85,16 @@ unfolding object_write
 object_writes face SignHeightPixels value = tt
 object_writes face SignWidthPixels value = tt
 object_writes face DefaultBackgroundColor value =
-    number_writes face DefaultBackgroundColor (λ n. nat_le 0 n && nat_le n 9) (number_in 0 9 value) (λ n e. (and_parts (leb 0 n) (leb n 9) e).1) (number_is 0 9 value)
+    number_writes face DefaultBackgroundColor (λ n. nat_le 0 n && nat_le n 9) (number_in 0 9 value) (λ n e. (and_parts (leb 0 n) (leb n 9) e).1) (number_passes 0 9 value)
 object_writes face DefaultForegroundColor value =
-    number_writes face DefaultForegroundColor (λ n. nat_le 0 n && nat_le n 9) (number_in 0 9 value) (λ n e. (and_parts (leb 0 n) (leb n 9) e).1) (number_is 0 9 value)
+    number_writes face DefaultForegroundColor (λ n. nat_le 0 n && nat_le n 9) (number_in 0 9 value) (λ n e. (and_parts (leb 0 n) (leb n 9) e).1) (number_passes 0 9 value)
 object_writes face DefaultFlashOn value = any_number face DefaultFlashOn (number_in 0 255 value) (λ n. refl)
 object_writes face DefaultFlashOff value = any_number face DefaultFlashOff (number_in 0 255 value) (λ n. refl)
 object_writes face DefaultFont value = number_writes face DefaultFont (has_font face.fonts) (font_in face value) (λ n e. e) (font_then face (number_in 1 255 value))
 object_writes face DefaultJustificationLine value =
-    number_writes face DefaultJustificationLine (is_within 2 4) (number_in 2 4 value) (λ n e. e) (number_is 2 4 value)
+    number_writes face DefaultJustificationLine (is_within 2 4) (number_in 2 4 value) (λ n e. e) (number_passes 2 4 value)
 object_writes face DefaultJustificationPage value =
-    number_writes face DefaultJustificationPage (is_within 2 4) (number_in 2 4 value) (λ n e. e) (number_is 2 4 value)
+    number_writes face DefaultJustificationPage (is_within 2 4) (number_in 2 4 value) (λ n e. e) (number_passes 2 4 value)
 object_writes face DefaultPageOnTime value = any_number face DefaultPageOnTime (number_in 0 255 value) (λ n. refl)
 object_writes face DefaultPageOffTime value = any_number face DefaultPageOffTime (number_in 0 255 value) (λ n. refl)
 object_writes face ColorScheme value = tt
