@@ -46,12 +46,13 @@ def free_port():
 def with_snmp_tools(block, after, program):
     """Whether the block of the SNMP tools prints what README says, on a port that is free."""
     port = free_port()
+    width = f"snmpget -v1 -c public -t 1 -r 0 127.0.0.1:{port} 1.3.6.1.4.1.1206.4.2.3.2.4.0"
     whole = "shopt -s expand_aliases\n" + block.split("\n", 1)[1]
     for old, new in (
         ("tools/udp_sign.py", f"tools/udp_sign.py --port {port} --signtool {program}"),
         ("tools/udp_centre.py", f"tools/udp_centre.py --signtool {program}"),
         ("127.0.0.1:1161", f"127.0.0.1:{port}"),
-        ("&    #", "& sleep 1    #"),
+        ("&    #", f"& until {width} > /dev/null 2>&1; do sleep 0.1; done    #"),
     ):
         whole = whole.replace(old, new)
     ended = subprocess.run(["bash", "-c", whole], cwd=TOP, capture_output=True, text=True, timeout=120, check=False)
