@@ -1,5 +1,6 @@
 -- Why a permanent row can not stand (this profile).
-use Rattle.std.specs.Prelude.{ℕ, ◌==◌, ◌&&◌, not, if◌then◌else◌, List, length, nat_lt, Option, Some, None, Result, Ok, Err}
+use Rattle.std.specs.Prelude.{ℕ, ◌==◌, ◌&&◌, not, if◌then◌else◌, List, length}
+use Rattle.std.specs.Prelude.{nat_lt, Option, Some, None, Result, Ok, Err}
 use Rattle.std.specs.Option.{option_or}
 use Rattle.dms_codes.specs.Limits.{longest_text, longest_owner}
 use Rattle.dms_face.specs.Face.{FaceModel}
@@ -37,4 +38,5 @@ text_cause face text = fault_cause (checked_text face text)
 
 -- the first reason why a row can not stand
 abbrev pub row_cause : Services → FaceModel → RowModel → Option RowCause
-row_cause services face it = option_or (range_cause it) (option_or (service_cause services it) (text_cause face it.text))
+row_cause services face it =
+    option_or (range_cause it) (option_or (service_cause services it) (text_cause face it.text))

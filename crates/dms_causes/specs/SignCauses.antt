@@ -1,5 +1,6 @@
 -- Why a sign can not be made: its matrix, its fonts, its defaults, its communities, its rows (this profile).
-use Rattle.std.specs.Prelude.{ℕ, ◌+◌, ◌&&◌, ◌||◌, Bool, not, if◌then◌else◌, List, [], ◌∷◌, length, nat_eq, nat_lt, nat_le, Option, Some, None, option_map}
+use Rattle.std.specs.Prelude.{ℕ, ◌+◌, ◌&&◌, ◌||◌, Bool, not, if◌then◌else◌, List, [], ◌∷◌}
+use Rattle.std.specs.Prelude.{length, nat_eq, nat_lt, nat_le, Option, Some, None, option_map}
 use Rattle.std.specs.Option.{option_or}
 use Rattle.std.specs.Cmp.Lexicographic.{pointwise}
 use Rattle.dms_font.specs.Font.{FontModel}
@@ -43,7 +44,8 @@ defaults_cause fonts defaults =
     else None
 
 abbrev pub face_cause : FaceModel → Option SignCause
-face_cause face = option_or (matrix_cause face.width face.height) (option_or (fonts_cause face.fonts) (defaults_cause face.fonts face.defaults))
+face_cause face = option_or (matrix_cause face.width face.height)
+    (option_or (fonts_cause face.fonts) (defaults_cause face.fonts face.defaults))
 
 -- ---- the communities
 
@@ -73,4 +75,5 @@ numbered_cause number later (Some cause) = Some (sign.Row number cause)
 -- the first row that can not stand, of rows that have the numbers from `number` on
 abbrev pub rows_cause : Services → FaceModel → ℕ → List RowModel → Option SignCause
 rows_cause services face number [] = None
-rows_cause services face number (row ∷ rows) = numbered_cause number (rows_cause services face (number + 1) rows) (row_cause services face row)
+rows_cause services face number (row ∷ rows) =
+    numbered_cause number (rows_cause services face (number + 1) rows) (row_cause services face row)

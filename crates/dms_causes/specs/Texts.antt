@@ -39,7 +39,8 @@ sign_cause_text sign.SameCommunities = codes "both communities are the same"
 sign_cause_text sign.PermanentRows = codes "there are more than 16 permanent rows"
 sign_cause_text sign.ChangeableRows = codes "there are more than 64 changeable rows"
 sign_cause_text sign.VolatileRows = codes "there are more than 16 volatile rows"
-sign_cause_text (sign.Row number cause) = codes "permanent row " ++ (decimal number ++ (codes ": " ++ row_cause_text cause))
+sign_cause_text (sign.Row number cause) =
+    codes "permanent row " ++ (decimal number ++ (codes ": " ++ row_cause_text cause))
 
 abbrev pub cause_text : Cause → List ℕ
 cause_text (causes.Word fault) = fault_text fault

@@ -3,7 +3,8 @@
 ghost use Rattle.std.specs.Prelude.{◌≡◌, ◌+◌, ◌<◌, ◌^◌, length, map};
 ghost use Rattle.dms_face.specs.Face.{has_font};
 ghost use Rattle.dms_table.specs.Stock.{permanent_row};
-ghost use Rattle.dms_causes.specs.SignCauses.{matrix_cause, fonts_cause, number_twice, defaults_cause, face_cause, has_size, communities_cause, counts_cause, rows_cause};
+ghost use Rattle.dms_causes.specs.SignCauses.{matrix_cause, fonts_cause, number_twice, defaults_cause};
+ghost use Rattle.dms_causes.specs.SignCauses.{face_cause, has_size, communities_cause, counts_cause, rows_cause};
 
 use crate::row_causes::row_cause;
 use crate::sign_causes::SignCause;

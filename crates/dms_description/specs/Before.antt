@@ -16,7 +16,8 @@ description_lines lines = filter (λ line. not (is_skipped line)) (lines_through
 abbrev pub Describes : Option (List ℕ) → Setup → Option (List ℕ) → Type 0
 Describes None setup after = ⊤
 Describes (Some octets) setup None = ⊥
-Describes (Some octets) setup (Some rest) = ((it : Description) × SpellsSign (description_lines (lines octets)) it × IsMade it setup)
+Describes (Some octets) setup (Some rest) =
+    ((it : Description) × SpellsSign (description_lines (lines octets)) it × IsMade it setup)
     × (lines rest ≡ lines_after_end (lines octets))
 
 -- no sign is described

@@ -1,5 +1,6 @@
 -- Why the lines of a description are refused: the cause that the first line at fault has (this profile).
-use Rattle.std.specs.Prelude.{ℕ, Bool, true, false, if◌then◌else◌, List, [], ◌∷◌, codes, length, Option, Some, None, option_map, Result, Ok, Err}
+use Rattle.std.specs.Prelude.{ℕ, Bool, true, false, if◌then◌else◌, List, [], ◌∷◌, codes}
+use Rattle.std.specs.Prelude.{length, Option, Some, None, option_map, Result, Ok, Err}
 use Rattle.std.specs.Option.{option_or}
 use Rattle.dms_text.specs.Words.{words_of}
 use Rattle.dms_text.specs.Reading.{same_octets, word_at, ◌>>=◌}
@@ -120,7 +121,8 @@ after_cause (line ∷ lines) = Some causes.AfterEnd
 abbrev pub stop_cause : HeadModel → List RowModel → List FontModel → List (List ℕ) → Option Cause
 stop_cause head rows fonts [] = Some causes.NoEnd
 stop_cause head rows fonts (line ∷ lines) =
-    if same_octets line (codes "end") then option_or (option_map causes.Sign (sign_cause (described head rows fonts))) (after_cause lines)
+    if same_octets line (codes "end")
+    then option_or (option_map causes.Sign (sign_cause (described head rows fonts))) (after_cause lines)
     else line_cause fonts line
 
 abbrev pub fonts_cause : HeadModel → List RowModel → List FontModel × List (List ℕ) → Option Cause

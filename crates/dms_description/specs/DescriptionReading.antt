@@ -1,5 +1,6 @@
 -- Reading a description from its beginning: its parts, and the lines after them (this profile).
-use Rattle.std.specs.Prelude.{ℕ, ◌==◌, if◌then◌else◌, List, [], ◌∷◌, ◌++◌, codes, replicate, Option, Some, None, Result, Ok, Err}
+use Rattle.std.specs.Prelude.{ℕ, ◌==◌, if◌then◌else◌, List, [], ◌∷◌, ◌++◌, codes}
+use Rattle.std.specs.Prelude.{replicate, Option, Some, None, Result, Ok, Err}
 use Rattle.dms_text.specs.Words.{words_of}
 use Rattle.dms_text.specs.Reading.{word_at, keyword_at, decimal_at, same_octets, octets_of, ◌>>=◌}
 use Rattle.dms_font.specs.Font.{FontModel}
@@ -72,7 +73,10 @@ colours_and_flash_at words = do
   foreground ← decimal_at 5 0 255 background.1
   flash_on ← decimal_at 5 0 255 foreground.1
   flash_off ← decimal_at 5 0 255 flash_on.1
-  Some (record { background = background.0; foreground = foreground.0; flash_on = flash_on.0; flash_off = flash_off.0 }, flash_off.1)
+  Some (
+    record { background = background.0; foreground = foreground.0; flash_on = flash_on.0; flash_off = flash_off.0 },
+    flash_off.1,
+  )
 
 -- the defaults that begin so: the font, the justifications and the page times follow
 unfoldable pub defaults_with : ColoursAndFlash → List (List ℕ) → Option Defaults
@@ -161,14 +165,22 @@ row_words words = do
   beacon ← decimal_at 5 0 255 owner.1
   pixel ← decimal_at 5 0 255 beacon.1
   priority ← decimal_at 5 0 255 pixel.1
-  if_last (record { text = text.0; owner = owner.0; beacon = beacon.0; pixel = pixel.0; priority = priority.0 }) priority.1
+  if_last (record { text = text.0; owner = owner.0; beacon = beacon.0; pixel = pixel.0; priority = priority.0 })
+      priority.1
 
 unfoldable pub row_of : List (List ℕ) → Option RowModel
 row_of words = do
   said ← row_words words
   text ← octets_of said.text
   owner ← octets_of said.owner
-  Some (record { text = text; owner = owner; beacon = said.beacon; pixel = said.pixel; priority = said.priority; status = Valid })
+  Some (record {
+    text = text;
+    owner = owner;
+    beacon = said.beacon;
+    pixel = said.pixel;
+    priority = said.priority;
+    status = Valid;
+  })
 
 -- the rows so far and those of the first lines, and the lines after them
 abbrev pub rows_then : (List RowModel → List RowModel × List (List ℕ)) → List RowModel → List (List ℕ) → Option RowModel
@@ -178,21 +190,22 @@ rows_then more rows lines (Some row) = more (rows ++ row ∷ [])
 
 unfoldable pub rows_from : List RowModel → List (List ℕ) → List RowModel × List (List ℕ)
 rows_from rows [] = (rows, [])
-rows_from rows (line ∷ lines) = rows_then (λ longer. rows_from longer lines) rows (line ∷ lines) (row_of (words_of line))
+rows_from rows (line ∷ lines) =
+    rows_then (λ longer. rows_from longer lines) rows (line ∷ lines) (row_of (words_of line))
 
 -- ---- fonts
 
 -- the fonts so far, one of which is open for more characters, and those of the first lines; and the lines after them
-abbrev pub fonts_then : (List FontModel → FontModel → List FontModel × List (List ℕ)) → List FontModel → FontModel → List (List ℕ)
-    → Result FontModel FontFaultKind → Option FontModel → List FontModel × List (List ℕ)
+abbrev pub fonts_then : (List FontModel → FontModel → List FontModel × List (List ℕ)) → List FontModel → FontModel
+    → List (List ℕ) → Result FontModel FontFaultKind → Option FontModel → List FontModel × List (List ℕ)
 fonts_then more fonts font lines (Ok longer) header = more fonts longer
 fonts_then more fonts font lines (Err kind) (Some next) = more (fonts ++ font ∷ []) next
 fonts_then more fonts font lines (Err kind) None = (fonts ++ font ∷ [], lines)
 
 unfoldable pub fonts_from : List FontModel → FontModel → List (List ℕ) → List FontModel × List (List ℕ)
 fonts_from fonts font [] = (fonts ++ font ∷ [], [])
-fonts_from fonts font (line ∷ lines) =
-    fonts_then (λ closed open_font. fonts_from closed open_font lines) fonts font (line ∷ lines) (glyph_added font line) (header_of (words_of line))
+fonts_from fonts font (line ∷ lines) = fonts_then (λ closed open_font. fonts_from closed open_font lines) fonts font
+    (line ∷ lines) (glyph_added font line) (header_of (words_of line))
 
 abbrev pub fonts_after : List (List ℕ) → List (List ℕ) → Option FontModel → List FontModel × List (List ℕ)
 fonts_after lines others None = ([], lines)

@@ -1,5 +1,6 @@
 -- What the code's parts and fields of a description are (this profile).
-use Rattle.std.specs.Prelude.{◌≡◌, ◌⊎◌, ℕ, Bool, true, false, List, [], ◌∷◌, Option, Some, None, Result, Ok, Err, Vec, option_map, map, replicate}
+use Rattle.std.specs.Prelude.{◌≡◌, ◌⊎◌, ℕ, Bool, true, false, List, [], ◌∷◌, Option, Some}
+use Rattle.std.specs.Prelude.{None, Result, Ok, Err, Vec, option_map, map, replicate}
 use Rattle.std.specs.declared.alloc.Global.{Global}
 use Rattle.dms_text.specs.Lines.{TextLeft}
 use Rattle.dms_text.specs.declared.lines.Line.{Line}
@@ -28,16 +29,35 @@ abbrev pub communities_seen : Communities → CommunityWords
 communities_seen words = record { reader = words.reader.now; writer = words.writer.now }
 
 abbrev pub beginning_seen : Beginning → BeginningModel
-beginning_seen it = record { size = it.size; communities = communities_seen it.communities; rows = it.rows; order = it.order }
+beginning_seen it =
+    record { size = it.size; communities = communities_seen it.communities; rows = it.rows; order = it.order }
 
 abbrev pub head_seen : Head → HeadModel
-head_seen head = record { beginning = beginning_seen head.beginning; services = head.services; defaults = head.defaults; first = head.first }
+head_seen head = record {
+  beginning = beginning_seen head.beginning;
+  services = head.services;
+  defaults = head.defaults;
+  first = head.first;
+}
 
 abbrev pub row_line : RowLine → RowWords
-row_line said = record { text = said.text.now; owner = said.owner.now; beacon = said.beacon; pixel = said.pixel; priority = said.priority }
+row_line said = record {
+  text = said.text.now;
+  owner = said.owner.now;
+  beacon = said.beacon;
+  pixel = said.pixel;
+  priority = said.priority;
+}
 
 abbrev pub row_seen : OwnedRow → RowModel
-row_seen row = record { text = row.text.items; owner = row.owner.items; beacon = row.beacon; pixel = row.pixel; priority = row.priority; status = Valid }
+row_seen row = record {
+  text = row.text.items;
+  owner = row.owner.items;
+  beacon = row.beacon;
+  pixel = row.pixel;
+  priority = row.priority;
+  status = Valid;
+}
 
 -- the line that comes next and those after it
 abbrev pub upcoming : Option Line → TextLeft → List (List ℕ)
@@ -72,7 +92,11 @@ is_memory (config.Table table.Memory) = true
 -- the sign of a head, with these rows and this face
 abbrev pub described_with : Head → List Permanent → FaceModel → Description
 described_with head permanent face = record {
-  config = record { face = face; reader = head.beginning.communities.reader.now; writer = head.beginning.communities.writer.now };
+  config = record {
+    face = face;
+    reader = head.beginning.communities.reader.now;
+    writer = head.beginning.communities.writer.now;
+  };
   table = record {
     permanent = map permanent_row permanent;
     changeable = replicate head.beginning.rows.changeable unused;

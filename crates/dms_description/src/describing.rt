@@ -21,10 +21,12 @@ pub const LONGEST_INPUT: usize = 1_048_576;
 
 /// Reads a sign's description to its end.
 pub fn described<R: Source>(alloc: Global, reader: &mut R) -> Result<Setup, ReplayFault>
-    ensures sign { IfOk result (λ setup. IfSome (R.remaining reader.old) (λ octets. (it : Description) × SpellsDescription octets it × IsMade it setup)) }
+    ensures sign { IfOk result (λ setup. IfSome (R.remaining reader.old) (λ octets. (it : Description)
+        × SpellsDescription octets it × IsMade it setup)) }
     ensures line { (number : ℕ) → result ≡ Err (faults.Line number) → IfSome (R.remaining reader.old) (λ octets.
         (length octets ≤ longest_input) × ((it : Description) → SpellsDescription octets it → ⊥)) }
-    ensures too_long { result ≡ Err faults.TooLong → IfSome (R.remaining reader.old) (λ octets. longest_input < length octets) }
+    ensures too_long { result ≡ Err faults.TooLong
+        → IfSome (R.remaining reader.old) (λ octets. longest_input < length octets) }
     ensures read { result ≡ Err faults.Read → R.failed reader.new ≡ one_more (R.failed reader.old) }
     ensures all_read { result ≢ Err faults.Read → R.failed reader.new ≡ R.failed reader.old }
     ensures no_write { result ≢ Err faults.Write }
@@ -41,7 +43,8 @@ pub fn described<R: Source>(alloc: Global, reader: &mut R) -> Result<Setup, Repl
 pub fn whole_input<R: Source>(alloc: Global, reader: &mut R) -> Result<Vec<u8>, ReplayFault>
     ensures whole { IfOk result (λ octets. IfSome (R.remaining reader.old) (λ all. octets.items ≡ all)) }
     ensures short { IfOk result (λ octets. length octets.items ≤ longest_input) }
-    ensures too_long { result ≡ Err faults.TooLong → IfSome (R.remaining reader.old) (λ all. longest_input < length all) }
+    ensures too_long { result ≡ Err faults.TooLong
+        → IfSome (R.remaining reader.old) (λ all. longest_input < length all) }
     ensures failed { result ≡ Err faults.Read → R.failed reader.new ≡ one_more (R.failed reader.old) }
     ensures unfailed { result ≢ Err faults.Read → R.failed reader.new ≡ R.failed reader.old }
     ensures no_write { result ≢ Err faults.Write }
@@ -58,7 +61,8 @@ pub fn described_before<S: Source>(
 ) -> Result<Setup, ReplayFault>
     ensures sign { IfOk result (λ setup. Describes (left S.remaining input.old) setup (left S.remaining input.new)) }
     ensures line { (number : ℕ) → result ≡ Err (faults.Line number) → NotDescribed (left S.remaining input.old) }
-    ensures too_long { result ≡ Err faults.TooLong → IfSome (left S.remaining input.old) (λ octets. 1048576 < length octets) }
+    ensures too_long { result ≡ Err faults.TooLong
+        → IfSome (left S.remaining input.old) (λ octets. 1048576 < length octets) }
     ensures read { result ≡ Err faults.Read → S.failed input.new.source ≡ one_more (S.failed input.old.source) }
     ensures all_read { result ≢ Err faults.Read → S.failed input.new.source ≡ S.failed input.old.source }
     ensures no_write { result ≢ Err faults.Write }
@@ -73,8 +77,10 @@ pub fn described_before<S: Source>(
 
 /// The text of the description before a conversation.
 pub fn text_before<S: Source>(alloc: Global, input: &mut Input<S>) -> Result<Vec<u8>, ReplayFault>
-    ensures text { IfOk result (λ text. TakesDescription (left S.remaining input.old) text.items (left S.remaining input.new)) }
-    ensures too_long { result ≡ Err faults.TooLong → IfSome (left S.remaining input.old) (λ octets. 1048576 < length octets) }
+    ensures text { IfOk result
+        (λ text. TakesDescription (left S.remaining input.old) text.items (left S.remaining input.new)) }
+    ensures too_long { result ≡ Err faults.TooLong
+        → IfSome (left S.remaining input.old) (λ octets. 1048576 < length octets) }
     ensures read { result ≡ Err faults.Read → S.failed input.new.source ≡ one_more (S.failed input.old.source) }
     ensures all_read { result ≢ Err faults.Read → S.failed input.new.source ≡ S.failed input.old.source }
     ensures no_write { result ≢ Err faults.Write }

@@ -2,7 +2,8 @@
 
 ghost use Rattle.std.specs.Prelude.{◌≡◌, IfOk, option_map};
 ghost use Rattle.dms_text.specs.Reading.{same_octets};
-ghost use Rattle.dms_description.specs.FieldsReading.{octet_at, two_octets_at, last_number_at, octets_at, last_octets_at};
+ghost use Rattle.dms_description.specs.FieldsReading.{octet_at, two_octets_at, last_number_at};
+ghost use Rattle.dms_description.specs.FieldsReading.{octets_at, last_octets_at};
 ghost use Rattle.dms_description.specs.Views.{octets_and_rest, octets_found};
 
 use dms_text::{Words, octets};

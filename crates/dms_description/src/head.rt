@@ -4,7 +4,9 @@ ghost use Rattle.std.specs.Prelude.{◌≡◌, ◌∷◌, [], Some, None, option
 ghost use Rattle.dms_text.specs.Words.{words_of};
 ghost use Rattle.dms_description.specs.Setups.{octets_left};
 ghost use Rattle.dms_description.specs.Views.{communities_seen, beginning_seen, head_seen};
-ghost use Rattle.dms_description.specs.DescriptionReading.{size_of, communities_of, row_counts_of, order_named, order_of, services_of, colours_and_flash_at, defaults_with, defaults_of, first_of, beginning_at, head_at};
+ghost use Rattle.dms_description.specs.DescriptionReading.{size_of, communities_of, row_counts_of, order_named};
+ghost use Rattle.dms_description.specs.DescriptionReading.{order_of, services_of, colours_and_flash_at, defaults_with};
+ghost use Rattle.dms_description.specs.DescriptionReading.{defaults_of, first_of, beginning_at, head_at};
 
 use crate::fault::DescriptionFault;
 use crate::fields::{are_same, octet};
@@ -237,7 +239,8 @@ impl<'a> Beginning<'a> {
     /// The first four lines, and the lines after them.
     #[tactic(auto, unfolding(crate::specs::DescriptionReading::beginning_at))]
     fn read(lines: Lines<'a>) -> Result<(Beginning<'a>, Lines<'a>), DescriptionFault>
-        ensures found { IfOk result (λ x. beginning_at (octets_left lines.entry) ≡ Some (beginning_seen x.0, octets_left x.1)) }
+        ensures found { IfOk result
+            (λ x. beginning_at (octets_left lines.entry) ≡ Some (beginning_seen x.0, octets_left x.1)) }
         ensures none { IfErr result (λ fault. beginning_at (octets_left lines.entry) ≡ None) }
     {
         let (line, lines) = next_line(lines)?;

@@ -31,7 +31,8 @@ impl<'a> Parts<'a> {
     /// What the first lines say, up to the line `end`, and the lines after it.
     #[tactic(auto, unfolding(crate::specs::DescriptionReading::description_at))]
     fn read(alloc: Global, lines: Lines<'a>) -> Result<(Parts<'a>, Lines<'a>), DescriptionFault>
-        ensures found { IfOk result (λ x. description_at (octets_left lines.entry) ≡ Some (parts_seen x.0, octets_left x.1)) }
+        ensures found { IfOk result
+            (λ x. description_at (octets_left lines.entry) ≡ Some (parts_seen x.0, octets_left x.1)) }
         ensures none { IfErr result (λ fault. (fault ≡ DescriptionFault.Memory)
             ⊎ (description_at (octets_left lines.entry) ≡ None)) }
     {
@@ -60,7 +61,8 @@ pub fn sign_of_lines(
     alloc: Global,
     lines: Lines<'_>,
 ) -> Result<(Setup, Lines<'_>), DescriptionFault>
-    ensures read { IfOk result (λ x. (it : Description) × BeginsWith (octets_left lines.entry) (octets_left x.1) it × IsMade it x.0) }
+    ensures read { IfOk result
+        (λ x. (it : Description) × BeginsWith (octets_left lines.entry) (octets_left x.1) it × IsMade it x.0) }
     ensures line { IfErr result (λ fault. (fault ≡ DescriptionFault.Memory)
         ⊎ ((it : Description) (rest : List (List ℕ)) → BeginsWith (octets_left lines.entry) rest it → ⊥)) }
 {

@@ -5,7 +5,8 @@ ghost use Rattle.dms_text.specs.Lines.{kept_lines};
 ghost use Rattle.dms_description.specs.Description.{Description, SpellsSign};
 ghost use Rattle.dms_description.specs.Setups.{octets_left};
 ghost use Rattle.dms_description.specs.Views.{head_seen, row_seen, after};
-ghost use Rattle.dms_description.specs.Causes.{head_cause, form_cause, glyph_cause, last_font, is_no_glyph, line_cause, after_cause, stop_cause, body_cause, first_cause};
+ghost use Rattle.dms_description.specs.Causes.{head_cause, form_cause, glyph_cause, last_font, is_no_glyph};
+ghost use Rattle.dms_description.specs.Causes.{line_cause, after_cause, stop_cause, body_cause, first_cause};
 
 use crate::body_word::BodyWord;
 use crate::fault::DescriptionFault;
@@ -38,7 +39,8 @@ const HEAD: [Form; 7] = [
 /// none where the description is a sign's.
 pub fn why(alloc: Global, octets: &[u8], number: usize) -> Result<Option<Cause>, AllocError>
     ensures cause { IfOk result (λ found. IfSome found (λ cause. first_cause (kept_lines octets.now) ≡ Some cause)) }
-    ensures refused { IfOk result (λ found. IfSome found (λ cause. (it : Description) → SpellsSign (kept_lines octets.now) it → ⊥)) }
+    ensures refused { IfOk result
+        (λ found. IfSome found (λ cause. (it : Description) → SpellsSign (kept_lines octets.now) it → ⊥)) }
 {
     match description(alloc, octets) {
         Err(DescriptionFault::Line(line)) if line == number => first_cause(alloc, octets),
@@ -111,7 +113,8 @@ fn stop_cause(
     fonts: Vec<Font>,
     lines: Upcoming<'_>,
 ) -> Result<Option<Cause>, AllocError>
-    ensures { IfOk result (λ found. found ≡ stop_cause (head_seen head.now) (map row_seen rows.now) fonts.items lines.entry) }
+    ensures { IfOk result
+        (λ found. found ≡ stop_cause (head_seen head.now) (map row_seen rows.now) fonts.items lines.entry) }
 {
     let Some(line) = lines.peek() else {
         return Ok(Some(Cause::NoEnd));

@@ -22,7 +22,8 @@ pub fn put_shown(alloc: Global, report: &mut Vec<u8>, shown: &Shown) -> Result<(
 }
 
 fn put_source(alloc: Global, report: &mut Vec<u8>, shown: &Shown) -> Result<(), AllocError>
-    ensures { OnOk result (report.new.items ≡ report.old.items ++ (codes "shown " ++ decimal shown.now.source.memory ++ codes " "
+    ensures { OnOk result
+        (report.new.items ≡ report.old.items ++ (codes "shown " ++ decimal shown.now.source.memory ++ codes " "
         ++ decimal shown.now.source.number ++ codes " " ++ encode_lower (two_octets shown.now.source.crc))) }
 {
     let source = shown.source;
@@ -31,21 +32,23 @@ fn put_source(alloc: Global, report: &mut Vec<u8>, shown: &Shown) -> Result<(), 
 }
 
 fn put_manner(report: &mut Vec<u8>, shown: &Shown) -> Result<(), AllocError>
-    ensures { OnOk result (report.new.items ≡ report.old.items ++ (codes " mode " ++ decimal shown.now.mode ++ codes " priority "
-        ++ decimal shown.now.priority)) }
+    ensures { OnOk result (report.new.items ≡ report.old.items
+        ++ (codes " mode " ++ decimal shown.now.mode ++ codes " priority " ++ decimal shown.now.priority)) }
 {
     write!(report, " mode {} priority {}", shown.mode, shown.priority).or(Err(AllocError))
 }
 
 fn put_remaining(report: &mut Vec<u8>, shown: &Shown) -> Result<(), AllocError>
-    ensures { OnOk result (report.new.items ≡ report.old.items ++ (codes " remaining " ++ decimal (minutes_left shown.now.remaining))) }
+    ensures { OnOk result
+        (report.new.items ≡ report.old.items ++ (codes " remaining " ++ decimal (minutes_left shown.now.remaining))) }
 {
     let minutes = shown.minutes_left();
     write!(report, " remaining {minutes}").or(Err(AllocError))
 }
 
 fn put_text(alloc: Global, report: &mut Vec<u8>, shown: &Shown) -> Result<(), AllocError>
-    ensures { OnOk result (report.new.items ≡ report.old.items ++ (codes " text " ++ octets_text shown.now.text ++ codes "\n")) }
+    ensures { OnOk result
+        (report.new.items ≡ report.old.items ++ (codes " text " ++ octets_text shown.now.text ++ codes "\n")) }
 {
     let text = octets_text(alloc, shown.text.as_slice())?;
     writeln!(report, " text {text}").or(Err(AllocError))

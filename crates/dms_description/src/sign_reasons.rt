@@ -20,7 +20,8 @@ pub(crate) fn sign_cause(
     rows: &[OwnedRow],
     fonts: Vec<Font>,
 ) -> Result<Option<SignCause>, AllocError>
-    ensures { IfOk result (λ found. found ≡ sign_cause (described (head_seen head.now) (map row_seen rows.now) fonts.items)) }
+    ensures { IfOk result
+        (λ found. found ≡ sign_cause (described (head_seen head.now) (map row_seen rows.now) fonts.items)) }
 {
     let size = head.beginning.size;
     let cause = face_cause(size.width, size.height, fonts.as_slice(), head.defaults);

@@ -21,7 +21,8 @@ pub record PlacedCharacter : Type 0 where
 
 -- A picture stands on the bottom of its line.
 abbrev pub placed_on : ℕ → Line → ℕ × Character → PlacedCharacter
-placed_on top line at_x = record { x = at_x.0; y = top + line_height line - at_x.1.style.font.height; character = at_x.1 }
+placed_on top line at_x =
+    record { x = at_x.0; y = top + line_height line - at_x.1.style.font.height; character = at_x.1 }
 
 abbrev pub line_characters : FaceModel → ℕ × Line → List PlacedCharacter
 line_characters face at_y = map (placed_on at_y.0 at_y.1) (spread character_block face.width at_y.1.characters)
@@ -32,11 +33,13 @@ page_characters face page = flat_map (line_characters face) (spread line_block f
 
 -- the character's picture has its bit there
 abbrev pub is_lit_by : ℕ → ℕ → PlacedCharacter → Bool
-is_lit_by x y placed = nat_le placed.x x && nat_le placed.y y && lit_at placed.character.glyph (x - placed.x) (y - placed.y)
+is_lit_by x y placed =
+    nat_le placed.x x && nat_le placed.y y && lit_at placed.character.glyph (x - placed.x) (y - placed.y)
 
 abbrev pub cell_by : PageModel → Option PlacedCharacter → Cell
 cell_by page None = record { lit = false; colour = page.background; flash = None }
-cell_by page (Some placed) = record { lit = true; colour = placed.character.style.foreground; flash = placed.character.style.flash }
+cell_by page (Some placed) =
+    record { lit = true; colour = placed.character.style.foreground; flash = placed.character.style.flash }
 
 -- the cell of a page in column x and row y
 unfoldable pub cell_of : FaceModel → PageModel → ℕ → ℕ → Cell

@@ -1,6 +1,7 @@
--- What signs are made with: a matrix, its fonts, and what holds where a text says nothing else (NTCIP 1203, sign configuration, font and
--- MULTI objects; the greatest numbers are of this profile).
-use Rattle.std.specs.Prelude.{All, IsTrue, ℕ, ◌==◌, ◌&&◌, Bool, true, not, if◌then◌else◌, List, [], ◌∷◌, length, nat_le, Option, Result, Ok, Err}
+-- What signs are made with: a matrix, its fonts, and what holds where a text says nothing else (NTCIP 1203, sign
+-- configuration, font and MULTI objects; the greatest numbers are of this profile).
+use Rattle.std.specs.Prelude.{All, IsTrue, ℕ, ◌==◌, ◌&&◌, Bool, true, not, if◌then◌else◌}
+use Rattle.std.specs.Prelude.{List, [], ◌∷◌, length, nat_le, Option, Result, Ok, Err}
 use Rattle.std.specs.List.{find, list_any}
 use Rattle.dms_font.specs.Font.{FontModel, IsFont}
 use Rattle.dms_face.specs.declared.defaults.Defaults.{Defaults}
@@ -40,9 +41,8 @@ are_fonts fonts = is_within 1 4 (length fonts) && have_own_numbers fonts
 
 -- Colours are 0 to 9, justifications 2 to 4, times any octet, and the default font is one of the fonts.
 abbrev pub fit : List FontModel → Defaults → Bool
-fit fonts defaults =
-    nat_le defaults.background 9 && nat_le defaults.foreground 9 && is_within 2 4 defaults.line && is_within 2 4 defaults.page
-    && has_font fonts defaults.font
+fit fonts defaults = nat_le defaults.background 9 && nat_le defaults.foreground 9 && is_within 2 4 defaults.line
+    && is_within 2 4 defaults.page && has_font fonts defaults.font
 
 abbrev pub is_face : FaceModel → Bool
 is_face face = is_matrix face.width face.height && are_fonts face.fonts && fit face.fonts face.defaults

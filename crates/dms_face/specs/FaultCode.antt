@@ -5,7 +5,10 @@ use Rattle.dms_multi.specs.declared.fault.FaultCode.TheVariants as syntax
 use Rattle.dms_multi.specs.declared.fault.SyntaxFault.{SyntaxFault}
 use Rattle.dms_face.specs.declared.multi_fault.MultiFault.{MultiFault}
 use Rattle.dms_face.specs.declared.multi_fault.MultiFaultCode.{MultiFaultCode}
-use Rattle.dms_face.specs.declared.multi_fault.MultiFaultCode.TheVariants.{Other, None, UnsupportedTag, UnsupportedTagValue, TextTooBig, FontNotDefined, CharacterNotDefined, TagConflict, TooManyPages, FontVersionId}
+use Rattle.dms_face.specs.declared.multi_fault.MultiFaultCode.TheVariants.{Other, None, UnsupportedTag}
+use Rattle.dms_face.specs.declared.multi_fault.MultiFaultCode.TheVariants.{UnsupportedTagValue, TextTooBig}
+use Rattle.dms_face.specs.declared.multi_fault.MultiFaultCode.TheVariants.{FontNotDefined, CharacterNotDefined}
+use Rattle.dms_face.specs.declared.multi_fault.MultiFaultCode.TheVariants.{TagConflict, TooManyPages, FontVersionId}
 
 abbrev pub number_of_code : MultiFaultCode → ℕ
 number_of_code Other = 1

@@ -4,7 +4,10 @@ use Rattle.dms_face.specs.declared.fault.FaceFault.{FaceFault}
 use Rattle.dms_face.specs.declared.fault.FaceFault.TheVariants.{Size, Fonts, Default}
 use Rattle.dms_face.specs.declared.multi_fault.MultiFault.{MultiFault}
 use Rattle.dms_face.specs.declared.multi_fault.MultiFaultCode.{MultiFaultCode}
-use Rattle.dms_face.specs.declared.multi_fault.MultiFaultCode.TheVariants.{Other, None, UnsupportedTag, UnsupportedTagValue, TextTooBig, FontNotDefined, CharacterNotDefined, TagConflict, TooManyPages, FontVersionId}
+use Rattle.dms_face.specs.declared.multi_fault.MultiFaultCode.TheVariants.{Other, None, UnsupportedTag}
+use Rattle.dms_face.specs.declared.multi_fault.MultiFaultCode.TheVariants.{UnsupportedTagValue, TextTooBig}
+use Rattle.dms_face.specs.declared.multi_fault.MultiFaultCode.TheVariants.{FontNotDefined, CharacterNotDefined}
+use Rattle.dms_face.specs.declared.multi_fault.MultiFaultCode.TheVariants.{TagConflict, TooManyPages, FontVersionId}
 
 abbrev pub face_fault_text : FaceFault → List ℕ
 face_fault_text Size = codes "no size of a matrix"

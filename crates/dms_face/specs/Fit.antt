@@ -1,5 +1,7 @@
 -- Which texts can be shown, and what is wrong with the others (NTCIP 1203, dmsMultiSyntaxError).
-use Rattle.std.specs.Prelude.{ℕ, ◌+◌, ◌≤◌, ◌==◌, ◌&&◌, Bool, true, false, IsTrue, if◌then◌else◌, List, [], ◌∷◌, ◌++◌, length, take, map, Option, Some, None, is_none, unwrap_or, nat_lt, nat_le, Result, Ok, Err}
+use Rattle.std.specs.Prelude.{ℕ, ◌+◌, ◌≤◌, ◌==◌, ◌&&◌, Bool, true, false, IsTrue}
+use Rattle.std.specs.Prelude.{if◌then◌else◌, List, [], ◌∷◌, ◌++◌, length, take, map, Option}
+use Rattle.std.specs.Prelude.{Some, None, is_none, unwrap_or, nat_lt, nat_le, Result, Ok, Err}
 use Rattle.std.specs.List.{list_any, count_by}
 use Rattle.std.specs.Option.{option_or, option_map}
 use Rattle.dms_multi.specs.declared.item.Item.{Item}
@@ -12,7 +14,9 @@ use Rattle.dms_face.specs.declared.justification.Place.{Place}
 use Rattle.dms_face.specs.declared.room.Block.{Block}
 use Rattle.dms_face.specs.declared.multi_fault.MultiFault.{MultiFault}
 use Rattle.dms_face.specs.declared.multi_fault.MultiFaultCode.{MultiFaultCode}
-use Rattle.dms_face.specs.declared.multi_fault.MultiFaultCode.TheVariants.{TextTooBig, FontNotDefined, CharacterNotDefined, TagConflict, TooManyPages, FontVersionId}
+use Rattle.dms_face.specs.declared.multi_fault.MultiFaultCode.TheVariants.{TextTooBig, FontNotDefined}
+use Rattle.dms_face.specs.declared.multi_fault.MultiFaultCode.TheVariants.{CharacterNotDefined, TagConflict}
+use Rattle.dms_face.specs.declared.multi_fault.MultiFaultCode.TheVariants.{TooManyPages, FontVersionId}
 use Rattle.dms_codes.specs.Limits.{longest_text}
 use Rattle.dms_font.specs.Font.{FontModel, glyph_of}
 use Rattle.dms_face.specs.Face.{FaceModel, font_of}
@@ -42,19 +46,25 @@ most_pages = 6
 
 -- Why a turn may not stand after this layout, whatever room there is.
 abbrev pub misuse : FaceModel → Layout → Turn → Option MultiFaultCode
-misuse face layout (Some (Char character)) = if is_none (glyph_of layout.style.font character) then Some CharacterNotDefined else None
+misuse face layout (Some (Char character)) =
+    if is_none (glyph_of layout.style.font character) then Some CharacterNotDefined else None
 misuse face layout (Some (Font (Some wanted))) = font_fault (font_of face wanted.0) wanted.1
-misuse face layout (Some (JustLine side)) = if goes_back (place_of_side (side_of (unwrap_or side face.defaults.line))) (map character_block layout.characters) then Some TagConflict else None
+misuse face layout (Some (JustLine side)) =
+    if goes_back (place_of_side (side_of (unwrap_or side face.defaults.line))) (map character_block layout.characters)
+    then Some TagConflict
+    else None
 misuse face layout (Some (JustPage part)) =
     if same_part (part_of (unwrap_or part face.defaults.page)) layout.style.part then None
-    else if is_taken (place_of_part (part_of (unwrap_or part face.defaults.page))) (map line_block (closed layout)) then Some TagConflict else None
+    else if is_taken (place_of_part (part_of (unwrap_or part face.defaults.page))) (map line_block (closed layout))
+    then Some TagConflict else None
 misuse face layout (Some NewPage) = if nat_le most_pages (length layout.pages + 1) then Some TooManyPages else None
 misuse face layout turn = None
 
 -- each turn may stand after those before it
 abbrev pub are_allowed : FaceModel → Layout → List Turn → Bool
 are_allowed face layout [] = true
-are_allowed face layout (turn ∷ turns) = is_none (misuse face layout turn) && are_allowed face (with_turn face layout turn) turns
+are_allowed face layout (turn ∷ turns) =
+    is_none (misuse face layout turn) && are_allowed face (with_turn face layout turn) turns
 
 -- A prefix fits where each of its turns may stand after those before it, and all that stands then has room.
 abbrev pub fits : FaceModel → List Turn → Bool
@@ -80,7 +90,8 @@ pub record IsGood (face : FaceModel) (text : List ℕ) : Type 0 where
 
 -- the code of the last turn of a prefix that does not fit, where all before it stands so and fits
 abbrev pub code_of : FaceModel → Layout → Turn → MultiFaultCode
-code_of face layout (Some NewPage) = if has_room face (with_turn face layout (Some NewPage)) then TooManyPages else TextTooBig
+code_of face layout (Some NewPage) =
+    if has_room face (with_turn face layout (Some NewPage)) then TooManyPages else TextTooBig
 code_of face layout turn = unwrap_or (misuse face layout turn) TextTooBig
 
 -- a turn, and where it stands in the text
@@ -102,7 +113,8 @@ first_fault face front ((turn, place) ∷ more) =
 
 -- the fault of a text of which this is read: of its prefixes, or else of its grammar
 abbrev pub fault_of_reading : FaceModel → ℕ → List (Result Spot SyntaxFault) → Option MultiFault
-fault_of_reading face end read = option_or (first_fault face [] (turns_in end read)) (option_map syntax_fault (fault_in read))
+fault_of_reading face end read =
+    option_or (first_fault face [] (turns_in end read)) (option_map syntax_fault (fault_in read))
 
 -- the fault of a text, or none
 unfoldable pub fault_of : FaceModel → List ℕ → Option MultiFault

@@ -1,5 +1,5 @@
--- Where characters stand in their line and lines on their page, and the numbers by which the markup names both (NTCIP 1203,
--- defaultJustificationLine and defaultJustificationPage).
+-- Where characters stand in their line and lines on their page, and the numbers by which the markup names both (NTCIP
+-- 1203, defaultJustificationLine and defaultJustificationPage).
 use Rattle.std.specs.Prelude.{ℕ, ◌==◌, Bool, if◌then◌else◌}
 use Rattle.dms_face.specs.declared.justification.Side.{Side}
 use Rattle.dms_face.specs.declared.justification.Side.TheVariants.{Left, Centre, Right}

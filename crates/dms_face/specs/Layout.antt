@@ -1,8 +1,11 @@
--- Where the characters of a message stand: pages of lines of characters, as its items make them one by one (NTCIP 1203, MULTI).
-use Rattle.std.specs.Prelude.{ℕ, ◌&&◌, Bool, true, false, not, if◌then◌else◌, List, [], ◌∷◌, ◌++◌, fold, Option, Some, None, unwrap_or}
+-- Where the characters of a message stand: pages of lines of characters, as its items make them one by one (NTCIP 1203,
+-- MULTI).
+use Rattle.std.specs.Prelude.{ℕ, ◌&&◌, Bool, true, false, not, if◌then◌else◌, List}
+use Rattle.std.specs.Prelude.{[], ◌∷◌, ◌++◌, fold, Option, Some, None, unwrap_or}
 use Rattle.std.specs.List.{list_any}
 use Rattle.dms_multi.specs.declared.item.Item.{Item}
-use Rattle.dms_multi.specs.declared.item.Item.TheVariants.{Char, Background, Foreground, Font, FlashOn, FlashEnd, JustLine, JustPage, NewLine, NewPage, PageTime}
+use Rattle.dms_multi.specs.declared.item.Item.TheVariants.{Char, Background, Foreground, Font, FlashOn, FlashEnd}
+use Rattle.dms_multi.specs.declared.item.Item.TheVariants.{JustLine, JustPage, NewLine, NewPage, PageTime}
 use Rattle.dms_face.specs.declared.cell.Flash.{Flash}
 use Rattle.dms_face.specs.declared.defaults.Defaults.{Defaults}
 use Rattle.dms_font.specs.Glyph.{GlyphModel}
@@ -18,8 +21,8 @@ under face defaults = record face { defaults = defaults }
 
 -- ---- what items say of all that follows them
 
--- The font, the colour and the flash of characters; their side of the line; the part of the page where lines stand; and the
--- page's background and times.
+-- The font, the colour and the flash of characters; their side of the line; the part of the page where lines stand; and
+-- the page's background and times.
 pub record Style : Type 0 where
   pub font : FontModel
   pub foreground : ℕ
@@ -51,11 +54,18 @@ styled face style (Background colour) = record style { background = unwrap_or co
 styled face style (Foreground colour) = record style { foreground = unwrap_or colour face.defaults.foreground }
 styled face style (Font None) = record style { font = unwrap_or (font_of face face.defaults.font) style.font }
 styled face style (Font (Some wanted)) = record style { font = unwrap_or (font_of face wanted.0) style.font }
-styled face style (FlashOn first lit dark) = record style { flash = Some (record { first = first; lit = unwrap_or lit face.defaults.flash_on; dark = unwrap_or dark face.defaults.flash_off }) }
+styled face style (FlashOn first lit dark) = record style {
+  flash = Some (record {
+    first = first;
+    lit = unwrap_or lit face.defaults.flash_on;
+    dark = unwrap_or dark face.defaults.flash_off;
+  });
+}
 styled face style FlashEnd = record style { flash = None }
 styled face style (JustLine side) = record style { side = side_of (unwrap_or side face.defaults.line) }
 styled face style (JustPage part) = record style { part = part_of (unwrap_or part face.defaults.page) }
-styled face style (PageTime on off) = record style { on = unwrap_or on face.defaults.on; off = unwrap_or off face.defaults.off }
+styled face style (PageTime on off) =
+    record style { on = unwrap_or on face.defaults.on; off = unwrap_or off face.defaults.off }
 styled face style _ = style
 
 -- ---- pages of lines of characters
@@ -77,8 +87,8 @@ pub record PageModel : Type 0 where
   pub on : ℕ
   pub off : ℕ
 
--- The pages that are closed; of the open page the lines that are closed; of the open line the characters and the gap above it;
--- and the style of what follows.
+-- The pages that are closed; of the open page the lines that are closed; of the open line the characters and the gap
+-- above it; and the style of what follows.
 pub record Layout : Type 0 where
   pub pages : List PageModel
   pub lines : List Line
@@ -91,7 +101,8 @@ is_blank [] = true
 is_blank (x ∷ xs) = false
 
 abbrev pub open_line : Layout → Line
-open_line layout = record { characters = layout.characters; part = layout.style.part; font = layout.style.font; gap = layout.gap }
+open_line layout =
+    record { characters = layout.characters; part = layout.style.part; font = layout.style.font; gap = layout.gap }
 
 -- the open page's lines while the open line is open: without a character it counts nothing
 abbrev pub standing : Layout → List Line
@@ -100,16 +111,20 @@ standing layout = if is_blank layout.characters then layout.lines else layout.li
 abbrev pub has_line_in : Part → List Line → Bool
 has_line_in part lines = list_any (λ (line : Line). same_part line.part part) lines
 
--- the open page's lines once the open line and its part are closed: a part with a single line without a character has no lines
+-- the open page's lines once the open line and its part are closed: a part with a single line without a character has
+-- no lines
 abbrev pub closed : Layout → List Line
-closed layout = if is_blank layout.characters && not (has_line_in layout.style.part layout.lines) then layout.lines else layout.lines ++ open_line layout ∷ []
+closed layout =
+    if is_blank layout.characters && not (has_line_in layout.style.part layout.lines) then layout.lines
+    else layout.lines ++ open_line layout ∷ []
 
 abbrev pub page_of : Style → List Line → PageModel
 page_of style lines = record { lines = lines; background = style.background; on = style.on; off = style.off }
 
 abbrev pub with_character : Layout → Option GlyphModel → Layout
 with_character layout None = layout
-with_character layout (Some glyph) = record layout { characters = layout.characters ++ (record { glyph = glyph; style = layout.style }) ∷ [] }
+with_character layout (Some glyph) =
+    record layout { characters = layout.characters ++ (record { glyph = glyph; style = layout.style }) ∷ [] }
 
 -- the open line is closed, and the next one opens in the same part
 abbrev pub with_line : Layout → Option ℕ → Layout
@@ -117,11 +132,19 @@ with_line layout gap = record layout { lines = layout.lines ++ open_line layout 
 
 -- The line, its part and the page are closed, and the next page opens.
 abbrev pub with_page : Layout → Layout
-with_page layout = record { pages = layout.pages ++ page_of layout.style (closed layout) ∷ []; lines = []; characters = []; gap = None; style = layout.style }
+with_page layout = record {
+  pages = layout.pages ++ page_of layout.style (closed layout) ∷ [];
+  lines = [];
+  characters = [];
+  gap = None;
+  style = layout.style;
+}
 
 -- Where the part changes, the line and its part are closed, and a line opens in the other part.
 abbrev pub with_part : Layout → Style → Layout
-with_part layout style = if same_part style.part layout.style.part then layout else record { pages = layout.pages; lines = closed layout; characters = []; gap = None; style = style }
+with_part layout style =
+    if same_part style.part layout.style.part then layout
+    else record { pages = layout.pages; lines = closed layout; characters = []; gap = None; style = style }
 
 -- what an item makes of the layout
 abbrev pub with_item : FaceModel → Layout → Item → Layout

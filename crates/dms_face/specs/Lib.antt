@@ -1,4 +1,5 @@
--- what a reader must believe: a face, where the characters of a text stand on it, which texts are good, and what each cell shows
+-- what a reader must believe: a face, where the characters of a text stand on it, which texts are good, and what each
+-- cell shows
 pub mod Face
 pub mod Fault
 pub mod FaultCode

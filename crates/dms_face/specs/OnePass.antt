@@ -1,11 +1,14 @@
--- One walk over the items of a text: whether a prefix of one turn more fits is known by the open line and the open page alone.
-use Rattle.std.specs.Prelude.{ℕ, ◌+◌, ◌&&◌, Bool, if◌then◌else◌, List, [], ◌∷◌, ◌++◌, length, map, Option, Some, None, unwrap_or, nat_le, Result, Ok, Err}
+-- One walk over the items of a text: whether a prefix of one turn more fits is known by the open line and the open page
+-- alone.
+use Rattle.std.specs.Prelude.{ℕ, ◌+◌, ◌&&◌, Bool, if◌then◌else◌, List, [], ◌∷◌, ◌++◌, length}
+use Rattle.std.specs.Prelude.{map, Option, Some, None, unwrap_or, nat_le, Result, Ok, Err}
 use Rattle.dms_multi.specs.declared.item.Item.TheVariants.{Char, JustPage, NewLine, NewPage}
 use Rattle.dms_multi.specs.declared.spots.Spot.{Spot}
 use Rattle.dms_multi.specs.declared.fault.SyntaxFault.{SyntaxFault}
 use Rattle.dms_face.specs.declared.multi_fault.MultiFault.{MultiFault}
 use Rattle.dms_face.specs.declared.multi_fault.MultiFaultCode.{MultiFaultCode}
-use Rattle.dms_face.specs.declared.multi_fault.MultiFaultCode.TheVariants.{TextTooBig, CharacterNotDefined, TagConflict, TooManyPages}
+use Rattle.dms_face.specs.declared.multi_fault.MultiFaultCode.TheVariants.{TextTooBig, CharacterNotDefined}
+use Rattle.dms_face.specs.declared.multi_fault.MultiFaultCode.TheVariants.{TagConflict, TooManyPages}
 use Rattle.dms_face.specs.declared.justification.Part.{Part}
 use Rattle.dms_face.specs.FaultCode.{syntax_fault}
 use Rattle.dms_face.specs.Justification.{part_of, place_of_part, same_part}
@@ -29,7 +32,8 @@ character_fault face layout (Some glyph) = room_fault (open_fits face (with_char
 
 abbrev pub page_fault : FaceModel → Layout → Option MultiFaultCode
 page_fault face layout =
-    if lines_fit face (closed layout) then (if nat_le most_pages (length layout.pages + 1) then Some TooManyPages else None)
+    if lines_fit face (closed layout)
+    then (if nat_le most_pages (length layout.pages + 1) then Some TooManyPages else None)
     else Some TextTooBig
 
 abbrev pub part_fault : FaceModel → Layout → Part → Option MultiFaultCode
@@ -55,5 +59,6 @@ or_else place (Some code) more = Err (record { code = code; place = place })
 -- What is answered for the rest of a text after a layout that fits: the number of pages, or the fault.
 abbrev pub walked : FaceModel → ℕ → Layout → List (Result Spot SyntaxFault) → Result ℕ MultiFault
 walked face end layout [] = or_else end (local_fault face layout None) (Ok (length layout.pages + 1))
-walked face end layout (Ok spot ∷ more) = or_else spot.first (local_fault face layout (Some spot.item)) (walked face end (with_item face layout spot.item) more)
+walked face end layout (Ok spot ∷ more) = or_else spot.first (local_fault face layout (Some spot.item))
+    (walked face end (with_item face layout spot.item) more)
 walked face end layout (Err fault ∷ more) = Err (syntax_fault fault)

@@ -1,5 +1,6 @@
 -- How much room characters and lines take, and where each begins (NTCIP 1203, MULTI).
-use Rattle.std.specs.Prelude.{ℕ, ◌+◌, ◌-◌, ◌/◌, ◌&&◌, Bool, true, not, if◌then◌else◌, List, [], ◌∷◌, map, filter, fold, max, min, None, unwrap_or, nat_lt, nat_le}
+use Rattle.std.specs.Prelude.{ℕ, ◌+◌, ◌-◌, ◌/◌, ◌&&◌, Bool, true, not, if◌then◌else◌, List, []}
+use Rattle.std.specs.Prelude.{◌∷◌, map, filter, fold, max, min, None, unwrap_or, nat_lt, nat_le}
 use Rattle.std.specs.List.{list_any, list_all, flat_map}
 use Rattle.dms_face.specs.declared.justification.Place.{Place}
 use Rattle.dms_face.specs.declared.justification.Place.TheVariants.{Start, Halfway, End}
@@ -29,22 +30,35 @@ extent (a ∷ b ∷ rest) = a.size + gap_between a b + extent (b ∷ rest)
 abbrev pub placed_from : {A : Type 0} → (A → Block) → ℕ → List A → List (ℕ × A)
 placed_from block start [] = []
 placed_from block start (x ∷ []) = (start, x) ∷ []
-placed_from block start (x ∷ y ∷ rest) = (start, x) ∷ placed_from block (start + (block x).size + gap_between (block x) (block y)) (y ∷ rest)
+placed_from block start (x ∷ y ∷ rest) =
+    (start, x) ∷ placed_from block (start + (block x).size + gap_between (block x) (block y)) (y ∷ rest)
 
 -- a character in its line: its side, its picture's width, the spacing of its font
 abbrev pub character_block : Character → Block
-character_block character = record { place = place_of_side character.style.side; size = character.glyph.width; spacing = character.style.font.character_spacing; gap = None }
+character_block character = record {
+  place = place_of_side character.style.side;
+  size = character.glyph.width;
+  spacing = character.style.font.character_spacing;
+  gap = None;
+}
 
 -- the greatest number of a line's fonts; without a character that of the font at its end
 abbrev pub greatest : (FontModel → ℕ) → Line → ℕ
-greatest of_font line = if is_blank line.characters then of_font line.font else fold max 0 (map (λ (character : Character). of_font character.style.font) line.characters)
+greatest of_font line =
+    if is_blank line.characters then of_font line.font
+    else fold max 0 (map (λ (character : Character). of_font character.style.font) line.characters)
 
 abbrev pub line_height : Line → ℕ
 line_height line = greatest (λ (font : FontModel). font.height) line
 
 -- a line on its page: its part, its height, the greatest spacing of its fonts, the gap of its tag
 abbrev pub line_block : Line → Block
-line_block line = record { place = place_of_part line.part; size = line_height line; spacing = greatest (λ (font : FontModel). font.line_spacing) line; gap = line.gap }
+line_block line = record {
+  place = place_of_part line.part;
+  size = line_height line;
+  spacing = greatest (λ (font : FontModel). font.line_spacing) line;
+  gap = line.gap;
+}
 
 -- ---- blocks at three places
 
@@ -70,7 +84,8 @@ places = Start ∷ Halfway ∷ End ∷ []
 
 -- the things of all places, each with the point where it begins
 abbrev pub spread : {A : Type 0} → (A → Block) → ℕ → List A → List (ℕ × A)
-spread block whole xs = flat_map (λ place. placed_from block (begin place whole (extent_at place (map block xs))) (filter (λ x. is_at place (block x)) xs)) places
+spread block whole xs = flat_map (λ place. placed_from block (begin place whole (extent_at place (map block xs)))
+    (filter (λ x. is_at place (block x)) xs)) places
 
 -- ---- whether there is room
 
@@ -107,4 +122,5 @@ page_fits face lines = list_all (λ (line : Line). characters_fit face line.char
 
 -- every page has room for its lines, and every line for its characters, those of the open page included
 abbrev pub has_room : FaceModel → Layout → Bool
-has_room face layout = list_all (λ (page : PageModel). page_fits face page.lines) layout.pages && page_fits face (standing layout)
+has_room face layout = list_all (λ (page : PageModel). page_fits face page.lines) layout.pages
+    && page_fits face (standing layout)

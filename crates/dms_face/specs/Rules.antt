@@ -1,9 +1,10 @@
--- What the rules say of each character and each page of a text (NTCIP 1203, MULTI): what holds for it is what the last item before it
--- said that says it, and else the default.
+-- What the rules say of each character and each page of a text (NTCIP 1203, MULTI): what holds for it is what the last
+-- item before it said that says it, and else the default.
 use Rattle.std.specs.Prelude.{ℕ, ◌+◌, ◌≤◌, List, [], ◌∷◌, ◌++◌, map, flat_map, Option, Some, None, unwrap_or}
 use Rattle.std.specs.List.{count_by}
 use Rattle.dms_multi.specs.declared.item.Item.{Item}
-use Rattle.dms_multi.specs.declared.item.Item.TheVariants.{Char, Background, Foreground, Font, FlashOn, FlashEnd, JustLine, JustPage, NewPage, PageTime}
+use Rattle.dms_multi.specs.declared.item.Item.TheVariants.{Char, Background, Foreground, Font, FlashOn}
+use Rattle.dms_multi.specs.declared.item.Item.TheVariants.{FlashEnd, JustLine, JustPage, NewPage, PageTime}
 use Rattle.dms_face.specs.declared.cell.Flash.{Flash}
 use Rattle.dms_face.specs.declared.justification.Side.{Side}
 use Rattle.dms_face.specs.declared.justification.Part.{Part}
@@ -27,7 +28,11 @@ foreground_said face (Foreground colour) = Some (unwrap_or colour face.defaults.
 foreground_said face _ = None
 
 abbrev pub flash_said : FaceModel → Item → Option (Option Flash)
-flash_said face (FlashOn first lit dark) = Some (Some (record { first = first; lit = unwrap_or lit face.defaults.flash_on; dark = unwrap_or dark face.defaults.flash_off }))
+flash_said face (FlashOn first lit dark) = Some (Some (record {
+  first = first;
+  lit = unwrap_or lit face.defaults.flash_on;
+  dark = unwrap_or dark face.defaults.flash_off;
+}))
 flash_said face FlashEnd = Some None
 flash_said face _ = None
 
@@ -77,14 +82,15 @@ character_with page style None = []
 character_with page style (Some glyph) = (page, record { glyph = glyph; style = style }) ∷ []
 
 abbrev pub character_said : FaceModel → List Item → Item → List (ℕ × Character)
-character_said face before (Char character) =
-    character_with (count_by is_new_page before) (style_after face before) (glyph_of (style_after face before).font character)
+character_said face before (Char character) = character_with (count_by is_new_page before) (style_after face before)
+    (glyph_of (style_after face before).font character)
 character_said face before _ = []
 
 -- the characters of items that stand after those before
 abbrev pub characters_said : FaceModel → List Item → List Item → List (ℕ × Character)
 characters_said face before [] = []
-characters_said face before (item ∷ items) = character_said face before item ++ characters_said face (before ++ item ∷ []) items
+characters_said face before (item ∷ items) =
+    character_said face before item ++ characters_said face (before ++ item ∷ []) items
 
 abbrev pub line_characters : List Line → List Character
 line_characters lines = flat_map (λ (line : Line). line.characters) lines
@@ -92,7 +98,8 @@ line_characters lines = flat_map (λ (line : Line). line.characters) lines
 -- the characters of pages, of which the first has this number
 abbrev pub characters_from : ℕ → List PageModel → List (ℕ × Character)
 characters_from number [] = []
-characters_from number (page ∷ pages) = map (λ (it : Character). (number, it)) (line_characters page.lines) ++ characters_from (number + 1) pages
+characters_from number (page ∷ pages) =
+    map (λ (it : Character). (number, it)) (line_characters page.lines) ++ characters_from (number + 1) pages
 
 -- ---- pages: their background and their times
 

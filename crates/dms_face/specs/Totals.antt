@@ -35,8 +35,10 @@ pub record Tells (totals : Totals) (layout : Layout) : Type 0 where
   pub pages : totals.pages ≡ length layout.pages
   pub lines : TellsBlocks totals.lines (map line_block layout.lines)
   pub characters : TellsBlocks totals.characters (map character_block layout.characters)
-  pub height : totals.height ≡ fold max 0 (map (λ (character : Character). character.style.font.height) layout.characters)
-  pub spacing : totals.spacing ≡ fold max 0 (map (λ (character : Character). character.style.font.line_spacing) layout.characters)
+  pub height : totals.height
+      ≡ fold max 0 (map (λ (character : Character). character.style.font.height) layout.characters)
+  pub spacing : totals.spacing
+      ≡ fold max 0 (map (λ (character : Character). character.style.font.line_spacing) layout.characters)
   pub gap : totals.gap ≡ layout.gap
   pub side : totals.side ≡ layout.style.side
   pub part : totals.part ≡ layout.style.part
@@ -54,7 +56,8 @@ pub record Holds (face : FaceModel) (totals : Totals) (layout : Layout) : Type 0
   pub room : lines_fit face (standing layout) ≡ true
 
 -- What becomes of running sums at an item: it has this fault, or they tell the layout after it.
-pub record Takes (face : FaceModel) (old new : Totals) (result : Option MultiFaultCode) (fault_at : Layout → Option MultiFaultCode) (after : Layout → Layout) : Type 0 where
+pub record Takes (face : FaceModel) (old new : Totals) (result : Option MultiFaultCode)
+    (fault_at : Layout → Option MultiFaultCode) (after : Layout → Layout) : Type 0 where
   pub fault : (layout : Layout) → Holds face old layout → result ≡ fault_at layout
   pub holds : (layout : Layout) → Holds face old layout → IfNone result (Holds face new (after layout))
   pub small : IfNone result (AreSmall new)

@@ -37,7 +37,8 @@ pub fn check_with(face: &Face, defaults: &Defaults, text: &[u8]) -> Result<usize
 /// What is answered for a text that ends at this offset, by one walk over its items.
 fn walk(face: &Face, defaults: &Defaults, spots: Spots<'_>, end: usize) -> Result<usize, MultiFault>
     requires { IsTrue (fit face.now.fonts defaults.now) }
-    ensures { result ≡ walked (under face.now defaults.now) end (blank_layout (under face.now defaults.now)) spots.entry }
+    ensures { result
+        ≡ walked (under face.now defaults.now) end (blank_layout (under face.now defaults.now)) spots.entry }
 {
     let mut totals = Totals::new(face, defaults);
     for outcome in spots {

@@ -3,7 +3,8 @@
 ghost use Rattle.std.specs.Prelude.{◌≡◌, ◌≤◌, IsTrue, ◌↔◌, All};
 ghost use Rattle.std.specs.Option.{option_copied};
 ghost use Rattle.dms_font.specs.Font.{IsFont};
-ghost use Rattle.dms_face.specs.Face.{font_in, font_of, has_font, have_own_numbers, is_within, is_matrix, are_fonts, fit, checked, IsFace};
+ghost use Rattle.dms_face.specs.Face.{font_in, font_of, has_font, have_own_numbers};
+ghost use Rattle.dms_face.specs.Face.{is_within, is_matrix, are_fonts, fit, checked, IsFace};
 
 use crate::defaults::Defaults;
 use crate::fault::FaceFault;
@@ -32,8 +33,8 @@ impl Model for Face {
 }
 
 impl Face {
-    /// The face of a matrix of these columns and rows, or the first thing that is wrong with it: its size, its fonts, its
-    /// defaults.
+    /// The face of a matrix of these columns and rows, or the first thing that is wrong with it: its size, its fonts,
+    /// its defaults.
     pub fn new(
         width: u16,
         height: u16,

@@ -22,8 +22,9 @@ pub fn faces_are_within_their_limits(face: &Face)
 ///
 /// What is closed has room and keeps it: a turn changes the open line and its part of the open page alone.
 pub fn a_turn_changes_the_open_line_and_page_alone()
-    ensures { (face : FaceModel) (front : List Turn) (turn : Turn) → Fits face front
-        → local_fault face (layout_of face front) turn ≡ (if fits face (front ++ turn ∷ []) then None else Some (code_of face (layout_of face front) turn)) }
+    ensures { (face : FaceModel) (front : List Turn) (turn : Turn)
+        → Fits face front → local_fault face (layout_of face front) turn
+        ≡ (if fits face (front ++ turn ∷ []) then None else Some (code_of face (layout_of face front) turn)) }
 {}
 
 /// The empty text is good on every face, whatever its defaults.
@@ -31,7 +32,8 @@ pub fn empty_text_is_good()
     ensures { (face : FaceModel) → IsGood face [] }
 {}
 
-/// A text has no fault on a face exactly where it is good there, whatever the face and whatever numbers stand in the text.
+/// A text has no fault on a face exactly where it is good there, whatever the face and whatever numbers stand in the
+/// text.
 pub fn a_text_without_a_fault_is_good()
     ensures { (face : FaceModel) (text : List ℕ) → (fault_of face text ≡ None) ↔ IsGood face text }
 {}
@@ -43,18 +45,21 @@ pub fn pages_are_counted()
 
 /// A page's background and times are those of the last such item before its end, else the defaults.
 pub fn pages_have_what_was_last_said()
-    ensures { (face : FaceModel) (text : List ℕ) → map page_style (pages_of face text) ≡ pages_said face [] (items_of text) }
+    ensures { (face : FaceModel) (text : List ℕ)
+        → map page_style (pages_of face text) ≡ pages_said face [] (items_of text) }
 {}
 
-/// A character's font, foreground, flash, side and part are those of the last such item before it, else the defaults. The
-/// characters stand in the order of their items, each on the page whose number is that of the new pages before it; one that its
-/// font has not is left out.
+/// A character's font, foreground, flash, side and part are those of the last such item before it, else the defaults.
+/// The characters stand in the order of their items, each on the page whose number is that of the new pages before it;
+/// one that its font has not is left out.
 pub fn characters_have_what_was_last_said()
-    ensures { (face : FaceModel) (text : List ℕ) → characters_from 0 (pages_of face text) ≡ characters_said face [] (items_of text) }
+    ensures { (face : FaceModel) (text : List ℕ)
+        → characters_from 0 (pages_of face text) ≡ characters_said face [] (items_of text) }
 {}
 
-/// In a text that is good on a face no two characters light one cell of a page, so a cell has the foreground and the flash of one
-/// character alone.
+/// In a text that is good on a face no two characters light one cell of a page, so a cell has the foreground and the
+/// flash of one character alone.
 pub fn no_cell_is_lit_twice()
-    ensures { (face : FaceModel) (text : List ℕ) → IsFace face → IsGood face text → All (LightsEachCellOnce face) (pages_of face text) }
+    ensures { (face : FaceModel) (text : List ℕ) → IsFace face → IsGood face text
+        → All (LightsEachCellOnce face) (pages_of face text) }
 {}

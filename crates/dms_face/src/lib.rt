@@ -1,10 +1,21 @@
-//! The face of a sign: what it is made with, where the characters of a text stand on it, and whether it can show the text (NTCIP 1203).
+//! The face of a sign: what it is made with, where the characters of a text stand on it, and whether it can show the
+//! text (NTCIP 1203).
 //!
 //! ```
 //! let font = Font::from_text(alloc, b"font 1 height 5 space 1 line 1 version 0001\nglyph 65 3 57da")?;
 //! let mut fonts = Vec::new(alloc);
 //! fonts.push(font)?;
-//! let defaults = Defaults { background: 0, foreground: 9, flash_on: 5, flash_off: 5, font: 1, line: 3, page: 2, on: 30, off: 0 };
+//! let defaults = Defaults {
+//!     background: 0,
+//!     foreground: 9,
+//!     flash_on: 5,
+//!     flash_off: 5,
+//!     font: 1,
+//!     line: 3,
+//!     page: 2,
+//!     on: 30,
+//!     off: 0,
+//! };
 //! let face = Face::new(7, 5, fonts, defaults)?;
 //! assert_eq!(rt; check(&face, b"AA[np]A"), Ok(2));
 //! let fault = MultiFault { code: MultiFaultCode::TextTooBig, place: 2 };

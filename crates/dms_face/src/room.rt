@@ -9,8 +9,8 @@ ghost use Rattle.dms_face.specs.Totals.{Sums, TellsBlocks, AreWithin};
 
 use crate::justification::Place;
 
-/// What a character is to its line, and a line to its page: its place, its size, its spacing, and the gap that a tag gives
-/// before it.
+/// What a character is to its line, and a line to its page: its place, its size, its spacing, and the gap that a tag
+/// gives before it.
 #[derive(Clone, Copy)]
 pub struct Block {
     /// Where it stands.
@@ -109,7 +109,8 @@ impl Places {
     #[inline]
     pub(crate) fn push(&mut self, block: Block)
         requires { AreWithin 256 self.old }
-        ensures tells { (blocks : List Block) → TellsBlocks self.old blocks → TellsBlocks self.new (blocks ++ block ∷ []) }
+        ensures tells { (blocks : List Block) → TellsBlocks self.old blocks
+            → TellsBlocks self.new (blocks ++ block ∷ []) }
         ensures within { AreWithin 766 self.new }
     {
         match block.place {
@@ -129,7 +130,8 @@ impl Places {
 
     /// Whether a block stands at this place.
     pub(crate) fn any_at(&self, place: Place) -> bool
-        ensures { (blocks : List Block) → TellsBlocks self.now blocks → result ≡ not (is_blank (at_place place blocks)) }
+        ensures { (blocks : List Block) → TellsBlocks self.now blocks
+            → result ≡ not (is_blank (at_place place blocks)) }
     {
         match place {
             Place::Start => self.start.any,
@@ -178,7 +180,8 @@ fn have_room(whole: u32, start: u32, halfway: u32, end: u32) -> bool
     requires start { start ≤ 766 }
     requires halfway { halfway ≤ 766 }
     requires end { end ≤ 766 }
-    ensures room { result ≡ have_room whole (span whole Start start ∷ span whole Halfway halfway ∷ span whole End end ∷ []) }
+    ensures room { result
+        ≡ have_room whole (span whole Start start ∷ span whole Halfway halfway ∷ span whole End end ∷ []) }
     ensures within { IsTrue result → start ≤ whole × halfway ≤ whole × end ≤ whole }
 {
     if halfway == 0 {

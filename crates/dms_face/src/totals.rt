@@ -3,7 +3,8 @@
 ghost use Rattle.std.specs.Prelude.{◌≡◌, List, [], ◌∷◌, ◌++◌, map, true, false, not, Some, None, IsTrue, IfNone};
 ghost use Rattle.dms_multi.specs.declared.item.Item.TheVariants.{JustLine};
 ghost use Rattle.dms_face.specs.Face.{fit};
-ghost use Rattle.dms_face.specs.Layout.{Layout, Line, is_blank, under, open_line, standing, closed, has_line_in, with_character, with_line, with_page, with_part, with_item, blank_layout};
+ghost use Rattle.dms_face.specs.Layout.{Layout, Line, is_blank, under, open_line, standing, closed, has_line_in};
+ghost use Rattle.dms_face.specs.Layout.{with_character, with_line, with_page, with_part, with_item, blank_layout};
 ghost use Rattle.dms_face.specs.Room.{line_block, lines_fit};
 ghost use Rattle.dms_face.specs.Fit.{misuse};
 ghost use Rattle.dms_face.specs.OnePass.{room_fault, open_fits, page_fault, part_fault, local_fault};
@@ -21,7 +22,8 @@ use dms_multi::Item;
 pub const MAX_PAGES: usize = 6;
 
 /// The pages that are closed, the lines of the open page, the characters of the open line with the greatest height and
-/// spacing of their fonts, the gap above that line, and what holds for the next character: its side, its part and its font.
+/// spacing of their fonts, the gap above that line, and what holds for the next character: its side, its part and its
+/// font.
 #[derive(Clone, Copy)]
 pub struct Totals<'a> {
     pub(crate) pages: usize,
@@ -64,7 +66,8 @@ impl<'a> Totals<'a> {
     #[inline(always)]
     fn lines_with_open(&self) -> Places
         requires within { AreWithin 256 self.now.lines }
-        ensures tells { (layout : Layout) → Tells self.now layout → TellsBlocks result (map line_block (layout.lines ++ open_line layout ∷ [])) }
+        ensures tells { (layout : Layout) → Tells self.now layout
+            → TellsBlocks result (map line_block (layout.lines ++ open_line layout ∷ [])) }
         ensures within { AreWithin 766 result }
     {
         let mut lines = self.lines;
@@ -75,7 +78,8 @@ impl<'a> Totals<'a> {
     /// The open page's lines while the open line is open.
     fn standing(&self) -> Places
         requires within { AreWithin 256 self.now.lines }
-        ensures tells { (layout : Layout) → Tells self.now layout → TellsBlocks result (map line_block (standing layout)) }
+        ensures tells { (layout : Layout) → Tells self.now layout
+            → TellsBlocks result (map line_block (standing layout)) }
         ensures within { AreWithin 766 result }
     {
         if !self.holds_character() {
@@ -96,7 +100,8 @@ impl<'a> Totals<'a> {
     /// The open page's lines with the open line and its part closed.
     fn closed(&self) -> Places
         requires within { AreWithin 256 self.now.lines }
-        ensures tells { (layout : Layout) → Tells self.now layout → TellsBlocks result (map line_block (closed layout)) }
+        ensures tells { (layout : Layout) → Tells self.now layout
+            → TellsBlocks result (map line_block (closed layout)) }
         ensures within { AreWithin 766 result }
     {
         if self.holds_character() || self.holds_line() {
@@ -108,7 +113,8 @@ impl<'a> Totals<'a> {
 
     /// These are the closed lines of the open page, and after them a line opens, with this gap above it.
     fn open_line(&mut self, lines: Places, gap: Option<u8>)
-        ensures tells { (layout : Layout) (closed_lines : List Line) → Tells self.old layout → TellsBlocks lines (map line_block closed_lines)
+        ensures tells { (layout : Layout) (closed_lines : List Line)
+            → Tells self.old layout → TellsBlocks lines (map line_block closed_lines)
             → Tells self.new (record layout { lines = closed_lines; characters = []; gap = gap }) }
         ensures small { AreSmall self.old → AreWithin 256 lines → AreSmall self.new }
         ensures pages { self.new.pages ≡ self.old.pages }
@@ -125,7 +131,8 @@ impl<'a> Totals<'a> {
     #[inline]
     fn add_character(&mut self, glyph: &Glyph) -> bool
         requires small { AreSmall self.old }
-        ensures tells { (layout : Layout) → Tells self.old layout → Tells self.new (with_character layout (Some glyph.now)) }
+        ensures tells { (layout : Layout) → Tells self.old layout
+            → Tells self.new (with_character layout (Some glyph.now)) }
         ensures same { (layout : Layout) → Tells self.old layout → result ≡ false
             → map line_block (standing (with_character layout (Some glyph.now))) ≡ map line_block (standing layout) }
         ensures within { AreWithin 766 self.new.characters }
@@ -151,8 +158,8 @@ impl<'a> Totals<'a> {
     fn open_fits(&self, face: &Face, grown: bool) -> bool
         requires within { AreWithin 256 self.now.lines }
         requires characters { AreWithin 766 self.now.characters }
-        ensures fit { (layout : Layout) → Tells self.now layout → (grown ≡ false → lines_fit face.now (standing layout) ≡ true)
-            → result ≡ open_fits face.now layout }
+        ensures fit { (layout : Layout) → Tells self.now layout
+            → (grown ≡ false → lines_fit face.now (standing layout) ≡ true) → result ≡ open_fits face.now layout }
         ensures within { IsTrue result → AreWithin 256 self.now.characters }
     {
         self.characters.fit(u32::from(face.width()))
@@ -163,7 +170,9 @@ impl<'a> Totals<'a> {
     #[inline]
     fn take_character(&mut self, face: &Face, glyph: &Glyph) -> Option<MultiFaultCode>
         requires { AreSmall self.old }
-        ensures { Takes face.now self.old self.new result (λ (layout : Layout). room_fault (open_fits face.now (with_character layout (Some glyph.now)))) (λ (layout : Layout). with_character layout (Some glyph.now)) }
+        ensures { Takes face.now self.old self.new result
+            (λ (layout : Layout). room_fault (open_fits face.now (with_character layout (Some glyph.now))))
+            (λ (layout : Layout). with_character layout (Some glyph.now)) }
     {
         let grown = self.add_character(glyph);
         if self.open_fits(face, grown) {
@@ -176,7 +185,9 @@ impl<'a> Totals<'a> {
     /// The open line is closed and the next one opens, or it does not fit.
     fn take_line(&mut self, face: &Face, gap: Option<u8>) -> Option<MultiFaultCode>
         requires { AreSmall self.old }
-        ensures { Takes face.now self.old self.new result (λ (layout : Layout). room_fault (lines_fit face.now (layout.lines ++ open_line layout ∷ []))) (λ (layout : Layout). with_line layout gap) }
+        ensures { Takes face.now self.old self.new result
+            (λ (layout : Layout). room_fault (lines_fit face.now (layout.lines ++ open_line layout ∷ [])))
+            (λ (layout : Layout). with_line layout gap) }
     {
         let lines = self.lines_with_open();
         if !lines.fit(u32::from(face.height())) {
@@ -198,7 +209,8 @@ impl<'a> Totals<'a> {
     #[tactic(auto, using(crate::proofs::RoomLaws::nothing_fits))]
     fn take_page(&mut self, face: &Face) -> Option<MultiFaultCode>
         requires { AreSmall self.old }
-        ensures { Takes face.now self.old self.new result (λ (layout : Layout). page_fault face.now layout) (λ (layout : Layout). with_page layout) }
+        ensures { Takes face.now self.old self.new result (λ (layout : Layout). page_fault face.now layout)
+            (λ (layout : Layout). with_page layout) }
     {
         if !self.closed_fits(face) {
             return Some(MultiFaultCode::TextTooBig);
@@ -214,7 +226,8 @@ impl<'a> Totals<'a> {
     /// A line opens in another part of the page, or may not, or what is closed does not fit.
     fn take_part(&mut self, face: &Face, part: Part) -> Option<MultiFaultCode>
         requires { AreSmall self.old }
-        ensures { Takes face.now self.old self.new result (λ (layout : Layout). part_fault face.now layout part) (λ (layout : Layout). with_part layout (record layout.style { part = part })) }
+        ensures { Takes face.now self.old self.new result (λ (layout : Layout). part_fault face.now layout part)
+            (λ (layout : Layout). with_part layout (record layout.style { part = part })) }
     {
         if part.is(self.part) {
             return None;
@@ -240,7 +253,9 @@ impl<'a> Totals<'a> {
     ) -> Option<MultiFaultCode>
         requires small { AreSmall self.old }
         requires fit { IsTrue (fit face.now.fonts defaults.now) }
-        ensures { Takes (under face.now defaults.now) self.old self.new result (λ (layout : Layout). misuse (under face.now defaults.now) layout (Some (JustLine side))) (λ (layout : Layout). with_item (under face.now defaults.now) layout (JustLine side)) }
+        ensures { Takes (under face.now defaults.now) self.old self.new result
+            (λ (layout : Layout). misuse (under face.now defaults.now) layout (Some (JustLine side)))
+            (λ (layout : Layout). with_item (under face.now defaults.now) layout (JustLine side)) }
     {
         let side = Side::of_number(side.unwrap_or(defaults.line));
         if self.characters.goes_back(side.place()) {
@@ -259,7 +274,9 @@ impl<'a> Totals<'a> {
         version: Option<u16>,
     ) -> Option<MultiFaultCode>
         requires { AreSmall self.old }
-        ensures { Takes face.now self.old self.new result (λ (layout : Layout). misuse face.now layout (Some (Item.Font (Some (number, version))))) (λ (layout : Layout). with_item face.now layout (Item.Font (Some (number, version)))) }
+        ensures { Takes face.now self.old self.new result
+            (λ (layout : Layout). misuse face.now layout (Some (Item.Font (Some (number, version)))))
+            (λ (layout : Layout). with_item face.now layout (Item.Font (Some (number, version)))) }
     {
         let Some(font) = face.font(number) else {
             return Some(MultiFaultCode::FontNotDefined);
@@ -279,7 +296,9 @@ impl<'a> Totals<'a> {
     fn take_default_font(&mut self, face: &'a Face, defaults: &Defaults)
         requires small { AreSmall self.old }
         requires fit { IsTrue (fit face.now.fonts defaults.now) }
-        ensures holds { (layout : Layout) → Holds (under face.now defaults.now) self.old layout → Holds (under face.now defaults.now) self.new (with_item (under face.now defaults.now) layout (Item.Font None)) }
+        ensures holds { (layout : Layout) → Holds (under face.now defaults.now) self.old layout
+            → Holds (under face.now defaults.now) self.new
+            (with_item (under face.now defaults.now) layout (Item.Font None)) }
         ensures small { AreSmall self.new }
     {
         if let Some(font) = face.font(defaults.font) {
@@ -297,7 +316,9 @@ impl<'a> Totals<'a> {
     ) -> Option<MultiFaultCode>
         requires small { AreSmall self.old }
         requires fit { IsTrue (fit face.now.fonts defaults.now) }
-        ensures { Takes (under face.now defaults.now) self.old self.new result (λ (layout : Layout). local_fault (under face.now defaults.now) layout (Some item)) (λ (layout : Layout). with_item (under face.now defaults.now) layout item) }
+        ensures { Takes (under face.now defaults.now) self.old self.new result
+            (λ (layout : Layout). local_fault (under face.now defaults.now) layout (Some item))
+            (λ (layout : Layout). with_item (under face.now defaults.now) layout item) }
     {
         match item {
             Item::Char(character) => match self.font.glyph(character) {

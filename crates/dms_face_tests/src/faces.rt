@@ -139,7 +139,8 @@ fn answers(alloc: Global) -> Result<Option<[Result<usize, MultiFault>; 2]>, Font
     }
 }
 
-/// With any allocation refused, the fonts of a face are out of memory, and the same face with memory checks texts as ever.
+/// With any allocation refused, the fonts of a face are out of memory, and the same face with memory checks texts as
+/// ever.
 #[test]
 fn face_or_out_of_memory(rt: HostRuntime) {
     let wanted = Ok(Some([Ok(2), Err(TOO_BIG)]));

@@ -75,7 +75,8 @@ fn lit_cells(page: &Page) -> u32 {
     count
 }
 
-/// With any allocation of the call refused it answers that memory is out, and the same call with memory gives the pages.
+/// With any allocation of the call refused it answers that memory is out, and the same call with memory gives the
+/// pages.
 #[test]
 fn pages_or_out_of_memory(rt: HostRuntime) {
     let Ok(face) = face(rt.alloc()) else {
@@ -193,7 +194,8 @@ fn look_of(page: &Page) -> Option<Look> {
     Some((times, first_lit(page)?))
 }
 
-/// The check's answer to a text, how many pages it has, and the look of the first one, under these defaults, where they fit.
+/// The check's answer to a text, how many pages it has, and the look of the first one, under these defaults, where they
+/// fit.
 fn look_under(
     alloc: Global,
     face: &Face,

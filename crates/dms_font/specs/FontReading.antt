@@ -1,5 +1,6 @@
 -- Reading a font from the beginning of its text: the font, or the first fault and its line.
-use Rattle.std.specs.Prelude.{ℕ, ◌+◌, ◌*◌, ◌/◌, ◌==◌, Bool, if◌then◌else◌, List, [], ◌∷◌, ◌++◌, length, codes, nat_le, Option, Some, None, Result, Ok, Err}
+use Rattle.std.specs.Prelude.{ℕ, ◌+◌, ◌*◌, ◌/◌, ◌==◌, Bool, if◌then◌else◌, List, [], ◌∷◌, ◌++◌}
+use Rattle.std.specs.Prelude.{length, codes, nat_le, Option, Some, None, Result, Ok, Err}
 use Rattle.dms_text.specs.Lines.{NumberedLine, TextLeft, lines_left, number_after}
 use Rattle.dms_text.specs.Words.{words_of}
 use Rattle.dms_text.specs.Reading.{word_at, keyword_at, decimal_at, is_end, version_of, octets_of, ◌>>=◌}
@@ -27,7 +28,14 @@ header_of words = do
   character_spacing ← labelled_at (codes "space") 0 32 height.1
   line_spacing ← labelled_at (codes "line") 0 32 character_spacing.1
   version ← version_at line_spacing.1
-  Some (record { number = number.0; height = height.0; character_spacing = character_spacing.0; line_spacing = line_spacing.0; version = version; glyphs = [] })
+  Some (record {
+    number = number.0;
+    height = height.0;
+    character_spacing = character_spacing.0;
+    line_spacing = line_spacing.0;
+    version = version;
+    glyphs = [];
+  })
 
 -- what the words of a character's line are: the character, its width, and the word of its bits
 pub record GlyphWords : Type 0 where
@@ -91,13 +99,15 @@ placed Memory line = fault Memory 0
 placed kind line = fault kind line
 
 -- the font with the characters of all these lines
-abbrev pub added_then : (FontModel → Result FontModel FontFault) → ℕ → Result FontModel FontFaultKind → Result FontModel FontFault
+abbrev pub added_then : (FontModel → Result FontModel FontFault) → ℕ → Result FontModel FontFaultKind
+    → Result FontModel FontFault
 added_then more number (Err kind) = Err (placed kind number)
 added_then more number (Ok font) = more font
 
 unfoldable pub glyphs_added : FontModel → List NumberedLine → Result FontModel FontFault
 glyphs_added font [] = Ok font
-glyphs_added font (line ∷ lines) = added_then (λ longer. glyphs_added longer lines) line.number (glyph_added font line.octets)
+glyphs_added font (line ∷ lines) =
+    added_then (λ longer. glyphs_added longer lines) line.number (glyph_added font line.octets)
 
 abbrev pub font_with : ℕ → List NumberedLine → Option FontModel → Result FontModel FontFault
 font_with number lines None = Err (fault Header number)

@@ -1,5 +1,5 @@
--- Fonts as text: a line `font N height H space C line L version V`, then a line `glyph CHARACTER WIDTH BITS` for each character (this
--- profile).
+-- Fonts as text: a line `font N height H space C line L version V`, then a line `glyph CHARACTER WIDTH BITS` for each
+-- character (this profile).
 use Rattle.std.specs.Prelude.{◌≡◌, ℕ, ◌≤◌, IsTrue, List, [], ◌∷◌, length, codes}
 use Rattle.dms_text.specs.Lines.{kept_lines}
 use Rattle.dms_text.specs.Words.{words_of}
@@ -39,7 +39,8 @@ pub record SpellsGlyph (height : ℕ) (glyph : GlyphModel) (words : List (List �
 abbrev pub SpellsGlyphs : ℕ → List GlyphModel → List (List ℕ) → Type 0
 SpellsGlyphs height [] lines = lines ≡ []
 SpellsGlyphs height (glyph ∷ glyphs) [] = ⊥
-SpellsGlyphs height (glyph ∷ glyphs) (line ∷ lines) = SpellsGlyph height glyph (words_of line) × SpellsGlyphs height glyphs lines
+SpellsGlyphs height (glyph ∷ glyphs) (line ∷ lines) =
+    SpellsGlyph height glyph (words_of line) × SpellsGlyphs height glyphs lines
 
 -- A font has at most 255 characters, each once.
 pub record SpellsFontLines (lines : List (List ℕ)) (font : FontModel) : Type 0 where

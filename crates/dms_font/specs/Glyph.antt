@@ -1,5 +1,6 @@
 -- A character's picture (NTCIP 1203, characterBitmap).
-use Rattle.std.specs.Prelude.{◌≡◌, ℕ, zero, suc, ◌/◌, ◌%◌, ◌^◌, ◌==◌, ◌<◌, ◌≤◌, ◌*◌, ◌+◌, Bool, false, if◌then◌else◌, map, List, [], ◌∷◌, ◌++◌, length, take, drop, slice_index_or}
+use Rattle.std.specs.Prelude.{◌≡◌, ℕ, zero, suc, ◌/◌, ◌%◌, ◌^◌, ◌==◌, ◌<◌, ◌≤◌, ◌*◌, ◌+◌, Bool, false}
+use Rattle.std.specs.Prelude.{if◌then◌else◌, map, List, [], ◌∷◌, ◌++◌, length, take, drop, slice_index_or}
 use Rattle.std.specs.Int.{bit_at}
 use Rattle.std.specs.List.{flat_map, range_with_len, AllByRecursion}
 
@@ -40,7 +41,8 @@ rows_of width (suc height) bits = take width bits ∷ rows_of width height (drop
 
 -- the picture that octets are
 abbrev pub glyph_from : ℕ → ℕ → ℕ → List ℕ → GlyphModel
-glyph_from character width height octets = record { character = character; width = width; rows = rows_of width height (bits_of octets) }
+glyph_from character width height octets =
+    record { character = character; width = width; rows = rows_of width height (bits_of octets) }
 
 -- octets that are a picture: enough for its bits, and its limits
 pub record IsPicture (character width height : ℕ) (octets : List ℕ) : Type 0 where

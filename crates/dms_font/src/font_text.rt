@@ -7,7 +7,8 @@ ghost use Rattle.dms_text.specs.Words.{words_of};
 ghost use Rattle.dms_font.specs.Glyph.{GlyphModel};
 ghost use Rattle.dms_font.specs.Font.{FontModel, IsGlyph};
 ghost use Rattle.dms_font.specs.FontText.{SpellsFont};
-ghost use Rattle.dms_font.specs.FontReading.{labelled_at, version_at, header_of, glyph_words, are_enough, bitmap_read, glyph_read, glyph_added, glyphs_added, font_read, fault, placed};
+ghost use Rattle.dms_font.specs.FontReading.{labelled_at, version_at, header_of, glyph_words, are_enough, bitmap_read};
+ghost use Rattle.dms_font.specs.FontReading.{glyph_read, glyph_added, glyphs_added, font_read, fault, placed};
 ghost use Rattle.dms_font.specs.FontView.{glyph_line, GivesOrMemory, ReadsOrMemory};
 
 use crate::fault::{FontFault, FontFaultKind};
@@ -112,8 +113,8 @@ fn fault_at(kind: FontFaultKind, line: usize) -> FontFault
 
 impl Font {
     /// The font that a text spells, or the first fault and its line. The text has a line
-    /// `font N height H space C line L version V` and a line `glyph CHARACTER WIDTH BITS` for each character; empty lines,
-    /// and lines that begin with `#`, are skipped.
+    /// `font N height H space C line L version V` and a line `glyph CHARACTER WIDTH BITS` for each character; empty
+    /// lines, and lines that begin with `#`, are skipped.
     pub fn from_text(alloc: Global, text: &[u8]) -> Result<Font, FontFault>
         ensures found { IfOk result (λ (font : FontModel). SpellsFont text.now font) }
         ensures only { (font : FontModel) → SpellsFont text.now font

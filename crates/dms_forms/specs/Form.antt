@@ -1,5 +1,6 @@
 -- What each word of a line is to be, and the first word that is not (this profile).
-use Rattle.std.specs.Prelude.{ℕ, ◌+◌, ◌==◌, ◌&&◌, ◌||◌, Bool, true, false, if◌then◌else◌, List, [], ◌∷◌, length, nat_le, Option, Some, None, is_some, Result, Ok, Err}
+use Rattle.std.specs.Prelude.{ℕ, ◌+◌, ◌==◌, ◌&&◌, ◌||◌, Bool, true, false, if◌then◌else◌, List, []}
+use Rattle.std.specs.Prelude.{◌∷◌, length, nat_le, Option, Some, None, is_some, Result, Ok, Err}
 use Rattle.hex.specs.Hex.{decode_of}
 use Rattle.hex.specs.declared.error.FromHexError.{FromHexError}
 use Rattle.dms_text.specs.Words.{parts_of}
@@ -68,15 +69,18 @@ surplus None = kinds.Empty
 surplus (Some found) = kinds.More
 
 -- a word where this one is wanted, and the others after it
-abbrev pub fault_then : (List (List ℕ) → Option WordFault) → ℕ → Wanted → Option (List ℕ × List (List ℕ)) → Option WordFault
+abbrev pub fault_then : (List (List ℕ) → Option WordFault) → ℕ → Wanted
+    → Option (List ℕ × List (List ℕ)) → Option WordFault
 fault_then others place wanted None = fault_at place kinds.Empty
-fault_then others place wanted (Some found) = if is_wanted wanted found.0 then others found.1 else fault_at place (kinds.Not wanted)
+fault_then others place wanted (Some found) =
+    if is_wanted wanted found.0 then others found.1 else fault_at place (kinds.Not wanted)
 
 -- the first word that is not what is wanted there, that of this place first
 unfoldable pub fault_from : ℕ → List Wanted → List (List ℕ) → Option WordFault
 fault_from place [] words = if is_end words then None else fault_at place (surplus (word_at words))
 fault_from place (wanted ∷ more) words =
-    if is_end words then fault_at place (kinds.Missing wanted) else fault_then (fault_from (place + 1) more) place wanted (word_at words)
+    if is_end words then fault_at place (kinds.Missing wanted)
+    else fault_then (fault_from (place + 1) more) place wanted (word_at words)
 
 -- the first word of a line that is not what is wanted there
 abbrev pub word_fault : List Wanted → List (List ℕ) → Option WordFault

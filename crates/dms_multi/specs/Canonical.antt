@@ -1,9 +1,11 @@
--- The canonical text of items, a choice of the profile's own: small letters in names, numbers without leading zeros, a background as `pb`
--- (this profile).
-use Rattle.std.specs.Prelude.{ℕ, ◌/◌, ◌%◌, Bool, true, false, if◌then◌else◌, List, [], ◌∷◌, ◌++◌, nat_lt, Option, Some, None, codes, decimal, flat_map}
+-- The canonical text of items, a choice of the profile's own: small letters in names, numbers without leading zeros, a
+-- background as `pb` (this profile).
+use Rattle.std.specs.Prelude.{ℕ, ◌/◌, ◌%◌, Bool, true, false, if◌then◌else◌, List, [], ◌∷◌}
+use Rattle.std.specs.Prelude.{◌++◌, nat_lt, Option, Some, None, codes, decimal, flat_map}
 use Rattle.std.specs.Fmt.{digits, digit_glyph}
 use Rattle.dms_multi.specs.declared.item.Item.{Item}
-use Rattle.dms_multi.specs.declared.item.Item.TheVariants.{Char, Background, Foreground, Font, FlashOn, FlashEnd, JustLine, JustPage, NewLine, NewPage, PageTime}
+use Rattle.dms_multi.specs.declared.item.Item.TheVariants.{Char, Background, Foreground, Font, FlashOn, FlashEnd}
+use Rattle.dms_multi.specs.declared.item.Item.TheVariants.{JustLine, JustPage, NewLine, NewPage, PageTime}
 use Rattle.dms_multi.specs.declared.item.Lead.{Lead}
 use Rattle.dms_multi.specs.declared.item.Lead.TheVariants.{Lit, Dark}
 use Rattle.dms_multi.specs.Grammar.{plain}
@@ -20,7 +22,8 @@ later_time_text letter (Some n) = letter ++ decimal n
 
 -- four hexadecimal digits, capital or small ones
 abbrev pub hexadecimal_text : Bool → ℕ → List ℕ
-hexadecimal_text upper n = digit_glyph upper (n / 4096) ∷ digit_glyph upper (n / 256 % 16) ∷ digit_glyph upper (n / 16 % 16) ∷ digit_glyph upper (n % 16) ∷ []
+hexadecimal_text upper n = digit_glyph upper (n / 4096) ∷ digit_glyph upper (n / 256 % 16)
+    ∷ digit_glyph upper (n / 16 % 16) ∷ digit_glyph upper (n % 16) ∷ []
 
 -- how many of them are leading zeros; the last one is none
 abbrev pub leading_zeros : ℕ → ℕ

@@ -1,9 +1,11 @@
 -- Which octets spell an item of MULTI, the markup of a sign's message (NTCIP 1203), and where a text goes wrong.
-use Rattle.std.specs.Prelude.{◌≡◌, ◌↔◌, ℕ, ◌+◌, ◌≤◌, ◌==◌, ◌⊎◌, ◌||◌, Bool, if◌then◌else◌, List, [], ◌∷◌, ◌++◌, length, take, drop, map, Option, Some, None, Result, Ok, Err, codes}
+use Rattle.std.specs.Prelude.{◌≡◌, ◌↔◌, ℕ, ◌+◌, ◌≤◌, ◌==◌, ◌⊎◌, ◌||◌, Bool, if◌then◌else◌, List, [], ◌∷◌}
+use Rattle.std.specs.Prelude.{◌++◌, length, take, drop, map, Option, Some, None, Result, Ok, Err, codes}
 use Rattle.std.specs.Str.{str_to_ascii_lowercase}
 use Rattle.dms_text.specs.Numbers.{SpellsNumber, SpellsDecimal, SpellsVersion}
 use Rattle.dms_multi.specs.declared.item.Item.{Item}
-use Rattle.dms_multi.specs.declared.item.Item.TheVariants.{Char, Background, Foreground, Font, FlashOn, FlashEnd, JustLine, JustPage, NewLine, NewPage, PageTime}
+use Rattle.dms_multi.specs.declared.item.Item.TheVariants.{Char, Background, Foreground, Font, FlashOn, FlashEnd}
+use Rattle.dms_multi.specs.declared.item.Item.TheVariants.{JustLine, JustPage, NewLine, NewPage, PageTime}
 use Rattle.dms_multi.specs.declared.item.Lead.{Lead}
 use Rattle.dms_multi.specs.declared.item.Lead.TheVariants.{Lit, Dark}
 use Rattle.dms_multi.specs.declared.spots.Spot.{Spot}
@@ -65,7 +67,8 @@ FontValue (Some (n, Some version)) = SpellsDecimal 1 255 n ⨾ (Exactly (codes "
 
 -- a flash: no times, or two of which that after `t` is the lit and that after `o` the dark one
 abbrev pub FlashTimes : Lead → Option ℕ → Option ℕ → List ℕ → Type 0
-FlashTimes Lit lit dark text = ((lit ≡ None) × (dark ≡ None) × Nothing text) ⊎ (Word (codes "t") ⨾ Times (codes "o") 99 lit dark) text
+FlashTimes Lit lit dark text = ((lit ≡ None) × (dark ≡ None) × Nothing text)
+    ⊎ (Word (codes "t") ⨾ Times (codes "o") 99 lit dark) text
 FlashTimes Dark lit dark text = (Word (codes "o") ⨾ Times (codes "t") 99 dark lit) text
 
 -- ---- items
@@ -119,9 +122,9 @@ SpotsSpell offset (spot ∷ spots) text = (IsSpot offset spot ⨾ SpotsSpell spo
 
 -- a tag's name, its letters in either case
 abbrev pub Name : List ℕ → Type 0
-Name =
-    Word (codes "cb") or Word (codes "pb") or Word (codes "cf") or Word (codes "fo") or Word (codes "fl") or Word (codes "/fl")
-    or Word (codes "hc") or Word (codes "jl") or Word (codes "jp") or Word (codes "nl") or Word (codes "np") or Word (codes "pt")
+Name = Word (codes "cb") or Word (codes "pb") or Word (codes "cf") or Word (codes "fo") or Word (codes "fl")
+    or Word (codes "/fl") or Word (codes "hc") or Word (codes "jl") or Word (codes "jp") or Word (codes "nl")
+    or Word (codes "np") or Word (codes "pt")
 
 -- a tag whose body begins with a name, and whatever follows it
 abbrev pub BeginsWithNamedTag : List ℕ → Type 0

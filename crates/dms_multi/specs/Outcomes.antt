@@ -13,7 +13,8 @@ abbrev pub fault : ℕ → List ℕ → FaultCode → SyntaxFault
 fault end text code = record { code = code; place = end - length text }
 
 -- an item's spot and what is read after it, or a fault
-abbrev pub with_outcome : ℕ → List ℕ → Result (Item × List ℕ) FaultCode → (List ℕ → List (Result Spot SyntaxFault)) → List (Result Spot SyntaxFault)
+abbrev pub with_outcome : ℕ → List ℕ → Result (Item × List ℕ) FaultCode → (List ℕ → List (Result Spot SyntaxFault))
+    → List (Result Spot SyntaxFault)
 with_outcome end text (Ok piece) more = Ok (spot end text piece) ∷ more piece.1
 with_outcome end text (Err code) more = Err (fault end text code) ∷ []
 

@@ -1,5 +1,6 @@
 -- Reading items: the item that a tag's body spells, and the item at the beginning of a text.
-use Rattle.std.specs.Prelude.{◌≡◌, ℕ, ◌==◌, ◌&&◌, if◌then◌else◌, List, [], ◌∷◌, Option, Some, None, Result, Ok, Err, option_map, ok_or}
+use Rattle.std.specs.Prelude.{◌≡◌, ℕ, ◌==◌, ◌&&◌, if◌then◌else◌, List, [], ◌∷◌}
+use Rattle.std.specs.Prelude.{Option, Some, None, Result, Ok, Err, option_map, ok_or}
 use Rattle.std.specs.Char.{to_ascii_lowercase}
 use Rattle.std.specs.Borrow.{Bor}
 use Rattle.dms_text.specs.Reading.{number_of, version_of}
@@ -10,7 +11,8 @@ use Rattle.dms_multi.specs.declared.fault.FaultCode.TheVariants.{UnsupportedTag,
 use Rattle.dms_multi.specs.declared.tag.TagName.{TagName}
 use Rattle.dms_multi.specs.declared.tag.TagName.TheVariants.{Cb, Pb, Cf, Fo, Fl, EndFl, Hc, Jl, Jp, Nl, Np, Pt}
 use Rattle.dms_multi.specs.declared.item.Item.{Item}
-use Rattle.dms_multi.specs.declared.item.Item.TheVariants.{Char, Background, Foreground, Font, FlashOn, FlashEnd, JustLine, JustPage, NewLine, NewPage, PageTime}
+use Rattle.dms_multi.specs.declared.item.Item.TheVariants.{Char, Background, Foreground, Font, FlashOn, FlashEnd}
+use Rattle.dms_multi.specs.declared.item.Item.TheVariants.{JustLine, JustPage, NewLine, NewPage, PageTime}
 use Rattle.dms_multi.specs.declared.item.Lead.TheVariants.{Lit, Dark}
 
 -- ---- values of several parts
@@ -67,13 +69,16 @@ letters_name a b =
 unfoldable pub end_name : List ℕ → Option (TagName × List ℕ)
 end_name [] = None
 end_name (a ∷ []) = None
-end_name (a ∷ b ∷ rest) = if (to_ascii_lowercase a == 102) && (to_ascii_lowercase b == 108) then Some (EndFl, rest) else None
+end_name (a ∷ b ∷ rest) =
+    if (to_ascii_lowercase a == 102) && (to_ascii_lowercase b == 108) then Some (EndFl, rest) else None
 
 -- the name with which a tag's body begins, and what follows it
 unfoldable pub name_at : List ℕ → Option (TagName × List ℕ)
 name_at [] = None
 name_at (a ∷ []) = None
-name_at (a ∷ b ∷ rest) = if a == 47 then end_name (b ∷ rest) else option_map (λ name. (name, rest)) (letters_name (to_ascii_lowercase a) (to_ascii_lowercase b))
+name_at (a ∷ b ∷ rest) =
+    if a == 47 then end_name (b ∷ rest)
+    else option_map (λ name. (name, rest)) (letters_name (to_ascii_lowercase a) (to_ascii_lowercase b))
 
 abbrev pub lit_first : TwoTimes → Item
 lit_first times = FlashOn Lit times.first times.second
@@ -154,4 +159,7 @@ item_after_closing (c ∷ rest) = if c == 93 then Ok (Char 93, rest) else Err Un
 -- the item at the beginning of a text, and what follows it
 unfoldable pub item_at : List ℕ → Result (Item × List ℕ) FaultCode
 item_at [] = Err UnsupportedTag
-item_at (c ∷ rest) = if c == 91 then item_after_opening rest else if c == 93 then item_after_closing rest else Ok (Char c, rest)
+item_at (c ∷ rest) =
+    if c == 91 then item_after_opening rest
+    else if c == 93 then item_after_closing rest
+    else Ok (Char c, rest)

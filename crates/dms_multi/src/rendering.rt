@@ -1,11 +1,13 @@
 //! Writing items as their canonical text.
-ghost use Rattle.std.specs.Prelude.{◌≡◌, ◌↔◌, ℕ, ◌+◌, ◌<◌, ◌≤◌, ◌++◌, [], true, All, IsOk, OnErr, OnOk, length, codes, decimal};
+ghost use Rattle.std.specs.Prelude.{◌≡◌, ◌↔◌, ℕ, ◌+◌, ◌<◌, ◌≤◌, ◌++◌, [], true};
+ghost use Rattle.std.specs.Prelude.{All, IsOk, OnErr, OnOk, length, codes, decimal};
 ghost use Rattle.std.specs.Fmt.{digits, digit_glyph};
 ghost use Rattle.dms_codes.specs.Limits.{longest_text};
 ghost use Rattle.dms_multi.specs.Item.{IsInRange};
 ghost use Rattle.dms_multi.specs.Grammar.{plain};
 ghost use Rattle.dms_multi.specs.Appending.{AppendsOrRefuses};
-ghost use Rattle.dms_multi.specs.Canonical.{value_text, later_time_text, hexadecimal_text, leading_zeros, font_text, flash_text, body_text, tag_text, item_text, text_of};
+ghost use Rattle.dms_multi.specs.Canonical.{value_text, later_time_text, hexadecimal_text, leading_zeros};
+ghost use Rattle.dms_multi.specs.Canonical.{font_text, flash_text, body_text, tag_text, item_text, text_of};
 
 use crate::fault::TooLong;
 use crate::item::{Item, Lead};
@@ -107,7 +109,8 @@ fn put_times(
     second: Option<u8>,
 ) -> Result<(), TooLong>
     requires { length text.old.items ≤ longest_text }
-    ensures { AppendsOrRefuses result text.old.items text.new.items (value_text first ++ later_time_text letter.now second) }
+    ensures { AppendsOrRefuses result text.old.items text.new.items
+        (value_text first ++ later_time_text letter.now second) }
 {
     put_value(text, first)?;
     put_later_time(text, letter, second)

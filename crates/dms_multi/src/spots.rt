@@ -3,7 +3,8 @@ ghost use Rattle.std.specs.Prelude.{◌≡◌, ◌∷◌, [], ◌≤◌, length,
 ghost use Rattle.std.specs.Iterator.{YieldsFirst, item_count};
 ghost use Rattle.dms_multi.specs.Grammar.{IsReading};
 ghost use Rattle.dms_multi.specs.Outcomes.{outcomes_from, outcomes_of};
-ghost use Rattle.dms_multi.specs.TagReading.{Gives, item_with_rest, tag_at, item_after_opening, item_after_closing, item_at};
+ghost use Rattle.dms_multi.specs.TagReading.{Gives, item_with_rest, tag_at};
+ghost use Rattle.dms_multi.specs.TagReading.{item_after_opening, item_after_closing, item_at};
 
 use crate::fault::{FaultCode, SyntaxFault};
 use crate::item::Item;

@@ -1,6 +1,7 @@
 //! The tags of the markup: their names, and the items that their bodies spell.
 ghost use Rattle.std.specs.Prelude.{◌≡◌, option_map};
-ghost use Rattle.dms_multi.specs.TagReading.{letters_name, end_name, name_at, name_with_rest, flash_of, page_time_of, item_of, item_alone, body_item};
+ghost use Rattle.dms_multi.specs.TagReading.{letters_name, end_name, name_at, name_with_rest};
+ghost use Rattle.dms_multi.specs.TagReading.{flash_of, page_time_of, item_of, item_alone, body_item};
 
 use crate::fault::FaultCode;
 use crate::item::{Item, Lead};

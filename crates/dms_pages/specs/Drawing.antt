@@ -1,5 +1,6 @@
 -- What cells show while the characters of a page are drawn one by one.
-use Rattle.std.specs.Prelude.{◌≡◌, ℕ, ◌+◌, ◌-◌, ◌/◌, ◌%◌, ◌==◌, ◌<◌, ◌&&◌, Bool, true, if◌then◌else◌, List, length, slice_index_or, nat_lt, nat_le}
+use Rattle.std.specs.Prelude.{◌≡◌, ℕ, ◌+◌, ◌-◌, ◌/◌, ◌%◌, ◌==◌, ◌<◌, ◌&&◌, Bool, true}
+use Rattle.std.specs.Prelude.{if◌then◌else◌, List, length, slice_index_or, nat_lt, nat_le}
 use Rattle.std.specs.List.{find, flat_map}
 use Rattle.dms_face.specs.declared.cell.Cell.{Cell}
 use Rattle.dms_font.specs.Glyph.{GlyphModel, lit_at}
@@ -20,11 +21,13 @@ covered on lit cell = if on then (if cell.lit then cell else lit) else cell
 
 -- a row of a picture lights the cell at this place, where it is drawn from the cell first on, in so many columns
 abbrev pub is_lit_in_row : ℕ → ℕ → GlyphModel → ℕ → ℕ → Bool
-is_lit_in_row first columns glyph row place = nat_le first place && nat_lt place (first + columns) && lit_at glyph (place - first) row
+is_lit_in_row first columns glyph row place =
+    nat_le first place && nat_lt place (first + columns) && lit_at glyph (place - first) row
 
 -- a row of a picture, drawn from column x on in line y of a matrix, lights the cell at this place
 abbrev pub is_lit_on_row : ℕ → ℕ → ℕ → GlyphModel → ℕ → ℕ → Bool
-is_lit_on_row width x y glyph row place = (place / width == y) && nat_le x (place % width) && lit_at glyph (place % width - x) row
+is_lit_on_row width x y glyph row place =
+    (place / width == y) && nat_le x (place % width) && lit_at glyph (place % width - x) row
 
 -- a picture with its left top corner in column x of line y has its bit there
 abbrev pub is_in_picture : ℕ → ℕ → ℕ → ℕ → GlyphModel → Bool
@@ -43,6 +46,7 @@ abbrev pub lines_characters : FaceModel → List Line → List PlacedCharacter
 lines_characters face lines = flat_map (line_characters face) (spread line_block face.height lines)
 
 -- the cells show these characters of a page
-pub record Shows (face : FaceModel) (page : PageModel) (placed : List PlacedCharacter) (cells : List Cell) : Type 0 where
-  pub cell : (other : Cell) (place : ℕ) → place < length cells
-      → slice_index_or cells place other ≡ cell_by page (find (is_lit_by (place % face.width) (place / face.width)) placed)
+pub record Shows (face : FaceModel) (page : PageModel) (placed : List PlacedCharacter)
+    (cells : List Cell) : Type 0 where
+  pub cell : (other : Cell) (place : ℕ) → place < length cells → slice_index_or cells place other
+      ≡ cell_by page (find (is_lit_by (place % face.width) (place / face.width)) placed)

@@ -32,7 +32,8 @@ drawn face page = record {
   background = page.background;
   on = page.on;
   off = page.off;
-  cells = map (λ place. cell_of face page (place % face.width) (place / face.width)) (range_with_len 0 (face.width * face.height));
+  cells = map (λ place. cell_of face page (place % face.width) (place / face.width))
+      (range_with_len 0 (face.width * face.height));
 }
 
 -- the pages of a text, or its fault

@@ -6,7 +6,8 @@ use Rattle.dms_pages.specs.declared.text_pages.PagesFault.TheVariants.{Multi, Me
 use Rattle.dms_pages.specs.Drawn.{DrawnPage}
 
 -- the expected pages, or the fault that is expected; only where pages are expected may memory be wanting
-abbrev pub GivesPages : {A : Type 0} → (A → List DrawnPage) → Result A PagesFault → Result (List DrawnPage) MultiFault → Type 0
+abbrev pub GivesPages : {A : Type 0} → (A → List DrawnPage) → Result A PagesFault
+    → Result (List DrawnPage) MultiFault → Type 0
 GivesPages view (Ok pages) expected = expected ≡ Ok (view pages)
 GivesPages view (Err (Multi fault)) expected = expected ≡ Err fault
 GivesPages view (Err Memory) expected = IsTrue (is_ok expected)

@@ -1,6 +1,7 @@
 //! The cells of a page, each as one octet.
 
-ghost use Rattle.std.specs.Prelude.{◌≡◌, ℕ, ◌<◌, ◌≤◌, ◌==◌, ◌&&◌, true, false, List, [], ◌∷◌, length, replicate, IfOk, OnOk, IfSome, slice_index_or};
+ghost use Rattle.std.specs.Prelude.{◌≡◌, ℕ, ◌<◌, ◌≤◌, ◌==◌, ◌&&◌, true, false, List, [], ◌∷◌};
+ghost use Rattle.std.specs.Prelude.{length, replicate, IfOk, OnOk, IfSome, slice_index_or};
 ghost use Rattle.dms_pages.specs.Drawn.{unlit};
 ghost use Rattle.dms_pages.specs.Styled.{StyledCells, style, IsLitStyle, Lights};
 
@@ -59,8 +60,8 @@ impl Cells {
         }
     }
 
-    /// The number of the style of cells that show this. A style that is new is one more in the list, which has room for 256:
-    /// a text of 512 octets has fewer than 130, since each takes a tag of four octets and a character.
+    /// The number of the style of cells that show this. A style that is new is one more in the list, which has room for
+    /// 256: a text of 512 octets has fewer than 130, since each takes a tag of four octets and a character.
     pub fn number_of(&mut self, lit: Cell) -> Result<u8, AllocError>
         requires { lit.lit ≡ true }
         ensures same { OnOk result (self.new.cells ≡ self.old.cells) }

@@ -1,14 +1,17 @@
 //! Drawing the characters of a page on the cells of a matrix.
 
-ghost use Rattle.std.specs.Prelude.{◌≡◌, ℕ, ◌+◌, ◌-◌, ◌*◌, ◌/◌, ◌%◌, ◌^◌, ◌<◌, ◌≤◌, ◌==◌, ◌&&◌, List, ◌++◌, length, map, filter, true, not, nat_le, nat_lt, slice_index_or, OnOk};
+ghost use Rattle.std.specs.Prelude.{◌≡◌, ℕ, ◌+◌, ◌-◌, ◌*◌, ◌/◌, ◌%◌, ◌^◌, ◌<◌, ◌≤◌, ◌==◌, ◌&&◌, List, ◌++◌};
+ghost use Rattle.std.specs.Prelude.{length, map, filter, true, not, nat_le, nat_lt, slice_index_or, OnOk};
 ghost use Rattle.std.specs.List.{list_all, flat_map};
 ghost use Rattle.dms_font.specs.Glyph.{lit_at, is_bit};
 ghost use Rattle.dms_font.specs.Font.{FontModel};
 ghost use Rattle.dms_face.specs.declared.room.Block.{Block as BlockModel};
 ghost use Rattle.dms_face.specs.Layout.{Character, Line, PageModel};
-ghost use Rattle.dms_face.specs.Room.{begin, extent_at, placed_from, character_block, line_block, line_height, greatest, characters_fit, page_fits};
+ghost use Rattle.dms_face.specs.Room.{begin, extent_at, placed_from, character_block, line_block};
+ghost use Rattle.dms_face.specs.Room.{line_height, greatest, characters_fit, page_fits};
 ghost use Rattle.dms_face.specs.Cells.{PlacedCharacter, is_lit_by, line_characters};
-ghost use Rattle.dms_pages.specs.Drawing.{has_place, covered, is_in_picture, is_lit_in_row, is_lit_on_row, lit_cell, placed_above, lines_characters, Shows};
+ghost use Rattle.dms_pages.specs.Drawing.{has_place, covered, is_in_picture, is_lit_in_row};
+ghost use Rattle.dms_pages.specs.Drawing.{is_lit_on_row, lit_cell, placed_above, lines_characters, Shows};
 ghost use Rattle.dms_pages.specs.StylingView.{style_of};
 ghost use Rattle.dms_pages.specs.Styled.{style, IsLitStyle, Lights};
 
@@ -53,7 +56,8 @@ fn light_bits(cells: &mut Cells, first: usize, row: u32, number: u8)
     requires inside { (k : ℕ) → is_bit row k ≡ true → first + k < length cells.old.cells }
     requires small { first < 2 ^ 33 }
     requires number { IsLitStyle cells.old.styles number }
-    ensures { Lights (λ place. nat_le first place && is_bit row (place - first)) (style cells.old.styles number) cells.old cells.new }
+    ensures { Lights (λ place. nat_le first place && is_bit row (place - first)) (style cells.old.styles number)
+        cells.old cells.new }
 {
     let mut left = row;
     while left != 0 {
@@ -87,7 +91,8 @@ fn draw_row(
     requires matrix { length cells.old.cells ≡ face.now.width * face.now.height }
     requires number { IsLitStyle cells.old.styles number }
     requires glyph { (column line : ℕ) → lit_at glyph.now column line ≡ true → column < glyph.now.width }
-    ensures { Lights (is_lit_on_row face.now.width x y glyph.now row) (style cells.old.styles number) cells.old cells.new }
+    ensures { Lights (is_lit_on_row face.now.width x y glyph.now row) (style cells.old.styles number)
+        cells.old cells.new }
 {
     let width = usize::from(face.width());
     if x >= width || y >= usize::from(face.height()) {
@@ -108,9 +113,9 @@ fn draw_character(
     requires { length cells.old.cells ≡ face.now.width * face.now.height }
     ensures len { OnOk result (length cells.new.cells ≡ length cells.old.cells) }
     ensures cells { OnOk result ((other : Cell) (place : ℕ) → place < length cells.old.cells
-        → slice_index_or cells.new.cells place other
-        ≡ covered (is_lit_by (place % face.now.width) (place / face.now.width) (record { x = x; y = y; character = character.now }))
-        (lit_cell character.now.style) (slice_index_or cells.old.cells place other)) }
+        → slice_index_or cells.new.cells place other ≡ covered (is_lit_by (place % face.now.width)
+        (place / face.now.width) (record { x = x; y = y; character = character.now })) (lit_cell character.now.style)
+        (slice_index_or cells.old.cells place other)) }
 {
     let number = cells.number_of(character.style.cell())?;
     draw_picture(cells, face, x, y, character.glyph, number);
@@ -239,8 +244,9 @@ fn draw_side(
     requires room { extent_at side (map character_block characters.now) ≤ 256 }
     requires first { first ≤ 256 }
     ensures len { OnOk result (length cells.new.cells ≡ length cells.old.cells) }
-    ensures cells { OnOk result ((page : PageModel) (before : List PlacedCharacter) → Shows face.now page before cells.old.cells
-        → Shows face.now page (before ++ map (placed_above bottom) (placed_from character_block first (filter (has_place character_block side) characters.now))) cells.new.cells) }
+    ensures cells { OnOk result ((page : PageModel) (before : List PlacedCharacter)
+        → Shows face.now page before cells.old.cells → Shows face.now page (before ++ map (placed_above bottom)
+        (placed_from character_block first (filter (has_place character_block side) characters.now))) cells.new.cells) }
 {
     let mut run = Run::EMPTY;
     for character in characters {
@@ -267,7 +273,8 @@ fn draw_line(
     requires room { characters_fit face.now line.now.characters ≡ true }
     requires top { top ≤ 1024 }
     ensures len { OnOk result (length cells.new.cells ≡ length cells.old.cells) }
-    ensures cells { OnOk result ((page : PageModel) (before : List PlacedCharacter) → Shows face.now page before cells.old.cells
+    ensures cells { OnOk result
+        ((page : PageModel) (before : List PlacedCharacter) → Shows face.now page before cells.old.cells
         → Shows face.now page (before ++ line_characters face.now (top, line.now)) cells.new.cells) }
 {
     let width = u32::from(face.width());
@@ -295,8 +302,10 @@ fn draw_part(
     requires room { extent_at part (map line_block lines.now) ≤ 256 }
     requires first { first ≤ 256 }
     ensures len { OnOk result (length cells.new.cells ≡ length cells.old.cells) }
-    ensures cells { OnOk result ((page : PageModel) (before : List PlacedCharacter) → Shows face.now page before cells.old.cells
-        → Shows face.now page (before ++ flat_map (line_characters face.now) (placed_from line_block first (filter (has_place line_block part) lines.now))) cells.new.cells) }
+    ensures cells { OnOk result
+        ((page : PageModel) (before : List PlacedCharacter) → Shows face.now page before cells.old.cells
+        → Shows face.now page (before ++ flat_map (line_characters face.now)
+        (placed_from line_block first (filter (has_place line_block part) lines.now))) cells.new.cells) }
 {
     let mut run = Run::EMPTY;
     for line in lines {
@@ -319,7 +328,8 @@ pub(crate) fn draw_lines(
     requires matrix { length cells.old.cells ≡ face.now.width * face.now.height }
     requires room { page_fits face.now lines.now ≡ true }
     ensures len { OnOk result (length cells.new.cells ≡ length cells.old.cells) }
-    ensures cells { OnOk result ((page : PageModel) (before : List PlacedCharacter) → Shows face.now page before cells.old.cells
+    ensures cells { OnOk result
+        ((page : PageModel) (before : List PlacedCharacter) → Shows face.now page before cells.old.cells
         → Shows face.now page (before ++ lines_characters face.now lines.now) cells.new.cells) }
 {
     let height = u32::from(face.height());

@@ -32,7 +32,14 @@ impl Model for Page {
 
     ghost Value = { DrawnPage };
 
-    ghost view = { λ p. record { width = p.width; height = p.height; background = p.background; on = p.on; off = p.off; cells = p.cells.cells } };
+    ghost view = { λ p. record {
+      width = p.width;
+      height = p.height;
+      background = p.background;
+      on = p.on;
+      off = p.off;
+      cells = p.cells.cells;
+    } };
 
     ghost invariant = { λ p. length p.cells.cells ≡ p.width * p.height };
 }
@@ -96,7 +103,8 @@ impl Page {
         requires column { x < self.now.width }
         requires row { y < self.now.height }
         ensures cell { result ≡ cell_at self.now x y }
-        ensures drawn { (face : FaceModel) (page : PageModel) → self.now ≡ drawn face page → result ≡ cell_of face page x y }
+        ensures drawn { (face : FaceModel) (page : PageModel) → self.now ≡ drawn face page
+            → result ≡ cell_of face page x y }
     {
         self.cells
             .at(usize::from(y) * usize::from(self.width) + usize::from(x))

@@ -3,7 +3,8 @@
 ghost use Rattle.std.specs.Prelude.{◌≡◌, [], IsTrue, OnOk};
 ghost use Rattle.dms_font.specs.Font.{glyph_of};
 ghost use Rattle.dms_face.specs.Face.{fit};
-ghost use Rattle.dms_face.specs.Layout.{under, first_style, styled, blank_layout, closed, has_line_in, with_character, with_line, with_page, with_part, with_item};
+ghost use Rattle.dms_face.specs.Layout.{under, first_style, styled, blank_layout, closed, has_line_in};
+ghost use Rattle.dms_face.specs.Layout.{with_character, with_line, with_page, with_part, with_item};
 ghost use Rattle.dms_pages.specs.StylingView.{style_of};
 
 use dms_face::{Defaults, Face, Flash, Font, Glyph, Part, Side};
@@ -12,8 +13,8 @@ use std::alloc::{AllocError, Global};
 use std::marker::Model;
 use std::mem;
 
-/// What the items so far say of all that follows them: the font, the colour and the flash of characters, their side of the
-/// line, the part of the page where lines stand, and the page's background and times.
+/// What the items so far say of all that follows them: the font, the colour and the flash of characters, their side of
+/// the line, the part of the page where lines stand, and the page's background and times.
 #[derive(Clone, Copy)]
 pub(crate) struct Styling<'a> {
     pub font: &'a Font,
@@ -125,8 +126,8 @@ impl<'a> Model for TextPage<'a> {
     ghost view = { λ p. record { lines = p.lines.items; background = p.background; on = p.on; off = p.off } };
 }
 
-/// The pages that are closed; of the open page the lines that are closed; of the open line the characters and the gap above
-/// it; and what holds for all that follows.
+/// The pages that are closed; of the open page the lines that are closed; of the open line the characters and the gap
+/// above it; and what holds for all that follows.
 #[derive(Drop)]
 pub(crate) struct TextLayout<'a> {
     pages: Vec<TextPage<'a>>,
@@ -143,7 +144,13 @@ impl<'a> Model for TextLayout<'a> {
 
     ghost use Rattle.dms_pages.specs.StylingView.{style_of};
 
-    ghost view = { λ l. record { pages = l.pages.items; lines = l.lines.items; characters = l.characters.items; gap = l.gap; style = style_of l.style } };
+    ghost view = { λ l. record {
+      pages = l.pages.items;
+      lines = l.lines.items;
+      characters = l.characters.items;
+      gap = l.gap;
+      style = style_of l.style;
+    } };
 }
 
 impl<'a> TextLayout<'a> {

@@ -27,7 +27,8 @@ use std::fmt;
 pub enum PagesFault {
     /// The text's fault.
     Multi(MultiFault),
-    /// No memory for the pages, or no room for a page's styles: there is room for 255 that are lit, and no text has so many.
+    /// No memory for the pages, or no room for a page's styles: there is room for 255 that are lit, and no text has so
+    /// many.
     Memory,
 }
 
@@ -100,8 +101,8 @@ fn laid_out<'a>(
     Ok(layout.into_pages())
 }
 
-/// The pages of a text of any length, as lines of characters, or its fault. Where memory ends, the walk has not seen the rest
-/// of the text, in which a fault may stand: a fault comes before want of memory.
+/// The pages of a text of any length, as lines of characters, or its fault. Where memory ends, the walk has not seen
+/// the rest of the text, in which a fault may stand: a fault comes before want of memory.
 fn laid_text<'a>(
     alloc: Global,
     face: &'a Face,

@@ -39,6 +39,8 @@ took_none before after count [] result counted is_ok none some = absurd (some re
 took_none {E} before after count (octet ∷ octets) result counted is_ok none some =
     counted ∙ ap (λ r. after_write {E = E} before r (octet ∷ octets)) (is_ok ∙ ap (λ n. Ok n) none)
 
+pub ruleset calls = (wrote_more, unfailed, took_none)
+
 -- ---- room
 
 all_taken : {E : Type 0} (now next : Option ℕ) (rest : List ℕ) (more count : ℕ) (result : Result ℕ E) → HasRoom now (length rest + more)

@@ -23,7 +23,8 @@ left_by after state line = if nat_lt longest_line (length line) then state else 
 -- the answers to lines, in turn
 abbrev pub answers : {S : Type 0} → (S → List ℕ → List ℕ) → (S → List ℕ → S) → S → List (List ℕ) → List ℕ
 answers reply after state [] = []
-answers reply after state (line ∷ more) = answered reply state line ++ answers reply after (left_by after state line) more
+answers reply after state (line ∷ more) =
+    answered reply state line ++ answers reply after (left_by after state line) more
 
 -- what lines leave, in turn
 abbrev pub left_by_all : {S : Type 0} → (S → List ℕ → S) → S → List (List ℕ) → S
@@ -34,14 +35,15 @@ left_by_all after state (line ∷ more) = left_by_all after (left_by after state
 -- `rest` is left, and what is not answered are the lines of the part of a line that was taken, and of the rest.
 abbrev pub AnswersWholeLines : {S : Type 0} → (S → List ℕ → List ℕ) → (S → List ℕ → S) → S → S → List ℕ → List ℕ
     → Option (List ℕ) → Option (List ℕ) → Type 0
-AnswersWholeLines reply after state now octets rest old new = (count : ℕ) × (part : List ℕ)
-    × Appends old new (answers reply after state (take count (lines octets))) × (now ≡ left_by_all after state (take count (lines octets)))
+AnswersWholeLines reply after state now octets rest old new =
+    (count : ℕ) × (part : List ℕ) × Appends old new (answers reply after state (take count (lines octets)))
+    × (now ≡ left_by_all after state (take count (lines octets)))
     × (drop count (lines octets) ≡ lines (part ++ rest)) × IsInLine part
 
 -- The lines before one are answered, and of the answer to that one the octets of `part` are written, perhaps none of
 -- them; the party is now what these lines and that one leave.
-pub record AnswersInPart {S : Type 0} (reply : S → List ℕ → List ℕ) (after : S → List ℕ → S) (state now : S) (octets : List ℕ)
-    (old new : Option (List ℕ)) : Type 0 where
+pub record AnswersInPart {S : Type 0} (reply : S → List ℕ → List ℕ) (after : S → List ℕ → S) (state now : S)
+    (octets : List ℕ) (old new : Option (List ℕ)) : Type 0 where
   pub done : List (List ℕ)
   pub line : List ℕ
   pub more : List (List ℕ)

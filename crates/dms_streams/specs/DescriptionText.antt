@@ -20,5 +20,5 @@ lines_after_end (line ∷ more) = if is_end line then more else lines_after_end 
 abbrev pub TakesDescription : Option (List ℕ) → List ℕ → Option (List ℕ) → Type 0
 TakesDescription None text after = ⊤
 TakesDescription (Some octets) text None = ⊥
-TakesDescription (Some octets) text (Some rest) = (octets ≡ text ++ rest) × (lines text ≡ lines_through_end (lines octets))
-    × (lines rest ≡ lines_after_end (lines octets))
+TakesDescription (Some octets) text (Some rest) = (octets ≡ text ++ rest)
+    × (lines text ≡ lines_through_end (lines octets)) × (lines rest ≡ lines_after_end (lines octets))

@@ -1,4 +1,5 @@
--- What is printed of the faults of reading and writing, and of a conversation that ends before its input (this profile).
+-- What is printed of the faults of reading and writing, and of a conversation that ends before its input (this
+-- profile).
 use Rattle.std.specs.Prelude.{ℕ, List, codes}
 use Rattle.dms_streams.specs.declared.failed.Failed.{Failed}
 use Rattle.dms_streams.specs.declared.fault.InputFault.{InputFault}

@@ -1,6 +1,6 @@
 -- what a reader must believe: how failed calls are counted, what a call that failed half-way wrote, for how many octets
--- there is room, the lines of an input, the answers to them in turn, the description before them, and what is printed of
--- a fault (this profile)
+-- there is room, the lines of an input, the answers to them in turn, the description before them, and what is printed
+-- of a fault (this profile)
 pub mod Calls
 pub mod Prefixes
 pub mod Room

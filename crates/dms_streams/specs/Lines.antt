@@ -1,6 +1,7 @@
 -- An input that is taken line by line (this profile). Its lines are those of std's `lines`: each ends at a newline, the
 -- last perhaps at the end of the input, and one carriage return before a newline is no part of its line.
-use Rattle.std.specs.Prelude.{◌≡◌, ◌≢◌, ℕ, ◌-◌, ◌<◌, ◌≤◌, ◌==◌, ◌⊎◌, if◌then◌else◌, List, [], ◌∷◌, ◌++◌, All, take, drop, length, slice_index, slice_range, Option, None, Some, ⊤}
+use Rattle.std.specs.Prelude.{◌≡◌, ◌≢◌, ℕ, ◌-◌, ◌<◌, ◌≤◌, ◌==◌, ◌⊎◌, if◌then◌else◌, List, [], ◌∷◌, ◌++◌}
+use Rattle.std.specs.Prelude.{All, take, drop, length, slice_index, slice_range, Option, None, Some, ⊤}
 use Rattle.std.specs.Io.KnownBytes.{prepend_known}
 use Rattle.std.specs.Io.BufRead.{take_through, drop_through}
 use Rattle.std.specs.Str.Lines.{strip_carriage_return}
@@ -12,7 +13,9 @@ left remaining input = prepend_known (slice_range input.buffer.items input.start
 
 -- a line without the newline at its end, and without a carriage return before that
 abbrev pub line_of : List ℕ → List ℕ
-line_of octets = if slice_index octets (length octets - 1) == 10 then strip_carriage_return (take (length octets - 1) octets) else octets
+line_of octets =
+    if slice_index octets (length octets - 1) == 10 then strip_carriage_return (take (length octets - 1) octets)
+    else octets
 
 -- octets that are empty or end in a newline
 abbrev pub AreWholeLines : List ℕ → Type 0
@@ -27,7 +30,8 @@ held = 65539
 abbrev pub Takes : ℕ → Option (List ℕ) → List ℕ → Option (List ℕ) → Type 0
 Takes limit None line after = ⊤
 Takes limit (Some octets) line None = ⊥
-Takes limit (Some octets) line (Some rest) = (line ≡ take limit (take_through 10 octets)) × (rest ≡ drop_through 10 octets)
+Takes limit (Some octets) line (Some rest) = (line ≡ take limit (take_through 10 octets))
+    × (rest ≡ drop_through 10 octets)
 
 -- octets without a newline
 abbrev pub IsInLine : List ℕ → Type 0
@@ -37,7 +41,8 @@ IsInLine octets = All (λ (octet : ℕ). octet ≢ 10) octets
 abbrev pub Continues : ℕ → ℕ → Option (List ℕ) → List ℕ → Option (List ℕ) → Type 0
 Continues limit count None line after = ⊤
 Continues limit count (Some octets) line None = ⊥
-Continues limit count (Some octets) line (Some rest) = (part : List ℕ) × (octets ≡ part ++ rest) × IsInLine part × (line ≡ take limit part) × (count ≤ length part)
+Continues limit count (Some octets) line (Some rest) =
+    (part : List ℕ) × (octets ≡ part ++ rest) × IsInLine part × (line ≡ take limit part) × (count ≤ length part)
 
 -- some octets before the first newline are taken, or none
 abbrev pub Breaks : Option (List ℕ) → Option (List ℕ) → Type 0
@@ -51,5 +56,6 @@ IsPart piece count = IsInLine (take count piece) × (0 < count)
 
 -- they end with the first newline, or the piece is empty, at the end of the input
 abbrev pub IsLastPart : List ℕ → ℕ → Type 0
-IsLastPart piece count = (rest : List ℕ) → (piece ≡ [] → rest ≡ []) → (take_through 10 (piece ++ rest) ≡ take count piece)
+IsLastPart piece count = (rest : List ℕ) → (piece ≡ [] → rest ≡ [])
+    → (take_through 10 (piece ++ rest) ≡ take count piece)
     × (drop_through 10 (piece ++ rest) ≡ drop count piece ++ rest)

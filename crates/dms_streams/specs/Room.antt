@@ -6,11 +6,13 @@ abbrev pub HasRoom : Option ℕ → ℕ → Type 0
 HasRoom None count = ⊥
 HasRoom (Some room) count = count ≤ room
 
--- where there is room for these octets and for so many more, a call takes all of them, and room for so many more is left
+-- where there is room for these octets and for so many more, a call takes all of them, and room for so many more is
+-- left
 abbrev pub TakesWithinRoom : {E : Type 0} → Option ℕ → Option ℕ → Result ℕ E → List ℕ → Type 0
 TakesWithinRoom old new result octets =
     (more : ℕ) → HasRoom old (length octets + more) → (result ≡ Ok (length octets)) × HasRoom new more
 
 -- so do all calls together that write them
 abbrev pub IsWrittenWithinRoom : {A E : Type 0} → Option ℕ → Option ℕ → Result A E → List ℕ → Type 0
-IsWrittenWithinRoom old new result octets = (more : ℕ) → HasRoom old (length octets + more) → IsOk result × HasRoom new more
+IsWrittenWithinRoom old new result octets = (more : ℕ) → HasRoom old (length octets + more)
+    → IsOk result × HasRoom new more

@@ -6,7 +6,8 @@ ghost use Rattle.std.specs.Str.Lines.{lines, strip_carriage_return};
 ghost use Rattle.dms_streams.specs.Calls.{one_more};
 ghost use Rattle.dms_streams.specs.Prefixes.{AppendsPrefix};
 ghost use Rattle.dms_streams.specs.Lines.{left, line_of, held, Breaks, Takes};
-ghost use Rattle.dms_streams.specs.Conversation.{AnswersWholeLines, AnswersInPart, bad_line, answered, left_by, answers, left_by_all};
+ghost use Rattle.dms_streams.specs.Conversation.{AnswersWholeLines, AnswersInPart, bad_line};
+ghost use Rattle.dms_streams.specs.Conversation.{answered, left_by, answers, left_by_all};
 ghost use Rattle.dms_streams.specs.declared.fault.ConversationFault.TheVariants as faults;
 
 use crate::fault::ConversationFault;
@@ -28,9 +29,9 @@ const HELD: usize = LONGEST_LINE + 3;
 /// line`, and changes nothing. Each answer is written before the next line is asked for; no more than a line and an
 /// answer is held in memory.
 ///
-/// At the end of the input the party is what all its lines leave. Where a read fails or memory is wanting it is what the
-/// first lines leave, whose whole answers were written; where a write fails, what these leave and the line whose answer was
-/// not written to its end.
+/// At the end of the input the party is what all its lines leave. Where a read fails or memory is wanting it is what
+/// the first lines leave, whose whole answers were written; where a write fails, what these leave and the line whose
+/// answer was not written to its end.
 #[tactic(auto, using(crate::proofs::Turns::turns))]
 pub fn converse<P: Party, S: Source, W: Sink>(
     alloc: Global,
@@ -38,18 +39,21 @@ pub fn converse<P: Party, S: Source, W: Sink>(
     input: &mut Input<S>,
     sink: &mut W,
 ) -> Result<(), ConversationFault>
-    ensures answers { OnOk result (IfSome (left S.remaining input.old) (λ octets.
-        Appends (W.contents sink.old) (W.contents sink.new) (answers P.reply P.after (P.state party.old) (lines octets)))) }
+    ensures answers { OnOk result (IfSome (left S.remaining input.old) (λ octets. Appends (W.contents sink.old)
+        (W.contents sink.new) (answers P.reply P.after (P.state party.old) (lines octets)))) }
     ensures after { OnOk result (IfSome (left S.remaining input.old) (λ octets.
         P.state party.new ≡ left_by_all P.after (P.state party.old) (lines octets))) }
-    ensures prompt { result ≡ Err faults.Read → IfSome (left S.remaining input.old) (λ octets. IfSome (left S.remaining input.new) (λ rest.
-        AnswersWholeLines P.reply P.after (P.state party.old) (P.state party.new) octets rest (W.contents sink.old) (W.contents sink.new))) }
-    ensures whole { OnErr result (result ≢ Err faults.Write → result ≢ Err faults.Read → IfSome (left S.remaining input.old) (λ octets.
-        (count : ℕ) × Appends (W.contents sink.old) (W.contents sink.new) (answers P.reply P.after (P.state party.old) (take count (lines octets)))
+    ensures prompt { result ≡ Err faults.Read → IfSome (left S.remaining input.old)
+        (λ octets. IfSome (left S.remaining input.new) (λ rest. AnswersWholeLines P.reply P.after (P.state party.old)
+        (P.state party.new) octets rest (W.contents sink.old) (W.contents sink.new))) }
+    ensures whole { OnErr result (result ≢ Err faults.Write → result ≢ Err faults.Read
+        → IfSome (left S.remaining input.old) (λ octets. (count : ℕ) × Appends (W.contents sink.old)
+        (W.contents sink.new) (answers P.reply P.after (P.state party.old) (take count (lines octets)))
         × (P.state party.new ≡ left_by_all P.after (P.state party.old) (take count (lines octets))))) }
-    ensures in_part { result ≡ Err faults.Write → IfSome (left S.remaining input.old) (λ octets.
-        AnswersInPart P.reply P.after (P.state party.old) (P.state party.new) octets (W.contents sink.old) (W.contents sink.new)) }
-    ensures too_long { result ≡ Err faults.TooLong → IfSome (left S.remaining input.old) (λ octets. 2 ^ 64 - 1 ≤ length octets) }
+    ensures in_part { result ≡ Err faults.Write → IfSome (left S.remaining input.old) (λ octets. AnswersInPart P.reply
+        P.after (P.state party.old) (P.state party.new) octets (W.contents sink.old) (W.contents sink.new)) }
+    ensures too_long { result ≡ Err faults.TooLong
+        → IfSome (left S.remaining input.old) (λ octets. 2 ^ 64 - 1 ≤ length octets) }
     ensures read { result ≡ Err faults.Read → S.failed input.new.source ≡ one_more (S.failed input.old.source) }
     ensures all_read { result ≢ Err faults.Read → S.failed input.new.source ≡ S.failed input.old.source }
     ensures write { result ≡ Err faults.Write → W.failed sink.new ≡ one_more (W.failed sink.old) }
@@ -77,7 +81,8 @@ pub fn converse<P: Party, S: Source, W: Sink>(
 fn next_line<S: Source>(input: &mut Input<S>, line: &mut Vec<u8>) -> Result<(), ConversationFault>
     ensures line { OnOk result (Takes held (left S.remaining input.old) line.new.items (left S.remaining input.new)) }
     ensures part { result ≡ Err faults.Read → Breaks (left S.remaining input.old) (left S.remaining input.new) }
-    ensures too_long { result ≡ Err faults.TooLong → IfSome (left S.remaining input.old) (λ octets. 2 ^ 64 - 1 ≤ length octets) }
+    ensures too_long { result ≡ Err faults.TooLong
+        → IfSome (left S.remaining input.old) (λ octets. 2 ^ 64 - 1 ≤ length octets) }
     ensures failed { result ≡ Err faults.Read → S.failed input.new.source ≡ one_more (S.failed input.old.source) }
     ensures unfailed { result ≢ Err faults.Read → S.failed input.new.source ≡ S.failed input.old.source }
     ensures no_write { result ≢ Err faults.Write }
@@ -93,10 +98,13 @@ fn answer_line<P: Party, W: Sink>(
     line: &[u8],
     sink: &mut W,
 ) -> Result<(), ConversationFault>
-    ensures answer { OnOk result (Appends (W.contents sink.old) (W.contents sink.new) (answered P.reply (P.state party.old) (line_of line.now))) }
-    ensures after { result ≢ Err faults.Memory → P.state party.new ≡ left_by P.after (P.state party.old) (line_of line.now) }
+    ensures answer { OnOk result (Appends (W.contents sink.old) (W.contents sink.new)
+        (answered P.reply (P.state party.old) (line_of line.now))) }
+    ensures after { result ≢ Err faults.Memory
+        → P.state party.new ≡ left_by P.after (P.state party.old) (line_of line.now) }
     ensures kept { result ≡ Err faults.Memory → P.state party.new ≡ P.state party.old }
-    ensures prefix { result ≡ Err faults.Write → AppendsPrefix (W.contents sink.old) (W.contents sink.new) (answered P.reply (P.state party.old) (line_of line.now)) }
+    ensures prefix { result ≡ Err faults.Write → AppendsPrefix (W.contents sink.old) (W.contents sink.new)
+        (answered P.reply (P.state party.old) (line_of line.now)) }
     ensures memory { IfErr result (λ fault. fault ≢ faults.Write → fault ≡ faults.Memory) }
     ensures nothing { result ≡ Err faults.Memory → W.contents sink.new ≡ W.contents sink.old }
     ensures write { result ≡ Err faults.Write → W.failed sink.new ≡ one_more (W.failed sink.old) }

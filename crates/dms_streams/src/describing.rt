@@ -25,9 +25,11 @@ pub fn description_text<S: Source>(
     alloc: Global,
     input: &mut Input<S>,
 ) -> Result<Vec<u8>, InputFault>
-    ensures text { IfOk result (λ text. TakesDescription (left S.remaining input.old) text.items (left S.remaining input.new)) }
+    ensures text { IfOk result
+        (λ text. TakesDescription (left S.remaining input.old) text.items (left S.remaining input.new)) }
     ensures short { IfOk result (λ text. length text.items ≤ 1048576) }
-    ensures too_long { result ≡ Err faults.TooLong → IfSome (left S.remaining input.old) (λ octets. 1048576 < length octets) }
+    ensures too_long { result ≡ Err faults.TooLong
+        → IfSome (left S.remaining input.old) (λ octets. 1048576 < length octets) }
     ensures failed { result ≡ Err faults.Read → S.failed input.new.source ≡ one_more (S.failed input.old.source) }
     ensures unfailed { result ≢ Err faults.Read → S.failed input.new.source ≡ S.failed input.old.source }
 {

@@ -24,8 +24,9 @@ pub fn conversations_go_on<P: Party>()
 /// and is afterwards, as if it had never ended.
 pub fn journals_bring_their_party_back<P: Party>()
     ensures answers { (state : P.State) (journal more : List ℕ) → AreWholeLines journal
-        → answers P.reply P.after state (lines (journal ++ more))
-        ≡ answers P.reply P.after state (lines journal) ++ answers P.reply P.after (left_by_all P.after state (lines journal)) (lines more) }
+        → answers P.reply P.after state (lines (journal ++ more)) ≡ answers P.reply P.after state (lines journal)
+        ++ answers P.reply P.after (left_by_all P.after state (lines journal)) (lines more) }
     ensures after { (state : P.State) (journal more : List ℕ) → AreWholeLines journal
-        → left_by_all P.after state (lines (journal ++ more)) ≡ left_by_all P.after (left_by_all P.after state (lines journal)) (lines more) }
+        → left_by_all P.after state (lines (journal ++ more))
+        ≡ left_by_all P.after (left_by_all P.after state (lines journal)) (lines more) }
 {}

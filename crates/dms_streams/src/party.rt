@@ -18,8 +18,8 @@ pub trait Party {
     // What it is after a line.
     ghost after: { State → List ℕ → State };
 
-    /// Its answer to a line, which is given without its newline. `Err` comes only where memory is wanting, and the party
-    /// is then as before.
+    /// Its answer to a line, which is given without its newline. `Err` comes only where memory is wanting, and the
+    /// party is then as before.
     fn answer(&mut self, alloc: Global, line: &[u8]) -> Result<Vec<u8>, AllocError>
         ensures reply { IfOk result (λ text. text.items ≡ reply (state self.old) line.now) }
         ensures after { OnOk result (state self.new ≡ after (state self.old) line.now) }

@@ -11,8 +11,8 @@ use std::alloc::Global;
 /// The octets that one call asks for.
 const PIECE: usize = 4096;
 
-/// All octets that the reader gives, at most `limit`. It stops at the first octet past the limit, so also where the reader never ends,
-/// and at the first call that fails.
+/// All octets that the reader gives, at most `limit`. It stops at the first octet past the limit, so also where the
+/// reader never ends, and at the first call that fails.
 pub fn read_whole<S: Source>(
     alloc: Global,
     source: &mut S,

@@ -15,7 +15,8 @@ pub trait Source {
     // The number of calls that failed.
     ghost failed: { Self → ℕ };
 
-    /// Reads some octets into the first places of the buffer, and gives their number: none at the end alone, or where the buffer is empty.
+    /// Reads some octets into the first places of the buffer, and gives their number: none at the end alone, or where
+    /// the buffer is empty.
     fn read_some(&mut self, buffer: &mut [u8]) -> Result<usize, Failed>
         ensures bound { ReadsAtMost result buffer.new }
         ensures octets { ReadConsumes (remaining self.old) (remaining self.new) result buffer.new }

@@ -1,6 +1,8 @@
 //! How an input is taken line by line.
 
-ghost use Rattle.std.specs.Prelude.{◌≡◌, ◌≢◌, ◌+◌, ◌-◌, ◌^◌, ◌<◌, ◌≤◌, ◌++◌, ◌==◌, ℕ, List, Option, Some, [], take, drop, length, slice_range, position, vec_len, true, false, Ok, Err, IfOk, OnOk, OnErr, IfSome};
+ghost use Rattle.std.specs.Prelude.{◌≡◌, ◌≢◌, ◌+◌, ◌-◌, ◌^◌, ◌<◌, ◌≤◌, ◌++◌, ◌==◌, ℕ, List};
+ghost use Rattle.std.specs.Prelude.{Option, Some, [], take, drop, length, slice_range, position};
+ghost use Rattle.std.specs.Prelude.{vec_len, true, false, Ok, Err, IfOk, OnOk, OnErr, IfSome};
 ghost use Rattle.std.specs.Io.KnownBytes.{Keeps, Consumes, IsAtEnd, prepend_known};
 ghost use Rattle.dms_streams.specs.Calls.{one_more};
 ghost use Rattle.dms_streams.specs.declared.fault.InputFault.TheVariants as faults;
@@ -36,13 +38,15 @@ impl<S: Source> Input<S> {
     /// Takes the octets up to and with the next newline, or all where there is none, and puts them into `line`, in
     /// place of what it held, but no more than `limit` of them. At the end of the input there are none.
     ///
-    /// After an error the octets of this line that were taken before it are lost: the next call takes what is left of the
-    /// line as a line. What there was no memory for is left.
+    /// After an error the octets of this line that were taken before it are lost: the next call takes what is left of
+    /// the line as a line. What there was no memory for is left.
     pub fn take_line(&mut self, line: &mut Vec<u8>, limit: usize) -> Result<(), InputFault>
-        ensures line { OnOk result (Takes limit (left S.remaining self.old) line.new.items (left S.remaining self.new)) }
+        ensures line { OnOk result
+            (Takes limit (left S.remaining self.old) line.new.items (left S.remaining self.new)) }
         ensures part { OnErr result (Breaks (left S.remaining self.old) (left S.remaining self.new)) }
         ensures short { length line.new.items ≤ limit }
-        ensures too_long { result ≡ Err faults.TooLong → IfSome (left S.remaining self.old) (λ octets. 2 ^ 64 - 1 ≤ length octets) }
+        ensures too_long { result ≡ Err faults.TooLong
+            → IfSome (left S.remaining self.old) (λ octets. 2 ^ 64 - 1 ≤ length octets) }
         ensures failed { result ≡ Err faults.Read → S.failed self.new.source ≡ one_more (S.failed self.old.source) }
         ensures unfailed { result ≢ Err faults.Read → S.failed self.new.source ≡ S.failed self.old.source }
     {
@@ -60,9 +64,11 @@ impl<S: Source> Input<S> {
     /// Takes a part of a line, and tells whether the line ends there.
     fn take_part(&mut self, line: &mut Vec<u8>, limit: usize) -> Result<bool, InputFault>
         requires { length line.old.items ≤ limit }
-        ensures goes_on { result ≡ Ok false → (first : Option (List ℕ)) (count : ℕ) → Continues limit count first line.old.items (left S.remaining self.old)
+        ensures goes_on { result ≡ Ok false → (first : Option (List ℕ)) (count : ℕ)
+            → Continues limit count first line.old.items (left S.remaining self.old)
             → Continues limit (count + 1) first line.new.items (left S.remaining self.new) }
-        ensures ends { result ≡ Ok true → (first : Option (List ℕ)) (count : ℕ) → Continues limit count first line.old.items (left S.remaining self.old)
+        ensures ends { result ≡ Ok true → (first : Option (List ℕ)) (count : ℕ)
+            → Continues limit count first line.old.items (left S.remaining self.old)
             → Takes limit first line.new.items (left S.remaining self.new) }
         ensures short { length line.new.items ≤ limit }
         ensures failed { result ≡ Err faults.Read → S.failed self.new.source ≡ one_more (S.failed self.old.source) }
@@ -94,7 +100,8 @@ impl<S: Source> Input<S> {
     /// Reads where all that was read is taken. Nothing is there afterwards only at the end of the source.
     fn fill(&mut self) -> Result<(), Failed>
         ensures kept { Keeps (left S.remaining self.old) (left S.remaining self.new) }
-        ensures end { OnOk result (slice_range self.new.buffer.items self.new.start self.new.end ≡ [] → IsAtEnd (left S.remaining self.new)) }
+        ensures end { OnOk result
+            (slice_range self.new.buffer.items self.new.start self.new.end ≡ [] → IsAtEnd (left S.remaining self.new)) }
         ensures failed { OnErr result (S.failed self.new.source ≡ one_more (S.failed self.old.source)) }
         ensures unfailed { OnOk result (S.failed self.new.source ≡ S.failed self.old.source) }
     {
@@ -123,7 +130,8 @@ impl<S: Source> Input<S> {
 fn read_over<S: Source>(source: &mut S, buffer: &mut Vec<u8>) -> Result<usize, Failed>
     ensures length { vec_len buffer.new ≡ vec_len buffer.old }
     ensures bound { IfOk result (λ count. count ≤ vec_len buffer.new) }
-    ensures octets { IfOk result (λ count. Consumes (S.remaining source.old) (S.remaining source.new) (take count buffer.new.items)) }
+    ensures octets { IfOk result
+        (λ count. Consumes (S.remaining source.old) (S.remaining source.new) (take count buffer.new.items)) }
     ensures end { IfOk result (λ count. count ≡ 0 → 0 < vec_len buffer.old → IsAtEnd (S.remaining source.new)) }
     ensures kept { OnErr result (Keeps (S.remaining source.old) (S.remaining source.new)) }
     ensures failed { OnErr result (S.failed source.new ≡ one_more (S.failed source.old)) }

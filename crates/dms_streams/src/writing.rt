@@ -9,9 +9,9 @@ ghost use Rattle.dms_streams.specs.Room.{IsWrittenWithinRoom};
 use crate::failed::Failed;
 use crate::sink::Sink;
 
-/// Writes all of the octets, in as many calls as it takes. It stops at the first call that fails; a prefix of the octets was written then.
-/// No call fails where there is room for the octets.
-#[tactic(auto, using(crate::proofs::Written::wrote_more, crate::proofs::Written::unfailed, crate::proofs::Written::took_none))]
+/// Writes all of the octets, in as many calls as it takes. It stops at the first call that fails; a prefix of the
+/// octets was written then. No call fails where there is room for the octets.
+#[tactic(auto, using(crate::proofs::Written::calls))]
 pub fn write_whole<W: Sink>(sink: &mut W, octets: &[u8]) -> Result<(), Failed>
     ensures whole { OnOk result (Appends (W.contents sink.old) (W.contents sink.new) octets.now) }
     ensures prefix { OnErr result (AppendsPrefix (W.contents sink.old) (W.contents sink.new) octets.now) }

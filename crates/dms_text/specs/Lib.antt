@@ -3,6 +3,7 @@ pub mod Lines
 pub mod Words
 pub mod Numbers
 pub mod Octets
--- reading from the beginning, which the calls say of themselves; `number_found`, `word_found` and their kin in proofs/ join it to the above
+-- reading from the beginning, which the calls say of themselves; `number_found`, `word_found` and their kin in proofs/
+-- join it to the above
 pub mod Reading
 pub mod Views

@@ -1,5 +1,5 @@
--- A text as lines (this profile). Its lines are those of std's `lines`: each ends at a newline, the last perhaps at the end of the text, and
--- one carriage return before a newline is no part of its line.
+-- A text as lines (this profile). Its lines are those of std's `lines`: each ends at a newline, the last perhaps at the
+-- end of the text, and one carriage return before a newline is no part of its line.
 use Rattle.std.specs.Prelude.{ℕ, ◌+◌, ◌==◌, Bool, true, not, if◌then◌else◌, List, [], ◌∷◌, length, filter}
 use Rattle.std.specs.Str.Lines.{lines}
 
@@ -21,7 +21,8 @@ pub record NumberedLine : Type 0 where
 abbrev pub numbered : ℕ → List (List ℕ) → List NumberedLine
 numbered number [] = []
 numbered number (line ∷ more) =
-    if is_skipped line then numbered (number + 1) more else record { number = number; octets = line } ∷ numbered (number + 1) more
+    if is_skipped line then numbered (number + 1) more
+    else record { number = number; octets = line } ∷ numbered (number + 1) more
 
 -- the part of a text that is left, and the number of its first line
 pub record TextLeft : Type 0 where

@@ -1,5 +1,6 @@
 -- Reading a line from its beginning: a value and the words after it (this profile).
-use Rattle.std.specs.Prelude.{ℕ, ◌==◌, ◌&&◌, Bool, true, false, if◌then◌else◌, List, [], ◌∷◌, length, nat_lt, nat_le, Option, Some, None, Result, Ok, Err}
+use Rattle.std.specs.Prelude.{ℕ, ◌==◌, ◌&&◌, Bool, true, false, if◌then◌else◌, List, [], ◌∷◌}
+use Rattle.std.specs.Prelude.{length, nat_lt, nat_le, Option, Some, None, Result, Ok, Err}
 use Rattle.std.specs.Char.{is_digit}
 use Rattle.std.specs.List.{list_all}
 use Rattle.std.specs.Str.Parse.{digits_value}
@@ -11,7 +12,9 @@ use Rattle.hex.specs.declared.error.FromHexError.{FromHexError}
 -- the number that one to `most` digits of the base spell
 unfoldable pub number_of : ℕ → ℕ → List ℕ → Option ℕ
 number_of base most word =
-    if nat_lt 0 (length word) && (nat_le (length word) most && list_all (λ octet. is_digit octet base) word) then Some (digits_value base word) else None
+    if nat_lt 0 (length word) && (nat_le (length word) most && list_all (λ octet. is_digit octet base) word)
+    then Some (digits_value base word)
+    else None
 
 abbrev pub within : ℕ → ℕ → ℕ → Option ℕ
 within low high number = if nat_le low number && nat_le number high then Some number else None

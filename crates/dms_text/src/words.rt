@@ -43,7 +43,8 @@ impl<'a> Words<'a> {
         }
     }
 
-    /// The next word, and the words after it. An empty word is none: it stands between two spaces, or at an end of the line.
+    /// The next word, and the words after it. An empty word is none: it stands between two spaces, or at an end of the
+    /// line.
     #[tactic(auto, unfolding(crate::specs::Reading::word_at))]
     pub fn next_word(self) -> Option<(&'a [u8], Words<'a>)>
         ensures { option_map word_and_rest result ≡ word_at self.entry }

@@ -47,8 +47,8 @@ fn example(rt: HostRuntime) -> Result<(), Fail> {
     Ok(())
 }
 
-/// The number of a text's font, its height, its spacings between characters and between lines, its version, and how many characters
-/// it has.
+/// The number of a text's font, its height, its spacings between characters and between lines, its version, and how
+/// many characters it has.
 fn header(alloc: Global, text: &[u8]) -> Result<(u8, u8, u8, u8, u16, usize), FontFault> {
     let font = Font::from_text(alloc, text)?;
     Ok((
