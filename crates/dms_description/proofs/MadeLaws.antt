@@ -150,7 +150,7 @@ face_is_checked it e =
     ∙ ap (λ b. cond (not b) (Err face_faults.Fonts) (cond (not (fit it.fonts it.defaults)) (Err face_faults.Default) (Ok it))) first.1
     ∙ ap (λ b. cond (not b) (Err face_faults.Default) (Ok it)) both.1
 
--- where nothing is wrong, memory is wanting
+-- where nothing is wrong, memory ran out
 first_fault_is_memory : (o : Option ConfigFault) (fault : ConfigFault) → o ≡ None → IsFirstConfigFault o fault → is_memory fault ≡ true
 first_fault_is_memory None fault none is = ap is_memory is
 first_fault_is_memory (Some first) fault none is = absurd (let wrong : Some first ≡ None = none in cc)

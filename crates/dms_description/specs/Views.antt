@@ -69,7 +69,7 @@ abbrev pub after : List (List ℕ) → List (List ℕ)
 after [] = []
 after (line ∷ lines) = lines
 
--- the answer is the expected one; without one, there is none or memory is wanting
+-- the answer is the expected one; without one, there is none or memory ran out
 abbrev pub ReadsOrMemory : {A B : Type 0} → (A → B) → Result A DescriptionFault → Option B → Type 0
 ReadsOrMemory view (Ok value) expected = expected ≡ Some (view value)
 ReadsOrMemory view (Err fault) expected = (fault ≡ Memory) ⊎ (expected ≡ None)

@@ -56,7 +56,7 @@ pub fn first_cause(alloc: Global, octets: &[u8]) -> Result<Option<Cause>, AllocE
     cause_of(alloc, octets)
 }
 
-/// The same, of the lines that are left of a text.
+/// What is wrong with the lines that are left of a text.
 #[tactic(auto, unfolding(crate::specs::Causes::first_cause))]
 fn cause_of(alloc: Global, octets: &[u8]) -> Result<Option<Cause>, AllocError>
     ensures { IfOk result (λ found. found ≡ first_cause (octets_left (record { number = 1; text = octets.now }))) }

@@ -10,8 +10,8 @@ use dms_table::Shown;
 use std::alloc::{AllocError, Global};
 use std::io::Write;
 
-/// Appends the line of what is shown: its row with the checksum as a number, how it came up, its priority, the minutes
-/// that are left, its text.
+/// Appends the line of what is shown: its row with the checksum as a number, how it was activated, its priority, the
+/// minutes that are left, its text.
 pub fn put_shown(alloc: Global, report: &mut Vec<u8>, shown: &Shown) -> Result<(), AllocError>
     ensures { OnOk result (report.new.items ≡ report.old.items ++ shown_line shown.now) }
 {

@@ -16,7 +16,7 @@ use Rattle.dms_face.specs.Face.{FaceModel}
 use Rattle.dms_face.specs.Layout.{Character, Line, Layout, Style, styled, is_blank, standing, with_character, with_item}
 use Rattle.dms_face.specs.Room.{line_block, lines_fit}
 use Rattle.dms_face.specs.OnePass.{local_fault}
-use Rattle.dms_face.specs.Totals.{Tells, AreSmall, Takes}
+use Rattle.dms_face.specs.Totals.{Matches, AreSmall, Takes}
 use Rattle.dms_face.proofs.RoomLaws.{same_standing}
 
 -- the greatest number of the characters' fonts
@@ -75,18 +75,18 @@ is_plain FlashEnd = true
 is_plain (PageTime on off) = true
 is_plain _ = false
 
-style_tells : (totals : Totals) (layout : Layout) (style : Style) → style.side ≡ layout.style.side → style.part ≡ layout.style.part → style.font ≡ layout.style.font → Tells totals layout
-    → Tells totals (record layout { style = style })
-style_tells totals layout style side part font tells = record {
-  pages = tells.pages;
-  lines = tells.lines;
-  characters = tells.characters;
-  height = tells.height;
-  spacing = tells.spacing;
-  gap = tells.gap;
-  side = tells.side ∙ sym side;
-  part = tells.part ∙ sym part;
-  font = tells.font ∙ sym font;
+style_matches : (totals : Totals) (layout : Layout) (style : Style) → style.side ≡ layout.style.side → style.part ≡ layout.style.part → style.font ≡ layout.style.font → Matches totals layout
+    → Matches totals (record layout { style = style })
+style_matches totals layout style side part font matches = record {
+  pages = matches.pages;
+  lines = matches.lines;
+  characters = matches.characters;
+  height = matches.height;
+  spacing = matches.spacing;
+  gap = matches.gap;
+  side = matches.side ∙ sym side;
+  part = matches.part ∙ sym part;
+  font = matches.font ∙ sym font;
 }
 
 style_taken : (face : FaceModel) (totals : Totals) (fault_at : Layout → Option MultiFaultCode) (style : Style → Style) → AreSmall totals
@@ -96,7 +96,7 @@ style_taken : (face : FaceModel) (totals : Totals) (fault_at : Layout → Option
 style_taken face totals fault_at style small none side part font same = record {
   fault = λ layout holds. none layout;
   holds = λ layout holds. record {
-    tells = style_tells totals layout (style layout.style) (side layout.style) (part layout.style) (font layout.style) holds.tells;
+    matches = style_matches totals layout (style layout.style) (side layout.style) (part layout.style) (font layout.style) holds.matches;
     room = same layout ∙ holds.room;
   };
   small = small;

@@ -2,7 +2,7 @@ pub mod Bench
 pub mod Extents
 pub mod PartLaws
 mod PlaceLaws
-pub mod TellsLaws
+pub mod MatchLaws
 pub mod Bools
 pub mod RoomLaws
 pub mod GrowthLaws

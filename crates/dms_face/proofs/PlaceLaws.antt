@@ -1,4 +1,4 @@
--- Where blocks stand, told by the rows of the three places.
+-- Where blocks stand, by the rows of the three places.
 use Rattle.std.proofs.Common.{◌≡◌, ℕ, Bool, true, false, not, cond, ◌||◌, List, [], ◌∷◌, nat_lt, nat_le, eqb, refl, ap}
 use Rattle.dms_face.specs.declared.justification.Part.{Part}
 use Rattle.dms_face.specs.declared.justification.Part.TheVariants.{Top, Middle, Bottom}
@@ -83,7 +83,7 @@ somewhere (block ∷ blocks) = any_one block.place block (at_place Start blocks)
 
 pub ruleset places = (after_start, after_halfway, after_end, taken_here, somewhere)
 
--- parts that are told the same are one
+-- parts that pass as one are one
 pub same_part_is : (a b : Part) → same_part a b ≡ true → a ≡ b
 same_part_is Top Top is = refl
 same_part_is Middle Middle is = refl

@@ -1,4 +1,4 @@
--- Whether there is room at three places, told by sums alone.
+-- Whether there is room at three places, decided by sums alone.
 use Rattle.std.proofs.Common.{◌≡◌, ℕ, ◌+◌, ◌-◌, ◌/◌, ◌≤◌, ◌<◌, Bool, false, ◌&&◌, [], ◌∷◌, nat_le, arith}
 use Rattle.std.proofs.lemmas.Bool.Decides.{nat_tests}
 use Rattle.dms_face.specs.declared.justification.Place.TheVariants.{Start, Halfway, End}

@@ -1,4 +1,4 @@
--- One walk over the items of a text gives what each of its fronts, laid out anew, tells.
+-- One walk over the items of a text gives what each of its fronts gives, laid out by itself.
 use Rattle.std.proofs.Common.{◌≡◌, ℕ, ◌+◌, ◌≤◌, Bool, true, false, ◌&&◌, cond, List, [], ◌∷◌, ◌++◌, fold, length, map, nat_le, nat_lt, Option, Some, None, is_none, unwrap_or, Result, Ok, Err, refl, ap, sym, ◌∙◌, arith, zero-add, add-zero, length-append, ◌<◌}
 use Rattle.std.specs.List.{count_by}
 use Rattle.std.proofs.lemmas.Bool.Decides.{nat_tests}
@@ -104,7 +104,7 @@ fits_push face front turn fit =
     ∙ ap (λ b. b && is_none (misuse face (layout_of face front) turn)) (both _ (has_room face (layout_of face front)) fit).0)
     ∙ ap (λ layout. is_none (misuse face (layout_of face front) turn) && has_room face layout) (layout_push face front turn)
 
--- The open line and the open page alone tell whether one turn more fits, and its fault.
+-- The open line and the open page alone decide whether one turn more fits, and its fault.
 pub local_law : (face : FaceModel) (front : List Turn) (turn : Turn) → fits face front ≡ true
     → local_fault face (layout_of face front) turn ≡ cond (fits face (front ++ turn ∷ [])) None (Some (code_of face (layout_of face front) turn))
 local_law face front turn fit =

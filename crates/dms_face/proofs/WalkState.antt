@@ -10,7 +10,7 @@ use Rattle.dms_face.specs.Layout.{Layout, with_item}
 use Rattle.dms_face.specs.OnePass.{local_fault, or_else, walked}
 use Rattle.dms_face.specs.Totals.{Holds, AreSmall, Takes}
 
--- the sums tell of a layout after which this rest gives the answer
+-- the sums match a layout after which this rest gives the answer
 pub record IsWalkedTo (face : FaceModel) (end : ℕ) (totals : Totals) (rest : List (Result Spot SyntaxFault)) (answer : Result ℕ MultiFault) : Type 0 where
   pub layout : Layout
   pub holds : Holds face totals layout

@@ -22,7 +22,7 @@ number_of_code TagConflict = 11
 number_of_code TooManyPages = 12
 number_of_code FontVersionId = 13
 
--- the same code, of a fault of the grammar
+-- the code of a fault of the grammar
 abbrev pub code_of_syntax : FaultCode → MultiFaultCode
 code_of_syntax syntax.UnsupportedTag = UnsupportedTag
 code_of_syntax syntax.UnsupportedTagValue = UnsupportedTagValue

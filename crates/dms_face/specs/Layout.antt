@@ -15,7 +15,7 @@ use Rattle.dms_face.specs.declared.justification.Part.{Part}
 use Rattle.dms_face.specs.Justification.{side_of, part_of, same_part}
 use Rattle.dms_face.specs.Face.{FaceModel, font_of}
 
--- the same face, with other defaults
+-- this face with other defaults
 abbrev pub under : FaceModel → Defaults → FaceModel
 under face defaults = record face { defaults = defaults }
 

@@ -1,4 +1,4 @@
--- What running sums tell of the blocks that they were made of, and of a layout.
+-- What running sums say of the blocks that they were made of, and of a layout.
 use Rattle.std.specs.Prelude.{◌≡◌, ℕ, ◌≤◌, true, not, List, [], ◌∷◌, map, fold, max, length, Option, IfNone}
 use Rattle.dms_face.specs.declared.justification.Place.TheVariants.{Start, Halfway, End}
 use Rattle.dms_face.specs.declared.multi_fault.MultiFaultCode.{MultiFaultCode}
@@ -20,7 +20,7 @@ pub record Sums (run : Run) (blocks : List Block) : Type 0 where
   pub size : run.size ≡ extent blocks
   pub spacing : run.spacing ≡ last_spacing blocks
 
-pub record TellsBlocks (places : Places) (blocks : List Block) : Type 0 where
+pub record MatchesBlocks (places : Places) (blocks : List Block) : Type 0 where
   pub start : Sums places.start (at_place Start blocks)
   pub halfway : Sums places.halfway (at_place Halfway blocks)
   pub end : Sums places.end (at_place End blocks)
@@ -31,10 +31,10 @@ pub record AreWithin (limit : ℕ) (places : Places) : Type 0 where
   pub halfway : places.halfway.size ≤ limit
   pub end : places.end.size ≤ limit
 
-pub record Tells (totals : Totals) (layout : Layout) : Type 0 where
+pub record Matches (totals : Totals) (layout : Layout) : Type 0 where
   pub pages : totals.pages ≡ length layout.pages
-  pub lines : TellsBlocks totals.lines (map line_block layout.lines)
-  pub characters : TellsBlocks totals.characters (map character_block layout.characters)
+  pub lines : MatchesBlocks totals.lines (map line_block layout.lines)
+  pub characters : MatchesBlocks totals.characters (map character_block layout.characters)
   pub height : totals.height
       ≡ fold max 0 (map (λ (character : Character). character.style.font.height) layout.characters)
   pub spacing : totals.spacing
@@ -50,12 +50,12 @@ pub record AreSmall (totals : Totals) : Type 0 where
   pub lines : AreWithin 256 totals.lines
   pub characters : AreWithin 256 totals.characters
 
--- The sums tell the layout, and the lines that stand on its open page have room.
+-- The sums match the layout, and the lines that stand on its open page have room.
 pub record Holds (face : FaceModel) (totals : Totals) (layout : Layout) : Type 0 where
-  pub tells : Tells totals layout
+  pub matches : Matches totals layout
   pub room : lines_fit face (standing layout) ≡ true
 
--- What becomes of running sums at an item: it has this fault, or they tell the layout after it.
+-- What becomes of running sums at an item: it has this fault, or they match the layout after it.
 pub record Takes (face : FaceModel) (old new : Totals) (result : Option MultiFaultCode)
     (fault_at : Layout → Option MultiFaultCode) (after : Layout → Layout) : Type 0 where
   pub fault : (layout : Layout) → Holds face old layout → result ≡ fault_at layout

@@ -18,7 +18,7 @@ pub fn faces_are_within_their_limits(face: &Face)
     face.limits();
 }
 
-/// After a prefix that fits, the open line and the open page alone tell whether one turn more fits, and its fault.
+/// After a prefix that fits, the open line and the open page alone decide whether one turn more fits, and its fault.
 ///
 /// What is closed has room and keeps it: a turn changes the open line and its part of the open page alone.
 pub fn a_turn_changes_the_open_line_and_page_alone()

@@ -5,7 +5,7 @@ ghost use Rattle.dms_face.specs.declared.justification.Place.TheVariants.{Start,
 ghost use Rattle.dms_face.specs.Layout.{is_blank};
 ghost use Rattle.dms_face.specs.Room.{average, is_at, at_place, span, have_room, blocks_fit};
 ghost use Rattle.dms_face.specs.Fit.{goes_back, is_taken};
-ghost use Rattle.dms_face.specs.Totals.{Sums, TellsBlocks, AreWithin};
+ghost use Rattle.dms_face.specs.Totals.{Sums, MatchesBlocks, AreWithin};
 
 use crate::justification::Place;
 
@@ -95,7 +95,7 @@ pub(crate) struct Places {
 impl Places {
     /// No block at any place.
     pub(crate) fn empty() -> Places
-        ensures tells { TellsBlocks result [] }
+        ensures matches { MatchesBlocks result [] }
         ensures within { AreWithin 256 result }
     {
         Places {
@@ -109,8 +109,8 @@ impl Places {
     #[inline]
     pub(crate) fn push(&mut self, block: Block)
         requires { AreWithin 256 self.old }
-        ensures tells { (blocks : List Block) → TellsBlocks self.old blocks
-            → TellsBlocks self.new (blocks ++ block ∷ []) }
+        ensures matches { (blocks : List Block) → MatchesBlocks self.old blocks
+            → MatchesBlocks self.new (blocks ++ block ∷ []) }
         ensures within { AreWithin 766 self.new }
     {
         match block.place {
@@ -123,14 +123,14 @@ impl Places {
     /// Whether there is a block.
     #[tactic(auto, using(crate::proofs::PlaceLaws::places))]
     pub(crate) fn any(&self) -> bool
-        ensures { (blocks : List Block) → TellsBlocks self.now blocks → result ≡ not (is_blank blocks) }
+        ensures { (blocks : List Block) → MatchesBlocks self.now blocks → result ≡ not (is_blank blocks) }
     {
         self.start.any || self.halfway.any || self.end.any
     }
 
     /// Whether a block stands at this place.
     pub(crate) fn any_at(&self, place: Place) -> bool
-        ensures { (blocks : List Block) → TellsBlocks self.now blocks
+        ensures { (blocks : List Block) → MatchesBlocks self.now blocks
             → result ≡ not (is_blank (at_place place blocks)) }
     {
         match place {
@@ -143,7 +143,7 @@ impl Places {
     /// Whether a block stands after this place.
     #[tactic(auto, using(crate::proofs::PlaceLaws::places))]
     pub(crate) fn goes_back(&self, place: Place) -> bool
-        ensures { (blocks : List Block) → TellsBlocks self.now blocks → result ≡ goes_back place blocks }
+        ensures { (blocks : List Block) → MatchesBlocks self.now blocks → result ≡ goes_back place blocks }
     {
         match place {
             Place::Start => self.halfway.any || self.end.any,
@@ -155,7 +155,7 @@ impl Places {
     /// Whether a block stands at this place or after it.
     #[tactic(auto, using(crate::proofs::PlaceLaws::places))]
     pub(crate) fn is_taken(&self, place: Place) -> bool
-        ensures { (blocks : List Block) → TellsBlocks self.now blocks → result ≡ is_taken place blocks }
+        ensures { (blocks : List Block) → MatchesBlocks self.now blocks → result ≡ is_taken place blocks }
     {
         self.any_at(place) || self.goes_back(place)
     }
@@ -165,7 +165,7 @@ impl Places {
     pub(crate) fn fit(&self, whole: u32) -> bool
         requires whole { whole ≤ 256 }
         requires within { AreWithin 766 self.now }
-        ensures fit { (blocks : List Block) → TellsBlocks self.now blocks → result ≡ blocks_fit whole blocks }
+        ensures fit { (blocks : List Block) → MatchesBlocks self.now blocks → result ≡ blocks_fit whole blocks }
         ensures within { IsTrue result → AreWithin 256 self.now }
     {
         have_room(whole, self.start.size, self.halfway.size, self.end.size)

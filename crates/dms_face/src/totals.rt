@@ -8,7 +8,7 @@ ghost use Rattle.dms_face.specs.Layout.{with_character, with_line, with_page, wi
 ghost use Rattle.dms_face.specs.Room.{line_block, lines_fit};
 ghost use Rattle.dms_face.specs.Fit.{misuse};
 ghost use Rattle.dms_face.specs.OnePass.{room_fault, open_fits, page_fault, part_fault, local_fault};
-ghost use Rattle.dms_face.specs.Totals.{TellsBlocks, AreWithin, Tells, Holds, AreSmall, Takes};
+ghost use Rattle.dms_face.specs.Totals.{MatchesBlocks, AreWithin, Matches, Holds, AreSmall, Takes};
 
 use crate::defaults::Defaults;
 use crate::face::Face;
@@ -40,14 +40,14 @@ pub struct Totals<'a> {
 impl<'a> Totals<'a> {
     /// Whether the open line has a character.
     fn holds_character(&self) -> bool
-        ensures { (layout : Layout) → Tells self.now layout → result ≡ not (is_blank layout.characters) }
+        ensures { (layout : Layout) → Matches self.now layout → result ≡ not (is_blank layout.characters) }
     {
         self.characters.any()
     }
 
     /// The open line, as it is where it is closed.
     fn line_block(&self) -> Block
-        ensures block { (layout : Layout) → Tells self.now layout → result ≡ line_block (open_line layout) }
+        ensures block { (layout : Layout) → Matches self.now layout → result ≡ line_block (open_line layout) }
     {
         let (height, spacing) = if self.holds_character() {
             (self.height, self.spacing)
@@ -66,8 +66,8 @@ impl<'a> Totals<'a> {
     #[inline(always)]
     fn lines_with_open(&self) -> Places
         requires within { AreWithin 256 self.now.lines }
-        ensures tells { (layout : Layout) → Tells self.now layout
-            → TellsBlocks result (map line_block (layout.lines ++ open_line layout ∷ [])) }
+        ensures matches { (layout : Layout) → Matches self.now layout
+            → MatchesBlocks result (map line_block (layout.lines ++ open_line layout ∷ [])) }
         ensures within { AreWithin 766 result }
     {
         let mut lines = self.lines;
@@ -78,8 +78,8 @@ impl<'a> Totals<'a> {
     /// The open page's lines while the open line is open.
     fn standing(&self) -> Places
         requires within { AreWithin 256 self.now.lines }
-        ensures tells { (layout : Layout) → Tells self.now layout
-            → TellsBlocks result (map line_block (standing layout)) }
+        ensures matches { (layout : Layout) → Matches self.now layout
+            → MatchesBlocks result (map line_block (standing layout)) }
         ensures within { AreWithin 766 result }
     {
         if !self.holds_character() {
@@ -92,7 +92,7 @@ impl<'a> Totals<'a> {
     #[tactic(auto, using(crate::proofs::PartLaws::has_line))]
     fn holds_line(&self) -> bool
         requires { AreWithin 256 self.now.lines }
-        ensures { (layout : Layout) → Tells self.now layout → result ≡ has_line_in layout.style.part layout.lines }
+        ensures { (layout : Layout) → Matches self.now layout → result ≡ has_line_in layout.style.part layout.lines }
     {
         self.lines.any_at(self.part.place())
     }
@@ -100,8 +100,8 @@ impl<'a> Totals<'a> {
     /// The open page's lines with the open line and its part closed.
     fn closed(&self) -> Places
         requires within { AreWithin 256 self.now.lines }
-        ensures tells { (layout : Layout) → Tells self.now layout
-            → TellsBlocks result (map line_block (closed layout)) }
+        ensures matches { (layout : Layout) → Matches self.now layout
+            → MatchesBlocks result (map line_block (closed layout)) }
         ensures within { AreWithin 766 result }
     {
         if self.holds_character() || self.holds_line() {
@@ -113,9 +113,9 @@ impl<'a> Totals<'a> {
 
     /// These are the closed lines of the open page, and after them a line opens, with this gap above it.
     fn open_line(&mut self, lines: Places, gap: Option<u8>)
-        ensures tells { (layout : Layout) (closed_lines : List Line)
-            → Tells self.old layout → TellsBlocks lines (map line_block closed_lines)
-            → Tells self.new (record layout { lines = closed_lines; characters = []; gap = gap }) }
+        ensures matches { (layout : Layout) (closed_lines : List Line)
+            → Matches self.old layout → MatchesBlocks lines (map line_block closed_lines)
+            → Matches self.new (record layout { lines = closed_lines; characters = []; gap = gap }) }
         ensures small { AreSmall self.old → AreWithin 256 lines → AreSmall self.new }
         ensures pages { self.new.pages ≡ self.old.pages }
     {
@@ -131,9 +131,9 @@ impl<'a> Totals<'a> {
     #[inline]
     fn add_character(&mut self, glyph: &Glyph) -> bool
         requires small { AreSmall self.old }
-        ensures tells { (layout : Layout) → Tells self.old layout
-            → Tells self.new (with_character layout (Some glyph.now)) }
-        ensures same { (layout : Layout) → Tells self.old layout → result ≡ false
+        ensures matches { (layout : Layout) → Matches self.old layout
+            → Matches self.new (with_character layout (Some glyph.now)) }
+        ensures same { (layout : Layout) → Matches self.old layout → result ≡ false
             → map line_block (standing (with_character layout (Some glyph.now))) ≡ map line_block (standing layout) }
         ensures within { AreWithin 766 self.new.characters }
         ensures small { AreWithin 256 self.new.characters → AreSmall self.new }
@@ -158,7 +158,7 @@ impl<'a> Totals<'a> {
     fn open_fits(&self, face: &Face, grown: bool) -> bool
         requires within { AreWithin 256 self.now.lines }
         requires characters { AreWithin 766 self.now.characters }
-        ensures fit { (layout : Layout) → Tells self.now layout
+        ensures fit { (layout : Layout) → Matches self.now layout
             → (grown ≡ false → lines_fit face.now (standing layout) ≡ true) → result ≡ open_fits face.now layout }
         ensures within { IsTrue result → AreWithin 256 self.now.characters }
     {
@@ -200,7 +200,7 @@ impl<'a> Totals<'a> {
     /// Whether the open page has room for its lines once it is closed.
     fn closed_fits(&self, face: &Face) -> bool
         requires small { AreSmall self.now }
-        ensures { (layout : Layout) → Tells self.now layout → result ≡ lines_fit face.now (closed layout) }
+        ensures { (layout : Layout) → Matches self.now layout → result ≡ lines_fit face.now (closed layout) }
     {
         self.closed().fit(u32::from(face.height()))
     }
@@ -348,7 +348,8 @@ impl<'a> Totals<'a> {
     /// The fault of a text that ends here, if it has one.
     pub fn end_fault(&self, face: &Face) -> Option<MultiFaultCode>
         requires small { AreSmall self.now }
-        ensures { (layout : Layout) → Tells self.now layout → result ≡ room_fault (lines_fit face.now (closed layout)) }
+        ensures { (layout : Layout) → Matches self.now layout
+            → result ≡ room_fault (lines_fit face.now (closed layout)) }
     {
         if self.closed_fits(face) {
             None

@@ -31,7 +31,7 @@ const FLASHING: &str =
 </g>
 "##;
 
-/// Each page is up for a tenth of a second, and then none; the second one flashes.
+/// Each page is shown for a tenth of a second, and then none; the second one flashes.
 const TURNS: &str =
     r##"<g><animate attributeName="opacity" calcMode="discrete" repeatCount="indefinite" dur="0.5s" values="1;0;0;0;0"/><path stroke="#000000" stroke-dasharray="0 1" d="M0 0h3.5M0 1h3.5M0 2h3.5"/>
 <path stroke="#ffbf00" d="M1 0h0M2 1h0"></path>

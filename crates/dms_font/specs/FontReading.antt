@@ -10,7 +10,7 @@ use Rattle.dms_font.specs.declared.fault.FontFaultKind.{FontFaultKind}
 use Rattle.dms_font.specs.declared.fault.FontFaultKind.TheVariants.{Header, Glyph, Bitmap, Twice, TooMany, Memory}
 use Rattle.dms_font.specs.declared.fault.FontFault.{FontFault}
 
--- a word that tells what the number after it is
+-- a label, and the number after it
 unfoldable pub labelled_at : List ℕ → ℕ → ℕ → List (List ℕ) → Option (ℕ × List (List ℕ))
 labelled_at label low high words = keyword_at label words >>= decimal_at 5 low high
 

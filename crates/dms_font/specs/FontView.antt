@@ -14,7 +14,7 @@ abbrev pub GivesOrMemory : {A B : Type 0} → (A → B) → Result A FontFaultKi
 GivesOrMemory view (Ok value) expected = expected ≡ Ok (view value)
 GivesOrMemory view (Err kind) expected = (kind ≡ Memory) ⊎ (expected ≡ Err kind)
 
--- the same of a fault at a line
+-- the answer is the expected one, or that memory ran out, which has line 0
 abbrev pub ReadsOrMemory : {A : Type 0} → Result A FontFault → Result A FontFault → Type 0
 ReadsOrMemory (Ok value) expected = expected ≡ Ok value
 ReadsOrMemory (Err found) expected = (found ≡ fault Memory 0) ⊎ (expected ≡ Err found)

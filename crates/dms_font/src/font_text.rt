@@ -25,7 +25,7 @@ pub(crate) struct GlyphLine<'a> {
     pub bits: &'a [u8],
 }
 
-/// A word that tells what the number after it is, and that number.
+/// The number after this label, from `low` to `high`, and the words after it.
 #[tactic(auto, unfolding(crate::specs::FontReading::labelled_at))]
 fn labelled<'a>(words: Words<'a>, label: &[u8], low: u8, high: u8) -> Option<(u8, Words<'a>)>
     ensures value { result ≡ labelled_at label.now low high words.entry }

@@ -12,7 +12,7 @@ unfoldable pub use Rattle.dms_text.specs.Reading.{number_of, version_of}
 unfoldable pub decimal_of : ℕ → ℕ → List ℕ → Option ℕ
 decimal_of low high text = option_and_then (within low high) (number_of 10 5 text)
 
--- the same, or no number where nothing stands
+-- such a number, or no number where nothing stands
 unfoldable pub value_of : ℕ → ℕ → List ℕ → Option (Option ℕ)
 value_of low high [] = Some None
 value_of low high (c ∷ cs) = option_map Some (decimal_of low high (c ∷ cs))

@@ -16,7 +16,7 @@ use Rattle.dms_face.specs.Room.{lines_fit}
 use Rattle.dms_face.specs.Fit.{fault_of, or_fault, page_count, checked_text}
 use Rattle.dms_face.specs.Cells.{pages_of}
 use Rattle.dms_face.specs.OnePass.{room_fault, local_fault, or_else, walked}
-use Rattle.dms_face.specs.Totals.{Tells, Holds, AreSmall, Takes}
+use Rattle.dms_face.specs.Totals.{Matches, Holds, AreSmall, Takes}
 use Rattle.dms_face.proofs.WalkLaws.{checked_long, checked_walk}
 use Rattle.dms_pages.specs.declared.text_pages.PagesFault.{PagesFault}
 use Rattle.dms_pages.specs.declared.text_pages.PagesFault.TheVariants.{Multi, Memory}
@@ -26,27 +26,27 @@ use Rattle.dms_pages.specs.Laid.{GivesLaid}
 use Rattle.dms_pages.proofs.LayingLaws.{laid_all}
 
 -- the fault of an answer, if it is one
-abbrev pub told : {A : Type 0} → Result A MultiFault → Option MultiFault
-told (Ok value) = None
-told (Err fault) = Some fault
+abbrev pub fault_in_answer : {A : Type 0} → Result A MultiFault → Option MultiFault
+fault_in_answer (Ok value) = None
+fault_in_answer (Err fault) = Some fault
 
-told_fault : {A : Type 0} (value : A) (fault : Option MultiFault) → told (or_fault value fault) ≡ fault
-told_fault value None = refl
-told_fault value (Some fault) = refl
+fault_of_or_fault : {A : Type 0} (value : A) (fault : Option MultiFault) → fault_in_answer (or_fault value fault) ≡ fault
+fault_of_or_fault value None = refl
+fault_of_or_fault value (Some fault) = refl
 
--- what an answer of the whole text tells of its fault
-pub fault_told : (face : FaceModel) (text : List ℕ) (answer : Result ℕ MultiFault) → answer ≡ checked_text face text → fault_of face text ≡ told answer
-fault_told face text answer is = sym (ap (λ (a : Result ℕ MultiFault). told a) is ∙ told_fault (page_count text) (fault_of face text))
+-- the fault of an answer to the whole text
+pub fault_answered : (face : FaceModel) (text : List ℕ) (answer : Result ℕ MultiFault) → answer ≡ checked_text face text → fault_of face text ≡ fault_in_answer answer
+fault_answered face text answer is = sym (ap (λ (a : Result ℕ MultiFault). fault_in_answer a) is ∙ fault_of_or_fault (page_count text) (fault_of face text))
 
 -- the pages that a layout and the rest of a text give
 abbrev pub pages_after : FaceModel → Layout → List (Result Spot SyntaxFault) → List PageModel
 pages_after face layout rest = (with_page (fold (with_turn face) layout (map Some (items_in rest)))).pages
 
--- The sums tell of this layout, and it and this rest give the fault and the pages of the text.
+-- The sums match this layout, and it and this rest give the fault and the pages of the text.
 pub record IsLaidTo (face : FaceModel) (text : List ℕ) (totals : Totals) (layout : Layout) (rest : List (Result Spot SyntaxFault)) : Type 0 where
   pub holds : Holds face totals layout
   pub small : AreSmall totals
-  pub fault : fault_of face text ≡ told (walked face (length text) layout rest)
+  pub fault : fault_of face text ≡ fault_in_answer (walked face (length text) layout rest)
   pub pages : pages_of face text ≡ pages_after face layout rest
 
 -- Nothing was taken so far.
@@ -58,7 +58,7 @@ laid_starts face text totals layout rest short holds small blank whole =
     subst P (sym blank) (record {
       holds = holds;
       small = small;
-      fault = fault_told face text (walked face (length text) (blank_layout face) rest) walk;
+      fault = fault_answered face text (walked face (length text) (blank_layout face) rest) walk;
       pages = sym (ap (pages_after face (blank_layout face)) whole ∙ laid_all face text);
     })
 
@@ -77,7 +77,7 @@ laid_more face text totals next layout after rest spot more fault state is none 
     subst P (sym added) (record {
       holds = subst Q none (takes.holds layout state.holds);
       small = subst R none takes.small;
-      fault = state.fault ∙ ap (λ (a : Result ℕ MultiFault). told a) walk;
+      fault = state.fault ∙ ap (λ (a : Result ℕ MultiFault). fault_in_answer a) walk;
       pages = state.pages ∙ ap (pages_after face layout) is;
     })
 
@@ -90,33 +90,33 @@ item_fault face text totals next layout rest spot more fault code state is found
     let wrong : local_fault face layout (Some spot.item) ≡ Some code = sym (takes.fault layout state.holds) ∙ found in
     let walk : walked face (length text) layout rest ≡ Err (record { code = code; place = spot.first }) =
     ap (walked face (length text) layout) is ∙ ap (λ o. or_else spot.first o (walked face (length text) (with_item face layout spot.item) more)) wrong in
-    state.fault ∙ ap (λ (a : Result ℕ MultiFault). told a) walk
+    state.fault ∙ ap (λ (a : Result ℕ MultiFault). fault_in_answer a) walk
 
 -- The text has a fault of its grammar.
 pub grammar_fault : (face : FaceModel) (text : List ℕ) (totals : Totals) (layout : Layout) (rest : List (Result Spot SyntaxFault)) (fault : SyntaxFault) (more : List (Result Spot SyntaxFault))
     → IsLaidTo face text totals layout rest → rest ≡ Err fault ∷ more → fault_of face text ≡ Some (syntax_fault fault)
-grammar_fault face text totals layout rest fault more state is = state.fault ∙ ap (λ r. told (walked face (length text) layout r)) is
+grammar_fault face text totals layout rest fault more state is = state.fault ∙ ap (λ r. fault_in_answer (walked face (length text) layout r)) is
 
 -- The text's end has this fault, or none.
 pub end_fault : (face : FaceModel) (text : List ℕ) (totals : Totals) (layout : Layout) (rest : List (Result Spot SyntaxFault)) (fault : Option MultiFaultCode)
-    → IsLaidTo face text totals layout rest → rest ≡ [] → ((l : Layout) → Tells totals l → fault ≡ room_fault (lines_fit face (closed l)))
-    → fault_of face text ≡ told (or_else (length text) fault (Ok (length layout.pages + 1)))
+    → IsLaidTo face text totals layout rest → rest ≡ [] → ((l : Layout) → Matches totals l → fault ≡ room_fault (lines_fit face (closed l)))
+    → fault_of face text ≡ fault_in_answer (or_else (length text) fault (Ok (length layout.pages + 1)))
 end_fault face text totals layout rest fault state is found =
-    state.fault ∙ ap (λ r. told (walked face (length text) layout r)) is
-    ∙ sym (ap (λ o. told (or_else (length text) o (Ok (length layout.pages + 1)))) (found layout state.holds.tells))
+    state.fault ∙ ap (λ r. fault_in_answer (walked face (length text) layout r)) is
+    ∙ sym (ap (λ o. fault_in_answer (or_else (length text) o (Ok (length layout.pages + 1)))) (found layout state.holds.matches))
 
 -- A text without a fault is laid out.
 pub good_laid : (face : FaceModel) (text : List ℕ) (totals : Totals) (layout last : Layout) (rest : List (Result Spot SyntaxFault)) (fault : Option MultiFaultCode) (pages : List PageModel)
-    → IsLaidTo face text totals layout rest → rest ≡ [] → ((l : Layout) → Tells totals l → fault ≡ room_fault (lines_fit face (closed l))) → fault ≡ None
+    → IsLaidTo face text totals layout rest → rest ≡ [] → ((l : Layout) → Matches totals l → fault ≡ room_fault (lines_fit face (closed l))) → fault ≡ None
     → last ≡ with_page layout → pages ≡ last.pages → (pages ≡ pages_of face text) × (fault_of face text ≡ None)
 good_laid face text totals layout last rest fault pages state is found none closing are = (
   are ∙ ap (λ (l : Layout). l.pages) closing ∙ sym (state.pages ∙ ap (pages_after face layout) is),
-  end_fault face text totals layout rest fault state is found ∙ ap (λ o. told (or_else (length text) o (Ok (length layout.pages + 1)))) none,
+  end_fault face text totals layout rest fault state is found ∙ ap (λ o. fault_in_answer (or_else (length text) o (Ok (length layout.pages + 1)))) none,
 )
 
 -- a text that is too long
 pub long_fault : (face : FaceModel) (text : List ℕ) → longest_text < length text → fault_of face text ≡ Some (record { code = TextTooBig; place = longest_text })
-long_fault face text long = fault_told face text (Err (record { code = TextTooBig; place = longest_text })) (checked_long face text long)
+long_fault face text long = fault_answered face text (Err (record { code = TextTooBig; place = longest_text })) (checked_long face text long)
 
 -- Where no text is laid out, no page is drawn.
 pub none_drawn : {A B : Type 0} (laid : A → List PageModel) (made : B → List DrawnPage) (face : FaceModel) (text : List ℕ) (fault : PagesFault)

@@ -5,7 +5,7 @@ use Rattle.dms_pages.specs.declared.text_pages.PagesFault.{PagesFault}
 use Rattle.dms_pages.specs.declared.text_pages.PagesFault.TheVariants.{Multi, Memory}
 use Rattle.dms_pages.specs.Drawn.{DrawnPage}
 
--- the expected pages, or the fault that is expected; only where pages are expected may memory be wanting
+-- the expected pages, or the fault that is expected; memory may run out only where pages are expected
 abbrev pub GivesPages : {A : Type 0} → (A → List DrawnPage) → Result A PagesFault
     → Result (List DrawnPage) MultiFault → Type 0
 GivesPages view (Ok pages) expected = expected ≡ Ok (view pages)

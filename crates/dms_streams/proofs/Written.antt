@@ -1,4 +1,4 @@
--- A loop of calls of a writer writes a prefix of the octets, and tells which call failed.
+-- A loop of calls of a writer writes a prefix of the octets, and shows which call failed.
 use Rattle.std.proofs.Common.{◌≡◌, ℕ, List, [], ◌∷◌, ◌++◌, take, drop, length, refl, sym, ◌∙◌, ap, subst, Option, Result, Ok, ◌+◌, append_assoc, ◌==◌, false, if◌then◌else◌, arith}
 use Rattle.std.proofs.lemmas.Bool.Decides.{nat_tests}
 use Rattle.std.proofs.lemmas.List.{take-append-drop, length-drop}

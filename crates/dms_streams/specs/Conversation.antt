@@ -1,5 +1,5 @@
 -- A conversation by lines (this profile): each line is answered, and the answer to a line may depend on those before
--- it. Of a party, `reply` tells what it answers to a line, and `after` what it is after it.
+-- it. Of a party, `reply` is what it answers to a line, and `after` what it is after it.
 use Rattle.std.specs.Prelude.{ℕ, nat_lt, if◌then◌else◌, List, [], ◌∷◌, ◌++◌, take, drop, length, Option, codes, ◌≡◌}
 use Rattle.std.specs.Io.KnownBytes.{Appends}
 use Rattle.std.specs.Str.Lines.{lines}

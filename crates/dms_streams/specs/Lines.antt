@@ -7,7 +7,7 @@ use Rattle.std.specs.Io.BufRead.{take_through, drop_through}
 use Rattle.std.specs.Str.Lines.{strip_carriage_return}
 use Rattle.dms_streams.specs.declared.input.Input.{Input}
 
--- the octets of an input that are not taken yet, where its source tells what it will give
+-- the octets of an input that are not taken yet, where its source shows what it will give
 abbrev pub left : {S : Type 0} → (S → Option (List ℕ)) → Input S → Option (List ℕ)
 left remaining input = prepend_known (slice_range input.buffer.items input.start input.end) (remaining input.source)
 

@@ -21,7 +21,7 @@ use std::alloc::{AllocError, Global};
 /// The most octets of a line, without its newline and a carriage return before it.
 pub const LONGEST_LINE: usize = 65_536;
 
-/// A line has at most as many octets with its newline and a carriage return before it; one more tells that it is too
+/// A line has at most as many octets with its newline and a carriage return before it; one more shows that it is too
 /// long.
 const HELD: usize = LONGEST_LINE + 3;
 
@@ -29,7 +29,7 @@ const HELD: usize = LONGEST_LINE + 3;
 /// line`, and changes nothing. Each answer is written before the next line is asked for; no more than a line and an
 /// answer is held in memory.
 ///
-/// At the end of the input the party is what all its lines leave. Where a read fails or memory is wanting it is what
+/// At the end of the input the party is what all its lines leave. Where a read fails or memory runs out it is what
 /// the first lines leave, whose whole answers were written; where a write fails, what these leave and the line whose
 /// answer was not written to its end.
 #[tactic(auto, using(crate::proofs::Turns::turns))]

@@ -20,8 +20,8 @@ pub fn conversations_go_on<P: Party>()
         ≡ left_by_all P.after (left_by_all P.after state first) second }
 {}
 
-/// A party that is made anew and given its journal (the whole lines that it was given before) answers all that follows,
-/// and is afterwards, as if it had never ended.
+/// A party that is made again and given its journal (the whole lines that it was given before) answers all that
+/// follows, and is afterwards, as if it had never ended.
 pub fn journals_bring_their_party_back<P: Party>()
     ensures answers { (state : P.State) (journal more : List ℕ) → AreWholeLines journal
         → answers P.reply P.after state (lines (journal ++ more)) ≡ answers P.reply P.after state (lines journal)

@@ -1,6 +1,6 @@
 //! Readers and writers that count the calls that failed, and what is done over them: all that a reader gives, all of
 //! some octets written, and a conversation by lines, in which each line of an input is answered before the next is
-//! asked for. What was read and what was written is exact wherever the reader or the writer tells its octets.
+//! asked for. What was read and what was written is exact wherever the reader or the writer shows its octets.
 //!
 //! ```
 //! let mut text: &[u8] = b"all of it";

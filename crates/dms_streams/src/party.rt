@@ -18,7 +18,7 @@ pub trait Party {
     // What it is after a line.
     ghost after: { State → List ℕ → State };
 
-    /// Its answer to a line, which is given without its newline. `Err` comes only where memory is wanting, and the
+    /// Its answer to a line, which is given without its newline. `Err` comes only out of memory, and the
     /// party is then as before.
     fn answer(&mut self, alloc: Global, line: &[u8]) -> Result<Vec<u8>, AllocError>
         ensures reply { IfOk result (λ text. text.items ≡ reply (state self.old) line.now) }

@@ -18,7 +18,7 @@ use std::alloc::{AllocError, Global};
 const PIECE: usize = 4096;
 
 impl<S: Source> Input<S> {
-    /// An input of which nothing was read yet. `Err` comes only where memory is wanting.
+    /// An input of which nothing was read yet. `Err` comes only out of memory.
     pub fn new(alloc: Global, source: S) -> Result<Input<S>, AllocError>
     where
         S: Drop,
@@ -61,7 +61,7 @@ impl<S: Source> Input<S> {
         Err(InputFault::TooLong)
     }
 
-    /// Takes a part of a line, and tells whether the line ends there.
+    /// Takes a part of a line, and reports whether the line ends there.
     fn take_part(&mut self, line: &mut Vec<u8>, limit: usize) -> Result<bool, InputFault>
         requires { length line.old.items ≤ limit }
         ensures goes_on { result ≡ Ok false → (first : Option (List ℕ)) (count : ℕ)

@@ -266,7 +266,7 @@ fn font_or_out_of_memory(rt: HostRuntime) {
 /// The fault of the first try to add a character, and how many characters the font has after it and in the end.
 type Grown = (Option<FontFaultKind>, usize, usize);
 
-/// Adds a character, anew where that was refused.
+/// Adds a character, again where that was refused.
 fn grown(font: &mut Font, alloc: Global, character: &[u8]) -> Result<Grown, FontFaultKind> {
     let fault = font.add_glyph(alloc, character).err();
     let count = font.glyphs().len();
@@ -288,7 +288,7 @@ fn grown_twice(alloc: Global) -> Option<[Grown; 2]> {
     }
 }
 
-/// The same of a character that is added: where its memory is refused, which is once at most, the font is as it was.
+/// A character that is added: where its memory is refused, which is once at most, the font is as it was.
 #[test]
 fn character_or_out_of_memory(rt: HostRuntime) {
     let refused = Some(FontFaultKind::Memory);

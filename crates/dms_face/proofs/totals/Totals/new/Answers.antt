@@ -1,7 +1,7 @@
 use Rattle.std.proofs.Common.{◌≡◌, true, ◌∙◌}
 use Rattle.dms_face.specs.Face.{has_font}
 use Rattle.dms_face.proofs.Bools.{both}
-use Rattle.dms_face.proofs.TellsLaws.{font_found, some_copied}
+use Rattle.dms_face.proofs.MatchLaws.{font_found, some_copied}
 use Rattle.dms_face.proofs.totals.Totals.new.Goals as goal
 
 pub unwrap-requires : goal.unwrap-requires

@@ -11,12 +11,12 @@ returns-then-open_fits c =
     let face = c.args.face.now in
     let after : Layout → Layout = λ layout. with_character layout (Some c.args.glyph.now) in
     let fit : (layout : Layout) → Holds face c.args.self.now layout → c.open_fits.result ≡ open_fits face (after layout) = λ layout holds.
-    c.open_fits.ensures.fit (after layout) (c.add_character-grown.ensures.tells layout holds.tells)
-    (λ same. ap (blocks_fit face.height) (c.add_character-grown.ensures.same layout holds.tells same) ∙ holds.room) in
+    c.open_fits.ensures.fit (after layout) (c.add_character-grown.ensures.matches layout holds.matches)
+    (λ same. ap (blocks_fit face.height) (c.add_character-grown.ensures.same layout holds.matches same) ∙ holds.room) in
     record {
       fault = λ layout holds. ap room_fault (sym c.if-open_fits.true ∙ fit layout holds);
       holds = λ layout holds. record {
-        tells = c.add_character-grown.ensures.tells layout holds.tells;
+        matches = c.add_character-grown.ensures.matches layout holds.matches;
         room = (both _ _ (sym (fit layout holds) ∙ c.if-open_fits.true)).1;
       };
       small = c.add_character-grown.ensures.small (c.open_fits.ensures.within c.if-open_fits.true);
@@ -27,8 +27,8 @@ returns-else-open_fits c =
     let face = c.args.face.now in
     let after : Layout → Layout = λ layout. with_character layout (Some c.args.glyph.now) in
     let fit : (layout : Layout) → Holds face c.args.self.now layout → c.open_fits.result ≡ open_fits face (after layout) = λ layout holds.
-    c.open_fits.ensures.fit (after layout) (c.add_character-grown.ensures.tells layout holds.tells)
-    (λ same. ap (blocks_fit face.height) (c.add_character-grown.ensures.same layout holds.tells same) ∙ holds.room) in
+    c.open_fits.ensures.fit (after layout) (c.add_character-grown.ensures.matches layout holds.matches)
+    (λ same. ap (blocks_fit face.height) (c.add_character-grown.ensures.same layout holds.matches same) ∙ holds.room) in
     record {
       fault = λ layout holds. ap room_fault (sym c.if-open_fits.false ∙ fit layout holds);
       holds = λ layout holds. tt;

@@ -1,4 +1,4 @@
--- What running sums tell of a layout, once a page or a part is closed.
+-- What running sums say of a layout, once a page or a part is closed.
 use Rattle.std.proofs.Common.{◌≡◌, ℕ, ◌+◌, ◌<◌, Bool, true, false, cond, ◌||◌, eqb, List, [], ◌∷◌, length, nat_le, Option, Some, None, refl, ap, sym, ◌∙◌, subst, length-append, arith}
 use Rattle.std.proofs.lemmas.Bool.Decides.{nat_tests}
 use Rattle.std.specs.Borrow.{Bor}
@@ -13,48 +13,48 @@ use Rattle.dms_face.specs.Layout.{Layout, closed, with_page, with_part}
 use Rattle.dms_face.specs.Room.{lines_fit}
 use Rattle.dms_face.specs.Fit.{most_pages}
 use Rattle.dms_face.specs.OnePass.{page_fault}
-use Rattle.dms_face.specs.Totals.{Tells}
+use Rattle.dms_face.specs.Totals.{Matches}
 
 -- the open page is closed
-pub tells_page : (totals : Totals) (layout : Layout) → Tells totals (record layout { lines = []; characters = []; gap = None })
-    → Tells (record totals { pages = totals.pages + 1 }) (with_page layout)
-tells_page totals layout tells = record {
-  pages = ap (λ n. n + 1) tells.pages ∙ sym (length-append layout.pages _);
-  lines = tells.lines;
-  characters = tells.characters;
-  height = tells.height;
-  spacing = tells.spacing;
-  gap = tells.gap;
-  side = tells.side;
-  part = tells.part;
-  font = tells.font;
+pub page_matches : (totals : Totals) (layout : Layout) → Matches totals (record layout { lines = []; characters = []; gap = None })
+    → Matches (record totals { pages = totals.pages + 1 }) (with_page layout)
+page_matches totals layout matches = record {
+  pages = ap (λ n. n + 1) matches.pages ∙ sym (length-append layout.pages _);
+  lines = matches.lines;
+  characters = matches.characters;
+  height = matches.height;
+  spacing = matches.spacing;
+  gap = matches.gap;
+  side = matches.side;
+  part = matches.part;
+  font = matches.font;
 }
 
 -- the open page has room, and there are pages left
-pub page_passes : (face : FaceModel) (totals : Totals) (layout : Layout) → Tells totals layout → lines_fit face (closed layout) ≡ true → totals.pages + 1 < most_pages
+pub page_passes : (face : FaceModel) (totals : Totals) (layout : Layout) → Matches totals layout → lines_fit face (closed layout) ≡ true → totals.pages + 1 < most_pages
     → None ≡ page_fault face layout
-page_passes face totals layout tells fit less =
-    let few : nat_le most_pages (length layout.pages + 1) ≡ false = (let same : totals.pages ≡ length layout.pages = tells.pages in grind (arith, nat_tests)) in
+page_passes face totals layout matches fit less =
+    let few : nat_le most_pages (length layout.pages + 1) ≡ false = (let same : totals.pages ≡ length layout.pages = matches.pages in grind (arith, nat_tests)) in
     sym (ap (λ b. cond b (cond (nat_le most_pages (length layout.pages + 1)) (Some TooManyPages) None) (Some TextTooBig)) fit ∙ ap (λ b. cond b (Some TooManyPages) None) few)
 
 -- the part changes
-pub tells_part : (totals : Totals) (layout : Layout) (part : Part) → same_part part layout.style.part ≡ false
-    → Tells totals (record layout { lines = closed layout; characters = []; gap = None })
-    → Tells (record totals { part = part }) (with_part layout (record layout.style { part = part }))
-tells_part totals layout part other tells =
-    let P : Layout → Type 0 = λ l. Tells (record totals { part = part }) l in
+pub part_matches : (totals : Totals) (layout : Layout) (part : Part) → same_part part layout.style.part ≡ false
+    → Matches totals (record layout { lines = closed layout; characters = []; gap = None })
+    → Matches (record totals { part = part }) (with_part layout (record layout.style { part = part }))
+part_matches totals layout part other matches =
+    let P : Layout → Type 0 = λ l. Matches (record totals { part = part }) l in
     let there : Layout = record { pages = layout.pages; lines = closed layout; characters = []; gap = None; style = record layout.style { part = part } } in
     let same : with_part layout (record layout.style { part = part }) ≡ there = ap (λ b. cond b layout there) other in
     subst P (sym same) (record {
-      pages = tells.pages;
-      lines = tells.lines;
-      characters = tells.characters;
-      height = tells.height;
-      spacing = tells.spacing;
-      gap = tells.gap;
-      side = tells.side;
+      pages = matches.pages;
+      lines = matches.lines;
+      characters = matches.characters;
+      height = matches.height;
+      spacing = matches.spacing;
+      gap = matches.gap;
+      side = matches.side;
       part = refl;
-      font = tells.font;
+      font = matches.font;
     })
 
 -- a font that is among these is found
