@@ -23,12 +23,12 @@ pub(crate) struct Terms {
 pub fn address(word: &[u8]) -> Option<[u8; 4]>
     ensures { result ≡ address_of word.now }
 {
-    let (first, parts) = Words::split(word, b'.').decimal(3, 0, 255)?;
-    let (second, parts) = parts.decimal(3, 0, 255)?;
-    let (third, parts) = parts.decimal(3, 0, 255)?;
-    let (fourth, parts) = parts.decimal(3, 0, 255)?;
+    let (first, parts) = Words::split(word, b'.').octet(3, 0, u8::MAX)?;
+    let (second, parts) = parts.octet(3, 0, u8::MAX)?;
+    let (third, parts) = parts.octet(3, 0, u8::MAX)?;
+    let (fourth, parts) = parts.octet(3, 0, u8::MAX)?;
     if parts.is_empty() {
-        Some([first as u8, second as u8, third as u8, fourth as u8])
+        Some([first, second, third, fourth])
     } else {
         None
     }

@@ -20,16 +20,14 @@ pub fn are_same(word: &[u8], other: &[u8]) -> bool
 pub fn octet(words: Words<'_>) -> Option<(u8, Words<'_>)>
     ensures { result ≡ octet_at words.entry }
 {
-    let (number, rest) = words.decimal(5, 0, 255)?;
-    Some((number as u8, rest))
+    words.octet(5, 0, u8::MAX)
 }
 
 /// A number of two octets, and the words after it.
 pub fn two_octets(words: Words<'_>) -> Option<(u16, Words<'_>)>
     ensures { result ≡ two_octets_at words.entry }
 {
-    let (number, rest) = words.decimal(5, 0, 65535)?;
-    Some((number as u16, rest))
+    words.two_octets(5, 0, u16::MAX)
 }
 
 /// A number of four octets, and nothing after it.
@@ -37,12 +35,8 @@ pub fn two_octets(words: Words<'_>) -> Option<(u16, Words<'_>)>
 pub fn last_number(words: Words<'_>) -> Option<u32>
     ensures { result ≡ last_number_at words.entry }
 {
-    let (number, rest) = words.decimal(10, 0, 4_294_967_295)?;
-    if rest.is_empty() {
-        Some(number as u32)
-    } else {
-        None
-    }
+    let (number, rest) = words.four_octets(10, 0, u32::MAX)?;
+    if rest.is_empty() { Some(number) } else { None }
 }
 
 /// Octets as pairs of hexadecimal digits, and the words after them.

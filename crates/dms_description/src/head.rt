@@ -9,7 +9,7 @@ ghost use Rattle.dms_description.specs.DescriptionReading.{order_of, services_of
 ghost use Rattle.dms_description.specs.DescriptionReading.{defaults_of, first_of, beginning_at, head_at};
 
 use crate::fault::DescriptionFault;
-use crate::fields::{are_same, octet};
+use crate::fields::{are_same, octet, two_octets};
 use dms_codes::Order;
 use dms_face::Defaults;
 use dms_table::Services;
@@ -69,13 +69,10 @@ fn size_of(line: &[u8]) -> Option<Size>
     ensures { result ≡ size_of (words_of line.now) }
 {
     let words = Words::of(line).keyword(b"size")?;
-    let (width, words) = words.decimal(5, 0, 65535)?;
-    let (height, words) = words.decimal(5, 0, 65535)?;
+    let (width, words) = two_octets(words)?;
+    let (height, words) = two_octets(words)?;
     if words.is_empty() {
-        Some(Size {
-            width: width as u16,
-            height: height as u16,
-        })
+        Some(Size { width, height })
     } else {
         None
     }
@@ -143,8 +140,8 @@ fn services_of(line: &[u8]) -> Option<Services>
     ensures { result ≡ services_of (words_of line.now) }
 {
     let words = Words::of(line).keyword(b"has")?;
-    let (beacon, words) = words.decimal(5, 0, 1)?;
-    let (pixel, words) = words.decimal(5, 0, 1)?;
+    let (beacon, words) = words.octet(5, 0, 1)?;
+    let (pixel, words) = words.octet(5, 0, 1)?;
     if words.is_empty() {
         Some(Services {
             beacon: beacon == 1,
@@ -215,12 +212,8 @@ fn first_of(line: &[u8]) -> Option<u32>
     ensures { result ≡ first_of (words_of line.now) }
 {
     let words = Words::of(line).keyword(b"first")?;
-    let (first, words) = words.decimal(10, 0, 4_294_967_295)?;
-    if words.is_empty() {
-        Some(first as u32)
-    } else {
-        None
-    }
+    let (first, words) = words.four_octets(10, 0, u32::MAX)?;
+    if words.is_empty() { Some(first) } else { None }
 }
 
 /// The next line, and the lines after it.

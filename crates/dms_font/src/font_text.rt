@@ -32,8 +32,7 @@ fn labelled<'a>(words: Words<'a>, label: &[u8], low: u8, high: u8) -> Option<(u8
     ensures least { IfSome result (λ x. low ≤ x.0) }
     ensures greatest { IfSome result (λ x. x.0 ≤ high) }
 {
-    let (number, rest) = words.keyword(label)?.decimal(5, low as u64, high as u64)?;
-    Some((number as u8, rest))
+    words.keyword(label)?.octet(5, low, high)
 }
 
 #[tactic(auto, unfolding(crate::specs::FontReading::version_at))]
@@ -52,13 +51,13 @@ fn glyph_line(line: &[u8]) -> Option<GlyphLine<'_>>
     ensures greatest_width { IfSome result (λ said. said.width ≤ 32) }
 {
     let words = Words::of(line).keyword(b"glyph")?;
-    let (character, words) = words.decimal(5, 1, 65535)?;
-    let (width, words) = words.decimal(5, 1, 32)?;
+    let (character, words) = words.two_octets(5, 1, u16::MAX)?;
+    let (width, words) = words.octet(5, 1, 32)?;
     let (bits, words) = words.next_word()?;
     if words.is_empty() {
         Some(GlyphLine {
-            character: character as u16,
-            width: width as u8,
+            character,
+            width,
             bits,
         })
     } else {

@@ -1,6 +1,7 @@
 -- What each word of a line is to be, and the first word that is not (this profile).
 use Rattle.std.specs.Prelude.{ℕ, ◌+◌, ◌==◌, ◌&&◌, ◌||◌, Bool, true, false, if◌then◌else◌, List, []}
 use Rattle.std.specs.Prelude.{◌∷◌, length, nat_le, Option, Some, None, is_some, Result, Ok, Err}
+use Rattle.std.specs.Str.{byte}
 use Rattle.hex.specs.Hex.{decode_of}
 use Rattle.hex.specs.declared.error.FromHexError.{FromHexError}
 use Rattle.dms_text.specs.Words.{parts_of}
@@ -37,7 +38,7 @@ ends (Some rest) = is_end rest
 
 -- four numbers with dots between them
 abbrev pub is_address : List ℕ → Bool
-is_address word = ends (address_at (parts_of 46 word))
+is_address word = ends (address_at (parts_of (byte ".") word))
 
 abbrev pub is_twelve : Result (List ℕ) FromHexError → Bool
 is_twelve (Ok octets) = length octets == 12

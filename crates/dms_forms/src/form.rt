@@ -122,10 +122,10 @@ fn is_address(word: &[u8]) -> bool
 fn after_address(parts: Words<'_>) -> Option<Words<'_>>
     ensures { result ≡ address_at parts.entry }
 {
-    let (_, parts) = parts.decimal(3, 0, 255)?;
-    let (_, parts) = parts.decimal(3, 0, 255)?;
-    let (_, parts) = parts.decimal(3, 0, 255)?;
-    let (_, parts) = parts.decimal(3, 0, 255)?;
+    let (_, parts) = parts.octet(3, 0, 255)?;
+    let (_, parts) = parts.octet(3, 0, 255)?;
+    let (_, parts) = parts.octet(3, 0, 255)?;
+    let (_, parts) = parts.octet(3, 0, 255)?;
     Some(parts)
 }
 

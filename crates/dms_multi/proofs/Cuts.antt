@@ -1,8 +1,11 @@
 -- What stands before and after the first octet that is a letter.
-use Rattle.std.proofs.Common.{◌≡◌, ℕ, suc, ◌+◌, Bool, true, false, cond, not, ltb, List, [], ◌∷◌, ◌++◌, length, take, drop, Option, Some, None, option_map, refl, sym, ap, ◌∙◌, arith}
-use Rattle.std.specs.Char.{to_ascii_lowercase}
-use Rattle.std.specs.List.{prefix_len}
+use Rattle.std.proofs.Common.{◌≡◌, ℕ, suc, ◌+◌, ◌==◌, Bool, true, false, cond, not, ltb, List, [], ◌∷◌, ◌++◌, length, take, drop, Option, Some, None, option_map, refl, sym, ap, ◌∙◌, arith}
+use mathlib.Core.Path.{fun_ext}
+use Rattle.std.specs.Char.{to_ascii_lowercase, is_ascii_alphabetic}
+use Rattle.std.specs.List.{prefix_len, position}
 use Rattle.std.proofs.lemmas.Bool.{eqb-true, eq-eqb, lt-ltb, le-ltb, ltb-true, ltb-false}
+use Rattle.std.proofs.lemmas.Bool.Decides.{nat_tests}
+use Rattle.dms_text.specs.Words.{index_of}
 use Rattle.dms_multi.specs.Reading.{is_letter, cut}
 
 -- no octet is the letter in either case
@@ -47,6 +50,14 @@ cut_here letter c cs e = cut_is letter (c ∷ cs) ∙ (rw e (pieces_here c cs))
 
 cut_later : (letter c : ℕ) (cs : List ℕ) → is_letter letter c ≡ false → cut letter (c ∷ cs) ≡ option_map (with_front c) (cut letter cs)
 cut_later letter c cs e = cut_is letter (c ∷ cs) ∙ (rw e (pieces_later _ (place letter cs) c cs refl ∙ ap (option_map (with_front c)) (sym (cut_is letter cs))))
+
+-- ---- a mark, which is no letter and so has one case
+
+mark_case : (mark octet : ℕ) → is_ascii_alphabetic mark ≡ false → (octet == mark) ≡ is_letter mark octet
+mark_case mark octet alone = grind (arith, nat_tests)
+
+pub mark_index : (mark : ℕ) (text : List ℕ) → is_ascii_alphabetic mark ≡ false → index_of mark text ≡ position (is_letter mark) text
+mark_index mark text alone = ap (λ (p : ℕ → Bool). position p text) (fun_ext (λ octet. mark_case mark octet alone))
 
 -- where a text is cut, and where it is not
 pub cut_again : (letter c : ℕ) (front back : List ℕ) → IsFree letter front → to_ascii_lowercase c ≡ letter → cut letter (front ++ c ∷ back) ≡ Some (front, back)

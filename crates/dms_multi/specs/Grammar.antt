@@ -1,7 +1,7 @@
 -- Which octets spell an item of MULTI, the markup of a sign's message (NTCIP 1203), and where a text goes wrong.
 use Rattle.std.specs.Prelude.{◌≡◌, ◌↔◌, ℕ, ◌+◌, ◌≤◌, ◌==◌, ◌⊎◌, ◌||◌, Bool, if◌then◌else◌, List, [], ◌∷◌}
 use Rattle.std.specs.Prelude.{◌++◌, length, take, drop, map, Option, Some, None, Result, Ok, Err, codes}
-use Rattle.std.specs.Str.{str_to_ascii_lowercase}
+use Rattle.std.specs.Str.{byte, str_to_ascii_lowercase}
 use Rattle.dms_text.specs.Numbers.{SpellsNumber, SpellsDecimal, SpellsVersion}
 use Rattle.dms_multi.specs.declared.item.Item.{Item}
 use Rattle.dms_multi.specs.declared.item.Item.TheVariants.{Char, Background, Foreground, Font, FlashOn, FlashEnd}
@@ -88,7 +88,7 @@ TagBody NewPage = Word (codes "np")
 TagBody (PageTime lit dark) = Word (codes "pt") ⨾ Times (codes "o") 255 lit dark
 
 abbrev pub is_bracket : ℕ → Bool
-is_bracket c = (c == 91) || (c == 93)
+is_bracket c = (c == byte "[") || (c == byte "]")
 
 -- a character as itself, a bracket twice
 abbrev pub plain : ℕ → List ℕ

@@ -2,6 +2,7 @@
 use Rattle.std.specs.Prelude.{◌≡◌, ℕ, ◌==◌, ◌&&◌, if◌then◌else◌, List, [], ◌∷◌}
 use Rattle.std.specs.Prelude.{Option, Some, None, Result, Ok, Err, option_map, ok_or}
 use Rattle.std.specs.Char.{to_ascii_lowercase}
+use Rattle.std.specs.Str.{byte}
 use Rattle.std.specs.Borrow.{Bor}
 use Rattle.dms_text.specs.Reading.{number_of, version_of}
 use Rattle.dms_multi.specs.Reading.{value_of, decimal_of, cut}
@@ -42,7 +43,7 @@ font_in text (Some (front, back)) = font_pair (decimal_of 1 255 front) (version_
 -- a font's number and version, or neither
 unfoldable pub font_of : List ℕ → Option (Option (ℕ × Option ℕ))
 font_of [] = Some None
-font_of (c ∷ cs) = font_in (c ∷ cs) (cut 44 (c ∷ cs))
+font_of (c ∷ cs) = font_in (c ∷ cs) (cut (byte ",") (c ∷ cs))
 
 -- ---- tags
 
@@ -52,17 +53,17 @@ name_with_rest tag = (tag.0, tag.1.now)
 -- the name of two small letters
 unfoldable pub letters_name : ℕ → ℕ → Option TagName
 letters_name a b =
-    if (a == 99) && (b == 98) then Some Cb
-    else if (a == 112) && (b == 98) then Some Pb
-    else if (a == 99) && (b == 102) then Some Cf
-    else if (a == 102) && (b == 111) then Some Fo
-    else if (a == 102) && (b == 108) then Some Fl
-    else if (a == 104) && (b == 99) then Some Hc
-    else if (a == 106) && (b == 108) then Some Jl
-    else if (a == 106) && (b == 112) then Some Jp
-    else if (a == 110) && (b == 108) then Some Nl
-    else if (a == 110) && (b == 112) then Some Np
-    else if (a == 112) && (b == 116) then Some Pt
+    if (a == byte "c") && (b == byte "b") then Some Cb
+    else if (a == byte "p") && (b == byte "b") then Some Pb
+    else if (a == byte "c") && (b == byte "f") then Some Cf
+    else if (a == byte "f") && (b == byte "o") then Some Fo
+    else if (a == byte "f") && (b == byte "l") then Some Fl
+    else if (a == byte "h") && (b == byte "c") then Some Hc
+    else if (a == byte "j") && (b == byte "l") then Some Jl
+    else if (a == byte "j") && (b == byte "p") then Some Jp
+    else if (a == byte "n") && (b == byte "l") then Some Nl
+    else if (a == byte "n") && (b == byte "p") then Some Np
+    else if (a == byte "p") && (b == byte "t") then Some Pt
     else None
 
 -- the name after a slash, and what follows it
@@ -70,14 +71,14 @@ unfoldable pub end_name : List ℕ → Option (TagName × List ℕ)
 end_name [] = None
 end_name (a ∷ []) = None
 end_name (a ∷ b ∷ rest) =
-    if (to_ascii_lowercase a == 102) && (to_ascii_lowercase b == 108) then Some (EndFl, rest) else None
+    if (to_ascii_lowercase a == byte "f") && (to_ascii_lowercase b == byte "l") then Some (EndFl, rest) else None
 
 -- the name with which a tag's body begins, and what follows it
 unfoldable pub name_at : List ℕ → Option (TagName × List ℕ)
 name_at [] = None
 name_at (a ∷ []) = None
 name_at (a ∷ b ∷ rest) =
-    if a == 47 then end_name (b ∷ rest)
+    if a == byte "/" then end_name (b ∷ rest)
     else option_map (λ name. (name, rest)) (letters_name (to_ascii_lowercase a) (to_ascii_lowercase b))
 
 abbrev pub lit_first : TwoTimes → Item
@@ -89,12 +90,12 @@ dark_first times = FlashOn Dark times.second times.first
 unfoldable pub flash_of : List ℕ → Option Item
 flash_of [] = Some (FlashOn Lit None None)
 flash_of (c ∷ rest) =
-    if to_ascii_lowercase c == 116 then option_map lit_first (times_of 111 99 rest)
-    else if to_ascii_lowercase c == 111 then option_map dark_first (times_of 116 99 rest)
+    if to_ascii_lowercase c == byte "t" then option_map lit_first (times_of (byte "o") 99 rest)
+    else if to_ascii_lowercase c == byte "o" then option_map dark_first (times_of (byte "t") 99 rest)
     else None
 
 unfoldable pub page_time_of : List ℕ → Option Item
-page_time_of text = option_map (λ times. PageTime times.first times.second) (times_of 111 255 text)
+page_time_of text = option_map (λ times. PageTime times.first times.second) (times_of (byte "o") 255 text)
 
 -- the item, where no value stands
 abbrev pub item_alone : Item → List ℕ → Option Item
@@ -144,22 +145,22 @@ tag_in (Some (body, rest)) = with_rest rest (body_item body)
 
 -- the item of the tag that an opening bracket before the text begins, and what follows it
 unfoldable pub tag_at : List ℕ → Result (Item × List ℕ) FaultCode
-tag_at text = tag_in (cut 93 text)
+tag_at text = tag_in (cut (byte "]") text)
 
 -- the item after an opening bracket
 unfoldable pub item_after_opening : List ℕ → Result (Item × List ℕ) FaultCode
 item_after_opening [] = Err UnsupportedTag
-item_after_opening (c ∷ rest) = if c == 91 then Ok (Char 91, rest) else tag_at (c ∷ rest)
+item_after_opening (c ∷ rest) = if c == byte "[" then Ok (Char (byte "["), rest) else tag_at (c ∷ rest)
 
 -- the item after a closing bracket
 unfoldable pub item_after_closing : List ℕ → Result (Item × List ℕ) FaultCode
 item_after_closing [] = Err UnsupportedTag
-item_after_closing (c ∷ rest) = if c == 93 then Ok (Char 93, rest) else Err UnsupportedTag
+item_after_closing (c ∷ rest) = if c == byte "]" then Ok (Char (byte "]"), rest) else Err UnsupportedTag
 
 -- the item at the beginning of a text, and what follows it
 unfoldable pub item_at : List ℕ → Result (Item × List ℕ) FaultCode
 item_at [] = Err UnsupportedTag
 item_at (c ∷ rest) =
-    if c == 91 then item_after_opening rest
-    else if c == 93 then item_after_closing rest
+    if c == byte "[" then item_after_opening rest
+    else if c == byte "]" then item_after_closing rest
     else Ok (Char c, rest)

@@ -1,11 +1,10 @@
 //! The values of tags: numbers, times and fonts.
 ghost use Rattle.std.specs.Prelude.{◌≡◌, option_map, position, false};
 ghost use Rattle.std.specs.Char.{is_ascii_alphabetic};
-ghost use Rattle.dms_text.specs.Reading.{number_of};
 ghost use Rattle.dms_multi.specs.Reading.{decimal_of, value_of, is_letter, cut, halves};
 ghost use Rattle.dms_multi.specs.TagReading.{times_of, font_of};
 
-use dms_text::{number, version};
+use dms_text::{index_of, number, version};
 
 /// Two times, either of which may be missing.
 #[derive(Clone, Copy)]
@@ -19,9 +18,9 @@ pub(crate) struct TwoTimes {
 fn decimal(digits: &[u8], low: u8, high: u8) -> Option<u8>
     ensures { result ≡ decimal_of low high digits.now }
 {
-    let value = number(digits, 10, 5)?;
-    if u64::from(low) <= value && value <= u64::from(high) {
-        Some(value as u8)
+    let value = u8::try_from(number(digits, 10, 5)?).ok()?;
+    if low <= value && value <= high {
+        Some(value)
     } else {
         None
     }
@@ -43,11 +42,12 @@ pub(crate) fn value(digits: &[u8], low: u8, high: u8) -> Option<Option<u8>>
 pub(crate) fn cut(text: &[u8], letter: u8) -> Option<(&[u8], &[u8])>
     ensures { option_map halves result ≡ cut letter text.now }
 {
-    let place = place_of(text, letter)?;
-    Some((&text[..place], &text[place + 1..]))
+    let index = index_of_letter(text, letter)?;
+    Some((&text[..index], &text[index + 1..]))
 }
 
-fn place_of(text: &[u8], letter: u8) -> Option<usize>
+/// The index of the first octet that is `letter` in either case.
+fn index_of_letter(text: &[u8], letter: u8) -> Option<usize>
     ensures { result ≡ position (is_letter letter) text.now }
 {
     text.iter()
@@ -60,16 +60,18 @@ pub(crate) fn cut_at(text: &[u8], mark: u8) -> Option<(&[u8], &[u8])>
     requires { is_ascii_alphabetic mark ≡ false }
     ensures { option_map halves result ≡ cut mark text.now }
 {
-    let place = place_of_mark(text, mark)?;
-    Some((&text[..place], &text[place + 1..]))
+    let index = index_of_mark(text, mark)?;
+    Some((&text[..index], &text[index + 1..]))
 }
 
+/// The index of the first octet that is `mark`, which is no letter.
+#[tactic(auto, using(crate::proofs::Cuts::mark_index))]
 #[inline]
-fn place_of_mark(text: &[u8], mark: u8) -> Option<usize>
+fn index_of_mark(text: &[u8], mark: u8) -> Option<usize>
     requires { is_ascii_alphabetic mark ≡ false }
     ensures { result ≡ position (is_letter mark) text.now }
 {
-    text.iter().position(|octet| *octet == mark)
+    index_of(text, mark)
 }
 
 /// A time up to `high`, and perhaps another after the letter.
@@ -82,13 +84,6 @@ pub(crate) fn times(text: &[u8], letter: u8, high: u8) -> Option<TwoTimes>
         None => (value(text, 0, high)?, None),
     };
     Some(TwoTimes { first, second })
-}
-
-/// The number that one to four hexadecimal digits spell.
-pub(crate) fn hexadecimal(digits: &[u8]) -> Option<u16>
-    ensures { result ≡ number_of 16 4 digits.now }
-{
-    number(digits, 16, 4).map(|value| value as u16)
 }
 
 /// A font's number and version, or neither.

@@ -12,6 +12,7 @@ use crate::failed::Failed;
 use crate::fault::InputFault;
 use crate::input::Input;
 use crate::source::Source;
+use dms_text::index_of;
 use std::alloc::{AllocError, Global};
 
 /// The octets that one call of the source asks for.
@@ -148,16 +149,10 @@ fn part_length(piece: &[u8]) -> (usize, bool)
     ensures goes_on { result.1 ≡ false → IsPart piece.now result.0 }
     ensures ends { result.1 ≡ true → IsLastPart piece.now result.0 }
 {
-    match place_of(piece, b'\n') {
-        Some(place) => (place + 1, true),
+    match index_of(piece, b'\n') {
+        Some(index) => (index + 1, true),
         None => (piece.len(), piece.is_empty()),
     }
-}
-
-fn place_of(octets: &[u8], wanted: u8) -> Option<usize>
-    ensures { result ≡ position (λ (octet : ℕ). octet == wanted) octets.now }
-{
-    octets.iter().position(|octet| *octet == wanted)
 }
 
 /// Adds octets to a line, but no more than there is room for below the limit.

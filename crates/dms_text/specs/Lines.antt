@@ -1,12 +1,13 @@
 -- A text as lines (this profile). Its lines are those of std's `lines`: each ends at a newline, the last perhaps at the
 -- end of the text, and one carriage return before a newline is no part of its line.
 use Rattle.std.specs.Prelude.{ℕ, ◌+◌, ◌==◌, Bool, true, not, if◌then◌else◌, List, [], ◌∷◌, length, filter}
+use Rattle.std.specs.Str.{byte}
 use Rattle.std.specs.Str.Lines.{lines}
 
 -- an empty line, or a comment, which begins with `#`
 abbrev pub is_skipped : List ℕ → Bool
 is_skipped [] = true
-is_skipped (octet ∷ octets) = octet == 35
+is_skipped (octet ∷ octets) = octet == byte "#"
 
 -- the lines that say something
 abbrev pub kept_lines : List ℕ → List (List ℕ)

@@ -3,6 +3,7 @@ use Rattle.std.specs.Prelude.{ℕ, ◌==◌, ◌&&◌, Bool, true, false, if◌t
 use Rattle.std.specs.Prelude.{length, nat_lt, nat_le, Option, Some, None, Result, Ok, Err}
 use Rattle.std.specs.Char.{is_digit}
 use Rattle.std.specs.List.{list_all}
+use Rattle.std.specs.Str.{byte}
 use Rattle.std.specs.Str.Parse.{digits_value}
 use Rattle.hex.specs.Hex.{decode_of}
 use Rattle.hex.specs.declared.error.FromHexError.{FromHexError}
@@ -31,7 +32,7 @@ octets_decoded (Err fault) = None
 
 abbrev pub is_dash : List ℕ → Bool
 is_dash [] = false
-is_dash (octet ∷ []) = octet == 45
+is_dash (octet ∷ []) = octet == byte "-"
 is_dash (octet ∷ other ∷ octets) = false
 
 -- the octets that a word spells

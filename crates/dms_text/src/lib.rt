@@ -7,8 +7,8 @@
 //! assert_eq!(rt; line.number, 3);
 //! let words = Words::of(line.octets).keyword(b"send").ok_or("no send")?;
 //! let (word, words) = words.next_word().ok_or("no address")?;
-//! let (first, parts) = Words::split(word, b'.').decimal(3, 0, 255).ok_or("no number")?;
-//! let (seconds, words) = words.decimal(5, 1, 60).ok_or("no seconds")?;
+//! let (first, parts) = Words::split(word, b'.').octet(3, 0, 255).ok_or("no number")?;
+//! let (seconds, words) = words.octet(5, 1, 60).ok_or("no seconds")?;
 //! assert_eq!(rt; (first, seconds), (192, 30));
 //! assert!(rt; words.is_empty());
 //! ```
@@ -23,5 +23,5 @@ pub mod words;
 pub use hexadecimal::octets;
 pub use lines::{Line, Lines};
 pub use numbers::{number, version};
-pub use parts::split_once;
+pub use parts::{index_of, split_once};
 pub use words::Words;

@@ -37,13 +37,20 @@ pub(crate) fn within(number: u64, low: u64, high: u64) -> Option<u64>
     }
 }
 
+/// The number that one to four hexadecimal digits spell.
+pub fn hexadecimal(word: &[u8]) -> Option<u16>
+    ensures { result ≡ number_of 16 4 word.now }
+{
+    number(word, 16, 4).map(|number| number as u16)
+}
+
 /// The number that just four hexadecimal digits spell: a font's version.
 #[tactic(auto, unfolding(crate::specs::Reading::version_of))]
 pub fn version(word: &[u8]) -> Option<u16>
     ensures { result ≡ version_of word.now }
 {
     if word.len() == 4 {
-        number(word, 16, 4).map(|version| version as u16)
+        hexadecimal(word)
     } else {
         None
     }

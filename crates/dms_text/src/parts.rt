@@ -1,12 +1,14 @@
 //! A text cut at a separator.
 
-ghost use Rattle.std.specs.Prelude.{◌≡◌, ◌==◌, ◌+◌, ◌<◌, ◌∷◌, [], ℕ, length, IfSome, IfNone, position};
-ghost use Rattle.dms_text.specs.Words.{parts_of};
+ghost use Rattle.std.specs.Prelude.{◌≡◌, ◌+◌, ◌<◌, ◌∷◌, [], length, IfSome, IfNone};
+ghost use Rattle.dms_text.specs.Words.{index_of, parts_of};
 
-fn place_of(text: &[u8], separator: u8) -> Option<usize>
-    ensures { result ≡ position (λ (octet : ℕ). octet == separator) text.now }
+/// The index of the first octet that is `wanted`, or none where there is none.
+#[inline]
+pub fn index_of(octets: &[u8], wanted: u8) -> Option<usize>
+    ensures { result ≡ index_of wanted octets.now }
 {
-    text.iter().position(|octet| *octet == separator)
+    octets.iter().position(|octet| *octet == wanted)
 }
 
 /// What stands before and after the first separator, or none where the text has no separator.
@@ -16,6 +18,6 @@ pub fn split_once(text: &[u8], separator: u8) -> Option<(&[u8], &[u8])>
     ensures whole { IfNone result (parts_of separator text.now ≡ text.now ∷ []) }
     ensures shorter { IfSome result (λ x. length x.0.now + length x.1.now < length text.now) }
 {
-    let place = place_of(text, separator)?;
-    Some((&text[..place], &text[place + 1..]))
+    let index = index_of(text, separator)?;
+    Some((&text[..index], &text[index + 1..]))
 }

@@ -77,7 +77,7 @@ impl<'a> Words<'a> {
 
     /// A number of one to `most` decimal digits, from `low` to `high`, and the words after it.
     #[tactic(auto, unfolding(crate::specs::Reading::decimal_at))]
-    pub fn decimal(self, most: usize, low: u64, high: u64) -> Option<(u64, Words<'a>)>
+    fn decimal(self, most: usize, low: u64, high: u64) -> Option<(u64, Words<'a>)>
         requires { most ≤ 15 }
         ensures value { result ≡ decimal_at most low high self.entry }
         ensures least { IfSome result (λ x. low ≤ x.0) }
@@ -86,6 +86,39 @@ impl<'a> Words<'a> {
         let (word, rest) = self.next_word()?;
         let number = number(word, 10, most)?;
         Some((within(number, low, high)?, rest))
+    }
+
+    /// A number of one octet, of one to `most` decimal digits, from `low` to `high`, and the words after it.
+    pub fn octet(self, most: usize, low: u8, high: u8) -> Option<(u8, Words<'a>)>
+        requires { most ≤ 15 }
+        ensures value { result ≡ decimal_at most low high self.entry }
+        ensures least { IfSome result (λ x. low ≤ x.0) }
+        ensures greatest { IfSome result (λ x. x.0 ≤ high) }
+    {
+        let (number, rest) = self.decimal(most, u64::from(low), u64::from(high))?;
+        Some((number as u8, rest))
+    }
+
+    /// A number of two octets, of one to `most` decimal digits, from `low` to `high`, and the words after it.
+    pub fn two_octets(self, most: usize, low: u16, high: u16) -> Option<(u16, Words<'a>)>
+        requires { most ≤ 15 }
+        ensures value { result ≡ decimal_at most low high self.entry }
+        ensures least { IfSome result (λ x. low ≤ x.0) }
+        ensures greatest { IfSome result (λ x. x.0 ≤ high) }
+    {
+        let (number, rest) = self.decimal(most, u64::from(low), u64::from(high))?;
+        Some((number as u16, rest))
+    }
+
+    /// A number of four octets, of one to `most` decimal digits, from `low` to `high`, and the words after it.
+    pub fn four_octets(self, most: usize, low: u32, high: u32) -> Option<(u32, Words<'a>)>
+        requires { most ≤ 15 }
+        ensures value { result ≡ decimal_at most low high self.entry }
+        ensures least { IfSome result (λ x. low ≤ x.0) }
+        ensures greatest { IfSome result (λ x. x.0 ≤ high) }
+    {
+        let (number, rest) = self.decimal(most, u64::from(low), u64::from(high))?;
+        Some((number as u32, rest))
     }
 
     /// Whether no words are left.

@@ -7,23 +7,23 @@ use std::test::Fail;
 
 /// The address that a word spells: four numbers up to 255, with a dot between two.
 fn address(word: &[u8]) -> Option<[u8; 4]> {
-    let (first, parts) = Words::split(word, b'.').decimal(3, 0, 255)?;
-    let (second, parts) = parts.decimal(3, 0, 255)?;
-    let (third, parts) = parts.decimal(3, 0, 255)?;
-    let (fourth, parts) = parts.decimal(3, 0, 255)?;
+    let (first, parts) = Words::split(word, b'.').octet(3, 0, 255)?;
+    let (second, parts) = parts.octet(3, 0, 255)?;
+    let (third, parts) = parts.octet(3, 0, 255)?;
+    let (fourth, parts) = parts.octet(3, 0, 255)?;
     if parts.is_empty() {
-        Some([first as u8, second as u8, third as u8, fourth as u8])
+        Some([first, second, third, fourth])
     } else {
         None
     }
 }
 
 /// The number of the next line, its address and its seconds, and whether its words end there.
-fn sending(lines: &mut Lines<'_>) -> Option<(usize, [u8; 4], u64, bool)> {
+fn sending(lines: &mut Lines<'_>) -> Option<(usize, [u8; 4], u8, bool)> {
     let line = lines.next_line()?;
     let words = Words::of(line.octets).keyword(b"send")?;
     let (word, words) = words.next_word()?;
-    let (seconds, words) = words.decimal(5, 1, 60)?;
+    let (seconds, words) = words.octet(5, 1, 60)?;
     Some((line.number, address(word)?, seconds, words.is_empty()))
 }
 
