@@ -11,7 +11,7 @@ use Rattle.hex.proofs.HexLemmas.{decode_of-ok}
 use Rattle.dms_text.specs.Words.{words_of, parts_of}
 use Rattle.dms_text.specs.Octets.{SpellsOctets}
 use Rattle.dms_text.specs.Reading.{same_octets, word_at, decimal_at}
-use Rattle.dms_text.proofs.WordLaws.{begun, goes_on, same_found, word_found, word_only, decimal_found, decimal_only}
+use Rattle.dms_text.proofs.WordLaws.{begun, goes_on, same_found, word_found, word_only, decimal_found, decimal_only, numeral_found, numeral_only}
 use Rattle.dms_codes.specs.declared.codes.Order.{Order}
 use Rattle.dms_codes.specs.declared.codes.Order.TheVariants.{High, Swapped}
 use Rattle.dms_codes.specs.declared.codes.Activation.{Activation}
@@ -21,7 +21,7 @@ use Rattle.dms_centre.specs.State.{PublicationModel}
 use Rattle.dms_centre.specs.Commands.{CommandModel, Publish, Blank, Activate}
 use Rattle.dms_description.specs.Fields.{SpellsEach, SpellsOctet, SpellsTwoOctets, SpellsOne}
 use Rattle.dms_description.specs.FieldsReading.{if_last}
-use Rattle.dms_description.proofs.WordReading.{last_found, numeral_found, numeral_only}
+use Rattle.dms_description.proofs.WordReading.{last_found}
 use Rattle.dms_description.proofs.FieldLaws.{same_rest, next_octets_found, next_octets_only, made_of}
 use Rattle.dms_commands.specs.CommandFields.{SpellsAddressPart, SpellsAddress, SpellsCode}
 use Rattle.dms_commands.specs.CommandLine.{SpellsPublication, SpellsBlank, SpellsCommand}
@@ -158,7 +158,7 @@ address_found word address e =
     })
 
 part_only : (number : ℕ) (word : List ℕ) (rest : List (List ℕ)) → SpellsAddressPart number word → decimal_at 3 0 255 (word ∷ rest) ≡ Some (number, rest)
-part_only number word rest spelled = numeral_only 3 255 number word rest spelled.spelled spelled.small
+part_only number word rest spelled = numeral_only 3 0 255 number word rest spelled.spelled (omega arith) spelled.small
 
 parts_only : (address : List ℕ) (parts : List (List ℕ)) → length address ≡ 4 → SpellsEach SpellsAddressPart address parts → address_at parts ≡ Some address
 unfolding address_at

@@ -20,7 +20,8 @@ use Rattle.dms_description.specs.Fields.{SpellsOctet, SpellsFourOctets}
 use Rattle.dms_sign.specs.Construction.{CanBeMade}
 use Rattle.dms_description.specs.Description.{SpellsSign, SpellsFonts, no_font, one_more, SpellsPermanent, SpellsDefaults}
 use Rattle.dms_description.specs.BenchSign.{bench_text}
-use Rattle.dms_description.proofs.BenchValue.{tall_font, small_font, bench_sign}
+use Rattle.dms_face.proofs.Bench.{tall_font, small_font}
+use Rattle.dms_description.proofs.BenchValue.{bench_sign}
 
 -- ---- words
 

@@ -3,10 +3,10 @@ use Rattle.std.proofs.Common.{◌≡◌, ℕ, List, [], ◌∷◌, Option, Some,
 use Rattle.std.proofs.lemmas.Option.{same_Some}
 use Rattle.dms_text.specs.Numbers.{SpellsNumber}
 use Rattle.dms_text.specs.Octets.{SpellsOctets}
-use Rattle.dms_text.proofs.WordLaws.{begun, goes_on, word_found, word_only, octets_found, octets_only, octets_some}
+use Rattle.dms_text.proofs.WordLaws.{begun, goes_on, word_found, word_only, octets_found, octets_only, octets_some, numeral_found, numeral_only}
 use Rattle.dms_description.specs.Fields.{SpellsFourOctets, SpellsOne}
 use Rattle.dms_description.specs.FieldsReading.{last_number_at, octets_at, last_octets_at}
-use Rattle.dms_description.proofs.WordReading.{last_found, numeral_found, numeral_only}
+use Rattle.dms_description.proofs.WordReading.{last_found}
 
 -- ---- words
 
@@ -60,7 +60,7 @@ last_number_found keyword words number e =
 
 pub last_number_only : (number : ℕ) (word : List ℕ) → SpellsFourOctets number word → last_number_at (word ∷ []) ≡ Some number
 unfolding last_number_at
-last_number_only number word spelled = goes_on _ _ _ (numeral_only 10 4294967295 number word [] spelled.spelled (omega (arith, spelled.small)))
+last_number_only number word spelled = goes_on _ _ _ (numeral_only 10 0 4294967295 number word [] spelled.spelled (omega arith) (omega (arith, spelled.small)))
 
 pub last_octets_found : (keyword : List ℕ) (words : List (List ℕ)) (octets : List ℕ) → last_octets_at words ≡ Some octets → SpellsOne keyword (SpellsOctets octets) (keyword ∷ words)
 unfolding last_octets_at

@@ -10,7 +10,7 @@ use Rattle.dms_font.specs.FontText.{SpellsHeader, SpellsGlyphs, SpellsFontLines}
 use Rattle.dms_font.specs.FontReading.{labelled_at, header_of, glyph_words, glyph_said, glyph_read, with_glyph, glyph_added, added_then, glyphs_added}
 use Rattle.dms_font.specs.declared.fault.FontFaultKind.{FontFaultKind}
 use Rattle.dms_font.specs.declared.fault.FontFaultKind.TheVariants.{Glyph}
-use Rattle.dms_font.proofs.FontLaws.{header_found, header_only, glyphs_found, glyphs_only}
+use Rattle.dms_font.proofs.FontLaws.{same_header, header_found, header_only, glyphs_found, glyphs_only}
 use Rattle.dms_description.specs.Description.{SpellsFonts, no_font, one_more}
 use Rattle.dms_description.specs.DescriptionReading.{fonts_then, fonts_from, fonts_after, fonts_at}
 
@@ -24,21 +24,6 @@ same_lines : (lines : List (List ℕ)) → octets_of_lines (unnumbered lines) �
 same_lines [] = refl
 same_lines (line ∷ lines) = ap (λ others. line ∷ others) (same_lines lines)
 
-same_header : (font : FontModel) (words : List (List ℕ)) (header : SpellsHeader font words) (full : FontModel) → record font { glyphs = full.glyphs } ≡ full → SpellsHeader full words
-same_header font words spelled full is = subst (λ (f : FontModel). SpellsHeader f words) is (record {
-  number_word = spelled.number_word;
-  height_word = spelled.height_word;
-  character_word = spelled.character_word;
-  line_word = spelled.line_word;
-  version_word = spelled.version_word;
-  words_are = spelled.words_are;
-  number = spelled.number;
-  height = spelled.height;
-  character_spacing = spelled.character_spacing;
-  line_spacing = spelled.line_spacing;
-  version = spelled.version;
-})
-
 font_found : (line : List ℕ) (own : List (List ℕ)) (begun full : FontModel) → header_of (words_of line) ≡ Some begun → glyphs_added begun (unnumbered own) ≡ Ok full
     → SpellsFontLines (line ∷ own) full
 font_found line own begun full is e =
@@ -49,7 +34,7 @@ font_found line own begun full is e =
       header_line = line;
       glyph_lines = own;
       lines_are = refl;
-      header = same_header begun (words_of line) header.0 (record begun { glyphs = added.glyphs }) refl;
+      header = same_header begun added.glyphs (words_of line) header.0;
       glyphs = subst (SpellsGlyphs begun.height added.glyphs) (same_lines own) added.spelled;
       few = omega (arith, ap length glyphs, added.few (omega (arith, ap length header.1)));
       distinct = ap are_distinct (sym glyphs) ∙ added.distinct (ap are_distinct header.1);

@@ -5,8 +5,7 @@ use Rattle.std.proofs.lemmas.Bool.{eqb-true, eqb-false, eq-eqb, cases_Bool}
 use Rattle.std.proofs.lemmas.Option.{cond_some, same_Some}
 use Rattle.dms_text.specs.Numbers.{SpellsNumber, SpellsDecimal}
 use Rattle.dms_text.specs.Reading.{keyword_at, decimal_at, same_octets, is_end, ◌>>=◌}
-use Rattle.dms_text.proofs.WordLaws.{begun, goes_on, same_found, word_found, word_only, keyword_found, keyword_only, decimal_found, decimal_only}
-use Rattle.dms_text.proofs.NumberLaws.{number_found, number_only, within_found, within_only}
+use Rattle.dms_text.proofs.WordLaws.{begun, goes_on, same_found, keyword_found, keyword_only, decimal_found, decimal_only, numeral_found, numeral_only}
 use Rattle.dms_codes.specs.declared.codes.Order.{Order}
 use Rattle.dms_codes.specs.declared.codes.Order.TheVariants.{High, Swapped}
 use Rattle.dms_description.specs.Fields.{SpellsFlag, SpellsOrder, SpellsFourOctets}
@@ -114,41 +113,6 @@ pub order_only : (order : Order) (word : List ℕ) → SpellsOrder order word �
 order_only High word spelled = ap order_named spelled
 order_only Swapped word spelled = ap order_named spelled
 
--- ---- numbers of any length
-
--- a number of one to `most` digits, from low to high
-pub record FoundNumeral (most low high : ℕ) (words : List (List ℕ)) (found : ℕ × List (List ℕ)) : Type 0 where
-  pub word : List ℕ
-  pub words_are : words ≡ word ∷ found.1
-  pub spelled : SpellsNumber 10 most found.0 word
-  pub greatest : found.0 ≤ high
-
-pub numeral_found : (most low high : ℕ) (words : List (List ℕ)) (found : ℕ × List (List ℕ)) → decimal_at most low high words ≡ Some found → FoundNumeral most low high words found
-unfolding decimal_at
-numeral_found most low high words found e =
-    let read = begun _ _ _ e in
-    let number = begun _ _ _ read.2 in
-    let inside = begun _ _ _ number.2 in
-    let after = word_found words read.0 read.1 in
-    let bounds = within_found low high number.0 inside.0 inside.1 in
-    let same : (inside.0, read.0.1) ≡ found = same_Some _ _ inside.2 in
-    let value : inside.0 ≡ found.0 = ap (λ (pair : ℕ × List (List ℕ)). pair.0) same in
-    let rest : read.0.1 ≡ found.1 = ap (λ (pair : ℕ × List (List ℕ)). pair.1) same in
-    record {
-      word = read.0.0;
-      words_are = after.0 ∙ ap (λ words. read.0.0 ∷ words) rest;
-      spelled = subst (λ n. SpellsNumber 10 most n read.0.0) (bounds.0 ∙ value) (number_found 10 most number.0 read.0.0 number.1);
-      greatest = omega (arith, bounds.0, bounds.2, value);
-    }
-
-pub numeral_only : (most high number : ℕ) (word : List ℕ) (rest : List (List ℕ)) → SpellsNumber 10 most number word → number ≤ high
-    → decimal_at most 0 high (word ∷ rest) ≡ Some (number, rest)
-unfolding decimal_at
-numeral_only most high number word rest spelled small =
-    goes_on _ _ _ (word_only word rest spelled.numeral.0)
-    ∙ goes_on _ _ _ (number_only 10 most number word spelled)
-    ∙ goes_on _ _ _ (within_only 0 high number (omega arith) small)
-
 -- ---- a number of four octets
 
 pub record FoundFour (words : List (List ℕ)) (found : ℕ × List (List ℕ)) : Type 0 where
@@ -166,4 +130,4 @@ four_found words found e =
     }
 
 pub four_only : (number : ℕ) (word : List ℕ) (rest : List (List ℕ)) → SpellsFourOctets number word → decimal_at 10 0 4294967295 (word ∷ rest) ≡ Some (number, rest)
-four_only number word rest spelled = numeral_only 10 4294967295 number word rest spelled.spelled (let small = spelled.small in omega (arith, small))
+four_only number word rest spelled = numeral_only 10 0 4294967295 number word rest spelled.spelled (omega arith) (let small = spelled.small in omega (arith, small))

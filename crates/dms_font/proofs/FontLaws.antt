@@ -345,7 +345,7 @@ glyphs_only (line ∷ lines) font (glyph ∷ glyphs) spelled distinct few =
 -- ---- the whole text
 
 -- the header says nothing of the characters
-same_header : (font : FontModel) (glyphs : List GlyphModel) (words : List (List ℕ)) → SpellsHeader font words → SpellsHeader (record font { glyphs = glyphs }) words
+pub same_header : (font : FontModel) (glyphs : List GlyphModel) (words : List (List ℕ)) → SpellsHeader font words → SpellsHeader (record font { glyphs = glyphs }) words
 same_header font glyphs words spelled = record {
   number_word = spelled.number_word;
   height_word = spelled.height_word;

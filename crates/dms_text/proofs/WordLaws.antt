@@ -1,5 +1,5 @@
 -- What a word spells is what is read of it.
-use Rattle.std.proofs.Common.{◌≡◌, ℕ, ◌<◌, true, false, cond, List, [], ◌∷◌, length, Option, Some, None, Result, Ok, Err, refl, sym, ap, subst, ◌∙◌, arith, inl, inr}
+use Rattle.std.proofs.Common.{◌≡◌, ℕ, ◌<◌, ◌≤◌, true, false, cond, List, [], ◌∷◌, length, Option, Some, None, Result, Ok, Err, refl, sym, ap, subst, ◌∙◌, arith, inl, inr}
 use Rattle.std.specs.Prelude.{codes}
 use Rattle.std.proofs.lemmas.Bool.{and_parts, and_from, eqb-true, eq-eqb, cases_Bool}
 use Rattle.std.proofs.lemmas.Option.{cond_some, same_Some}
@@ -107,14 +107,17 @@ unfolding keyword_at
 keyword_only keyword rest some =
     goes_on _ _ _ (word_only keyword rest some) ∙ ap (λ b. cond b (Some rest) None) (same_only keyword)
 
-pub record FoundDecimal (low high : ℕ) (words : List (List ℕ)) (found : ℕ × List (List ℕ)) : Type 0 where
+-- a number of one to `most` digits, from low to high
+pub record FoundNumeral (most low high : ℕ) (words : List (List ℕ)) (found : ℕ × List (List ℕ)) : Type 0 where
   pub word : List ℕ
   pub words_are : words ≡ word ∷ found.1
-  pub spelled : SpellsDecimal low high found.0 word
+  pub spelled : SpellsNumber 10 most found.0 word
+  pub least : low ≤ found.0
+  pub greatest : found.0 ≤ high
 
-pub decimal_found : (low high : ℕ) (words : List (List ℕ)) (found : ℕ × List (List ℕ)) → decimal_at 5 low high words ≡ Some found → FoundDecimal low high words found
+pub numeral_found : (most low high : ℕ) (words : List (List ℕ)) (found : ℕ × List (List ℕ)) → decimal_at most low high words ≡ Some found → FoundNumeral most low high words found
 unfolding decimal_at
-decimal_found low high words found e =
+numeral_found most low high words found e =
     let read = begun _ _ _ e in
     let number = begun _ _ _ read.2 in
     let inside = begun _ _ _ number.2 in
@@ -126,16 +129,33 @@ decimal_found low high words found e =
     record {
       word = read.0.0;
       words_are = after.0 ∙ ap (λ words. read.0.0 ∷ words) rest;
-      spelled = record {
-        spelled = subst (λ n. SpellsNumber 10 5 n read.0.0) (bounds.0 ∙ value) (number_found 10 5 number.0 read.0.0 number.1);
-        least = omega (arith, bounds.0, bounds.1, value);
-        greatest = omega (arith, bounds.0, bounds.2, value);
-      };
+      spelled = subst (λ n. SpellsNumber 10 most n read.0.0) (bounds.0 ∙ value) (number_found 10 most number.0 read.0.0 number.1);
+      least = omega (arith, bounds.0, bounds.1, value);
+      greatest = omega (arith, bounds.0, bounds.2, value);
+    }
+
+pub numeral_only : (most low high number : ℕ) (word : List ℕ) (rest : List (List ℕ)) → SpellsNumber 10 most number word → low ≤ number → number ≤ high
+    → decimal_at most low high (word ∷ rest) ≡ Some (number, rest)
+unfolding decimal_at
+numeral_only most low high number word rest spelled least greatest =
+    goes_on _ _ _ (word_only word rest spelled.numeral.0)
+    ∙ goes_on _ _ _ (number_only 10 most number word spelled)
+    ∙ goes_on _ _ _ (within_only low high number least greatest)
+
+-- a number of one to five digits
+pub record FoundDecimal (low high : ℕ) (words : List (List ℕ)) (found : ℕ × List (List ℕ)) : Type 0 where
+  pub word : List ℕ
+  pub words_are : words ≡ word ∷ found.1
+  pub spelled : SpellsDecimal low high found.0 word
+
+pub decimal_found : (low high : ℕ) (words : List (List ℕ)) (found : ℕ × List (List ℕ)) → decimal_at 5 low high words ≡ Some found → FoundDecimal low high words found
+decimal_found low high words found e =
+    let number = numeral_found 5 low high words found e in
+    record {
+      word = number.word;
+      words_are = number.words_are;
+      spelled = record { spelled = number.spelled; least = number.least; greatest = number.greatest };
     }
 
 pub decimal_only : (low high number : ℕ) (word : List ℕ) (rest : List (List ℕ)) → SpellsDecimal low high number word → decimal_at 5 low high (word ∷ rest) ≡ Some (number, rest)
-unfolding decimal_at
-decimal_only low high number word rest spelled =
-    goes_on _ _ _ (word_only word rest spelled.spelled.numeral.0)
-    ∙ goes_on _ _ _ (number_only 10 5 number word spelled.spelled)
-    ∙ goes_on _ _ _ (within_only low high number spelled.least spelled.greatest)
+decimal_only low high number word rest spelled = numeral_only 5 low high number word rest spelled.spelled spelled.least spelled.greatest
