@@ -1,5 +1,8 @@
 //! Pictures of a sign of 4 by 3 with one character, whole.
 
+mod cases;
+
+use cases::{FLASHING, HEAD, PLAIN, TURNS};
 use dms_bench_sign::{DEFAULTS, fonts_of};
 use dms_face::Face;
 use dms_pages::pages;
@@ -10,36 +13,6 @@ use std::test::Fail;
 const FONT: &[u8] = b"font 1 height 2 space 1 line 1 version 0001
 glyph 65 2 90
 ";
-
-const HEAD: &str =
-    r##"<svg xmlns="http://www.w3.org/2000/svg" viewBox="-1 -1 5 4" fill="none" stroke-linecap="round" stroke-width="0.8">
-<title>A message sign of 4 by 3 lamps</title>
-<path stroke="none" fill="#202020" d="M-1-1h5v4H-1z"/>
-<path stroke="#000000" stroke-dasharray="0 1" d="M0 0h3.5M0 1h3.5M0 2h3.5"/>
-"##;
-
-const PLAIN: &str =
-    r##"<g><path stroke="#000000" stroke-dasharray="0 1" d="M0 0h3.5M0 1h3.5M0 2h3.5"/>
-<path stroke="#ffbf00" d="M1 0h0M2 1h0"></path>
-</g>
-"##;
-
-/// The dark time first: the last three tenths of a second are lit.
-const FLASHING: &str =
-    r##"<g><path stroke="#ff0000" stroke-dasharray="0 1" d="M0 0h3.5M0 1h3.5M0 2h3.5"/>
-<path stroke="#ffbf00" d="M1 0h0M2 1h0"><animate attributeName="opacity" calcMode="discrete" repeatCount="indefinite" dur="0.5s" values="0;0;1;1;1"/></path>
-</g>
-"##;
-
-/// Each page is shown for a tenth of a second, and then none; the second one flashes.
-const TURNS: &str =
-    r##"<g><animate attributeName="opacity" calcMode="discrete" repeatCount="indefinite" dur="0.5s" values="1;0;0;0;0"/><path stroke="#000000" stroke-dasharray="0 1" d="M0 0h3.5M0 1h3.5M0 2h3.5"/>
-<path stroke="#ffbf00" d="M1 0h0M2 1h0"></path>
-</g>
-<g><animate attributeName="opacity" calcMode="discrete" repeatCount="indefinite" dur="0.5s" values="0;0;1;1;0"/><path stroke="#000000" stroke-dasharray="0 1" d="M0 0h3.5M0 1h3.5M0 2h3.5"/>
-<path stroke="#00ff00" d="M1 0h0M2 1h0"><animate attributeName="opacity" calcMode="discrete" repeatCount="indefinite" dur="0.5s" values="1;1;1;0;1"/></path>
-</g>
-"##;
 
 fn face(alloc: Global) -> Result<Face, Fail> {
     Ok(Face::new(4, 3, fonts_of(alloc, &[FONT])?, DEFAULTS)?)
