@@ -1,6 +1,7 @@
--- The lamps of a page as paths (Scalable Vector Graphics 1.1, paths; colours as MULTI numbers them, NTCIP 1203; their shades are this
--- profile's). A lamp is a dot: the round ends of a line without length.
-use Rattle.std.specs.Prelude.{ℕ, ◌-◌, ◌==◌, ◌&&◌, Bool, true, false, not, if◌then◌else◌, List, [], ◌∷◌, ◌++◌, codes, decimal, fold, Option, Some, None}
+-- The lamps of a page as paths (Scalable Vector Graphics 1.1, paths; colours as MULTI numbers them, NTCIP 1203; their
+-- shades are this profile's). A lamp is a dot: the round ends of a line without length.
+use Rattle.std.specs.Prelude.{ℕ, ◌-◌, ◌==◌, ◌&&◌, Bool, true, false, not, if◌then◌else◌}
+use Rattle.std.specs.Prelude.{List, [], ◌∷◌, ◌++◌, codes, decimal, fold, Option, Some, None}
 use Rattle.std.specs.List.{flat_map, range_with_len, list_any}
 use Rattle.dms_multi.specs.declared.item.Lead.{Lead}
 use Rattle.dms_multi.specs.declared.item.Lead.TheVariants.{Lit, Dark}
@@ -31,7 +32,8 @@ same_lead _ _ = false
 
 abbrev pub same_flash : Option Flash → Option Flash → Bool
 same_flash None None = true
-same_flash (Some one) (Some other) = same_lead one.first other.first && (one.lit == other.lit) && (one.dark == other.dark)
+same_flash (Some one) (Some other) =
+    same_lead one.first other.first && (one.lit == other.lit) && (one.dark == other.dark)
 same_flash _ _ = false
 
 -- the cell is lit in this colour with this flash
@@ -63,7 +65,8 @@ whole_rows width height = flat_map (whole_row width) (range_with_len 0 height)
 
 -- and what a cell shows, where it is lit and none of these shows the same
 abbrev pub with_cell : List Cell → Cell → List Cell
-with_cell styles cell = if cell.lit && not (list_any (λ style. shows style cell) styles) then styles ++ cell ∷ [] else styles
+with_cell styles cell =
+    if cell.lit && not (list_any (λ style. shows style cell) styles) then styles ++ cell ∷ [] else styles
 
 abbrev pub with_row : DrawnPage → List Cell → ℕ → List Cell
 with_row page styles y = fold (λ more x. with_cell more (cell_at page x y)) styles (range_with_len 0 page.width)

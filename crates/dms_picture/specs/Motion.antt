@@ -1,6 +1,7 @@
--- When a page is up and when a flash is lit, in tenths of a second (NTCIP 1203, MULTI: page times and flashes; how a picture plays them is
--- this profile's). An animation of the document has a value for each tenth.
-use Rattle.std.specs.Prelude.{ℕ, ◌+◌, ◌-◌, ◌/◌, ◌%◌, ◌==◌, ◌&&◌, ◌||◌, Bool, true, if◌then◌else◌, List, [], ◌++◌, codes, decimal, nat_le, nat_lt}
+-- When a page is up and when a flash is lit, in tenths of a second (NTCIP 1203, MULTI: page times and flashes; how a
+-- picture plays them is this profile's). An animation of the document has a value for each tenth.
+use Rattle.std.specs.Prelude.{ℕ, ◌+◌, ◌-◌, ◌/◌, ◌%◌, ◌==◌, ◌&&◌, ◌||◌, Bool, true}
+use Rattle.std.specs.Prelude.{if◌then◌else◌, List, [], ◌++◌, codes, decimal, nat_le, nat_lt}
 use Rattle.std.specs.List.{flat_map, range_with_len}
 use Rattle.dms_multi.specs.declared.item.Lead.{Lead}
 use Rattle.dms_multi.specs.declared.item.Lead.TheVariants.{Lit, Dark}
@@ -36,7 +37,8 @@ is_on (Flashing flash start) tenth = flash_is_lit flash (tenth - start)
 
 -- ---- how a page of a message moves
 
--- A message of one page without an off time stays. Else its pages take turns, each for its time, and none is up in a page's off time.
+-- A message of one page without an off time stays. Else its pages take turns, each for its time, and none is up in a
+-- page's off time.
 abbrev pub motion_of : ℕ → ℕ → ℕ → DrawnPage → Motion
 motion_of count round start page =
     if round == 0 || (count == 1 && page.off == 0) then Stays
@@ -62,8 +64,8 @@ animation_start tenths first =
 
 -- so many tenths, over and over
 abbrev pub some_animation : ℕ → Rhythm → List ℕ
-some_animation tenths rhythm =
-    animation_start tenths (is_on rhythm 0) ++ flat_map (next_value rhythm) (range_with_len 1 (tenths - 1)) ++ codes "\"/>"
+some_animation tenths rhythm = animation_start tenths (is_on rhythm 0)
+    ++ flat_map (next_value rhythm) (range_with_len 1 (tenths - 1)) ++ codes "\"/>"
 
 -- none at all is no animation
 abbrev pub animation : ℕ → Rhythm → List ℕ

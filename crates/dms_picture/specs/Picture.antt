@@ -1,5 +1,5 @@
--- A message as one document (Scalable Vector Graphics 1.1; its form is this profile's): a plate, all lamps dark, and each page above them.
--- The lamp in column x and row y is a dot around the point (x, y).
+-- A message as one document (Scalable Vector Graphics 1.1; its form is this profile's): a plate, all lamps dark, and
+-- each page above them. The lamp in column x and row y is a dot around the point (x, y).
 use Rattle.std.specs.Prelude.{ℕ, ◌+◌, List, [], ◌∷◌, ◌++◌, length, codes, decimal, Option, Some, None}
 use Rattle.std.specs.List.{flat_map, sum_by}
 use Rattle.dms_face.specs.declared.cell.Flash.{Flash}
@@ -26,8 +26,8 @@ style_animation motion (Some flash) = flash_animation motion flash
 
 -- the lamps that show the same
 abbrev pub style_path : Motion → DrawnPage → Cell → List ℕ
-style_path motion page style =
-    dots_start style.colour ++ lamps page style ++ codes "\">" ++ style_animation motion style.flash ++ codes "</path>\n"
+style_path motion page style = dots_start style.colour ++ lamps page style ++ codes "\">"
+    ++ style_animation motion style.flash ++ codes "</path>\n"
 
 -- a page: its background, and its lit lamps above it
 abbrev pub page_group : Motion → DrawnPage → List ℕ
@@ -36,8 +36,8 @@ page_group motion page =
     ++ flat_map (style_path motion page) (styles_of page) ++ codes "</g>\n"
 
 abbrev pub view : ℕ → ℕ → List ℕ
-view columns rows =
-    codes "<svg xmlns=\"http://www.w3.org/2000/svg\" viewBox=\"-1 -1 " ++ decimal columns ++ codes " " ++ decimal rows ++ codes "\""
+view columns rows = codes "<svg xmlns=\"http://www.w3.org/2000/svg\" viewBox=\"-1 -1 " ++ decimal columns ++ codes " "
+    ++ decimal rows ++ codes "\""
 
 -- the tag of a document of so many columns and rows, whose size is left to the reader
 abbrev pub svg_tag : ℕ → ℕ → List ℕ
@@ -45,11 +45,12 @@ svg_tag columns rows = view columns rows ++ codes " fill=\"none\" stroke-linecap
 
 -- what the document is called where it is not seen
 abbrev pub title : ℕ → ℕ → List ℕ
-title width height = codes "<title>A message sign of " ++ decimal width ++ codes " by " ++ decimal height ++ codes " lamps</title>\n"
+title width height = codes "<title>A message sign of " ++ decimal width ++ codes " by " ++ decimal height
+    ++ codes " lamps</title>\n"
 
 abbrev pub plate : ℕ → ℕ → List ℕ
-plate columns rows =
-    codes "<path stroke=\"none\" fill=\"#202020\" d=\"M-1-1h" ++ decimal columns ++ codes "v" ++ decimal rows ++ codes "H-1z\"/>\n"
+plate columns rows = codes "<path stroke=\"none\" fill=\"#202020\" d=\"M-1-1h" ++ decimal columns ++ codes "v"
+    ++ decimal rows ++ codes "H-1z\"/>\n"
 
 -- the plate is one lamp wider and higher than the matrix
 abbrev pub board : ℕ → ℕ → List ℕ

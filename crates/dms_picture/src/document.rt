@@ -3,7 +3,9 @@
 ghost use Rattle.std.specs.Prelude.{◌≡◌, ◌≤◌, ◌++◌, length, take, IfOk, OnOk};
 ghost use Rattle.std.specs.List.{flat_map};
 ghost use Rattle.dms_picture.specs.Lamps.{styles_of};
-ghost use Rattle.dms_picture.specs.Picture.{page_time, board, svg_tag, view, title, plate, dashes_start, dots_start, plain_path, style_animation, style_path, page_group, opening, closing, round_of, groups_from, most_pages, picture_of, still_of};
+ghost use Rattle.dms_picture.specs.Picture.{page_time, board, svg_tag, view, title, plate, dashes_start, dots_start};
+ghost use Rattle.dms_picture.specs.Picture.{plain_path, style_animation, style_path, page_group, opening, closing};
+ghost use Rattle.dms_picture.specs.Picture.{round_of, groups_from, most_pages, picture_of, still_of};
 
 use crate::lamps::{put_lamps, put_whole_rows, styles_of};
 use crate::motion::{Motion, put_flash_animation, put_page_animation};
@@ -18,9 +20,10 @@ use std::io::Write;
 /// The most pages of a message.
 const MOST_PAGES: usize = 6;
 
-/// A message of these pages as a document that a browser plays, on a matrix of so many columns and rows. A page is up for its time, and
-/// none is in its off time; then the first comes again. A message of one page without an off time stays. Lamps flash with the right time
-/// first, from where their page comes up. A message has at most six pages; those after the sixth are left out.
+/// A message of these pages as a document that a browser plays, on a matrix of so many columns and rows. A page is up
+/// for its time, and none is in its off time; then the first comes again. A message of one page without an off time
+/// stays. Lamps flash with the right time first, from where their page comes up. A message has at most six pages; those
+/// after the sixth are left out.
 pub fn picture(
     alloc: Global,
     width: u16,
@@ -119,7 +122,8 @@ fn put_page(alloc: Global, out: &mut Vec<u8>, motion: Motion, page: &Page) -> io
 }
 
 fn put_style_paths(alloc: Global, out: &mut Vec<u8>, motion: Motion, page: &Page) -> io::Result<()>
-    ensures { OnOk result (out.new.items ≡ out.old.items ++ flat_map (style_path motion page.now) (styles_of page.now)) }
+    ensures { OnOk result
+        (out.new.items ≡ out.old.items ++ flat_map (style_path motion page.now) (styles_of page.now)) }
 {
     let styles = styles_of(alloc, page)?;
     put_paths(out, motion, page, styles.as_slice())

@@ -2,7 +2,8 @@
 
 ghost use Rattle.std.specs.Prelude.{◌≡◌, ◌≤◌, ◌++◌, ◌-◌, OnOk};
 ghost use Rattle.std.specs.List.{flat_map, range_with_len};
-ghost use Rattle.dms_picture.specs.Motion.{period, flash_is_lit, value, next_value, seconds, animation_start, some_animation, animation, page_animation, flash_animation};
+ghost use Rattle.dms_picture.specs.Motion.{period, flash_is_lit, value, next_value, seconds, animation_start};
+ghost use Rattle.dms_picture.specs.Motion.{some_animation, animation, page_animation, flash_animation};
 
 use crate::text::{put, put_number};
 use dms_face::Flash;
@@ -125,7 +126,8 @@ fn put_next_value(out: &mut Vec<u8>, rhythm: Rhythm, tenth: u32) -> io::Result<(
 /// Appends the values at the tenths after the first.
 fn put_next_values(out: &mut Vec<u8>, tenths: u32, rhythm: Rhythm) -> io::Result<()>
     requires { 1 ≤ tenths }
-    ensures { OnOk result (out.new.items ≡ out.old.items ++ flat_map (next_value rhythm) (range_with_len 1 (tenths - 1))) }
+    ensures { OnOk result
+        (out.new.items ≡ out.old.items ++ flat_map (next_value rhythm) (range_with_len 1 (tenths - 1))) }
 {
     for tenth in 1..tenths {
         put_next_value(out, rhythm, tenth)?;

@@ -1,6 +1,7 @@
 -- What a live sign answers to a line, and what it is afterwards (this profile). Each line of an answer ends in a
 -- newline.
-use Rattle.std.specs.Prelude.{ℕ, zero, suc, ◌+◌, ◌*◌, if◌then◌else◌, List, [], ◌++◌, codes, Option, Some, None, Result, Ok, Err}
+use Rattle.std.specs.Prelude.{ℕ, zero, suc, ◌+◌, ◌*◌, if◌then◌else◌, List, []}
+use Rattle.std.specs.Prelude.{◌++◌, codes, Option, Some, None, Result, Ok, Err}
 use Rattle.hex.specs.Hex.{encode_lower}
 use Rattle.dms_ber.specs.Limits.{longest_datagram}
 use Rattle.dms_codes.specs.declared.codes.Order.{Order}
@@ -23,7 +24,8 @@ use Rattle.dms_sign_lines.specs.SignReading.{call_of}
 -- the reply's octets, and before them the code that was accepted, in the sign's order
 abbrev pub reply_line : Order → List ℕ → Option Activation → List ℕ
 reply_line order reply None = ended (codes "reply " ++ encode_lower reply)
-reply_line order reply (Some code) = ended (codes "accepted " ++ code_text order code ++ codes " " ++ encode_lower reply)
+reply_line order reply (Some code) =
+    ended (codes "accepted " ++ code_text order code ++ codes " " ++ encode_lower reply)
 
 abbrev pub receipt_line : Order → Option (List ℕ) → Option Activation → List ℕ
 receipt_line order None accepted = ended (codes "dropped")

@@ -104,7 +104,8 @@ fn pass(sign: &mut Sign, seconds: u32)
 
 /// The sign receives a datagram. The memory of the longest answer is had before.
 fn receive(alloc: Global, sign: &mut Sign, datagram: &[u8]) -> Result<Vec<u8>, AllocError>
-    ensures text { IfOk result (λ text. text.items ≡ received_line sign.old.table.order (received sign.old datagram.now)) }
+    ensures text { IfOk result
+        (λ text. text.items ≡ received_line sign.old.table.order (received sign.old datagram.now)) }
     ensures after { OnOk result (sign.new ≡ (received sign.old datagram.now).after) }
     ensures memory { OnErr result (sign.new ≡ sign.old) }
 {
@@ -143,7 +144,8 @@ fn put_accepted(text: &mut Vec<u8>, code: &[u8], reply: &[u8])
     requires code { length code.now ≡ 12 }
     requires short { length reply.now ≤ longest_datagram }
     requires room { vec_len text.old + longest_receipt_line ≤ vec_capacity text.old }
-    ensures { text.new.items ≡ text.old.items ++ ended (codes "accepted " ++ encode_lower code.now ++ codes " " ++ encode_lower reply.now) }
+    ensures { text.new.items ≡ text.old.items
+        ++ ended (codes "accepted " ++ encode_lower code.now ++ codes " " ++ encode_lower reply.now) }
 {
     put(text, b"accepted ");
     put_digits(text, code);

@@ -43,10 +43,11 @@ pub fn ticks_are_so_many_lines_tick()
 
 /// A Get or a GetNext that is answered leaves what `heard` leaves; a datagram that is not answered changes nothing.
 pub fn gets_leave_what_heard_leaves()
-    ensures answered { (s : SignState) (m : SnmpMessage) (octets reply line : List ℕ) → message_of octets ≡ Some m → IsTrue (is_get m.kind)
-        → (received s octets).reply ≡ Some reply → SpellsSignCall (datagram octets) line → after_line s line ≡ after_line s (codes "heard") }
-    ensures unanswered { (s : SignState) (octets line : List ℕ) → (received s octets).reply ≡ None → SpellsSignCall (datagram octets) line
-        → after_line s line ≡ s }
+    ensures answered { (s : SignState) (m : SnmpMessage) (octets reply line : List ℕ) → message_of octets ≡ Some m
+        → IsTrue (is_get m.kind) → (received s octets).reply ≡ Some reply → SpellsSignCall (datagram octets) line
+        → after_line s line ≡ after_line s (codes "heard") }
+    ensures unanswered { (s : SignState) (octets line : List ℕ) → (received s octets).reply ≡ None
+        → SpellsSignCall (datagram octets) line → after_line s line ≡ s }
 {}
 
 /// What a sign shows can be drawn: as the sign is made, and after every line. Its pages are then those that `show`
