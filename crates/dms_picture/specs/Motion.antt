@@ -1,4 +1,4 @@
--- When a page is up and when a flash is lit, in tenths of a second (NTCIP 1203, MULTI: page times and flashes; how a
+-- When a page is shown and when a flash is lit, in tenths of a second (NTCIP 1203, MULTI: page times and flashes; how a
 -- picture plays them is this profile's). An animation of the document has a value for each tenth.
 use Rattle.std.specs.Prelude.{ℕ, ◌+◌, ◌-◌, ◌/◌, ◌%◌, ◌==◌, ◌&&◌, ◌||◌, Bool, true}
 use Rattle.std.specs.Prelude.{if◌then◌else◌, List, [], ◌++◌, codes, decimal, nat_le, nat_lt}
@@ -11,13 +11,13 @@ use Rattle.dms_picture.specs.declared.motion.Turn.{Turn}
 use Rattle.dms_picture.specs.declared.motion.Motion.{Motion}
 use Rattle.dms_picture.specs.declared.motion.Motion.TheVariants.{Still, Stays, Turns}
 use Rattle.dms_picture.specs.declared.motion.Rhythm.{Rhythm}
-use Rattle.dms_picture.specs.declared.motion.Rhythm.TheVariants.{Up, Flashing}
+use Rattle.dms_picture.specs.declared.motion.Rhythm.TheVariants.{Shown, Flashing}
 
 -- ---- when something is lit
 
--- a page is up from its turn's beginning on, for its time
-abbrev pub is_up : Turn → ℕ → Bool
-is_up turn tenth = nat_le turn.start tenth && nat_lt tenth (turn.start + turn.on)
+-- a page is shown from its turn's beginning on, for its time
+abbrev pub is_shown : Turn → ℕ → Bool
+is_shown turn tenth = nat_le turn.start tenth && nat_lt tenth (turn.start + turn.on)
 
 abbrev pub period : Flash → ℕ
 period flash = flash.lit + flash.dark
@@ -30,14 +30,14 @@ lit_in_period Dark flash tenth = nat_le flash.dark tenth
 abbrev pub flash_is_lit : Flash → ℕ → Bool
 flash_is_lit flash tenth = if period flash == 0 then true else lit_in_period flash.first flash (tenth % period flash)
 
--- a flash begins anew where its page comes up
+-- a flash begins again where its page is shown again
 abbrev pub is_on : Rhythm → ℕ → Bool
-is_on (Up turn) tenth = is_up turn tenth
+is_on (Shown turn) tenth = is_shown turn tenth
 is_on (Flashing flash start) tenth = flash_is_lit flash (tenth - start)
 
 -- ---- how a page of a message moves
 
--- A message of one page without an off time stays. Else its pages take turns, each for its time, and none is up in a
+-- A message of one page without an off time stays. Else its pages take turns, each for its time, and none is shown in a
 -- page's off time.
 abbrev pub motion_of : ℕ → ℕ → ℕ → DrawnPage → Motion
 motion_of count round start page =
@@ -74,7 +74,7 @@ animation tenths rhythm = if tenths == 0 then [] else some_animation tenths rhyt
 abbrev pub page_animation : Motion → List ℕ
 page_animation Still = []
 page_animation Stays = []
-page_animation (Turns turn) = animation turn.round (Up turn)
+page_animation (Turns turn) = animation turn.round (Shown turn)
 
 abbrev pub flash_animation : Motion → Flash → List ℕ
 flash_animation Still flash = []

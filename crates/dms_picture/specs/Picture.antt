@@ -56,7 +56,7 @@ plate columns rows = codes "<path stroke=\"none\" fill=\"#202020\" d=\"M-1-1h" +
 abbrev pub board : ℕ → ℕ → List ℕ
 board width height = svg_tag (width + 1) (height + 1) ++ title width height ++ plate (width + 1) (height + 1)
 
--- all lamps are dark where no page is up
+-- all lamps are dark where no page is shown
 abbrev pub opening : ℕ → ℕ → List ℕ
 opening width height = board width height ++ plain_path 0 width height
 

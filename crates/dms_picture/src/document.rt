@@ -20,10 +20,10 @@ use std::io::Write;
 /// The most pages of a message.
 const MOST_PAGES: usize = 6;
 
-/// A message of these pages as a document that a browser plays, on a matrix of so many columns and rows. A page is up
-/// for its time, and none is in its off time; then the first comes again. A message of one page without an off time
-/// stays. Lamps flash with the right time first, from where their page comes up. A message has at most six pages; those
-/// after the sixth are left out.
+/// A message of these pages as a document that a browser plays, on a matrix of so many columns and rows. A page is
+/// shown for its time, and none is in its off time; then the first comes again. A message of one page without an off
+/// time stays. Lamps flash with the right time first, from where their page is first shown. A message has at most six
+/// pages; those after the sixth are left out.
 pub fn picture(
     alloc: Global,
     width: u16,

@@ -11,10 +11,10 @@ use dms_multi::Lead;
 use dms_pages::Page;
 use std::io;
 
-/// When a page of a message is up, in tenths of a second.
+/// When a page of a message is shown, in tenths of a second.
 #[derive(Clone, Copy, Debug)]
 pub(crate) struct Turn {
-    /// When it comes up, from the round's beginning.
+    /// When it is first shown, from the round's beginning.
     pub start: u32,
     /// For how long.
     pub on: u8,
@@ -36,19 +36,19 @@ pub(crate) enum Motion {
 /// When something is to be seen.
 #[derive(Clone, Copy, Debug)]
 pub(crate) enum Rhythm {
-    /// While a page is up.
-    Up(Turn),
-    /// While a flash is lit that begins where its page comes up, after so many tenths.
+    /// While a page is shown.
+    Shown(Turn),
+    /// While a flash is lit that begins where its page is first shown, after so many tenths.
     Flashing(Flash, u32),
 }
 
 impl Turn {
     ghost use Rattle.std.specs.Prelude.{◌≡◌};
-    ghost use Rattle.dms_picture.specs.Motion.{is_up};
+    ghost use Rattle.dms_picture.specs.Motion.{is_shown};
 
-    /// Whether the page is up in this tenth of a round.
-    fn is_up(self, tenth: u32) -> bool
-        ensures { result ≡ is_up self tenth }
+    /// Whether the page is shown in this tenth of a round.
+    fn is_shown(self, tenth: u32) -> bool
+        ensures { result ≡ is_shown self tenth }
     {
         self.start <= tenth && tenth - self.start < u32::from(self.on)
     }
@@ -82,7 +82,7 @@ impl Rhythm {
         ensures { result ≡ is_on self tenth }
     {
         match self {
-            Rhythm::Up(turn) => turn.is_up(tenth),
+            Rhythm::Shown(turn) => turn.is_shown(tenth),
             Rhythm::Flashing(flash, start) => is_lit(flash, tenth.saturating_sub(start)),
         }
     }
@@ -183,7 +183,7 @@ pub(crate) fn put_page_animation(out: &mut Vec<u8>, motion: Motion) -> io::Resul
 {
     match motion {
         Motion::Still | Motion::Stays => Ok(()),
-        Motion::Turns(turn) => put_animation(out, turn.round, Rhythm::Up(turn)),
+        Motion::Turns(turn) => put_animation(out, turn.round, Rhythm::Shown(turn)),
     }
 }
 

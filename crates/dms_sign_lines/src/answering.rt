@@ -43,7 +43,7 @@ const LONGEST_RECEIPT: usize = 8 + 2 * 12 + 2 * MAX_DATAGRAM + 3;
 /// ```
 ///
 /// Any other line is answered `bad line`, and changes nothing. Octets are pairs of hexadecimal digits, or `-` for none.
-/// Where memory is wanting nothing changes either: what an answer needs is had before the sign is called.
+/// Out of memory nothing changes either: what an answer needs is had before the sign is called.
 pub fn answer(alloc: Global, sign: &mut Sign, line: &[u8]) -> Result<Vec<u8>, AllocError>
     ensures text { IfOk result (λ text. text.items ≡ answer_text sign.old line.now) }
     ensures after { OnOk result (sign.new ≡ after_line sign.old line.now) }
