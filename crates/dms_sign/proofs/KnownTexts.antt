@@ -1,5 +1,5 @@
 -- The text of each valid row stays good under the defaults that are kept for it.
-use Rattle.std.proofs.Common.{◌≡◌, ℕ, zero, suc, ◌-◌, ◌<◌, ◌≤◌, ◌==◌, Bool, true, false, cond, List, [], ◌∷◌, map, get_or, set, replicate, length, Option, Some, None, slice_get, All, refl, ap, sym, subst, ◌∙◌, arith}
+use Rattle.std.proofs.Common.{◌≡◌, ℕ, zero, suc, ◌+◌, ◌-◌, ◌<◌, ◌≤◌, ◌==◌, Bool, true, false, cond, List, [], ◌∷◌, map, get_or, set, replicate, length, Option, Some, None, slice_get, All, refl, ap, sym, subst, ◌∙◌, arith}
 use Rattle.std.specs.Prelude.{option_map}
 use Rattle.std.proofs.lemmas.Bool.{eqb-true, eqb-false}
 use Rattle.std.proofs.lemmas.List.{get_or-set_same, get_or-set_other}
@@ -11,17 +11,19 @@ use Rattle.dms_face.specs.Fit.{IsGood}
 use Rattle.dms_codes.specs.declared.status.Status.TheVariants.{NotUsed, Valid, Error}
 use Rattle.dms_codes.specs.Memory.{permanent_memory, changeable_memory, volatile_memory}
 use Rattle.dms_table.specs.declared.row.Services.{Services}
-use Rattle.dms_table.specs.declared.table.Place.{Place}
-use Rattle.dms_table.specs.declared.table.Place.TheVariants.{Changeable, Volatile}
-use Rattle.dms_table.specs.Rows.{RowModel, TableModel, unused, rows_of, row_is_validating}
-use Rattle.dms_table.specs.Validation.{verdict_of, passes, settled_row, settled, IsShowable}
-use Rattle.dms_table.specs.PlaceView.{IsOnly, IsPlaced}
+use Rattle.dms_table.specs.declared.writable.Place.{Place}
+use Rattle.dms_table.specs.declared.writable.Writable.{Writable}
+use Rattle.dms_table.specs.declared.writable.Writable.TheVariants.{Changeable, Volatile}
+use Rattle.dms_table.specs.Rows.{RowModel, TableModel, unused, rows_of, numbered, row_is_validating}
+use Rattle.dms_table.specs.Validation.{verdict_of, passes, settled_row, settled, IsShowable, HasGoodTextWhereValid}
+use Rattle.dms_table.specs.PlaceView.{writable, of_type, IsOnly, IsOnlyOfAll, IsPlaced}
 use Rattle.dms_table.specs.Stock.{PermanentRowsAreGood}
 use Rattle.dms_table.proofs.OneRow.{count, unsettled, any_validating}
-use Rattle.dms_table.proofs.Places.{only_settled, only_is}
+use Rattle.dms_table.proofs.Places.{only_of_type, none_of_other, only_settled, only_is}
+use Rattle.dms_table.proofs.Memories.{rows_of_type, other_rows}
 use Rattle.dms_sign.specs.declared.known_texts.KnownTexts.{KnownTexts}
 use Rattle.dms_sign.specs.InRange.{IsStocked}
-use Rattle.dms_sign.specs.KnownTexts.{kept_for, first_known, noted, AreKnown}
+use Rattle.dms_sign.specs.KnownTexts.{first_entry, kept_in, kept_for, first_known, noted, AreKnown}
 use Rattle.dms_sign.proofs.StepRows.{KeepsRows, good_where_passes}
 
 -- ---- no row becomes valid
@@ -53,92 +55,58 @@ settled_by face true false old row is good e valid = absurd (let wrong : Error �
 settled_by face false passed old row is good e valid = absurd (cc)
 
 -- the row at a place was settled under these defaults
-place_settled : (is_place : Bool) (services : Services) (face : FaceModel) (first defaults : Defaults) (entries : List Defaults) (rows : List RowModel) (place k : ℕ)
-    (old row : RowModel) → (k == place) ≡ is_place → IsOnly place rows → slice_get rows place ≡ Some old → place < length entries
-    → ((row : RowModel) → slice_get rows k ≡ Some row → row.status ≡ Valid → IsGood (under face (get_or entries k first)) row.text)
+place_settled : (is_place : Bool) (services : Services) (face : FaceModel) (first defaults : Defaults) (entries : List Defaults) (start : ℕ) (rows : List RowModel)
+    (place k : ℕ) (old row : RowModel) → (k == place) ≡ is_place → IsOnly place rows → slice_get rows place ≡ Some old → start + place < length entries
+    → ((row : RowModel) → slice_get rows k ≡ Some row → row.status ≡ Valid → IsGood (under face (get_or entries (start + k) first)) row.text)
     → slice_get (map (settled_row services (under face defaults)) rows) k ≡ Some row → row.status ≡ Valid
-    → IsGood (under face (get_or (set entries place defaults) k first)) row.text
-place_settled true services face first defaults entries rows place k old row is only there room good e valid =
+    → IsGood (under face (get_or (set entries (start + place) defaults) (start + k) first)) row.text
+place_settled true services face first defaults entries start rows place k old row is only there room good e valid =
     let face' : FaceModel = under face defaults in
     let at : k ≡ place = eqb-true k place is in
     let got : slice_get (map (settled_row services face') rows) place ≡ Some row = subst (λ k. slice_get (map (settled_row services face') rows) k ≡ Some row) at e in
     let new : settled_row services face' old ≡ row =
     same_row _ row (sym (set_there rows place old (settled_row services face' old) there)
     ∙ ap (λ (rows : List RowModel). slice_get rows place) (only_settled services face' rows place old only there) ∙ got) in
-    let entry : get_or (set entries place defaults) k first ≡ defaults = ap (λ k. get_or (set entries place defaults) k first) at ∙ get_or-set_same entries place defaults first room in
+    let entry : get_or (set entries (start + place) defaults) (start + k) first ≡ defaults =
+    ap (λ k. get_or (set entries (start + place) defaults) (start + k) first) at ∙ get_or-set_same entries (start + place) defaults first room in
     subst (λ (d : Defaults). IsGood (under face d) row.text) (sym entry)
     (settled_by face' (row_is_validating old) (passes (verdict_of services face' old)) old row (only_is rows place old only there)
     (good_where_passes services face' old) new valid)
-place_settled false services face first defaults entries rows place k old row is only there room good e valid =
+place_settled false services face first defaults entries start rows place k old row is only there room good e valid =
     let face' : FaceModel = under face defaults in
     let other : k ≡ place → ⊥ = eqb-false k place is in
     let got : slice_get rows k ≡ Some row =
     sym (set_elsewhere rows place k (settled_row services face' old) other)
     ∙ ap (λ (rows : List RowModel). slice_get rows k) (only_settled services face' rows place old only there) ∙ e in
-    subst (λ (d : Defaults). IsGood (under face d) row.text) (sym (get_or-set_other entries place k defaults first other)) (good row got valid)
+    let elsewhere : start + k ≡ start + place → ⊥ = λ e. other (omega (arith, e)) in
+    subst (λ (d : Defaults). IsGood (under face d) row.text) (sym (get_or-set_other entries (start + place) (start + k) defaults first elsewhere)) (good row got valid)
 
-list_settled : (o : Option RowModel) (services : Services) (face : FaceModel) (first defaults : Defaults) (entries : List Defaults) (rows : List RowModel) (place k : ℕ)
-    (row : RowModel) → slice_get rows place ≡ o → IsOnly place rows → place < length entries
-    → ((row : RowModel) → slice_get rows k ≡ Some row → row.status ≡ Valid → IsGood (under face (get_or entries k first)) row.text)
+list_settled : (o : Option RowModel) (services : Services) (face : FaceModel) (first defaults : Defaults) (entries : List Defaults) (start : ℕ) (rows : List RowModel)
+    (place k : ℕ) (row : RowModel) → slice_get rows place ≡ o → IsOnly place rows → start + place < length entries
+    → ((row : RowModel) → slice_get rows k ≡ Some row → row.status ≡ Valid → IsGood (under face (get_or entries (start + k) first)) row.text)
     → slice_get (map (settled_row services (under face defaults)) rows) k ≡ Some row → row.status ≡ Valid
-    → IsGood (under face (get_or (set entries place defaults) k first)) row.text
-list_settled None services face first defaults entries rows place k row there only room good e valid =
+    → IsGood (under face (get_or (set entries (start + place) defaults) (start + k) first)) row.text
+list_settled None services face first defaults entries start rows place k row there only room good e valid =
     absurd (let none : None ≡ Some true = sym (ap (option_map row_is_validating) there) ∙ only.there in cc)
-list_settled (Some old) services face first defaults entries rows place k row there only room good e valid =
-    place_settled (k == place) services face first defaults entries rows place k old row refl only there room good e valid
+list_settled (Some old) services face first defaults entries start rows place k row there only room good e valid =
+    place_settled (k == place) services face first defaults entries start rows place k old row refl only there room good e valid
 
 -- no row of these was settled
 list_still : (services : Services) (face : FaceModel) (rows : List RowModel) (k : ℕ) (row : RowModel) → count rows ≡ 0
     → slice_get (map (settled_row services face) rows) k ≡ Some row → slice_get rows k ≡ Some row
 list_still services face rows k row none e = sym (ap (λ (rows : List RowModel). slice_get rows k) (unsettled services face rows (any_validating rows none))) ∙ e
 
-among_changeable_rows : (is_permanent is_changeable is_volatile is_zero : Bool) (services : Services) (face : FaceModel) (known : KnownTexts) (defaults : Defaults)
-    (permanent changeable volatile : List RowModel) (place k : ℕ) (row : RowModel) → (is_permanent ≡ true → is_changeable ≡ false)
-    → IsOnly place changeable → count volatile ≡ 0 → place < length known.changeable
-    → ((row : RowModel) → cond is_zero None (slice_get (cond is_permanent permanent (cond is_changeable changeable (cond is_volatile volatile []))) k) ≡ Some row
-    → row.status ≡ Valid
-    → IsGood (under face (cond is_changeable (get_or known.changeable k known.first) (cond is_volatile (get_or known.volatile k known.first) known.first))) row.text)
-    → cond is_zero None (slice_get (cond is_permanent permanent (cond is_changeable (map (settled_row services (under face defaults)) changeable)
-    (cond is_volatile (map (settled_row services (under face defaults)) volatile) []))) k) ≡ Some row → row.status ≡ Valid
-    → IsGood (under face (cond is_changeable (get_or (set known.changeable place defaults) k known.first)
-    (cond is_volatile (get_or known.volatile k known.first) known.first))) row.text
-among_changeable_rows p c v true services face known defaults permanent changeable volatile place k row alone only none room good e valid = absurd (cc)
-among_changeable_rows true true v false services face known defaults permanent changeable volatile place k row alone only none room good e valid =
-    absurd (let wrong = alone refl in cc)
-among_changeable_rows true false v false services face known defaults permanent changeable volatile place k row alone only none room good e valid = good row e valid
-among_changeable_rows false true v false services face known defaults permanent changeable volatile place k row alone only none room good e valid =
-    list_settled (slice_get changeable place) services face known.first defaults known.changeable changeable place k row refl only room good e valid
-among_changeable_rows false false true false services face known defaults permanent changeable volatile place k row alone only none room good e valid =
-    good row (list_still services (under face defaults) volatile k row none e) valid
-among_changeable_rows false false false false services face known defaults permanent changeable volatile place k row alone only none room good e valid = absurd (cc)
-
-among_volatile_rows : (is_permanent is_changeable is_volatile is_zero : Bool) (services : Services) (face : FaceModel) (known : KnownTexts) (defaults : Defaults)
-    (permanent changeable volatile : List RowModel) (place k : ℕ) (row : RowModel) → (is_permanent ≡ true → is_volatile ≡ false)
-    → count changeable ≡ 0 → IsOnly place volatile → place < length known.volatile
-    → ((row : RowModel) → cond is_zero None (slice_get (cond is_permanent permanent (cond is_changeable changeable (cond is_volatile volatile []))) k) ≡ Some row
-    → row.status ≡ Valid
-    → IsGood (under face (cond is_changeable (get_or known.changeable k known.first) (cond is_volatile (get_or known.volatile k known.first) known.first))) row.text)
-    → cond is_zero None (slice_get (cond is_permanent permanent (cond is_changeable (map (settled_row services (under face defaults)) changeable)
-    (cond is_volatile (map (settled_row services (under face defaults)) volatile) []))) k) ≡ Some row → row.status ≡ Valid
-    → IsGood (under face (cond is_changeable (get_or known.changeable k known.first)
-    (cond is_volatile (get_or (set known.volatile place defaults) k known.first) known.first))) row.text
-among_volatile_rows p c v true services face known defaults permanent changeable volatile place k row alone none only room good e valid = absurd (cc)
-among_volatile_rows true c true false services face known defaults permanent changeable volatile place k row alone none only room good e valid =
-    absurd (let wrong = alone refl in cc)
-among_volatile_rows true c false false services face known defaults permanent changeable volatile place k row alone none only room good e valid = good row e valid
-among_volatile_rows false true v false services face known defaults permanent changeable volatile place k row alone none only room good e valid =
-    good row (list_still services (under face defaults) changeable k row none e) valid
-among_volatile_rows false false true false services face known defaults permanent changeable volatile place k row alone none only room good e valid =
-    list_settled (slice_get volatile place) services face known.first defaults known.volatile volatile place k row refl only room good e valid
-among_volatile_rows false false false false services face known defaults permanent changeable volatile place k row alone none only room good e valid = absurd (cc)
-
-no_other : (memory other : ℕ) → (permanent_memory == other) ≡ false → (memory == permanent_memory) ≡ true → (memory == other) ≡ false
-no_other memory other none is = ap (λ m. m == other) (eqb-true memory permanent_memory is) ∙ none
+-- the defaults of another row stay
+other_entry : (face : FaceModel) (first defaults : Defaults) (entries : List Defaults) (place entry : ℕ) (row : RowModel) → (entry ≡ place → ⊥)
+    → IsGood (under face (get_or entries entry first)) row.text → IsGood (under face (get_or (set entries place defaults) entry first)) row.text
+other_entry face first defaults entries place entry row other good =
+    subst (λ (d : Defaults). IsGood (under face d) row.text) (sym (get_or-set_other entries place entry defaults first other)) good
 
 -- there is an entry for each row that can be changed
 pub record HasEntries (known : KnownTexts) (table : TableModel) : Type 0 where
-  pub changeable : length table.changeable ≤ length known.changeable
-  pub volatile : length table.volatile ≤ length known.volatile
+  pub entries : length known.rows ≡ 80
+  pub changeable : length table.changeable ≤ 64
+  pub volatile : length table.volatile ≤ 16
 
 pub only_within : (rows : List RowModel) (place : ℕ) → IsOnly place rows → place < length rows
 only_within rows place only = within_by (slice_get rows place) refl only.there
@@ -147,16 +115,54 @@ only_within rows place only = within_by (slice_get rows place) refl only.there
     within_by None there is = absurd (cc)
     within_by (Some row) there is = slice_get_within rows place row there
 
+-- the row at this index of a type of memory, once one of this type or of the other is settled
+row_settled : (memory other : Writable) (services : Services) (face : FaceModel) (known : KnownTexts) (defaults : Defaults) (table : TableModel)
+    (index k : ℕ) (row : RowModel) → HasEntries known table
+    → IsOnly index (of_type other table.changeable table.volatile) → count (of_type other table.volatile table.changeable) ≡ 0
+    → ((row : RowModel) → slice_get (of_type memory table.changeable table.volatile) k ≡ Some row → row.status ≡ Valid
+    → IsGood (under face (get_or known.rows (first_entry memory + k) known.first)) row.text)
+    → slice_get (of_type memory (map (settled_row services (under face defaults)) table.changeable) (map (settled_row services (under face defaults)) table.volatile)) k ≡ Some row
+    → row.status ≡ Valid
+    → IsGood (under face (get_or (set known.rows (first_entry other + index) defaults) (first_entry memory + k) known.first)) row.text
+row_settled Changeable Changeable services face known defaults table index k row has only none good e valid =
+    list_settled (slice_get table.changeable index) services face known.first defaults known.rows 0 table.changeable index k row refl only
+    (omega (arith, only_within table.changeable index only, has.changeable, has.entries)) good e valid
+row_settled Changeable Volatile services face known defaults table index k row has only none good e valid =
+    let there : slice_get table.changeable k ≡ Some row = list_still services (under face defaults) table.changeable k row none e in
+    other_entry face known.first defaults known.rows (64 + index) (0 + k) row
+    (λ same. omega (arith, same, slice_get_within table.changeable k row there, has.changeable)) (good row there valid)
+row_settled Volatile Changeable services face known defaults table index k row has only none good e valid =
+    let there : slice_get table.volatile k ≡ Some row = list_still services (under face defaults) table.volatile k row none e in
+    other_entry face known.first defaults known.rows (0 + index) (64 + k) row
+    (λ same. omega (arith, same, only_within table.changeable index only, has.changeable)) (good row there valid)
+row_settled Volatile Volatile services face known defaults table index k row has only none good e valid =
+    list_settled (slice_get table.volatile index) services face known.first defaults known.rows 64 table.volatile index k row refl only
+    (omega (arith, only_within table.volatile index only, has.volatile, has.entries)) good e valid
+
+not_zero : (b : Bool) (o : Option RowModel) (row : RowModel) → cond b None o ≡ Some row → (b ≡ false) × (o ≡ Some row)
+not_zero true o row e = absurd (cc)
+not_zero false o row e = (refl, e)
+
+known_of_type : (o : Option Writable) (place : Place) (known : KnownTexts) (face : FaceModel) (defaults : Defaults) (old : TableModel) (memory number : ℕ)
+    → writable memory ≡ o → HasEntries known old → IsOnlyOfAll place old.changeable old.volatile
+    → HasGoodTextWhereValid (under face (kept_in known o number)) old memory number
+    → HasGoodTextWhereValid (under face (kept_in (noted known place defaults) o number)) (settled (under face defaults) old) memory number
+known_of_type None place known face defaults old memory number is has only good = λ row there valid.
+    good row (ap (λ (rows : List RowModel). numbered rows number) (other_rows old (settled (under face defaults) old) memory is refl) ∙ there) valid
+known_of_type (Some kind) place known face defaults old memory number is has only good = λ row there valid.
+    let new : TableModel = settled (under face defaults) old in
+    let at = not_zero (number == 0) (slice_get (of_type kind new.changeable new.volatile) (number - 1)) row
+    (ap (λ (rows : List RowModel). numbered rows number) (sym (rows_of_type new memory kind is)) ∙ there) in
+    row_settled kind place.memory old.services face known defaults old place.index (number - 1) row has (only_of_type place old.changeable old.volatile only)
+    (none_of_other place old.changeable old.volatile only)
+    (λ row e valid. good row (ap (λ (rows : List RowModel). numbered rows number) (rows_of_type old memory kind is)
+    ∙ ap (λ b. cond b None (slice_get (of_type kind old.changeable old.volatile) (number - 1))) at.0 ∙ e) valid)
+    at.1 valid
+
 pub known_settled : (place : Place) (known : KnownTexts) (face : FaceModel) (defaults : Defaults) (old : TableModel) → HasEntries known old
     → IsPlaced (Some place) old.changeable old.volatile → AreKnown known face old → AreKnown (noted known place defaults) face (settled (under face defaults) old)
-known_settled (Changeable place) known face defaults old entries placed good = λ memory number row there valid.
-    among_changeable_rows (memory == permanent_memory) (memory == changeable_memory) (memory == volatile_memory) (number == 0) old.services face known defaults
-    old.permanent old.changeable old.volatile place (number - 1) row (no_other memory changeable_memory refl) placed.in_changeable placed.in_volatile
-    (omega (arith, only_within old.changeable place placed.in_changeable, entries.changeable)) (good memory number) there valid
-known_settled (Volatile place) known face defaults old entries placed good = λ memory number row there valid.
-    among_volatile_rows (memory == permanent_memory) (memory == changeable_memory) (memory == volatile_memory) (number == 0) old.services face known defaults
-    old.permanent old.changeable old.volatile place (number - 1) row (no_other memory volatile_memory refl) placed.in_changeable placed.in_volatile
-    (omega (arith, only_within old.volatile place placed.in_volatile, entries.volatile)) (good memory number) there valid
+known_settled place known face defaults old has placed good = λ memory number.
+    known_of_type (writable memory) place known face defaults old memory number refl has placed (good memory number)
 
 -- ---- a table as it is made
 
@@ -167,10 +173,6 @@ never_used (suc n) zero row e valid =
     let status : NotUsed ≡ row.status = ap (λ (r : RowModel). r.status) same in
     cc
 never_used (suc n) (suc k) row e valid = never_used n k row e valid
-
-unless_zero : (b : Bool) (o : Option RowModel) (row : RowModel) → cond b None o ≡ Some row → o ≡ Some row
-unless_zero true o row e = absurd (cc)
-unless_zero false o row e = e
 
 shown_at : (services : Services) (face : FaceModel) (rows : List RowModel) (k : ℕ) (row : RowModel) → All (IsShowable services face) rows
     → slice_get rows k ≡ Some row → IsGood face row.text
@@ -194,10 +196,9 @@ replicated zero k x = refl
 replicated (suc n) zero x = refl
 replicated (suc n) (suc k) x = replicated n k x
 
-first_kept : {A : Type 0} (b c : Bool) (k m n : ℕ) (x : A) → cond b (get_or (replicate m x) k x) (cond c (get_or (replicate n x) k x) x) ≡ x
-first_kept true c k m n x = replicated m k x
-first_kept false true k m n x = replicated n k x
-first_kept false false k m n x = refl
+first_kept : (o : Option Writable) (first : Defaults) (number : ℕ) → kept_in (first_known first) o number ≡ first
+first_kept None first number = refl
+first_kept (Some memory) first number = replicated 80 (first_entry memory + (number - 1)) first
 
 -- The permanent rows alone are valid.
 pub known_made : (known : KnownTexts) (face : FaceModel) (table : TableModel) → known ≡ first_known face.defaults → PermanentRowsAreGood face table → IsStocked table
@@ -205,7 +206,7 @@ pub known_made : (known : KnownTexts) (face : FaceModel) (table : TableModel) �
 known_made known face table is good stocked = λ memory number row there valid.
     subst (λ (d : Defaults). IsGood (under face d) row.text)
     (sym (ap (λ (known : KnownTexts). kept_for known memory number) is
-    ∙ first_kept (memory == changeable_memory) (memory == volatile_memory) (number - 1) 64 16 face.defaults))
+    ∙ first_kept (writable memory) face.defaults number))
     (made_at (memory == permanent_memory) (memory == changeable_memory) (memory == volatile_memory) table.services face table.permanent table.changeable table.volatile
     (number - 1) row good stocked.changeable stocked.volatile
-    (unless_zero (number == 0) (slice_get (rows_of table memory) (number - 1)) row there) valid)
+    (not_zero (number == 0) (slice_get (rows_of table memory) (number - 1)) row there).1 valid)

@@ -1,5 +1,5 @@
 -- What a change of some fields leaves whole.
-use Rattle.std.proofs.Common.{◌≡◌, ℕ, ◌≤◌, ◌==◌, Bool, true, false, cond, List, Option, Some, None, Result, Ok, Err, length, refl, sym, subst, ap, ◌∙◌, ◌*◌, arith}
+use Rattle.std.proofs.Common.{◌≡◌, ℕ, ◌+◌, ◌<◌, ◌≤◌, ◌==◌, Bool, true, false, cond, List, Option, Some, None, Result, Ok, Err, length, refl, sym, subst, ap, ◌∙◌, ◌*◌, arith}
 use Rattle.std.proofs.lemmas.Bool.{eqb-true}
 use Rattle.std.specs.Option.{IfSome}
 use Rattle.std.specs.Prelude.{All, IsTrue}
@@ -17,9 +17,11 @@ use Rattle.dms_codes.specs.Codes.{octets_of_id, id_of, octets_of_activation, IsM
 use Rattle.dms_table.specs.declared.activation.Cause.{Cause}
 use Rattle.dms_table.specs.declared.validation.Verdict.{Verdict}
 use Rattle.dms_table.specs.Rows.{TableModel, after_power}
-use Rattle.dms_table.specs.declared.table.Place.{Place}
-use Rattle.dms_table.specs.declared.table.Place.TheVariants.{Changeable, Volatile}
-use Rattle.dms_table.specs.PlaceView.{IsPlaced}
+use Rattle.dms_table.specs.declared.writable.Writable.{Writable}
+use Rattle.dms_table.specs.declared.writable.Writable.TheVariants.{Changeable, Volatile}
+use Rattle.dms_table.specs.declared.writable.Place.{Place}
+use Rattle.dms_table.specs.PlaceView.{of_type, IsOnly, IsPlaced}
+use Rattle.dms_table.proofs.Places.{only_of_type}
 use Rattle.dms_table.specs.Validation.{settled, verdict}
 use Rattle.dms_table.specs.Activation.{ShownModel, shown_by, refusal, unless_refused, decided}
 use Rattle.dms_access.specs.declared.reports.Reports.{Reports}
@@ -39,7 +41,7 @@ use Rattle.dms_access.specs.Reports.{IsCauseInRange}
 use Rattle.dms_access.specs.Ranges.{AreDefaultsInRange}
 use Rattle.dms_sign.specs.InRange.{IsStocked, AreOctets, IsTableInRange, IsShownInRange, IsTimeInRange, AreReportsInRange, IsSignInRange, most_minutes}
 use Rattle.dms_sign.specs.declared.known_texts.KnownTexts.{KnownTexts}
-use Rattle.dms_sign.specs.KnownTexts.{HasRoom, noted, AreKnown}
+use Rattle.dms_sign.specs.KnownTexts.{first_entry, HasRoom, noted, AreKnown}
 use Rattle.dms_sign.specs.SignView.{state_of, IsWhole}
 use Rattle.dms_table.proofs.Decisions.{accepted_decision, refused_decision}
 use Rattle.dms_table.proofs.Places.{placed_settling}
@@ -151,9 +153,13 @@ settled_as_reported old table reports is t r =
     (subst AreReportsInRange (sym r) reported)
 
 -- there is room for what becomes known of the row that is being validated
+room_by : (memory : Writable) (index : ℕ) (table : TableModel) → IsTableInRange table → IsOnly index (of_type memory table.changeable table.volatile)
+    → first_entry memory + index < 80
+room_by Changeable index table is only = omega (arith, only_within table.changeable index only, is.changeable_count)
+room_by Volatile index table is only = omega (arith, only_within table.volatile index only, is.volatile_count)
+
 pub room_for : (place : Place) (table : TableModel) → IsTableInRange table → IsPlaced (Some place) table.changeable table.volatile → HasRoom place
-room_for (Changeable place) table is placed = omega (arith, only_within table.changeable place placed.in_changeable, is.changeable_count)
-room_for (Volatile place) table is placed = omega (arith, only_within table.volatile place placed.in_volatile, is.volatile_count)
+room_for place table is placed = room_by place.memory place.index table is (only_of_type place table.changeable table.volatile placed)
 
 -- where no row is being validated, the second settles none
 pub unsettled : (s : SignState) → IsPlaced None s.table.changeable s.table.volatile → s ≡ after_settling s
@@ -164,18 +170,19 @@ unsettled s nowhere =
     ap (λ (table : TableModel). record s { table = table }) (nothing_settled face s.table none)
     ∙ ap (λ (o : Option Verdict). record s { table = settled face s.table; reports = settled_reports s.reports o }) (no_verdict face s.table none)
 
-entries_there : (old : Inside) → IsWhole old → length old.known.changeable ≡ 64 → length old.known.volatile ≡ 16 → HasEntries old.known old.table
-entries_there old is changeable volatile = record {
-  changeable = omega (arith, is.kept.in_range.table.changeable_count, changeable);
-  volatile = omega (arith, is.kept.in_range.table.volatile_count, volatile);
+entries_there : (old : Inside) → IsWhole old → length old.known.rows ≡ 80 → HasEntries old.known old.table
+entries_there old is entries = record {
+  entries = entries;
+  changeable = is.kept.in_range.table.changeable_count;
+  volatile = is.kept.in_range.table.volatile_count;
 }
 
 pub settled_whole : (old : Inside) (place : Place) (table : TableModel) (o : Option Verdict) (reports : Reports) (known : KnownTexts) → IsWhole old
-    → length old.known.changeable ≡ 64 → length old.known.volatile ≡ 16 → IsPlaced (Some place) old.table.changeable old.table.volatile
+    → length old.known.rows ≡ 80 → IsPlaced (Some place) old.table.changeable old.table.volatile
     → table ≡ settled (under old.face old.settings.defaults) old.table → o ≡ verdict (under old.face old.settings.defaults) old.table
     → reports ≡ settled_reports old.reports o → known ≡ noted old.known place old.settings.defaults
     → IsWhole (record old { table = table; reports = reports; known = known })
-settled_whole old place table o reports known is changeable volatile placed t v r n = record {
+settled_whole old place table o reports known is entries placed t v r n = record {
   kept = record {
     in_range = settled_as_reported old table reports is t (r ∙ ap (settled_reports old.reports) v);
     fit = is.kept.fit;
@@ -184,7 +191,7 @@ settled_whole old place table o reports known is changeable volatile placed t v 
   source = is.source ∙ ap (λ (t : TableModel). octets_of_id t.order old.shown.source) (sym t);
   known = subst (λ (known : KnownTexts). AreKnown known old.face table) (sym n)
       (subst (AreKnown (noted old.known place old.settings.defaults) old.face) (sym t)
-      (known_settled place old.known old.face old.settings.defaults old.table (entries_there old is changeable volatile) placed is.known));
+      (known_settled place old.known old.face old.settings.defaults old.table (entries_there old is entries) placed is.known));
 }
 
 pub restored_whole : (old : Inside) (table : TableModel) (shown : ShownModel) (source : List ℕ) → IsWhole old → table ≡ after_power old.table

@@ -1,19 +1,18 @@
 //! Under which defaults the text of each valid row is good.
 
-ghost use Rattle.std.specs.Prelude.{◌≡◌};
-ghost use Rattle.dms_sign.specs.KnownTexts.{first_known, kept_for, noted, HasRoom};
+ghost use Rattle.std.specs.Prelude.{◌≡◌, ◌≤◌};
+ghost use Rattle.dms_sign.specs.KnownTexts.{first_known, first_entry, kept_for, noted, HasRoom};
 
-use dms_codes::memory;
 use dms_face::Defaults;
-use dms_table::Place;
+use dms_table::{Place, Writable};
 
 /// For each row the defaults under which its text was found good, where the row is valid.
 #[derive(Drop)]
 pub(crate) struct KnownTexts {
     /// Those of the permanent rows, which are valid as the sign is made.
     first: Defaults,
-    changeable: [Defaults; 64],
-    volatile: [Defaults; 16],
+    /// Those of the rows that can be changed: of the changeable ones, at most 64, and behind them of the volatile ones.
+    rows: [Defaults; 80],
 }
 
 impl KnownTexts {
@@ -23,8 +22,7 @@ impl KnownTexts {
     {
         KnownTexts {
             first,
-            changeable: [first; 64],
-            volatile: [first; 16],
+            rows: [first; 80],
         }
     }
 
@@ -33,22 +31,30 @@ impl KnownTexts {
         requires { HasRoom place }
         ensures { self.new ≡ noted self.old place defaults.now }
     {
-        match place {
-            Place::Changeable(place) => self.changeable[place] = *defaults,
-            Place::Volatile(place) => self.volatile[place] = *defaults,
-        }
+        self.rows[first_entry(place.memory) + place.index] = *defaults;
     }
 
     /// The defaults under which the text of a row, where it is valid, is good.
     pub(crate) fn of(&self, memory: u8, number: u16) -> &Defaults
         ensures { result.now ≡ kept_for self.now memory number }
     {
-        let rows = match memory {
-            memory::CHANGEABLE => self.changeable.as_slice(),
-            memory::VOLATILE => self.volatile.as_slice(),
-            _ => return &self.first,
+        let Some(memory) = Writable::of(memory) else {
+            return &self.first;
         };
-        rows.get(usize::from(number).saturating_sub(1))
+        let index = usize::from(number).saturating_sub(1);
+        self.rows
+            .get(first_entry(memory) + index)
             .unwrap_or(&self.first)
+    }
+}
+
+/// Where the defaults of the first row of a type of memory stand.
+fn first_entry(memory: Writable) -> usize
+    ensures value { result ≡ first_entry memory }
+    ensures bound { result ≤ 64 }
+{
+    match memory {
+        Writable::Changeable => 0,
+        Writable::Volatile => 64,
     }
 }

@@ -6,3 +6,5 @@ pub mod Settlement
 pub mod OneRow
 pub mod Places
 pub mod ShownChecksums
+pub mod Memories
+pub mod Writables

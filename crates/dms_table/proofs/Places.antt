@@ -9,11 +9,12 @@ use Rattle.dms_table.specs.declared.row.Services.{Services}
 use Rattle.dms_table.specs.Rows.{RowModel, FieldModel, TableModel, row_is_validating, changed_in, asked_row, written_row, is_settling, may_ask}
 use Rattle.dms_table.specs.Validation.{settled_row}
 use Rattle.dms_table.specs.declared.row.Refused.{Refused}
-use Rattle.dms_table.specs.declared.table.Place.{Place}
-use Rattle.dms_table.specs.declared.table.Place.TheVariants.{Changeable, Volatile}
+use Rattle.dms_table.specs.declared.writable.Writable.{Writable}
+use Rattle.dms_table.specs.declared.writable.Writable.TheVariants.{Changeable, Volatile}
+use Rattle.dms_table.specs.declared.writable.Place.{Place}
 use Rattle.dms_codes.specs.declared.status.Ask.{Ask}
 use Rattle.dms_codes.specs.Status.{is_validate}
-use Rattle.dms_table.specs.PlaceView.{IsOnly, IsAt, IsPlaced, validating_after}
+use Rattle.dms_table.specs.PlaceView.{of_type, IsOnly, IsOnlyOfAll, IsPlaced, validating_after}
 use Rattle.dms_table.proofs.OneRow.{count, weight, extra_of, count-cons, any_validating, unsettled, settling_is, changed_one_row, asked_weight, asked_before, asked_now, written_weight, written_before}
 
 -- ---- the first row, and those after it
@@ -169,59 +170,109 @@ put_by true o rows more i change are e changed = absurd (cc)
 put_by false None rows more i change are e changed = absurd (cc)
 put_by false (Some row) rows more i change are e changed = put_one rows more i row (change row) (are row) e changed
 
--- a change that validates no row leaves the place
-kept_at : (validating : Option ℕ) (rows more : List RowModel) (number : ℕ) (change : RowModel → Option RowModel) → Frees change
-    → changed_in rows number change ≡ Some more → count more ≡ count rows → IsAt validating rows → IsAt validating more
-kept_at None rows more number change frees changed same is = same ∙ is
-kept_at (Some place) rows more number change frees changed same is = record {
-  there = kept_by (number == 0) (slice_get rows (number - 1)) rows more (number - 1) place change frees refl changed is.there;
-  one = same ∙ is.one;
+-- ---- rows of one type of memory, among all
+
+-- a row of these is being validated, so none of the other type is
+alone : (memory : Writable) (changeable volatile : List RowModel) → 1 ≤ count (of_type memory changeable volatile) → count changeable + count volatile ≡ 1
+    → (count (of_type memory changeable volatile) ≡ 1) × (count (of_type memory volatile changeable) ≡ 0)
+alone Changeable changeable volatile some one = (omega (arith, some, one), omega (arith, some, one))
+alone Volatile changeable volatile some one = (omega (arith, some, one), omega (arith, some, one))
+
+pub only_of_type : (place : Place) (changeable volatile : List RowModel) → IsOnlyOfAll place changeable volatile
+    → IsOnly place.index (of_type place.memory changeable volatile)
+only_of_type place changeable volatile is = record {
+  there = is.there;
+  one = (alone place.memory changeable volatile (counted (of_type place.memory changeable volatile) place.index is.there) is.one).0;
 }
+
+pub none_of_other : (place : Place) (changeable volatile : List RowModel) → IsOnlyOfAll place changeable volatile
+    → count (of_type place.memory volatile changeable) ≡ 0
+none_of_other place changeable volatile is = (alone place.memory changeable volatile (counted (of_type place.memory changeable volatile) place.index is.there) is.one).1
+
+pub placed_at : (validating : Option Place) (place : Place) (changeable volatile : List RowModel) → validating ≡ Some place
+    → IsPlaced validating changeable volatile → IsOnlyOfAll place changeable volatile
+placed_at validating place changeable volatile is placed = subst (λ (v : Option Place). IsPlaced v changeable volatile) is placed
+
+pub placed_nowhere : (validating : Option Place) (changeable volatile : List RowModel) → validating ≡ None
+    → IsPlaced validating changeable volatile → IsPlaced None changeable volatile
+placed_nowhere validating changeable volatile is placed = subst (λ (v : Option Place). IsPlaced v changeable volatile) is placed
+
+-- none of either type
+pub none_left : (memory : Writable) (changeable volatile rows : List RowModel) → count rows ≡ 0 → count (of_type memory volatile changeable) ≡ 0
+    → count (of_type memory rows changeable) + count (of_type memory volatile rows) ≡ 0
+none_left Changeable changeable volatile rows left none = omega (arith, left, none)
+none_left Volatile changeable volatile rows left none = omega (arith, left, none)
+
+-- those of one type are changed to these
+pub changed_count : (memory : Writable) (changeable volatile rows : List RowModel)
+    → count (of_type memory rows changeable) + count (of_type memory volatile rows) + count (of_type memory changeable volatile) ≡ count changeable + count volatile + count rows
+changed_count Changeable changeable volatile rows = omega arith
+changed_count Volatile changeable volatile rows = omega arith
+
+changed_rows : (memory : Writable) (changeable volatile rows : List RowModel) → of_type memory (of_type memory rows changeable) (of_type memory volatile rows) ≡ rows
+changed_rows Changeable changeable volatile rows = refl
+changed_rows Volatile changeable volatile rows = refl
+
+abbrev IsValidatingAt : List RowModel → ℕ → Type 0
+IsValidatingAt rows index = option_map row_is_validating (slice_get rows index) ≡ Some true
+
+kept_there : (memory other : Writable) (changeable volatile rows : List RowModel) (index : ℕ)
+    → (IsValidatingAt (of_type memory changeable volatile) index → IsValidatingAt rows index) → IsValidatingAt (of_type other changeable volatile) index
+    → IsValidatingAt (of_type other (of_type memory rows changeable) (of_type memory volatile rows)) index
+kept_there Changeable Changeable changeable volatile rows index kept there = kept there
+kept_there Changeable Volatile changeable volatile rows index kept there = there
+kept_there Volatile Changeable changeable volatile rows index kept there = there
+kept_there Volatile Volatile changeable volatile rows index kept there = kept there
+
+-- a change that validates no row leaves the place
+kept_place : (memory : Writable) (validating : Option Place) (changeable volatile more : List RowModel) (number : ℕ) (change : RowModel → Option RowModel)
+    → Frees change → changed_in (of_type memory changeable volatile) number change ≡ Some more → count more ≡ count (of_type memory changeable volatile)
+    → IsPlaced validating changeable volatile → IsPlaced validating (of_type memory more changeable) (of_type memory volatile more)
+kept_place memory None changeable volatile more number change frees changed same is =
+    omega (arith, same, is, changed_count memory changeable volatile more)
+kept_place memory (Some place) changeable volatile more number change frees changed same is =
+    let rows : List RowModel = of_type memory changeable volatile in
+    record {
+      there = kept_there memory place.memory changeable volatile more place.index
+          (kept_by (number == 0) (slice_get rows (number - 1)) rows more (number - 1) place.index change frees refl changed) is.there;
+      one = omega (arith, same, is.one, changed_count memory changeable volatile more);
+    }
 
 -- ---- asking
 
-asked_kept : (validating : Option ℕ) (rows more : List RowModel) (number : ℕ) (ask : Ask) → is_validate ask ≡ false
-    → changed_in rows number (asked_row ask) ≡ Some more → IsAt validating rows → IsAt validating more
-asked_kept validating rows more number ask other changed is =
-    let none : extra_of ask ≡ 0 = ap (λ b. cond {A = ℕ} b 1 0) other in
-    let same : count more ≡ count rows = omega (arith, none, changed_one_row rows more number (extra_of ask) (asked_row ask) (asked_weight ask) changed) in
-    kept_at validating rows more number (asked_row ask) (asked_before ask) changed same is
+put_place : (memory : Writable) (changeable volatile more : List RowModel) (number index : ℕ) (ask : Ask) → is_validate ask ≡ true → index + 1 ≡ number
+    → changed_in (of_type memory changeable volatile) number (asked_row ask) ≡ Some more → count changeable + count volatile ≡ 0
+    → IsOnlyOfAll (record { memory = memory; index = index }) (of_type memory more changeable) (of_type memory volatile more)
+put_place memory changeable volatile more number index ask asks numbered changed none =
+    let rows : List RowModel = of_type memory changeable volatile in
+    let here : number - 1 ≡ index = omega (arith, numbered) in
+    let extra : extra_of ask ≡ 1 = ap (λ b. cond {A = ℕ} b 1 0) asks in
+    record {
+      there = subst (λ (rows : List RowModel). IsValidatingAt rows index) (sym (changed_rows memory changeable volatile more))
+          (subst (IsValidatingAt more) here
+          (put_by (number == 0) (slice_get rows (number - 1)) rows more (number - 1) (asked_row ask) (λ row new e. asked_now ask row new asks e) refl changed));
+      one = omega (arith, extra, none, changed_count memory changeable volatile more, changed_one_row rows more number (extra_of ask) (asked_row ask) (asked_weight ask) changed);
+    }
 
-asked_put : (rows more : List RowModel) (number place : ℕ) (ask : Ask) → is_validate ask ≡ true → place + 1 ≡ number
-    → changed_in rows number (asked_row ask) ≡ Some more → count rows ≡ 0 → IsOnly place more
-asked_put rows more number place ask asks numbered changed none = record {
-  there = (let here : number - 1 ≡ place = omega (arith, numbered) in
-      subst (λ (i : ℕ). option_map row_is_validating (slice_get more i) ≡ Some true) here
-      (put_by (number == 0) (slice_get rows (number - 1)) rows more (number - 1) (asked_row ask) (λ row new e. asked_now ask row new asks e) refl changed));
-  one = (let extra : extra_of ask ≡ 1 = ap (λ b. cond {A = ℕ} b 1 0) asks in
-      omega (arith, extra, none, changed_one_row rows more number (extra_of ask) (asked_row ask) (asked_weight ask) changed));
-}
-
-asked_changeable_by : (asks : Bool) (validating : Option Place) (ask : Ask) (changeable volatile more : List RowModel) (number place : ℕ) → is_validate ask ≡ asks
-    → (asks && is_some validating) ≡ false → place + 1 ≡ number → changed_in changeable number (asked_row ask) ≡ Some more
-    → IsPlaced validating changeable volatile → IsPlaced (cond asks (Some (Changeable place)) validating) more volatile
-asked_changeable_by true (Some other) ask changeable volatile more number place asks free numbered changed is = absurd (cc)
-asked_changeable_by true None ask changeable volatile more number place asks free numbered changed is =
-    record { in_changeable = asked_put changeable more number place ask asks numbered changed is.in_changeable; in_volatile = is.in_volatile }
-asked_changeable_by false validating ask changeable volatile more number place asks free numbered changed is =
-    record { in_changeable = asked_kept _ changeable more number ask asks changed is.in_changeable; in_volatile = is.in_volatile }
-
-asked_volatile_by : (asks : Bool) (validating : Option Place) (ask : Ask) (changeable volatile more : List RowModel) (number place : ℕ) → is_validate ask ≡ asks
-    → (asks && is_some validating) ≡ false → place + 1 ≡ number → changed_in volatile number (asked_row ask) ≡ Some more
-    → IsPlaced validating changeable volatile → IsPlaced (cond asks (Some (Volatile place)) validating) changeable more
-asked_volatile_by true (Some other) ask changeable volatile more number place asks free numbered changed is = absurd (cc)
-asked_volatile_by true None ask changeable volatile more number place asks free numbered changed is =
-    record { in_changeable = is.in_changeable; in_volatile = asked_put volatile more number place ask asks numbered changed is.in_volatile }
-asked_volatile_by false validating ask changeable volatile more number place asks free numbered changed is =
-    record { in_changeable = is.in_changeable; in_volatile = asked_kept _ volatile more number ask asks changed is.in_volatile }
+asked_by : (asks : Bool) (memory : Writable) (validating : Option Place) (ask : Ask) (changeable volatile more : List RowModel) (number index : ℕ) → is_validate ask ≡ asks
+    → (asks && is_some validating) ≡ false → index + 1 ≡ number → changed_in (of_type memory changeable volatile) number (asked_row ask) ≡ Some more
+    → IsPlaced validating changeable volatile
+    → IsPlaced (cond asks (Some (record { memory = memory; index = index })) validating) (of_type memory more changeable) (of_type memory volatile more)
+asked_by true memory (Some other) ask changeable volatile more number index asks free numbered changed is = absurd (cc)
+asked_by true memory None ask changeable volatile more number index asks free numbered changed is =
+    put_place memory changeable volatile more number index ask asks numbered changed is
+asked_by false memory validating ask changeable volatile more number index asks free numbered changed is =
+    let none : extra_of ask ≡ 0 = ap (λ b. cond {A = ℕ} b 1 0) asks in
+    let same : count more ≡ count (of_type memory changeable volatile) =
+    omega (arith, none, changed_one_row (of_type memory changeable volatile) more number (extra_of ask) (asked_row ask) (asked_weight ask) changed) in
+    kept_place memory validating changeable volatile more number (asked_row ask) (asked_before ask) changed same is
 
 -- ---- whether a row is being validated
 
 placed_count : (validating : Option Place) (changeable volatile : List RowModel) → IsPlaced validating changeable volatile
     → count changeable + count volatile ≡ cond (is_some validating) 1 0
-placed_count None changeable volatile is = omega (arith, is.in_changeable, is.in_volatile)
-placed_count (Some (Changeable place)) changeable volatile is = omega (arith, is.in_changeable.one, is.in_volatile)
-placed_count (Some (Volatile place)) changeable volatile is = omega (arith, is.in_changeable, is.in_volatile.one)
+placed_count None changeable volatile is = is
+placed_count (Some place) changeable volatile is = is.one
 
 pub placed_settling : (validating : Option Place) (table : TableModel) → IsPlaced validating table.changeable table.volatile → is_settling table ≡ is_some validating
 placed_settling validating table is =
@@ -236,30 +287,32 @@ may_place : (validating : Option Place) (table : TableModel) (ask : Ask) → IsP
     → (is_validate ask && is_some validating) ≡ false
 may_place validating table ask is may = free_after (is_validate ask) (is_some validating) (is_settling table) (placed_settling validating table is) may
 
--- a changeable row has taken what it was asked
-pub asked_changeable : (validating after : Option Place) (table : TableModel) (ask : Ask) (more : List RowModel) (number place : ℕ)
-    → IsPlaced validating table.changeable table.volatile → may_ask table ask ≡ true → place + 1 ≡ number
-    → changed_in table.changeable number (asked_row ask) ≡ Some more → after ≡ validating_after validating ask (Changeable place)
-    → IsPlaced after more table.volatile
-asked_changeable validating after table ask more number place is may numbered changed e =
-    subst (λ (v : Option Place). IsPlaced v more table.volatile) (sym e)
-    (asked_changeable_by (is_validate ask) validating ask table.changeable table.volatile more number place refl (may_place validating table ask is may) numbered changed is)
-
--- a volatile row has taken what it was asked
-pub asked_volatile : (validating after : Option Place) (table : TableModel) (ask : Ask) (more : List RowModel) (number place : ℕ)
-    → IsPlaced validating table.changeable table.volatile → may_ask table ask ≡ true → place + 1 ≡ number
-    → changed_in table.volatile number (asked_row ask) ≡ Some more → after ≡ validating_after validating ask (Volatile place)
-    → IsPlaced after table.changeable more
-asked_volatile validating after table ask more number place is may numbered changed e =
-    subst (λ (v : Option Place). IsPlaced v table.changeable more) (sym e)
-    (asked_volatile_by (is_validate ask) validating ask table.changeable table.volatile more number place refl (may_place validating table ask is may) numbered changed is)
+-- a row has taken what it was asked
+pub asked_place : (memory : Writable) (validating after : Option Place) (table : TableModel) (ask : Ask) (more : List RowModel) (number index : ℕ)
+    → IsPlaced validating table.changeable table.volatile → may_ask table ask ≡ true → index + 1 ≡ number
+    → changed_in (of_type memory table.changeable table.volatile) number (asked_row ask) ≡ Some more
+    → after ≡ validating_after validating ask (record { memory = memory; index = index })
+    → IsPlaced after (of_type memory more table.changeable) (of_type memory table.volatile more)
+asked_place memory validating after table ask more number index is may numbered changed e =
+    subst (λ (v : Option Place). IsPlaced v (of_type memory more table.changeable) (of_type memory table.volatile more)) (sym e)
+    (asked_by (is_validate ask) memory validating ask table.changeable table.volatile more number index refl (may_place validating table ask is may) numbered changed is)
 
 -- ---- writing
 
+-- rows that stay as they are
+pub same_place : (memory : Writable) (validating : Option Place) (changeable volatile more : List RowModel) → more ≡ of_type memory changeable volatile
+    → IsPlaced validating changeable volatile → IsPlaced validating (of_type memory more changeable) (of_type memory volatile more)
+same_place Changeable validating changeable volatile more same is = subst (λ (rows : List RowModel). IsPlaced validating rows volatile) (sym same) is
+same_place Volatile validating changeable volatile more same is = subst (IsPlaced validating changeable) (sym same) is
+
 -- a row was written, or not
-pub written_at : (validating : Option ℕ) (field : FieldModel) (rows more : List RowModel) (number : ℕ) (result : Result Unit Refused)
-    → OnOk result (changed_in rows number (written_row field) ≡ Some more) → OnErr result (more ≡ rows) → IsAt validating rows → IsAt validating more
-written_at validating field rows more number (Ok done) ok unchanged is =
+pub written_place : (memory : Writable) (validating : Option Place) (field : FieldModel) (changeable volatile more : List RowModel) (number : ℕ)
+    (result : Result Unit Refused) → OnOk result (changed_in (of_type memory changeable volatile) number (written_row field) ≡ Some more)
+    → OnErr result (more ≡ of_type memory changeable volatile)
+    → IsPlaced validating changeable volatile → IsPlaced validating (of_type memory more changeable) (of_type memory volatile more)
+written_place memory validating field changeable volatile more number (Ok done) ok unchanged is =
+    let rows : List RowModel = of_type memory changeable volatile in
     let same : count more ≡ count rows = omega (arith, changed_one_row rows more number 0 (written_row field) (written_weight field) ok) in
-    kept_at validating rows more number (written_row field) (written_before field) ok same is
-written_at validating field rows more number (Err refused) ok unchanged is = subst (IsAt validating) (sym unchanged) is
+    kept_place memory validating changeable volatile more number (written_row field) (written_before field) ok same is
+written_place memory validating field changeable volatile more number (Err refused) ok unchanged is =
+    same_place memory validating changeable volatile more unchanged is

@@ -10,3 +10,4 @@ pub mod ShownView
 -- what only proofs go through
 pub mod ValidatorView
 pub mod PlaceView
+pub mod WritableView

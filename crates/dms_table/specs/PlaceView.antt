@@ -1,35 +1,39 @@
--- Where the row stands that is being validated.
-use Rattle.std.specs.Prelude.{◌≡◌, ℕ, true, if◌then◌else◌, List, Option, Some, None, option_map, slice_get, count_by}
+-- The rows that can be changed, and where the one stands that is being validated.
+use Rattle.std.specs.Prelude.{◌≡◌, ℕ, ◌+◌, ◌==◌, true, if◌then◌else◌, List, Option, Some, None, option_map, slice_get, count_by}
 use Rattle.dms_codes.specs.declared.status.Ask.{Ask}
 use Rattle.dms_codes.specs.Status.{is_validate}
-use Rattle.dms_table.specs.declared.table.Place.{Place}
-use Rattle.dms_table.specs.declared.table.Place.TheVariants.{Changeable, Volatile}
+use Rattle.dms_codes.specs.Memory.{changeable_memory, volatile_memory}
+use Rattle.dms_table.specs.declared.writable.Writable.{Writable}
+use Rattle.dms_table.specs.declared.writable.Writable.TheVariants.{Changeable, Volatile}
+use Rattle.dms_table.specs.declared.writable.Place.{Place}
 use Rattle.dms_table.specs.Rows.{RowModel, row_is_validating}
 
--- the row at this place is being validated, and no other of these
-pub record IsOnly (place : ℕ) (rows : List RowModel) : Type 0 where
-  pub there : option_map row_is_validating (slice_get rows place) ≡ Some true
+-- the type of memory of a number, where its rows can be changed
+abbrev pub writable : ℕ → Option Writable
+writable memory =
+    if memory == changeable_memory then Some Changeable
+    else if memory == volatile_memory then Some Volatile
+    else None
+
+-- of what there is of changeable and of volatile rows, that of one type
+abbrev pub of_type : {A : Type 0} → Writable → A → A → A
+of_type Changeable changeable volatile = changeable
+of_type Volatile changeable volatile = volatile
+
+-- the row at this index is being validated, and no other of these
+pub record IsOnly (index : ℕ) (rows : List RowModel) : Type 0 where
+  pub there : option_map row_is_validating (slice_get rows index) ≡ Some true
   pub one : count_by row_is_validating rows ≡ 1
 
--- the row of these that is being validated, where one is
-abbrev pub IsAt : Option ℕ → List RowModel → Type 0
-IsAt None rows = count_by row_is_validating rows ≡ 0
-IsAt (Some place) rows = IsOnly place rows
-
-abbrev pub among_changeable : Option Place → Option ℕ
-among_changeable None = None
-among_changeable (Some (Changeable place)) = Some place
-among_changeable (Some (Volatile place)) = None
-
-abbrev pub among_volatile : Option Place → Option ℕ
-among_volatile None = None
-among_volatile (Some (Changeable place)) = None
-among_volatile (Some (Volatile place)) = Some place
+-- the row at this place is being validated, and no other of all
+pub record IsOnlyOfAll (place : Place) (changeable volatile : List RowModel) : Type 0 where
+  pub there : option_map row_is_validating (slice_get (of_type place.memory changeable volatile) place.index) ≡ Some true
+  pub one : count_by row_is_validating changeable + count_by row_is_validating volatile ≡ 1
 
 -- the row at this place alone is being validated, or none is
-pub record IsPlaced (validating : Option Place) (changeable volatile : List RowModel) : Type 0 where
-  pub in_changeable : IsAt (among_changeable validating) changeable
-  pub in_volatile : IsAt (among_volatile validating) volatile
+abbrev pub IsPlaced : Option Place → (changeable volatile : List RowModel) → Type 0
+IsPlaced None changeable volatile = count_by row_is_validating changeable + count_by row_is_validating volatile ≡ 0
+IsPlaced (Some place) changeable volatile = IsOnlyOfAll place changeable volatile
 
 -- the place once a row at another has taken what it was asked
 abbrev pub validating_after : Option Place → Ask → Place → Option Place

@@ -13,7 +13,7 @@ ghost use Rattle.dms_table.specs.Activation.{is_memory, named, activation_error,
 use crate::row::RowView;
 use crate::shown::Shown;
 use crate::table::Table;
-use dms_codes::{Activation, MessageId, RowId, Status, memory};
+use dms_codes::{Activation, Memory, MessageId, RowId, Status, memory};
 use dms_face::{Defaults, Face, MultiFault, check_with};
 use std::error::Error;
 use std::fmt;
@@ -157,14 +157,7 @@ impl Table {
 fn is_memory(kind: u8) -> bool
     ensures { result ≡ is_memory kind }
 {
-    matches!(
-        kind,
-        memory::PERMANENT
-            | memory::CHANGEABLE
-            | memory::VOLATILE
-            | memory::CURRENT_BUFFER
-            | memory::BLANK
-    )
+    Memory::of(kind).is_some()
 }
 
 /// Refuses a code of this row for the first cause that there is; a text that is known to be good under the same defaults is not checked.

@@ -18,14 +18,16 @@ pub mod shown;
 pub mod stock;
 pub mod table;
 pub mod validation;
+pub mod writable;
 
 pub use activation::Cause;
 pub use dms_codes::{
-    Activation, Ask, MAX_OWNER, MAX_TEXT, MessageId, Order, RowId, Status, checksum, codes, crc,
-    memory,
+    Activation, Ask, MAX_OWNER, MAX_TEXT, Memory, MessageId, Order, RowId, Status, checksum, codes,
+    crc, memory,
 };
 pub use row::{Field, Refused, RowView, Services};
 pub use shown::{Mode, Shown};
 pub use stock::{Permanent, Stock, TableFault};
-pub use table::{Place, Table};
+pub use table::Table;
 pub use validation::Verdict;
+pub use writable::{Place, Writable};

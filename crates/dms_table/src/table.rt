@@ -21,7 +21,8 @@ use crate::row::{Field, Refused, Row, RowView, Services};
 use crate::shown::Shown;
 use crate::stock::{Stock, TableFault, permanent_rows, unused_rows};
 use crate::validation::{Validator, Verdict};
-use dms_codes::{Activation, Ask, MessageId, Order, RowId, Status, memory};
+use crate::writable::{Place, Writable, WritableRows};
+use dms_codes::{Activation, Ask, Memory, MessageId, Order, RowId, Status, memory};
 use dms_face::{Defaults, Face, check_with};
 use std::alloc::{AllocError, Global};
 use std::marker::Model;
@@ -30,21 +31,11 @@ use std::marker::Model;
 #[derive(Drop)]
 pub struct Table {
     permanent: Vec<Row>,
-    changeable: Vec<Row>,
-    volatile: Vec<Row>,
+    writable: WritableRows,
     services: Services,
     order: Order,
     /// The row that is being validated.
     validating: Option<Place>,
-}
-
-/// Where a row stands that can be changed; that of number 1 stands at 0.
-#[derive(Clone, Copy, Debug, PartialEq, Eq)]
-pub enum Place {
-    /// Among the changeable rows.
-    Changeable(usize),
-    /// Among the volatile rows.
-    Volatile(usize),
 }
 
 impl Model for Table {
@@ -53,9 +44,9 @@ impl Model for Table {
 
     ghost Value = { TableModel };
 
-    ghost view = { λ t. record { permanent = t.permanent.items; changeable = t.changeable.items; volatile = t.volatile.items; services = t.services; order = t.order } };
+    ghost view = { λ t. record { permanent = t.permanent.items; changeable = t.writable.changeable.items; volatile = t.writable.volatile.items; services = t.services; order = t.order } };
 
-    ghost invariant = { λ t. IsPlaced t.validating t.changeable.items t.volatile.items };
+    ghost invariant = { λ t. IsPlaced t.validating t.writable.changeable.items t.writable.volatile.items };
 }
 
 impl Table {
@@ -83,8 +74,10 @@ impl Table {
     {
         Ok(Table {
             permanent: permanent_rows(alloc, stock.permanent)?,
-            changeable: unused_rows(alloc, stock.changeable)?,
-            volatile: unused_rows(alloc, stock.volatile)?,
+            writable: WritableRows {
+                changeable: unused_rows(alloc, stock.changeable)?,
+                volatile: unused_rows(alloc, stock.volatile)?,
+            },
             services: stock.services(),
             order: stock.order,
             validating: None,
@@ -109,7 +102,7 @@ impl Table {
     pub(crate) fn limits(&self)
         ensures { IsTable self.now }
     {
-        let _ = &self.changeable;
+        let _ = &self.writable;
     }
 
     /// A row as it is read; blank messages are rows too.
@@ -151,10 +144,10 @@ impl Table {
     fn rows(&self, kind: u8) -> &[Row]
         ensures { result.now ≡ rows_of self.now kind }
     {
-        match kind {
-            memory::PERMANENT => self.permanent.as_slice(),
-            memory::CHANGEABLE => self.changeable.as_slice(),
-            memory::VOLATILE => self.volatile.as_slice(),
+        match Memory::of(kind) {
+            Some(Memory::Permanent) => self.permanent.as_slice(),
+            Some(Memory::Changeable) => self.writable.changeable.as_slice(),
+            Some(Memory::Volatile) => self.writable.volatile.as_slice(),
             _ => &[],
         }
     }
@@ -185,10 +178,9 @@ impl Table {
         ensures { result ≡ is_some (asked self.now id ask) }
     {
         self.may_ask(ask)
-            && match id.memory {
-                memory::CHANGEABLE => takes_in(self.changeable.as_slice(), id.number, ask),
-                memory::VOLATILE => takes_in(self.volatile.as_slice(), id.number, ask),
-                _ => false,
+            && match Writable::of(id.memory) {
+                Some(memory) => takes_in(self.writable.of(memory), id.number, ask),
+                None => false,
             }
     }
 
@@ -201,19 +193,12 @@ impl Table {
         if !self.may_ask(ask) {
             return Err(Refused);
         }
-        match id.memory {
-            memory::CHANGEABLE => {
-                let place = ask_in(self.changeable.as_mut_slice(), id.number, ask)?;
-                self.validating = validating_after(self.validating, ask, Place::Changeable(place));
-                Ok(())
-            }
-            memory::VOLATILE => {
-                let place = ask_in(self.volatile.as_mut_slice(), id.number, ask)?;
-                self.validating = validating_after(self.validating, ask, Place::Volatile(place));
-                Ok(())
-            }
-            _ => Err(Refused),
-        }
+        let Some(memory) = Writable::of(id.memory) else {
+            return Err(Refused);
+        };
+        let index = ask_in(self.writable.of_mut(memory), id.number, ask)?;
+        self.validating = validating_after(self.validating, ask, Place { memory, index });
+        Ok(())
     }
 
     /// Writes a field of a row that is being modified.
@@ -222,10 +207,9 @@ impl Table {
         ensures refused { OnErr result (written self.old id (field_of field.entry) ≡ None) }
         ensures unchanged { OnErr result (self.new ≡ self.old) }
     {
-        match id.memory {
-            memory::CHANGEABLE => write_in(self.changeable.as_mut_slice(), id.number, field),
-            memory::VOLATILE => write_in(self.volatile.as_mut_slice(), id.number, field),
-            _ => Err(Refused),
+        match Writable::of(id.memory) {
+            Some(memory) => write_in(self.writable.of_mut(memory), id.number, field),
+            None => Err(Refused),
         }
     }
 
@@ -242,27 +226,19 @@ impl Table {
             face,
             defaults,
         };
-        match self.validating {
-            None => None,
-            Some(Place::Changeable(place)) => {
-                let verdict = settle_in(self.changeable.as_mut_slice(), place, &validator);
-                self.validating = None;
-                Some(verdict)
-            }
-            Some(Place::Volatile(place)) => {
-                let verdict = settle_in(self.volatile.as_mut_slice(), place, &validator);
-                self.validating = None;
-                Some(verdict)
-            }
-        }
+        let place = self.validating?;
+        let rows = self.writable.of_mut(place.memory);
+        let verdict = settle_in(rows, place.index, &validator);
+        self.validating = None;
+        Some(verdict)
     }
 
     /// What a loss of power leaves: volatile rows are not used, and a validation has to be asked for again.
     pub fn after_power(&mut self)
         ensures { self.new ≡ after_power self.old }
     {
-        interrupt_all(self.changeable.as_mut_slice());
-        release_all(self.volatile.as_mut_slice());
+        interrupt_all(self.writable.changeable.as_mut_slice());
+        release_all(self.writable.volatile.as_mut_slice());
         self.validating = None;
     }
 }
@@ -288,16 +264,16 @@ fn validating_after(validating: Option<Place>, ask: Ask, place: Place) -> Option
 fn numbered(rows: &[Row], number: u16) -> Option<&Row>
     ensures { option_copied result ≡ numbered rows.now number }
 {
-    rows.get(place_of(number, rows.len())?)
+    rows.get(index_of_number(number, rows.len())?)
 }
 
-/// The place of the row of a number, from 1, among so many.
-fn place_of(number: u16, count: usize) -> Option<usize>
-    ensures some { IfSome result (λ place. (place + 1 ≡ number) × (place < count)) }
+/// The index of the row of a number, from 1, among so many.
+fn index_of_number(number: u16, count: usize) -> Option<usize>
+    ensures some { IfSome result (λ index. (index + 1 ≡ number) × (index < count)) }
     ensures none { IfNone result ((number ≡ 0) ⊎ (count < number)) }
 {
-    let place = usize::from(number).checked_sub(1)?;
-    if place < count { Some(place) } else { None }
+    let index = usize::from(number).checked_sub(1)?;
+    if index < count { Some(index) } else { None }
 }
 
 fn takes_in(rows: &[Row], number: u16, ask: Ask) -> bool
@@ -309,19 +285,19 @@ fn takes_in(rows: &[Row], number: u16, ask: Ask) -> bool
     }
 }
 
-/// Asks the row of a number, from 1, and says where it stands.
+/// Asks the row of a number, from 1, and says at which index it stands.
 fn ask_in(rows: &mut [Row], number: u16, ask: Ask) -> Result<usize, Refused>
     ensures ok { OnOk result (changed_in rows.old number (asked_row ask) ≡ Some rows.new) }
-    ensures place { IfOk result (λ place. place + 1 ≡ number) }
+    ensures index { IfOk result (λ index. index + 1 ≡ number) }
     ensures refused { OnErr result (changed_in rows.old number (asked_row ask) ≡ None) }
     ensures unchanged { OnErr result (rows.new ≡ rows.old) }
 {
-    let Some(place) = place_of(number, rows.len()) else {
+    let Some(index) = index_of_number(number, rows.len()) else {
         return Err(Refused);
     };
-    let row = &mut rows[place];
+    let row = &mut rows[index];
     row.ask(ask)?;
-    Ok(place)
+    Ok(index)
 }
 
 fn write_in(rows: &mut [Row], number: u16, field: Field<'_>) -> Result<(), Refused>
@@ -329,10 +305,10 @@ fn write_in(rows: &mut [Row], number: u16, field: Field<'_>) -> Result<(), Refus
     ensures refused { OnErr result (changed_in rows.old number (written_row (field_of field.entry)) ≡ None) }
     ensures unchanged { OnErr result (rows.new ≡ rows.old) }
 {
-    let Some(place) = place_of(number, rows.len()) else {
+    let Some(index) = index_of_number(number, rows.len()) else {
         return Err(Refused);
     };
-    let row = &mut rows[place];
+    let row = &mut rows[index];
     row.write(field)
 }
 
@@ -352,14 +328,14 @@ fn release_all(rows: &mut [Row])
     }
 }
 
-/// Ends the validation of the row at this place, the only one of these rows that is being validated.
-fn settle_in(rows: &mut [Row], place: usize, validator: &Validator<'_>) -> Verdict
+/// Ends the validation of the row at this index, the only one of these rows that is being validated.
+fn settle_in(rows: &mut [Row], index: usize, validator: &Validator<'_>) -> Verdict
     requires fit { IsTrue (fit validator.now.face.now.fonts validator.now.defaults.now) }
-    requires only { IsOnly place rows.old }
+    requires only { IsOnly index rows.old }
     ensures rows { rows.new ≡ map (settled_by validator.now) rows.old }
     ensures verdict { Some result ≡ option_map (verdict_by validator.now) (find row_is_validating rows.old) }
     ensures judged { All (IsJudged validator.now) rows.old }
 {
-    let row = &mut rows[place];
+    let row = &mut rows[index];
     row.settle(validator)
 }

@@ -5,7 +5,7 @@ use dms_bench_sign::{B, DEFAULTS, face, stock};
 use dms_face::{Defaults, Face, MultiFault, MultiFaultCode};
 use dms_table::{
     Activation, Ask, Cause, Field, Mode, Order, Permanent, Place, Refused, RowId, Shown, Status,
-    Stock, Table, TableFault, Verdict, memory,
+    Stock, Table, TableFault, Verdict, Writable, memory,
 };
 use std::alloc::Global;
 use std::process::Abort;
@@ -540,7 +540,16 @@ fn example(rt: HostRuntime) -> Result<(), Fail> {
             table.takes(row, Ask::Modify),
             table.settling()
         ),
-        (Ok(()), Ok(()), Ok(()), false, Some(Place::Changeable(0)))
+        (
+            Ok(()),
+            Ok(()),
+            Ok(()),
+            false,
+            Some(Place {
+                memory: Writable::Changeable,
+                index: 0
+            })
+        )
     );
     let verdict = table.settle(&face, &face.defaults()).ok_or("no verdict")?;
     assert_eq!(rt;
@@ -548,5 +557,66 @@ fn example(rt: HostRuntime) -> Result<(), Fail> {
         (2, true, None)
     );
     assert_eq!(rt; checksum(&table, row), Some(0x9a66));
+    Ok(())
+}
+
+/// What a table has and does in a type of memory.
+#[derive(Clone, Copy, Debug, PartialEq, Eq)]
+struct InMemory {
+    /// How many rows there are, are valid and are not used.
+    counts: [usize; 3],
+    /// Whether number 1 is a row, and whether it takes that it be modified.
+    first: [bool; 2],
+    /// What keeps number 1 from being activated.
+    cause: Option<Cause>,
+}
+
+fn in_memory(table: &mut Table, face: &Face, shown: &Shown, memory: u8) -> Result<InMemory, Fail> {
+    let id = RowId { memory, number: 1 };
+    let counts = [
+        table.row_count(memory),
+        table.valid_count(memory),
+        table.unused_count(memory),
+    ];
+    let takes = table.takes(id, Ask::Modify);
+    if table.ask(id, Ask::Modify).is_ok() != takes
+        || table.write(id, Field::Beacon(0)).is_ok() != takes
+        || table.ask(id, Ask::NotUsed).is_ok() != takes
+    {
+        return Err("the row takes something else".into());
+    }
+    let code = [255, 255, 255, memory, 0, 1, 0, 0];
+    let cause = match decision(table, face, &DEFAULTS, shown, code)? {
+        Ok(_) => None,
+        Err(cause) => Some(cause),
+    };
+    Ok(InMemory {
+        counts,
+        first: [table.row(id).is_some(), takes],
+        cause,
+    })
+}
+
+#[test]
+fn each_type_of_memory(rt: HostRuntime) -> Result<(), Fail> {
+    let face = face(rt.alloc())?;
+    let mut table = Table::new(rt.alloc(), stock(&[B; 3]), &face)?;
+    let shown = blank();
+    for memory in 0..=255 {
+        let (counts, first, cause) = match memory {
+            2 => ([3, 3, 0], [true, false], Some(Cause::Checksum)),
+            3 => ([2, 0, 2], [true, true], Some(Cause::Status)),
+            4 => ([1, 0, 1], [true, true], Some(Cause::Status)),
+            5 => ([0, 0, 0], [false, false], None),
+            7 => ([0, 0, 0], [true, false], None),
+            _ => ([0, 0, 0], [false, false], Some(Cause::MemoryType)),
+        };
+        let found = InMemory {
+            counts,
+            first,
+            cause,
+        };
+        assert_eq!(rt; in_memory(&mut table, &face, &shown, memory)?, found);
+    }
     Ok(())
 }

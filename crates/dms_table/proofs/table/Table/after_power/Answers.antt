@@ -4,8 +4,8 @@ use Rattle.dms_table.proofs.table.Table.after_power.Goals as goal
 
 pub invariant_of-self : goal.invariant_of-self
 invariant_of-self c =
-    let changeable : take c.self.inside.changeable.len (c.interrupt_all.new.rows ++ drop (length c.interrupt_all.new.rows) c.self.inside.changeable.items) ≡ c.interrupt_all.new.rows = refilled _ _ _ (omega arith) in
-    let volatile : take c.self.inside.volatile.len (c.release_all.new.rows ++ drop (length c.release_all.new.rows) c.self.inside.volatile.items) ≡ c.release_all.new.rows = refilled _ _ _ (omega arith) in
+    let changeable : take c.self.inside.writable.changeable.len (c.interrupt_all.new.rows ++ drop (length c.interrupt_all.new.rows) c.self.inside.writable.changeable.items) ≡ c.interrupt_all.new.rows = refilled _ _ _ (omega arith) in
+    let volatile : take c.self.inside.writable.volatile.len (c.release_all.new.rows ++ drop (length c.release_all.new.rows) c.self.inside.writable.volatile.items) ≡ c.release_all.new.rows = refilled _ _ _ (omega arith) in
     let no_changeable : count c.interrupt_all.new.rows ≡ 0 = ap count c.interrupt_all.ensures ∙ none_interrupted c.as_mut_slice.result.now in
     let no_volatile : count c.release_all.new.rows ≡ 0 = ap count c.release_all.ensures ∙ none_released c.as_mut_slice-2.result.now in
-    rw (changeable, volatile) (record { in_changeable = no_changeable; in_volatile = no_volatile })
+    rw (changeable, volatile) (omega (arith, no_changeable, no_volatile))

@@ -1,0 +1,34 @@
+-- The rows of one type of memory, as they are lent, and the table with them.
+use Rattle.std.proofs.Common.{◌≡◌, List, length, refl, ◌∙◌}
+use Rattle.std.proofs.lemmas.List.{with_items_is}
+use Rattle.dms_codes.specs.declared.codes.Order.{Order}
+use Rattle.dms_table.specs.declared.row.Services.{Services}
+use Rattle.dms_table.specs.declared.writable.Writable.{Writable}
+use Rattle.dms_table.specs.declared.writable.Writable.TheVariants.{Changeable, Volatile}
+use Rattle.dms_table.specs.declared.writable.WritableRows.{WritableRows}
+use Rattle.dms_table.specs.Rows.{RowModel, TableModel}
+use Rattle.dms_table.specs.PlaceView.{of_type}
+use Rattle.dms_table.specs.WritableView.{with_rows}
+
+-- these rows are left behind the reference
+pub record AreLent (memory : Writable) (all : WritableRows) (rows : List RowModel) : Type 0 where
+  pub changeable : (with_rows all memory rows).changeable.items ≡ of_type memory rows all.changeable.items
+  pub volatile : (with_rows all memory rows).volatile.items ≡ of_type memory all.volatile.items rows
+
+pub are_lent : (memory : Writable) (all : WritableRows) (rows : List RowModel) → length all.changeable.items ≡ all.changeable.len
+    → length all.volatile.items ≡ all.volatile.len → length rows ≡ length (of_type memory all.changeable.items all.volatile.items) → AreLent memory all rows
+are_lent Changeable all rows changeable volatile same = record { changeable = with_items_is all.changeable rows (same ∙ changeable); volatile = refl }
+are_lent Volatile all rows changeable volatile same = record { changeable = refl; volatile = with_items_is all.volatile rows (same ∙ volatile) }
+
+-- the table with these rows of a type of memory
+abbrev pub with_type : TableModel → Writable → List RowModel → TableModel
+with_type table memory rows = record table { changeable = of_type memory rows table.changeable; volatile = of_type memory table.volatile rows }
+
+-- the table of these fields
+abbrev pub table_by : List RowModel → WritableRows → Services → Order → TableModel
+table_by permanent all services order =
+    record { permanent = permanent; changeable = all.changeable.items; volatile = all.volatile.items; services = services; order = order }
+
+pub table_lent : (permanent : List RowModel) (all : WritableRows) (services : Services) (order : Order) (memory : Writable) (rows : List RowModel)
+    → AreLent memory all rows → table_by permanent (with_rows all memory rows) services order ≡ with_type (table_by permanent all services order) memory rows
+table_lent permanent all services order memory rows lent = rw (lent.changeable, lent.volatile) refl
