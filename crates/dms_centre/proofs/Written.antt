@@ -19,7 +19,7 @@ use Rattle.dms_centre.specs.Sending.{last_number}
 use Rattle.dms_centre.specs.History.{AreSettings}
 use Rattle.dms_centre.specs.Requests.{IsWork}
 use Rattle.dms_centre.specs.CodeView.{IsPushed}
-use Rattle.dms_centre.specs.JobView.{publication_model, work_model}
+use Rattle.dms_centre.specs.JobView.{publication_of, work_model}
 use Rattle.dms_centre.proofs.Requests.{request_fits}
 use Rattle.dms_ber.specs.Limits.{longest_datagram}
 
@@ -55,13 +55,13 @@ fields_in row text owner beacon pixel run_priority =
     [] ++ field_in row MultiString (octet_string text) ∷ [] ++ field_in row Owner (octet_string owner) ∷ []
     ++ field_in row Beacon (integer (pos beacon)) ∷ [] ++ field_in row PixelService (integer (pos pixel)) ∷ [] ++ field_in row RunTimePriority (integer (pos run_priority)) ∷ []
 
-written_fields : (code : Activation) (kept : RowFields) (row : RowId) (text owner : List ℕ) → row ≡ row_of (Publishing (publication_model code kept))
-    → text ≡ kept.text.items → owner ≡ kept.owner.items → fields_in row text owner kept.beacon kept.pixel kept.run_priority ≡ fields (Publishing (publication_model code kept))
+written_fields : (code : Activation) (kept : RowFields) (row : RowId) (text owner : List ℕ) → row ≡ row_of (Publishing (publication_of code kept))
+    → text ≡ kept.text.items → owner ≡ kept.owner.items → fields_in row text owner kept.attributes.beacon kept.attributes.pixel kept.attributes.run_priority ≡ fields (Publishing (publication_of code kept))
 written_fields code kept row text owner is text_is owner_is = rw (is, text_is, owner_is) refl
 
 pub published_fields : (publishes : Bool) (code : Activation) (kept : RowFields) (work : Work) (row : RowId) (text owner : List ℕ) → publishes ≡ true
     → work_model publishes code kept ≡ work → row ≡ row_of work → text ≡ kept.text.items → owner ≡ kept.owner.items
-    → fields_in row text owner kept.beacon kept.pixel kept.run_priority ≡ fields work
+    → fields_in row text owner kept.attributes.beacon kept.attributes.pixel kept.attributes.run_priority ≡ fields work
 published_fields true code kept work row text owner some view is text_is owner_is =
     written_fields code kept row text owner (is ∙ ap row_of (sym view)) text_is owner_is ∙ ap fields view
 published_fields false code kept work row text owner some view is text_is owner_is = absurd (false≢true some)

@@ -7,6 +7,7 @@ pub mod Commands
 pub mod Resending
 pub mod Inputs
 pub mod Room
+pub mod PublicationView
 pub mod JobView
 pub mod CodeView
 pub mod Texts

@@ -1,12 +1,14 @@
 //! The operator's commands.
 
-ghost use Rattle.std.specs.Prelude.{◌≡◌, ◌<◌, ◌^◌, length};
+ghost use Rattle.std.specs.Prelude.{◌≡◌};
 ghost use Rattle.dms_codes.specs.Codes.{IsActivation};
-ghost use Rattle.dms_centre.specs.Commands.{IsAddress, IsCommand, IsPublication, is_good, job_of};
+ghost use Rattle.dms_centre.specs.Commands.{IsCommand, is_good, job_of};
 ghost use Rattle.dms_centre.specs.CodeView.{command_model};
+ghost use Rattle.dms_centre.specs.PublicationView.{parts_model};
 
+use crate::publication::{Attributes, Publication, Terms};
 use crate::step::Step;
-use dms_codes::{Activation, MAX_OWNER, MAX_TEXT, memory};
+use dms_codes::{Activation, RowId};
 
 /// The highest number of a blank message.
 const LAST_BLANK: u16 = 255;
@@ -52,10 +54,21 @@ pub enum Command<'a> {
     Activate(Activation),
 }
 
-impl Command<'_> {
-    /// Each value of a command is in the range of its type. There is nothing to run.
-    pub fn has_ranges(&self)
-        ensures { IsCommand (command_model self.now) }
+/// A command by its parts.
+#[derive(Clone, Copy, Debug)]
+pub(crate) enum Parts<'a> {
+    /// To write a message into a row, and to activate it.
+    Publish(Publication<'a>),
+    /// To activate the blank message of a number.
+    Blank(u16, Terms),
+    /// To activate a message that the sign has.
+    Activate(Activation),
+}
+
+impl<'a> Command<'a> {
+    /// Its parts.
+    pub(crate) fn parts(&self) -> Parts<'a>
+        ensures { parts_model result ≡ command_model self.now }
     {
         match *self {
             Command::Publish {
@@ -69,32 +82,46 @@ impl Command<'_> {
                 minutes,
                 priority,
                 address,
-            } => publication_ranges(
-                memory,
-                number,
+            } => Parts::Publish(Publication {
+                row: RowId { memory, number },
                 text,
                 owner,
-                beacon,
-                pixel,
-                run_priority,
-                minutes,
-                priority,
-                address,
-            ),
+                attributes: Attributes {
+                    beacon,
+                    pixel,
+                    run_priority,
+                },
+                terms: Terms {
+                    minutes,
+                    priority,
+                    address,
+                },
+            }),
             Command::Blank {
                 number,
                 minutes,
                 priority,
                 address,
-            } => blank_ranges(number, minutes, priority, address),
-            Command::Activate(code) => activation_ranges(
-                code.minutes,
-                code.priority,
-                code.id.memory,
-                code.id.number,
-                code.id.crc,
-                code.address,
-            ),
+            } => {
+                let terms = Terms {
+                    minutes,
+                    priority,
+                    address,
+                };
+                Parts::Blank(number, terms)
+            }
+            Command::Activate(code) => Parts::Activate(code),
+        }
+    }
+
+    /// Each value of a command is in the range of its type. There is nothing to run.
+    pub fn has_ranges(&self)
+        ensures { IsCommand (command_model self.now) }
+    {
+        match self.parts() {
+            Parts::Publish(publication) => publication.has_ranges(),
+            Parts::Blank(number, terms) => code_has_ranges(terms.blank_code(number)),
+            Parts::Activate(code) => code_has_ranges(code),
         }
     }
 
@@ -102,29 +129,13 @@ impl Command<'_> {
     pub(crate) fn is_good(&self) -> bool
         ensures { result ≡ is_good (command_model self.now) }
     {
-        match self {
-            Command::Publish {
-                memory,
-                number,
-                text,
-                owner,
-                beacon,
-                pixel,
-                run_priority,
-                ..
-            } => {
-                (*memory == memory::CHANGEABLE || *memory == memory::VOLATILE)
-                    && *number > 0
-                    && text.len() <= MAX_TEXT
-                    && owner.len() <= MAX_OWNER
-                    && *beacon <= 1
-                    && *pixel <= 1
-                    && *run_priority > 0
-            }
-            Command::Blank { number, .. } => *number > 0 && *number <= LAST_BLANK,
-            Command::Activate(_) => true,
+        match self.parts() {
+            Parts::Publish(publication) => publication.is_good(),
+            Parts::Blank(number, _) => number > 0 && number <= LAST_BLANK,
+            Parts::Activate(_) => true,
         }
     }
+
     /// The step that its job begins with.
     pub(crate) fn first_step(&self) -> Step
         ensures { result ≡ (job_of (command_model self.now)).step }
@@ -136,61 +147,42 @@ impl Command<'_> {
     }
 }
 
-/// An address has four octets.
-fn address_octets(address: &[u8])
-    requires { length address.now ≡ 4 }
-    ensures { IsAddress address.now }
+impl<'a> From<Publication<'a>> for Command<'a> {
+    ghost use Rattle.std.specs.Prelude.{◌≡◌};
+    ghost use Rattle.dms_centre.specs.Commands.{Publish};
+    ghost use Rattle.dms_centre.specs.CodeView.{command_model};
+    ghost use Rattle.dms_centre.specs.PublicationView.{publication_model};
+
+    fn from(publication: Publication<'a>) -> Command<'a>
+        ensures { command_model result ≡ Publish (publication_model publication.entry) }
+    {
+        let Publication {
+            row,
+            text,
+            owner,
+            attributes,
+            terms: Terms {
+                minutes,
+                priority,
+                address,
+            },
+        } = publication;
+        Command::Publish {
+            memory: row.memory,
+            number: row.number,
+            text,
+            owner,
+            beacon: attributes.beacon,
+            pixel: attributes.pixel,
+            run_priority: attributes.run_priority,
+            minutes,
+            priority,
+            address,
+        }
+    }
+}
+
+/// Each value of a code is in the range of its type.
+fn code_has_ranges(code: Activation)
+    ensures { IsActivation code }
 {}
-
-/// Each part of a publication is in the range of its type.
-fn publication_ranges(
-    memory: u8,
-    number: u16,
-    text: &[u8],
-    owner: &[u8],
-    beacon: u8,
-    pixel: u8,
-    run_priority: u8,
-    minutes: u16,
-    priority: u8,
-    address: [u8; 4],
-)
-    ensures { IsPublication (record {
-      memory = memory;
-      number = number;
-      text = text.now;
-      owner = owner.now;
-      beacon = beacon;
-      pixel = pixel;
-      run_priority = run_priority;
-      minutes = minutes;
-      priority = priority;
-      address = address;
-    }) }
-{
-    address_octets(&address);
-}
-
-/// Each part of an order for a blank message is in the range of its type.
-fn blank_ranges(number: u16, minutes: u16, priority: u8, address: [u8; 4])
-    ensures number { number < 2 ^ 16 }
-    ensures minutes { minutes < 2 ^ 16 }
-    ensures priority { priority < 2 ^ 8 }
-    ensures address { IsAddress address }
-{
-    address_octets(&address);
-}
-
-/// Each part of an activation is in the range of its type.
-fn activation_ranges(
-    minutes: u16,
-    priority: u8,
-    memory: u8,
-    number: u16,
-    crc: u16,
-    address: [u8; 4],
-)
-    ensures { IsActivation (record { minutes = minutes; priority = priority; id = record { memory = memory; number = number; crc = crc }; address = address }) }
-{
-    address_octets(&address);
-}

@@ -5,13 +5,14 @@ ghost use Rattle.std.specs.Int.Digits.{AllBelowBase};
 ghost use Rattle.dms_codes.specs.Checksum.{message_checksum};
 ghost use Rattle.dms_centre.specs.State.{Publishing, Showing};
 ghost use Rattle.dms_centre.specs.Steps.{code_of, row_of};
-ghost use Rattle.dms_centre.specs.Commands.{is_good, job_of};
+ghost use Rattle.dms_centre.specs.Commands.{is_good, is_publishable, job_of};
 ghost use Rattle.dms_centre.specs.Requests.{IsWork};
 ghost use Rattle.dms_centre.specs.CodeView.{command_model, job_model};
 ghost use Rattle.dms_centre.specs.JobView.{HasItsChecksum};
-ghost use Rattle.dms_codes.specs.Limits.{longest_text, longest_owner};
+ghost use Rattle.dms_centre.specs.PublicationView.{publication_model};
 
-use crate::command::Command;
+use crate::command::{Command, Parts};
+use crate::publication::{Attributes, Publication};
 use crate::step::Step;
 use arrayvec::ArrayVec;
 use dms_codes::{Activation, MAX_OWNER, MAX_TEXT, MessageId, RowId, crc, memory};
@@ -22,9 +23,7 @@ use std::marker::Model;
 pub(crate) struct RowFields {
     pub(crate) text: ArrayVec<u8, MAX_TEXT>,
     pub(crate) owner: ArrayVec<u8, MAX_OWNER>,
-    pub(crate) beacon: u8,
-    pub(crate) pixel: u8,
-    pub(crate) run_priority: u8,
+    pub(crate) attributes: Attributes,
 }
 
 /// What a job is to activate: a message that it writes first, or one that the sign has. A contract sees the work of the
@@ -83,11 +82,15 @@ impl RowFields {
     /// Their checksum: that which was kept, or else it is computed.
     fn checksum(&self, kept: Option<u16>) -> u16
         requires { HasItsChecksum kept self.now }
-        ensures { result ≡ message_checksum self.now.text.items self.now.beacon self.now.pixel }
+        ensures { result ≡ message_checksum self.now.text.items self.now.attributes.beacon self.now.attributes.pixel }
     {
         match kept {
             Some(checksum) => checksum,
-            None => crc(self.text.as_slice(), self.beacon, self.pixel),
+            None => crc(
+                self.text.as_slice(),
+                self.attributes.beacon,
+                self.attributes.pixel,
+            ),
         }
     }
 }
@@ -127,46 +130,10 @@ impl Work {
         requires { is_good (command_model command.now) ≡ true }
         ensures { self.new ≡ (job_of (command_model command.now)).work }
     {
-        match *command {
-            Command::Publish {
-                memory,
-                number,
-                text,
-                owner,
-                beacon,
-                pixel,
-                run_priority,
-                minutes,
-                priority,
-                address,
-            } => self.publish(
-                memory,
-                number,
-                text,
-                owner,
-                beacon,
-                pixel,
-                run_priority,
-                minutes,
-                priority,
-                address,
-            ),
-            Command::Blank {
-                number,
-                minutes,
-                priority,
-                address,
-            } => self.show(Activation {
-                minutes,
-                priority,
-                id: MessageId {
-                    memory: memory::BLANK,
-                    number,
-                    crc: 0,
-                },
-                address,
-            }),
-            Command::Activate(code) => self.show(code),
+        match command.parts() {
+            Parts::Publish(publication) => self.publish(&publication),
+            Parts::Blank(number, terms) => self.show(terms.blank_code(number)),
+            Parts::Activate(code) => self.show(code),
         }
     }
 
@@ -178,52 +145,21 @@ impl Work {
         self.code = code;
     }
 
-    /// It becomes a message that is written first, of these parts.
-    fn publish(
-        &mut self,
-        memory: u8,
-        number: u16,
-        text: &[u8],
-        owner: &[u8],
-        beacon: u8,
-        pixel: u8,
-        run_priority: u8,
-        minutes: u16,
-        priority: u8,
-        address: [u8; 4],
-    )
-        requires text { length text.now ≤ longest_text }
-        requires owner { length owner.now ≤ longest_owner }
-        ensures { self.new ≡ Publishing (record {
-          memory = memory;
-          number = number;
-          text = text.now;
-          owner = owner.now;
-          beacon = beacon;
-          pixel = pixel;
-          run_priority = run_priority;
-          minutes = minutes;
-          priority = priority;
-          address = address;
-        }) }
+    /// It becomes a message that is written first.
+    fn publish(&mut self, publication: &Publication<'_>)
+        requires { is_publishable (publication_model publication.now) ≡ true }
+        ensures { self.new ≡ Publishing (publication_model publication.now) }
     {
         self.publishes = true;
-        self.code = Activation {
-            minutes,
-            priority,
-            id: MessageId {
-                memory,
-                number,
-                crc: 0,
-            },
-            address,
-        };
+        self.code = publication.terms.code(MessageId {
+            memory: publication.row.memory,
+            number: publication.row.number,
+            crc: 0,
+        });
         self.checksum = None;
-        replace(&mut self.fields.text, text);
-        replace(&mut self.fields.owner, owner);
-        self.fields.beacon = beacon;
-        self.fields.pixel = pixel;
-        self.fields.run_priority = run_priority;
+        replace(&mut self.fields.text, publication.text);
+        replace(&mut self.fields.owner, publication.owner);
+        self.fields.attributes = publication.attributes;
     }
 }
 
@@ -246,9 +182,11 @@ impl Job {
                 fields: RowFields {
                     text: ArrayVec::new(),
                     owner: ArrayVec::new(),
-                    beacon: 0,
-                    pixel: 0,
-                    run_priority: 0,
+                    attributes: Attributes {
+                        beacon: 0,
+                        pixel: 0,
+                        run_priority: 0,
+                    },
                 },
                 checksum: None,
             },

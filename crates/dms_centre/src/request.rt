@@ -101,9 +101,15 @@ fn push_fields(octets: &mut BindingOctets, work: &Work)
     let fields = &work.fields;
     push_octets(octets, row, Column::MultiString, fields.text.as_slice());
     push_octets(octets, row, Column::Owner, fields.owner.as_slice());
-    push_number(octets, row, Column::Beacon, fields.beacon);
-    push_number(octets, row, Column::PixelService, fields.pixel);
-    push_number(octets, row, Column::RunTimePriority, fields.run_priority);
+    let attributes = &fields.attributes;
+    push_number(octets, row, Column::Beacon, attributes.beacon);
+    push_number(octets, row, Column::PixelService, attributes.pixel);
+    push_number(
+        octets,
+        row,
+        Column::RunTimePriority,
+        attributes.run_priority,
+    );
 }
 
 /// What a request says beside its bindings.

@@ -1,5 +1,5 @@
 -- The command that is read of a line is the one that the line spells.
-use Rattle.std.proofs.Common.{◌≡◌, ℕ, ◌<◌, ◌≤◌, cond, List, [], ◌∷◌, ◌++◌, length, Option, Some, None, option_map, Result, Ok, Err, refl, sym, ap, subst, ◌∙◌, arith, rules, inl, inr}
+use Rattle.std.proofs.Common.{◌≡◌, ℕ, ◌<◌, cond, List, [], ◌∷◌, ◌++◌, length, Option, Some, None, option_map, Result, Ok, Err, refl, sym, ap, subst, ◌∙◌, arith, rules, inl, inr}
 use Rattle.std.specs.Prelude.{codes, ◌+◌, ◌*◌, ◌/◌, ◌%◌, ◌⊎◌, All, suc, slice_index}
 use Rattle.std.proofs.lemmas.Slice.Eq.{text_from_reads}
 use Rattle.std.proofs.lemmas.List.Elements.{All-nil, All-cons}
@@ -9,7 +9,6 @@ use Rattle.hex.specs.Hex.{decode_of, IsBytes}
 use Rattle.hex.specs.declared.error.FromHexError.{FromHexError}
 use Rattle.hex.proofs.HexLemmas.{decode_of-ok}
 use Rattle.dms_text.specs.Words.{words_of, parts_of}
-use Rattle.dms_text.specs.Octets.{SpellsOctets}
 use Rattle.dms_text.specs.Reading.{same_octets, word_at, decimal_at}
 use Rattle.dms_text.proofs.WordLaws.{begun, goes_on, same_found, word_found, word_only, decimal_found, decimal_only, numeral_found, numeral_only}
 use Rattle.dms_codes.specs.declared.codes.Order.{Order}
@@ -17,6 +16,9 @@ use Rattle.dms_codes.specs.declared.codes.Order.TheVariants.{High, Swapped}
 use Rattle.dms_codes.specs.declared.codes.Activation.{Activation}
 use Rattle.dms_codes.specs.Codes.{two_octets, octets_of_checksum, in_order, number_at, octets_of_activation, activation_of, IsActivation}
 use Rattle.dms_codes.proofs.Places.{all_four}
+use Rattle.dms_codes.specs.declared.row_id.RowId.{RowId}
+use Rattle.dms_centre.specs.declared.publication.Attributes.{Attributes}
+use Rattle.dms_centre.specs.declared.publication.Terms.{Terms}
 use Rattle.dms_centre.specs.State.{PublicationModel}
 use Rattle.dms_centre.specs.Commands.{CommandModel, Publish, Blank, Activate}
 use Rattle.dms_description.specs.Fields.{SpellsEach, SpellsOctet, SpellsTwoOctets, SpellsOne}
@@ -25,7 +27,7 @@ use Rattle.dms_description.proofs.WordReading.{last_found}
 use Rattle.dms_description.proofs.FieldLaws.{same_rest, next_octets_found, next_octets_only, made_of}
 use Rattle.dms_commands.specs.CommandFields.{SpellsAddressPart, SpellsAddress, SpellsCode}
 use Rattle.dms_commands.specs.CommandLine.{SpellsPublication, SpellsBlank, SpellsCommand}
-use Rattle.dms_commands.specs.CommandReading.{address_at, address_of, code_from, last_code_at, TermsModel, last_terms_at, publication_at, blank_at, command_word, command_after, command_of}
+use Rattle.dms_commands.specs.CommandReading.{address_at, address_of, code_from, last_code_at, row_at, attributes_at, last_terms_at, publish_at, blank_at, command_word, command_after, command_of}
 use Rattle.dms_commands.specs.declared.command_word.CommandWord.{CommandWord}
 use Rattle.dms_commands.specs.declared.command_word.CommandWord.TheVariants as key
 
@@ -189,7 +191,76 @@ address_some (octet ∷ word) address spelled = omega arith
 
 -- ---- commands
 
-record FoundTerms (words : List (List ℕ)) (terms : TermsModel) : Type 0 where
+record FoundRow (words : List (List ℕ)) (found : RowId × List (List ℕ)) : Type 0 where
+  memory_word : List ℕ
+  number_word : List ℕ
+  words_are : words ≡ memory_word ∷ number_word ∷ found.1
+  memory : SpellsOctet found.0.memory memory_word
+  number : SpellsTwoOctets found.0.number number_word
+
+row_found : (words : List (List ℕ)) (found : RowId × List (List ℕ)) → row_at words ≡ Some found → FoundRow words found
+unfolding row_at
+row_found words found e =
+    let memory = begun _ _ _ e in
+    let number = begun _ _ _ memory.2 in
+    let at_memory = decimal_found 0 255 words memory.0 memory.1 in
+    let at_number = decimal_found 0 65535 memory.0.1 number.0 number.1 in
+    subst (FoundRow words) (same_Some _ _ number.2) (record {
+      memory_word = at_memory.word;
+      number_word = at_number.word;
+      words_are = at_memory.words_are ∙ ap (λ rest. at_memory.word ∷ rest) at_number.words_are;
+      memory = at_memory.spelled;
+      number = at_number.spelled;
+    })
+
+row_only : (memory number : ℕ) (memory_word number_word : List ℕ) (rest : List (List ℕ)) → SpellsOctet memory memory_word
+    → SpellsTwoOctets number number_word
+    → row_at (memory_word ∷ number_word ∷ rest) ≡ Some (record { memory = memory; number = number }, rest)
+unfolding row_at
+row_only memory number memory_word number_word rest in_memory in_number =
+    goes_on _ _ _ (decimal_only 0 255 memory memory_word _ in_memory)
+    ∙ goes_on _ _ _ (decimal_only 0 65535 number number_word rest in_number)
+
+record FoundAttributes (words : List (List ℕ)) (found : Attributes × List (List ℕ)) : Type 0 where
+  beacon_word : List ℕ
+  pixel_word : List ℕ
+  run_word : List ℕ
+  words_are : words ≡ beacon_word ∷ pixel_word ∷ run_word ∷ found.1
+  beacon : SpellsOctet found.0.beacon beacon_word
+  pixel : SpellsOctet found.0.pixel pixel_word
+  run_priority : SpellsOctet found.0.run_priority run_word
+
+attributes_found : (words : List (List ℕ)) (found : Attributes × List (List ℕ)) → attributes_at words ≡ Some found → FoundAttributes words found
+unfolding attributes_at
+attributes_found words found e =
+    let beacon = begun _ _ _ e in
+    let pixel = begun _ _ _ beacon.2 in
+    let run = begun _ _ _ pixel.2 in
+    let at_beacon = decimal_found 0 255 words beacon.0 beacon.1 in
+    let at_pixel = decimal_found 0 255 beacon.0.1 pixel.0 pixel.1 in
+    let at_run = decimal_found 0 255 pixel.0.1 run.0 run.1 in
+    subst (FoundAttributes words) (same_Some _ _ run.2) (record {
+      beacon_word = at_beacon.word;
+      pixel_word = at_pixel.word;
+      run_word = at_run.word;
+      words_are = at_beacon.words_are ∙ ap (λ rest. at_beacon.word ∷ rest) (at_pixel.words_are
+          ∙ ap (λ rest. at_pixel.word ∷ rest) at_run.words_are);
+      beacon = at_beacon.spelled;
+      pixel = at_pixel.spelled;
+      run_priority = at_run.spelled;
+    })
+
+attributes_only : (beacon pixel run_priority : ℕ) (beacon_word pixel_word run_word : List ℕ) (rest : List (List ℕ))
+    → SpellsOctet beacon beacon_word → SpellsOctet pixel pixel_word → SpellsOctet run_priority run_word
+    → attributes_at (beacon_word ∷ pixel_word ∷ run_word ∷ rest)
+    ≡ Some (record { beacon = beacon; pixel = pixel; run_priority = run_priority }, rest)
+unfolding attributes_at
+attributes_only beacon pixel run_priority beacon_word pixel_word run_word rest in_beacon in_pixel in_run =
+    goes_on _ _ _ (decimal_only 0 255 beacon beacon_word _ in_beacon)
+    ∙ goes_on _ _ _ (decimal_only 0 255 pixel pixel_word _ in_pixel)
+    ∙ goes_on _ _ _ (decimal_only 0 255 run_priority run_word rest in_run)
+
+record FoundTerms (words : List (List ℕ)) (terms : Terms) : Type 0 where
   minutes_word : List ℕ
   priority_word : List ℕ
   address_word : List ℕ
@@ -198,7 +269,7 @@ record FoundTerms (words : List (List ℕ)) (terms : TermsModel) : Type 0 where
   priority : SpellsOctet terms.priority priority_word
   address : SpellsAddress terms.address address_word
 
-terms_found : (words : List (List ℕ)) (terms : TermsModel) → last_terms_at words ≡ Some terms → FoundTerms words terms
+terms_found : (words : List (List ℕ)) (terms : Terms) → last_terms_at words ≡ Some terms → FoundTerms words terms
 unfolding last_terms_at
 terms_found words terms e =
     let minutes = begun _ _ _ e in
@@ -229,63 +300,57 @@ terms_only minutes priority address minutes_word priority_word address_word in_m
     ∙ goes_on _ _ _ (word_only address_word [] (address_some address_word address in_address))
     ∙ goes_on _ _ _ (address_only address_word address in_address)
 
-publication_found : (words : List (List ℕ)) (publication : PublicationModel) → publication_at words ≡ Some publication → SpellsPublication publication (codes "publish" ∷ words)
-unfolding publication_at
-publication_found words publication e =
-    let memory = begun _ _ _ e in
-    let number = begun _ _ _ memory.2 in
-    let text = begun _ _ _ number.2 in
+publish_found : (order : Order) (words : List (List ℕ)) (asked : CommandModel) → publish_at words ≡ Some asked
+    → SpellsCommand order asked (codes "publish" ∷ words)
+unfolding publish_at
+publish_found order words asked e =
+    let row = begun _ _ _ e in
+    let text = begun _ _ _ row.2 in
     let owner = begun _ _ _ text.2 in
-    let beacon = begun _ _ _ owner.2 in
-    let pixel = begun _ _ _ beacon.2 in
-    let run = begun _ _ _ pixel.2 in
-    let terms = begun _ _ _ run.2 in
-    let at_memory = decimal_found 0 255 words memory.0 memory.1 in
-    let at_number = decimal_found 0 65535 memory.0.1 number.0 number.1 in
-    let at_text = next_octets_found number.0.1 text.0 text.1 in
+    let attributes = begun _ _ _ owner.2 in
+    let terms = begun _ _ _ attributes.2 in
+    let at_row = row_found words row.0 row.1 in
+    let at_text = next_octets_found row.0.1 text.0 text.1 in
     let at_owner = next_octets_found text.0.1 owner.0 owner.1 in
-    let at_beacon = decimal_found 0 255 owner.0.1 beacon.0 beacon.1 in
-    let at_pixel = decimal_found 0 255 beacon.0.1 pixel.0 pixel.1 in
-    let at_run = decimal_found 0 255 pixel.0.1 run.0 run.1 in
-    let at_terms = terms_found run.0.1 terms.0 terms.1 in
-    subst (λ (p : PublicationModel). SpellsPublication p (codes "publish" ∷ words)) (same_Some _ _ terms.2) (record {
-      memory_word = at_memory.word;
-      number_word = at_number.word;
+    let at_attributes = attributes_found owner.0.1 attributes.0 attributes.1 in
+    let at_terms = terms_found attributes.0.1 terms.0 terms.1 in
+    subst (λ asked. SpellsCommand order asked (codes "publish" ∷ words)) (same_Some _ _ terms.2) (record {
+      memory_word = at_row.memory_word;
+      number_word = at_row.number_word;
       text_word = at_text.word;
       owner_word = at_owner.word;
-      beacon_word = at_beacon.word;
-      pixel_word = at_pixel.word;
-      run_word = at_run.word;
+      beacon_word = at_attributes.beacon_word;
+      pixel_word = at_attributes.pixel_word;
+      run_word = at_attributes.run_word;
       minutes_word = at_terms.minutes_word;
       priority_word = at_terms.priority_word;
       address_word = at_terms.address_word;
-      words_are = ap (λ rest. codes "publish" ∷ rest) (at_memory.words_are ∙ ap (λ rest. at_memory.word ∷ rest) (at_number.words_are
-          ∙ ap (λ rest. at_number.word ∷ rest) (at_text.words_are ∙ ap (λ rest. at_text.word ∷ rest) (at_owner.words_are
-          ∙ ap (λ rest. at_owner.word ∷ rest) (at_beacon.words_are ∙ ap (λ rest. at_beacon.word ∷ rest) (at_pixel.words_are
-          ∙ ap (λ rest. at_pixel.word ∷ rest) (at_run.words_are ∙ ap (λ rest. at_run.word ∷ rest) at_terms.words_are)))))));
-      memory = at_memory.spelled;
-      number = at_number.spelled;
+      words_are = ap (λ rest. codes "publish" ∷ rest) (at_row.words_are ∙ ap (λ rest. at_row.memory_word ∷ at_row.number_word ∷ rest)
+          (at_text.words_are ∙ ap (λ rest. at_text.word ∷ rest) (at_owner.words_are ∙ ap (λ rest. at_owner.word ∷ rest)
+          (at_attributes.words_are ∙ ap (λ rest. at_attributes.beacon_word ∷ at_attributes.pixel_word ∷ at_attributes.run_word ∷ rest)
+          at_terms.words_are))));
+      memory = at_row.memory;
+      number = at_row.number;
       text = at_text.spelled;
       owner = at_owner.spelled;
-      beacon = at_beacon.spelled;
-      pixel = at_pixel.spelled;
-      run_priority = at_run.spelled;
+      beacon = at_attributes.beacon;
+      pixel = at_attributes.pixel;
+      run_priority = at_attributes.run_priority;
       minutes = at_terms.minutes;
       priority = at_terms.priority;
       address = at_terms.address;
     })
 
-publication_only : (publication : PublicationModel) (words : List (List ℕ)) → SpellsPublication publication (codes "publish" ∷ words) → publication_at words ≡ Some publication
-unfolding publication_at
-publication_only publication words spelled =
-    ap publication_at (same_rest _ _ _ _ spelled.words_are)
-    ∙ goes_on _ _ _ (decimal_only 0 255 publication.memory spelled.memory_word _ spelled.memory)
-    ∙ goes_on _ _ _ (decimal_only 0 65535 publication.number spelled.number_word _ spelled.number)
+publish_only : (publication : PublicationModel) (words : List (List ℕ)) → SpellsPublication publication (codes "publish" ∷ words)
+    → publish_at words ≡ Some (Publish publication)
+unfolding publish_at
+publish_only publication words spelled =
+    ap publish_at (same_rest _ _ _ _ spelled.words_are)
+    ∙ goes_on _ _ _ (row_only publication.memory publication.number spelled.memory_word spelled.number_word _ spelled.memory spelled.number)
     ∙ goes_on _ _ _ (next_octets_only publication.text spelled.text_word _ spelled.text)
     ∙ goes_on _ _ _ (next_octets_only publication.owner spelled.owner_word _ spelled.owner)
-    ∙ goes_on _ _ _ (decimal_only 0 255 publication.beacon spelled.beacon_word _ spelled.beacon)
-    ∙ goes_on _ _ _ (decimal_only 0 255 publication.pixel spelled.pixel_word _ spelled.pixel)
-    ∙ goes_on _ _ _ (decimal_only 0 255 publication.run_priority spelled.run_word _ spelled.run_priority)
+    ∙ goes_on _ _ _ (attributes_only publication.beacon publication.pixel publication.run_priority spelled.beacon_word spelled.pixel_word spelled.run_word _
+    spelled.beacon spelled.pixel spelled.run_priority)
     ∙ goes_on _ _ _ (terms_only publication.minutes publication.priority publication.address spelled.minutes_word spelled.priority_word spelled.address_word
     spelled.minutes spelled.priority spelled.address)
 
@@ -361,8 +426,7 @@ command_word_found word keyword e =
 -- what is read after a keyword is what the words from the keyword on spell
 pub command_after_found : (order : Order) (keyword : CommandWord) (words : List (List ℕ)) (asked : CommandModel) → command_after order keyword words ≡ Some asked
     → SpellsCommand order asked (command_text keyword ∷ words)
-command_after_found order key.Publish words asked e =
-    let made = made_of _ _ _ e in subst (λ asked. SpellsCommand order asked (codes "publish" ∷ words)) made.2 (publication_found words made.0 made.1)
+command_after_found order key.Publish words asked e = publish_found order words asked e
 command_after_found order key.Blank words asked e = blank_found order words asked e
 command_after_found order key.Activate words asked e =
     let made = made_of _ _ _ e in subst (λ asked. SpellsCommand order asked (codes "activate" ∷ words)) made.2 (last_code_found order (codes "activate") words made.0 made.1)
@@ -379,7 +443,7 @@ is_read order (Publish publication) words spelled = record {
   keyword = key.Publish;
   rest = _;
   words_are = spelled.words_are;
-  read = ap (option_map Publish) (publication_only publication _ (subst (SpellsPublication publication) spelled.words_are spelled));
+  read = publish_only publication _ (subst (SpellsPublication publication) spelled.words_are spelled);
 }
 is_read order (Blank number minutes priority address) words spelled = record {
   keyword = key.Blank;

@@ -8,7 +8,10 @@ use Rattle.dms_text.specs.Reading.{same_octets, word_at, decimal_at, ◌>>=◌}
 use Rattle.dms_codes.specs.declared.codes.Order.{Order}
 use Rattle.dms_codes.specs.declared.codes.Activation.{Activation}
 use Rattle.dms_codes.specs.Codes.{activation_of}
-use Rattle.dms_centre.specs.State.{PublicationModel}
+use Rattle.dms_codes.specs.declared.row_id.RowId.{RowId}
+use Rattle.dms_centre.specs.declared.publication.Attributes.{Attributes}
+use Rattle.dms_centre.specs.declared.publication.Terms.{Terms}
+use Rattle.dms_centre.specs.PublicationView.{published}
 use Rattle.dms_centre.specs.Commands.{CommandModel, Publish, Blank, Activate}
 use Rattle.dms_description.specs.FieldsReading.{if_last, octet_at, two_octets_at, octets_at}
 use Rattle.dms_commands.specs.declared.command_word.CommandWord.{CommandWord}
@@ -42,14 +45,23 @@ last_code_at order words = do
 
 -- ---- commands
 
--- how long, with which priority and for whom a message is activated
-pub record TermsModel : Type 0 where
-  pub minutes : ℕ
-  pub priority : ℕ
-  pub address : List ℕ
+-- a row, and the words after it
+unfoldable pub row_at : List (List ℕ) → Option (RowId × List (List ℕ))
+row_at words = do
+  memory ← octet_at words
+  number ← two_octets_at memory.1
+  Some (record { memory = memory.0; number = number.0 }, number.1)
 
--- the terms, and nothing after them
-unfoldable pub last_terms_at : List (List ℕ) → Option TermsModel
+-- the attributes of a message, and the words after them
+unfoldable pub attributes_at : List (List ℕ) → Option (Attributes × List (List ℕ))
+attributes_at words = do
+  beacon ← octet_at words
+  pixel ← octet_at beacon.1
+  run ← octet_at pixel.1
+  Some (record { beacon = beacon.0; pixel = pixel.0; run_priority = run.0 }, run.1)
+
+-- the terms on which a message is activated, and nothing after them
+unfoldable pub last_terms_at : List (List ℕ) → Option Terms
 last_terms_at words = do
   minutes ← two_octets_at words
   priority ← octet_at minutes.1
@@ -57,28 +69,14 @@ last_terms_at words = do
   address ← address_of found.0
   if_last (record { minutes = minutes.0; priority = priority.0; address = address }) found.1
 
-unfoldable pub publication_at : List (List ℕ) → Option PublicationModel
-publication_at words = do
-  memory ← octet_at words
-  number ← two_octets_at memory.1
-  text ← octets_at number.1
+unfoldable pub publish_at : List (List ℕ) → Option CommandModel
+publish_at words = do
+  row ← row_at words
+  text ← octets_at row.1
   owner ← octets_at text.1
-  beacon ← octet_at owner.1
-  pixel ← octet_at beacon.1
-  run ← octet_at pixel.1
-  terms ← last_terms_at run.1
-  Some (record {
-    memory = memory.0;
-    number = number.0;
-    text = text.0;
-    owner = owner.0;
-    beacon = beacon.0;
-    pixel = pixel.0;
-    run_priority = run.0;
-    minutes = terms.minutes;
-    priority = terms.priority;
-    address = terms.address;
-  })
+  attributes ← attributes_at owner.1
+  terms ← last_terms_at attributes.1
+  Some (Publish (published row.0 text.0 owner.0 attributes.0 terms))
 
 unfoldable pub blank_at : List (List ℕ) → Option CommandModel
 blank_at words = do
@@ -97,7 +95,7 @@ command_word word =
 
 -- what stands after a keyword
 abbrev pub command_after : Order → CommandWord → List (List ℕ) → Option CommandModel
-command_after order key.Publish words = option_map Publish (publication_at words)
+command_after order key.Publish words = publish_at words
 command_after order key.Blank words = blank_at words
 command_after order key.Activate words = option_map Activate (last_code_at order words)
 

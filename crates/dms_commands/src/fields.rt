@@ -1,21 +1,40 @@
-//! What words of a command alone spell: an address, a code, and the terms on which a message is activated.
+//! What words of a command alone spell: a row, a message's attributes, an address, a code, and the terms on which a
+//! message is activated.
 
-ghost use Rattle.std.specs.Prelude.{◌≡◌, IfOk, option_map};
-ghost use Rattle.dms_commands.specs.CommandReading.{address_of, last_code_at, last_terms_at};
-ghost use Rattle.dms_commands.specs.CommandView.{terms_model};
+ghost use Rattle.std.specs.Prelude.{◌≡◌, IfOk};
+ghost use Rattle.dms_commands.specs.CommandReading.{address_of, attributes_at, last_code_at, last_terms_at, row_at};
 
-use dms_codes::{Activation, Order};
+use dms_centre::{Attributes, Terms};
+use dms_codes::{Activation, Order, RowId};
 use dms_description::fields::{octet, two_octets};
 use dms_text::Words;
 use hex::FromHexError;
 use std::alloc::{AllocError, Global};
 
-/// How long, with which priority and for whom a message is activated.
-#[derive(Clone, Copy, Debug)]
-pub(crate) struct Terms {
-    pub minutes: u16,
-    pub priority: u8,
-    pub address: [u8; 4],
+/// A row of the message table, and the words after it.
+#[tactic(auto, unfolding(crate::specs::CommandReading::row_at))]
+pub(crate) fn row(words: Words<'_>) -> Option<(RowId, Words<'_>)>
+    ensures { result ≡ row_at words.entry }
+{
+    let (memory, words) = octet(words)?;
+    let (number, words) = two_octets(words)?;
+    Some((RowId { memory, number }, words))
+}
+
+/// What belongs to a message beside its text and its owner, and the words after it.
+#[tactic(auto, unfolding(crate::specs::CommandReading::attributes_at))]
+pub(crate) fn attributes(words: Words<'_>) -> Option<(Attributes, Words<'_>)>
+    ensures { result ≡ attributes_at words.entry }
+{
+    let (beacon, words) = octet(words)?;
+    let (pixel, words) = octet(words)?;
+    let (run_priority, words) = octet(words)?;
+    let attributes = Attributes {
+        beacon,
+        pixel,
+        run_priority,
+    };
+    Some((attributes, words))
 }
 
 /// Four numbers with a dot between two.
@@ -37,7 +56,7 @@ pub fn address(word: &[u8]) -> Option<[u8; 4]>
 /// The terms on which a message is activated, and nothing after them.
 #[tactic(auto, unfolding(crate::specs::CommandReading::last_terms_at))]
 pub(crate) fn last_terms(words: Words<'_>) -> Option<Terms>
-    ensures { option_map terms_model result ≡ last_terms_at words.entry }
+    ensures { result ≡ last_terms_at words.entry }
 {
     let (minutes, words) = two_octets(words)?;
     let (priority, words) = octet(words)?;

@@ -9,7 +9,7 @@
 //! ```
 //! let line = b"blank 1 65535 255 10.0.0.1".as_slice();
 //! let asked = read_command(alloc, Order::High, line)?;
-//! assert!(rt; matches!(asked, Some(OwnedCommand::Blank { number: 1, minutes: 65535, .. })));
+//! assert!(rt; matches!(asked, Some(OwnedCommand::Blank { number: 1, terms }) if terms.minutes == 65535));
 //! ```
 #![tactic(auto)]
 
@@ -23,5 +23,5 @@ pub mod reading;
 pub use command_word::CommandWord;
 pub use fields::address;
 pub use ledger_text::{put_code, put_ledger};
-pub use owned_command::{OwnedCommand, Publication};
+pub use owned_command::OwnedCommand;
 pub use reading::{command_after, read_command};

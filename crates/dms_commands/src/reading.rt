@@ -1,14 +1,14 @@
 //! The lines of commands.
 
 ghost use Rattle.std.specs.Prelude.{◌≡◌, IfOk, option_map};
-ghost use Rattle.dms_commands.specs.CommandReading.{publication_at, blank_at, command_after, command_of};
-ghost use Rattle.dms_commands.specs.CommandView.{publication_model, owned_command_model};
+ghost use Rattle.dms_commands.specs.CommandReading.{publish_at, blank_at, command_after, command_of};
+ghost use Rattle.dms_commands.specs.CommandView.{owned_command_model};
 
 use crate::command_word::CommandWord;
-use crate::fields::{Terms, last_code, last_terms};
-use crate::owned_command::{OwnedCommand, Publication};
+use crate::fields::{attributes, last_code, last_terms, row};
+use crate::owned_command::OwnedCommand;
 use dms_codes::Order;
-use dms_description::fields::{next_octets, octet, two_octets};
+use dms_description::fields::{next_octets, two_octets};
 use dms_text::Words;
 use std::alloc::{AllocError, Global};
 
@@ -40,20 +40,17 @@ pub fn command_after(
     ensures { IfOk result (λ found. option_map owned_command_model found ≡ command_after order keyword words.entry) }
 {
     match keyword {
-        CommandWord::Publish => Ok(publication(alloc, words)?.map(OwnedCommand::Publish)),
+        CommandWord::Publish => publish(alloc, words),
         CommandWord::Blank => Ok(blank(words)),
         CommandWord::Activate => Ok(last_code(alloc, order, words)?.map(OwnedCommand::Activate)),
     }
 }
 
-#[tactic(auto, unfolding(crate::specs::CommandReading::publication_at))]
-fn publication(alloc: Global, words: Words<'_>) -> Result<Option<Publication>, AllocError>
-    ensures { IfOk result (λ found. option_map publication_model found ≡ publication_at words.entry) }
+#[tactic(auto, unfolding(crate::specs::CommandReading::publish_at))]
+fn publish(alloc: Global, words: Words<'_>) -> Result<Option<OwnedCommand>, AllocError>
+    ensures { IfOk result (λ found. option_map owned_command_model found ≡ publish_at words.entry) }
 {
-    let Some((memory, words)) = octet(words) else {
-        return Ok(None);
-    };
-    let Some((number, words)) = two_octets(words) else {
+    let Some((row, words)) = row(words) else {
         return Ok(None);
     };
     let Some((text, words)) = next_octets(alloc, words)? else {
@@ -62,34 +59,18 @@ fn publication(alloc: Global, words: Words<'_>) -> Result<Option<Publication>, A
     let Some((owner, words)) = next_octets(alloc, words)? else {
         return Ok(None);
     };
-    let Some((beacon, words)) = octet(words) else {
-        return Ok(None);
-    };
-    let Some((pixel, words)) = octet(words) else {
-        return Ok(None);
-    };
-    let Some((run_priority, words)) = octet(words) else {
+    let Some((attributes, words)) = attributes(words) else {
         return Ok(None);
     };
     let Some(terms) = last_terms(words) else {
         return Ok(None);
     };
-    let Terms {
-        minutes,
-        priority,
-        address,
-    } = terms;
-    Ok(Some(Publication {
-        memory,
-        number,
+    Ok(Some(OwnedCommand::Publish {
+        row,
         text,
         owner,
-        beacon,
-        pixel,
-        run_priority,
-        minutes,
-        priority,
-        address,
+        attributes,
+        terms,
     }))
 }
 
@@ -98,15 +79,6 @@ fn blank(words: Words<'_>) -> Option<OwnedCommand>
     ensures { option_map owned_command_model result ≡ blank_at words.entry }
 {
     let (number, words) = two_octets(words)?;
-    let Terms {
-        minutes,
-        priority,
-        address,
-    } = last_terms(words)?;
-    Some(OwnedCommand::Blank {
-        number,
-        minutes,
-        priority,
-        address,
-    })
+    let terms = last_terms(words)?;
+    Some(OwnedCommand::Blank { number, terms })
 }
