@@ -79,30 +79,37 @@ pub fn stock<'a>(permanent: &'a [Permanent<'a>]) -> Stock<'a> {
     }
 }
 
-/// Defaults with these values, in their order: two colours, two times of a flash, a font, two places, two times of a page.
-pub fn defaults_of(values: [u8; 9]) -> Defaults {
-    let [
-        background,
-        foreground,
-        flash_on,
-        flash_off,
-        font,
-        line,
-        page,
-        on,
-        off,
-    ] = values;
-    Defaults {
-        background,
-        foreground,
-        flash_on,
-        flash_off,
-        font,
-        line,
-        page,
-        on,
-        off,
+/// Another value of one of the defaults.
+#[derive(Clone, Copy, Debug, PartialEq, Eq)]
+pub enum Other {
+    Background(u8),
+    Foreground(u8),
+    FlashOn(u8),
+    FlashOff(u8),
+    Font(u8),
+    Line(u8),
+    Page(u8),
+    On(u8),
+    Off(u8),
+}
+
+/// The defaults, but for these.
+pub fn defaults_with(others: &[Other]) -> Defaults {
+    let mut defaults = DEFAULTS;
+    for other in others {
+        match *other {
+            Other::Background(colour) => defaults.background = colour,
+            Other::Foreground(colour) => defaults.foreground = colour,
+            Other::FlashOn(tenths) => defaults.flash_on = tenths,
+            Other::FlashOff(tenths) => defaults.flash_off = tenths,
+            Other::Font(number) => defaults.font = number,
+            Other::Line(justification) => defaults.line = justification,
+            Other::Page(justification) => defaults.page = justification,
+            Other::On(tenths) => defaults.on = tenths,
+            Other::Off(tenths) => defaults.off = tenths,
+        }
     }
+    defaults
 }
 
 /// The fonts that these texts spell.

@@ -1,6 +1,6 @@
 //! Texts by their answers on a sign of 23 by 14 with two fonts, and a long text on the largest matrix.
 
-use dms_bench_sign::{DEFAULTS, SMALL, TALL, defaults_of, face, fonts_of};
+use dms_bench_sign::{DEFAULTS, Other, SMALL, TALL, defaults_with, face, fonts_of};
 use dms_face::{Face, MultiFault, MultiFaultCode, check, check_with};
 use std::alloc::{AllocError, Global};
 use std::process::Abort;
@@ -60,8 +60,8 @@ fn texts_on_the_bench_sign(rt: HostRuntime) -> Result<(), Fail> {
 }
 
 /// The answer under these defaults, where they fit.
-fn answer_with(face: &Face, defaults: [u8; 9], text: &str) -> Option<Answer> {
-    let defaults = defaults_of(defaults);
+fn answer_with(face: &Face, others: &[Other], text: &str) -> Option<Answer> {
+    let defaults = defaults_with(others);
     if defaults.fits(face) {
         Some(answer(check_with(face, &defaults, text.as_bytes())))
     } else {
@@ -69,16 +69,16 @@ fn answer_with(face: &Face, defaults: [u8; 9], text: &str) -> Option<Answer> {
     }
 }
 
-fn check_text_with(rt: &impl Abort, face: &Face, defaults: [u8; 9], text: &str, expected: Answer) {
-    assert_eq!(rt; answer_with(face, defaults, text), Some(expected));
+fn check_text_with(rt: &impl Abort, face: &Face, others: &[Other], text: &str, expected: Answer) {
+    assert_eq!(rt; answer_with(face, others, text), Some(expected));
 }
 
 #[test]
 fn other_defaults(rt: HostRuntime) -> Result<(), Fail> {
     let face = face(rt.alloc())?;
-    let small = [0, 9, 5, 5, 2, 3, 2, 30, 0];
-    let right = [0, 9, 5, 5, 1, 4, 4, 30, 0];
-    for (defaults, text, expected) in [
+    let small: &[Other] = &[Other::Font(2)];
+    let right: &[Other] = &[Other::Line(4), Other::Page(4)];
+    for (others, text, expected) in [
         (small, "[nl]A", Ok(1)),
         (small, "B", Err((7, 0))),
         (small, "[fo1]B[fo]A", Ok(1)),
@@ -86,7 +86,7 @@ fn other_defaults(rt: HostRuntime) -> Result<(), Fail> {
         (right, "A[jl3]A", Err((11, 1))),
         (right, "A[jp3]A", Err((11, 1))),
     ] {
-        check_text_with(&rt, &face, defaults, text, expected);
+        check_text_with(&rt, &face, others, text, expected);
     }
     Ok(())
 }
@@ -95,19 +95,19 @@ fn other_defaults(rt: HostRuntime) -> Result<(), Fail> {
 #[test]
 fn each_default(rt: HostRuntime) -> Result<(), Fail> {
     let face = face(rt.alloc())?;
-    for (defaults, text, own, expected) in [
-        ([1, 9, 5, 5, 1, 3, 2, 30, 0], "[cb]A", Ok(1), Ok(1)),
-        ([0, 4, 5, 5, 1, 3, 2, 30, 0], "[cf]A", Ok(1), Ok(1)),
-        ([0, 9, 7, 5, 1, 3, 2, 30, 0], "[fl]A", Ok(1), Ok(1)),
-        ([0, 9, 5, 8, 1, 3, 2, 30, 0], "[fl]A", Ok(1), Ok(1)),
-        ([0, 9, 5, 5, 2, 3, 2, 30, 0], "[nl]A", Err((5, 4)), Ok(1)),
-        ([0, 9, 5, 5, 1, 4, 2, 30, 0], "A[jl3]A", Ok(1), Err((11, 1))),
-        ([0, 9, 5, 5, 1, 3, 4, 30, 0], "A[jp2]A", Ok(1), Err((11, 1))),
-        ([0, 9, 5, 5, 1, 3, 2, 40, 0], "[pt]A", Ok(1), Ok(1)),
-        ([0, 9, 5, 5, 1, 3, 2, 30, 2], "[pt]A", Ok(1), Ok(1)),
+    for (other, text, own, expected) in [
+        (Other::Background(1), "[cb]A", Ok(1), Ok(1)),
+        (Other::Foreground(4), "[cf]A", Ok(1), Ok(1)),
+        (Other::FlashOn(7), "[fl]A", Ok(1), Ok(1)),
+        (Other::FlashOff(8), "[fl]A", Ok(1), Ok(1)),
+        (Other::Font(2), "[nl]A", Err((5, 4)), Ok(1)),
+        (Other::Line(4), "A[jl3]A", Ok(1), Err((11, 1))),
+        (Other::Page(4), "A[jp2]A", Ok(1), Err((11, 1))),
+        (Other::On(40), "[pt]A", Ok(1), Ok(1)),
+        (Other::Off(2), "[pt]A", Ok(1), Ok(1)),
     ] {
         check_text(&rt, &face, text, own);
-        check_text_with(&rt, &face, defaults, text, expected);
+        check_text_with(&rt, &face, &[other], text, expected);
     }
     Ok(())
 }
