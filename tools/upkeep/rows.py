@@ -12,11 +12,11 @@ OTHER = re.compile(r'\s*$|<|.*\),$|.*";$| {4}b?"')
 
 
 def has_words(lines: list[str], at: int) -> bool:
-    """Whether words stand above this line, before any other row. A reply has those of its request."""
+    """Whether words stand above this line, before any other row. An answer has those of its line, which begins with `>`."""
     for line in reversed(lines[:at]):
         if WORDS.match(line):
             return True
-        if OTHER.match(line) or line.startswith(">") and not lines[at].startswith("<"):
+        if OTHER.match(line) or line.startswith(">") and lines[at].startswith(">"):
             return False
     return False
 

@@ -222,7 +222,8 @@ fn long_lines(rt: HostRuntime) -> Result<(), Fail> {
     Ok(())
 }
 
-/// Whether this description is taken of a talk, how the conversation over the rest ends, and whether these are its answers.
+/// Whether this description is taken of a talk, how the conversation over the rest ends, and whether these are its
+/// answers.
 fn described_first(
     alloc: Global,
     talk: &str,

@@ -313,7 +313,8 @@ fn made(alloc: Global) -> Result<bool, AllocError> {
     Ok(is_bench_sign(&bench(alloc)?))
 }
 
-/// Each call answers the sign, or out of memory where `rt try --test --fail-alloc N` refuses it; the same call then answers the sign.
+/// Each call answers the sign, or out of memory where `rt try --test --fail-alloc N` refuses it; the same call then
+/// answers the sign.
 #[test]
 fn sign_or_out_of_memory(rt: HostRuntime) {
     let mut described_sign = described(rt.alloc());

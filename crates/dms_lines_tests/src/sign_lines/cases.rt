@@ -1,0 +1,265 @@
+//! Lines to the bench sign with its answers, and pages as text.
+
+/// Lines to the bench sign, each after `> `, and under each its answer. A line that begins with `#` says in words what
+/// follows.
+pub const TALK: &str = "\
+> show
+page 1 on 30 off 0 back 0
+.......................
+.......................
+.......................
+.......................
+.......................
+.......................
+.......................
+.......................
+.......................
+.......................
+.......................
+.......................
+.......................
+.......................
+ok
+> state
+shown 7 1 0000 mode 10 priority 1 remaining 65535 text -
+ok
+# `public` asks for vmsSignWidthPixels.0: 23
+> datagram 302b02010004067075626c6963a01e02010102010002010030133011060d2b0601040189360402030204000500
+reply 302c02010004067075626c6963a21f02010102010002010030143012060d2b060104018936040203020400020117
+# `nobody` asks for it
+> datagram 302b02010004066e6f626f6479a01e02010102010002010030133011060d2b0601040189360402030204000500
+dropped
+> datagram -
+dropped
+> datagram 00
+dropped
+# `admin` sets dmsActivateMessage.0 to row 2.1 with another checksum: genErr at 1
+> datagram 3036020100040561646d696ea32a02010a020100020100301f301d060d2b060104018936040203060300040cffff64020001750300000000
+reply 3036020100040561646d696ea22a02010a020105020101301f301d060d2b060104018936040203060300040cffff64020001750300000000
+# `admin` sets dmsActivateMessage.0 to row 2.1 with its checksum
+> datagram 3036020100040561646d696ea32a020109020100020100301f301d060d2b060104018936040203060300040cffff64020001750200000000
+accepted ffff64020001750200000000 3036020100040561646d696ea22a020109020100020100301f301d060d2b060104018936040203060300040cffff64020001750200000000
+> show
+page 1 on 30 off 0 back 0
+.........9999..........
+.........9...9.........
+.........9...9.........
+.........9999..........
+.........9...9.........
+.........9...9.........
+.........9999..........
+.......................
+.......................
+.......................
+.......................
+.......................
+.......................
+.......................
+ok
+> state
+shown 2 1 7502 mode 8 priority 100 remaining 65535 text 42
+ok
+> tick
+ok
+> power-lost
+ok
+# `public` asks for vmsSignWidthPixels.0 while the power is off
+> datagram 302b02010004067075626c6963a01e02010102010002010030133011060d2b0601040189360402030204000500
+dropped
+> state
+shown 7 1 0000 mode 13 priority 1 remaining 65535 text -
+ok
+> power-lost
+ok
+> power-back 7
+ok
+> state
+shown 7 1 0000 mode 10 priority 1 remaining 65535 text -
+ok
+> power-back 4294967295
+ok
+> show
+page 1 on 30 off 0 back 0
+.......................
+.......................
+.......................
+.......................
+.......................
+.......................
+.......................
+.......................
+.......................
+.......................
+.......................
+.......................
+.......................
+.......................
+ok
+";
+
+/// Seconds by one line: a message for two minutes, and a silence of one minute, which `heard` begins anew.
+pub const SECONDS: &str = "\
+# `admin` sets dmsActivateMessage.0 to row 2.1, for two minutes
+> datagram 3036020100040561646d696ea32a020109020100020100301f301d060d2b060104018936040203060300040c000264020001750200000000
+accepted 000264020001750200000000 3036020100040561646d696ea22a020109020100020100301f301d060d2b060104018936040203060300040c000264020001750200000000
+> state
+shown 2 1 7502 mode 8 priority 100 remaining 2 text 42
+ok
+> ticks 0
+ok
+> state
+shown 2 1 7502 mode 8 priority 100 remaining 2 text 42
+ok
+> ticks 60
+ok
+> state
+shown 2 1 7502 mode 8 priority 100 remaining 1 text 42
+ok
+> ticks 59
+ok
+> state
+shown 2 1 7502 mode 8 priority 100 remaining 1 text 42
+ok
+> ticks 0000000001
+ok
+> state
+shown 7 1 0000 mode 14 priority 1 remaining 65535 text -
+ok
+# `admin` sets dmsTimeCommLoss.0 to a minute
+> datagram 302b020100040561646d696ea31f02010a02010002010030143012060d2b060104018936040203060d00020101
+reply 302b020100040561646d696ea21f02010a02010002010030143012060d2b060104018936040203060d00020101
+> ticks 59
+ok
+> heard
+ok
+> ticks 59
+ok
+> state
+shown 7 1 0000 mode 14 priority 1 remaining 65535 text -
+ok
+> ticks 1
+ok
+> state
+shown 7 1 0000 mode 12 priority 1 remaining 65535 text -
+ok
+> heard
+ok
+> state
+shown 7 1 0000 mode 12 priority 1 remaining 65535 text -
+ok
+";
+
+/// The pages of `[cb3][pt5o2]1[np][fo2][cf1]A`.
+pub const TWO_PAGES: &str = "page 1 on 5 off 2 back 3
+...........9...........
+..........99...........
+...........9...........
+...........9...........
+...........9...........
+...........9...........
+...........9...........
+.......................
+.......................
+.......................
+.......................
+.......................
+.......................
+.......................
+page 2 on 5 off 2 back 3
+...........1...........
+..........1.1..........
+..........111..........
+..........1.1..........
+..........1.1..........
+.......................
+.......................
+.......................
+.......................
+.......................
+.......................
+.......................
+.......................
+.......................
+";
+
+/// Permanent 1 is activated.
+pub const ACTIVATE: &str =
+    "datagram 3036020100040561646d696ea32a020109020100020100301f301d060d2b060104018936040203060300040cffff64020001750200000000";
+
+/// What is answered then.
+pub const ACCEPTED: &str =
+    "accepted ffff64020001750200000000 3036020100040561646d696ea22a020109020100020100301f301d060d2b060104018936040203060300040cffff64020001750200000000
+";
+
+/// The state of the bench sign while the power is off.
+pub const STATE_WITHOUT_POWER: &str = "shown 7 1 0000 mode 13 priority 1 remaining 65535 text -
+ok
+";
+
+/// Lines that spell no call.
+pub const BAD_LINES: [&str; 32] = [
+    // no word
+    "",
+    // no datagram
+    "datagram",
+    // a capital letter
+    "Datagram 00",
+    // an odd number of digits
+    "datagram 0",
+    // a letter that is no digit
+    "datagram 0g",
+    // two datagrams
+    "datagram 00 00",
+    // a blank at the end
+    "datagram - ",
+    // another word
+    "datagrams -",
+    // seconds after a tick
+    "tick 1",
+    // no number of seconds
+    "ticks",
+    // a number below 0
+    "ticks -1",
+    // a number above the range
+    "ticks 4294967296",
+    // two numbers
+    "ticks 1 1",
+    // a word after `heard`
+    "heard 1",
+    // a blank at the end
+    "tick ",
+    // a carriage return
+    "tick\r",
+    // a blank before the word
+    " tick",
+    // another word
+    "tock",
+    // a word after `power-lost`
+    "power-lost 1",
+    // no number of seconds
+    "power-back",
+    // a blank at the end
+    "power-back ",
+    // a number below 0
+    "power-back -1",
+    // a sign before the number
+    "power-back +1",
+    // a number above the range
+    "power-back 4294967296",
+    // more than ten digits
+    "power-back 00000000007",
+    // two numbers
+    "power-back 7 7",
+    // an underscore
+    "power_back 7",
+    // a word after `show`
+    "show 1",
+    // a dash
+    "show-",
+    // a word after `state`
+    "state 1",
+    // an answer
+    "ok",
+    // another answer
+    "bad line",
+];
