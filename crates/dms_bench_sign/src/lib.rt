@@ -1,5 +1,5 @@
-//! The bench sign by its values, for the tests and measures of crates that stand below dms_description, where it is a text:
-//! 23 columns, 14 rows, two fonts, a permanent row `B`, two changeable rows and a volatile one.
+//! The bench sign by its values, for the tests and measures of crates that stand below dms_description, where it is a
+//! text: 23 columns, 14 rows, two fonts, a permanent row `B`, two changeable rows and a volatile one.
 //!
 //! ```
 //! let face = face(alloc)?;

@@ -34,7 +34,7 @@ const BLANK: Command<'static> = Command::Blank {
     address: [0; 4],
 };
 
-fn publish(memory: u8, number: u16, text: &[u8]) -> Command<'_> {
+pub(crate) const fn publish(memory: u8, number: u16, text: &[u8]) -> Command<'_> {
     Command::Publish {
         memory,
         number,
@@ -66,7 +66,7 @@ fn publishing(rt: &impl Abort, alloc: Global) -> Centre {
 }
 
 /// Whether a job is on, how the last one ended, and how many codes were sent.
-fn told(centre: &Centre) -> (bool, Ended, usize) {
+fn reported(centre: &Centre) -> (bool, Ended, usize) {
     (centre.busy(), centre.last(), centre.ledger().len())
 }
 
@@ -129,7 +129,7 @@ fn check_unheard(rt: &impl Abort, centre: &mut Centre, datagram: &[u8]) {
     let mut out = Out::new();
     centre.receive(datagram, &mut out);
     assert_eq!(rt;
-        (out.is_empty(), told(centre)),
+        (out.is_empty(), reported(centre)),
         (true, (true, Ended::Never, 0))
     );
 }
@@ -179,16 +179,16 @@ fn cut_and_longer_replies(rt: HostRuntime) {
 #[test]
 fn published(rt: HostRuntime) {
     let mut centre = centre(&rt, rt.alloc(), Order::High, 1);
-    assert_eq!(rt; told(&centre), (false, Ended::Never, 0));
+    assert_eq!(rt; reported(&centre), (false, Ended::Never, 0));
     let (first, _) = cases::PUBLISHED[0];
     check_sent(&rt, &mut centre, publish(3, 1, b"A"), first);
-    assert_eq!(rt; told(&centre), (true, Ended::Never, 0));
+    assert_eq!(rt; reported(&centre), (true, Ended::Never, 0));
     check_steps(&rt, &mut centre, &cases::PUBLISHED, 6);
     check_entry(&rt, &centre, 7, CODE, Outcome::Waiting);
     let (_, accepted) = cases::PUBLISHED[6];
     check_answer(&rt, &mut centre, accepted, &[]);
     check_entry(&rt, &centre, 7, CODE, Outcome::Accepted);
-    assert_eq!(rt; told(&centre), (false, Ended::Accepted, 1));
+    assert_eq!(rt; reported(&centre), (false, Ended::Accepted, 1));
 }
 
 #[test]
@@ -211,7 +211,7 @@ fn published_in_the_other_order(rt: HostRuntime) {
     let (first, _) = cases::PUBLISHED_SWAPPED[0];
     check_sent(&rt, &mut centre, command, first);
     check_steps(&rt, &mut centre, &cases::PUBLISHED_SWAPPED, 7);
-    assert_eq!(rt; told(&centre), (false, Ended::Accepted, 1));
+    assert_eq!(rt; reported(&centre), (false, Ended::Accepted, 1));
 }
 
 #[test]
@@ -235,7 +235,7 @@ fn check_ending(rt: &impl Abort, alloc: Global, count: usize, reply: &[u8], ende
     let mut centre = publishing(rt, alloc);
     check_steps(rt, &mut centre, &cases::PUBLISHED, count);
     check_answer(rt, &mut centre, reply, &[]);
-    assert_eq!(rt; told(&centre), (false, ended, 0), "at {reply:?}");
+    assert_eq!(rt; reported(&centre), (false, ended, 0), "at {reply:?}");
 }
 
 #[test]
@@ -408,7 +408,7 @@ fn refused_commands(rt: HostRuntime) {
             CommandFault::BadCommand,
         );
     }
-    assert_eq!(rt; told(&centre), (false, Ended::Never, 0));
+    assert_eq!(rt; reported(&centre), (false, Ended::Never, 0));
     assert_eq!(rt;
         centre.command(owned(&text[..127], 1, 1, 255), &mut out),
         Ok(())
@@ -438,15 +438,15 @@ fn communities(rt: HostRuntime) {
     }
 }
 
-/// The fault of a blank message that is refused, whether nothing was sent then, and what the central system tells of
-/// itself.
+/// The fault of a blank message that is refused, whether nothing was sent then, and what the central system
+/// reports.
 fn blank_refused(
     centre: &mut Centre,
     out: &mut Out,
 ) -> Option<(CommandFault, bool, (bool, Ended, usize))> {
     match centre.command(BLANK, out) {
         Ok(()) => None,
-        Err(fault) => Some((fault, out.is_empty(), told(centre))),
+        Err(fault) => Some((fault, out.is_empty(), reported(centre))),
     }
 }
 
@@ -465,11 +465,11 @@ fn entered_or_out_of_memory(rt: HostRuntime) {
     }
 }
 
-/// Where a tick is out of memory, whether nothing was sent then, and what the central system tells of itself.
+/// Where a tick is out of memory, whether nothing was sent then, and what the central system reports.
 fn tick_refused(centre: &mut Centre, out: &mut Out) -> Option<(bool, (bool, Ended, usize))> {
     match centre.tick(out) {
         Ok(()) => None,
-        Err(NoMemory) => Some((out.is_empty(), told(centre))),
+        Err(NoMemory) => Some((out.is_empty(), reported(centre))),
     }
 }
 

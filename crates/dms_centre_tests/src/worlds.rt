@@ -12,18 +12,7 @@ use std::alloc::Global;
 use std::test::Fail;
 
 /// `A` into changeable row 1.
-const PUBLISH: Command<'static> = Command::Publish {
-    memory: 3,
-    number: 1,
-    text: b"A",
-    owner: b"",
-    beacon: 0,
-    pixel: 0,
-    run_priority: 200,
-    minutes: 65535,
-    priority: 255,
-    address: [192, 0, 2, 1],
-};
+const PUBLISH: Command<'static> = centres::publish(3, 1, b"A");
 
 /// The code of changeable row 1 with `A`, of no address.
 const CODE: Activation = Activation {
@@ -98,7 +87,7 @@ fn acceptance(world: &World, place: usize) -> Option<(usize, bool)> {
     }
 }
 
-/// The number of an event, where a stop after so many makes the run count anew.
+/// The number of an event, where a stop after so many makes the run count from the start.
 fn recounted(event: usize, stop: usize) -> usize {
     match event.saturating_sub(stop) {
         0 => event,
@@ -127,7 +116,7 @@ fn run_through(world: &mut World, events: &[Event<'_>]) -> Result<usize, &'stati
     }
 }
 
-/// Makes the world anew where its parts found no memory, and goes on after a stop. The world after all events, and how
+/// Makes the world again where its parts found no memory, and goes on after a stop. The world after all events, and how
 /// many had happened at the stop.
 fn after_all(alloc: Global, events: &[Event<'_>]) -> Result<(World, usize), &'static str> {
     let mut world = match world_of(alloc) {
@@ -138,8 +127,8 @@ fn after_all(alloc: Global, events: &[Event<'_>]) -> Result<(World, usize), &'st
     Ok((world, stop))
 }
 
-/// A publication is accepted at the sixteenth event. Where the run stops for want of memory, it goes on after the stop,
-/// and counts anew.
+/// A publication is accepted at the sixteenth event. Where the run stops out of memory, it goes on after the stop, and
+/// counts from there.
 #[test]
 fn publication(rt: HostRuntime) -> Result<(), Fail> {
     let (world, stop) = after_all(rt.alloc(), &PUBLICATION)?;
@@ -184,7 +173,7 @@ fn two_worlds(
 
 /// A publication, a loss of power and forged datagrams, where memory is refused once or never, as `rt try --test
 /// --fail-alloc N` refuses it: the world after all events is the same, but for the numbers of the events, which count
-/// anew after a stop.
+/// from there after a stop.
 #[test]
 fn world_or_out_of_memory(rt: HostRuntime) -> Result<(), Fail> {
     let mut events = [Event::SignTick; 23];

@@ -98,6 +98,11 @@ fn decoded(alloc: Global, below: &[u8]) -> Result<Vec<u8>, Fail> {
     Ok(output)
 }
 
+/// Whether what `decode` prints of a Get of this name ends so.
+fn ends_with(alloc: Global, below: &[u8], end: &str) -> Result<bool, Fail> {
+    Ok(decoded(alloc, below)?.as_slice().ends_with(end.as_bytes()))
+}
+
 /// The name of the object with one instance that has these numbers below `dms`, if it is one.
 fn object_at(node: u8, place: u8) -> Option<&'static str> {
     for (group, number, name) in OBJECTS {
@@ -118,11 +123,8 @@ fn objects_with_one_instance(rt: HostRuntime) -> Result<(), Fail> {
                 Some(name) => format!(in alloc; ".{node}.{place}.0 ({name}.0): NULL\n")?,
                 None => format!(in alloc; ".{node}.{place}.0: NULL\n")?,
             };
-            let printed = decoded(alloc, &[node, place, 0])?;
-            assert!(rt;
-                printed.as_slice().ends_with(end.as_bytes()),
-                "{node}.{place}"
-            );
+            let named = ends_with(alloc, &[node, place, 0], end.as_str())?;
+            assert!(rt; named, "{node}.{place}");
         }
     }
     Ok(())
@@ -141,11 +143,8 @@ fn columns(rt: HostRuntime) -> Result<(), Fail> {
                 }
                 None => format!(in alloc; ".{place}.{memory}.{row}: NULL\n")?,
             };
-            let printed = decoded(alloc, &[5, 8, 1, place, memory, row])?;
-            assert!(rt;
-                printed.as_slice().ends_with(end.as_bytes()),
-                "{place}.{memory}.{row}"
-            );
+            let named = ends_with(alloc, &[5, 8, 1, place, memory, row], end.as_str())?;
+            assert!(rt; named, "{place}.{memory}.{row}");
         }
     }
     Ok(())

@@ -127,7 +127,7 @@ const REFUSED: FontFault = FontFault {
     line: 0,
 };
 
-/// The answers of a face of one font to two texts, or that memory is out.
+/// The answers of a face of one font to two texts, or out of memory.
 fn answers(alloc: Global) -> Result<Option<[Result<usize, MultiFault>; 2]>, FontFault> {
     let mut fonts = Vec::new(alloc);
     if fonts.push(Font::from_text(alloc, TALL)?).is_err() {

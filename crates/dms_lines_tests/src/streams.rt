@@ -82,7 +82,7 @@ fn written_in_room(alloc: Global, octets: &[u8]) -> Result<(bool, u64, bool), Al
     Ok((whole, out.failures(), out.bytes() == octets))
 }
 
-/// Memory can be wanting for the room, and within it for nothing.
+/// The room may be refused, and nothing more takes memory within it.
 #[test]
 fn room_or_out_of_memory(rt: HostRuntime) {
     let mut found = written_in_room(rt.alloc(), b"all of it");

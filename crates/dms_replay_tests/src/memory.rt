@@ -50,8 +50,8 @@ fn replayed_in_room(alloc: Global) -> Replayed {
     }
 }
 
-/// Out of memory leaves nothing written, also where it is the writer's own, which then has failed once. The same script is then replayed
-/// to its report.
+/// Out of memory leaves nothing written, also where it is the writer's own, which then has failed once. The same script
+/// is then replayed to its report.
 #[test]
 fn report_or_out_of_memory(rt: HostRuntime) {
     for refused in [false, true] {
@@ -69,7 +69,8 @@ fn report_or_out_of_memory(rt: HostRuntime) {
     }
 }
 
-/// Where there is room for the report, `Write` does not come: whatever memory is refused, `Memory` is answered, and nothing is written.
+/// Where there is room for the report, `Write` does not come: whatever memory is refused, `Memory` is answered, and
+/// nothing is written.
 #[test]
 fn report_in_room_or_out_of_memory(rt: HostRuntime) {
     let mut found = replayed_in_room(rt.alloc());
@@ -93,7 +94,8 @@ fn made_bench(alloc: Global) -> Result<bool, ReplayFault> {
     is_bench_sign(bench(alloc))
 }
 
-/// The sign of a description, and the bench sign, are there or out of memory is answered; the same call then answers the sign.
+/// The sign of a description, and the bench sign, are there or out of memory is answered; the same call then answers
+/// the sign.
 #[test]
 fn sign_or_out_of_memory(rt: HostRuntime) {
     let mut read = read_bench(rt.alloc());

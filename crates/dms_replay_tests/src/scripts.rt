@@ -197,11 +197,32 @@ fn faults(rt: HostRuntime) {
         ("sign-tick\nbench\n", 1),
         ("size 23 14\n", 2),
         (
-            "size 5 7\ncommunities a b\nrows 1 1\norder high\nhas 0 0\ndefaults 0 1 5 5 1 2 2 10 0\nfirst 1\nend\n",
+            "\
+size 5 7
+communities a b
+rows 1 1
+order high
+has 0 0
+defaults 0 1 5 5 1 2 2 10 0
+first 1
+end
+",
             8,
         ),
         (
-            "size 5 7\ncommunities a b\nrows 1 1\norder high\nhas 0 0\ndefaults 0 1 5 5 1 2 2 10 0\nfirst 1\nfont 1 height 7 space 1 line 1 version 0001\nend\nsign-tick\nend\n",
+            "\
+size 5 7
+communities a b
+rows 1 1
+order high
+has 0 0
+defaults 0 1 5 5 1 2 2 10 0
+first 1
+font 1 height 7 space 1 line 1 version 0001
+end
+sign-tick
+end
+",
             11,
         ),
     ] {

@@ -143,8 +143,8 @@ fn replayed(
 /// A writer that takes all.
 const WIDE: (usize, usize, Refusal) = (4096, 4096, Refusal::Fails);
 
-/// The script is replayed from a reader that fails at each call in turn: nothing is written but where it gave all, the last call included
-/// that gives nothing.
+/// The script is replayed from a reader that fails at each call in turn: nothing is written but where it gave all, the
+/// last call included that gives nothing.
 #[test]
 fn reader_fails_at_each_call(rt: HostRuntime) {
     for piece in [1, 7, 4096] {
@@ -162,7 +162,8 @@ fn reader_fails_at_each_call(rt: HostRuntime) {
     }
 }
 
-/// The same report is written to a writer that fails, or takes nothing, at each call in turn: what it took before is a prefix of the report.
+/// The same report is written to a writer that fails, or takes nothing, at each call in turn: what it took before is a
+/// prefix of the report.
 #[test]
 fn writer_fails_at_each_call(rt: HostRuntime) {
     for (piece, refusal) in [
@@ -193,7 +194,8 @@ fn writer_fails_at_each_call(rt: HostRuntime) {
     }
 }
 
-/// An input of the most octets, one of an octet more, one that fails right before and right after its last octet, and one that never ends.
+/// An input of the most octets, one of an octet more, one that fails right before and right after its last octet, and
+/// one that never ends.
 #[test]
 fn longest_inputs(rt: HostRuntime) {
     let rest = LONGEST_INPUT.saturating_sub(SCRIPT.len());

@@ -1,5 +1,5 @@
-//! The table by its values: each cell of the table of statuses, verdicts on the bench sign, each cause of a decision, and what a table
-//! is made of.
+//! The table by its values: each cell of the table of statuses, verdicts on the bench sign, each cause of a decision,
+//! and what a table is made of.
 
 use dms_bench_sign::{B, DEFAULTS, face, stock};
 use dms_face::{Defaults, Face, MultiFault, MultiFaultCode};
@@ -193,7 +193,8 @@ fn error_of(verdict: Option<Verdict>) -> Option<u8> {
     Some(verdict?.error)
 }
 
-/// The verdicts on a text under the defaults and then under the small ones, and one more where no row is being validated.
+/// The verdicts on a text under the defaults and then under the small ones, and one more where no row is being
+/// validated.
 fn three_verdicts(alloc: Global) -> Result<[Option<u8>; 3], Fail> {
     let face = face(alloc)?;
     let mut table = Table::new(alloc, stock(&[]), &face)?;
@@ -348,7 +349,7 @@ fn check_causes(rt: &impl Abort, table: &Table, face: &Face, shown: &Shown) -> R
     Ok(())
 }
 
-/// `B` as it comes up, and what is shown after it by another code under the small defaults.
+/// `B` as it is shown, and what is shown after it by another code under the small defaults.
 fn shown_after_b(alloc: Global, code: [u8; 8]) -> Result<(Shown, Shown), Fail> {
     let face = face(alloc)?;
     let table = Table::new(alloc, stock(&[B]), &face)?;
@@ -406,15 +407,15 @@ fn counted(table: &Table, memory: u8) -> (usize, usize, usize) {
 }
 
 /// The counts of four memories; whether the permanent row has the text `B`, and its priority, status and checksum.
-type Told = ([(usize, usize, usize); 4], Option<(bool, u8, Status, u16)>);
+type Reported = ([(usize, usize, usize); 4], Option<(bool, u8, Status, u16)>);
 
-const TOLD: Told = (
+const REPORTED: Reported = (
     [(1, 1, 0), (2, 0, 2), (1, 0, 1), (0, 0, 0)],
     Some((true, 100, Status::Valid, 29954)),
 );
 
-/// What a table with the row `B` tells of itself.
-fn told(alloc: Global, face: &Face) -> Result<Told, TableFault> {
+/// What a table with the row `B` reports.
+fn reported(alloc: Global, face: &Face) -> Result<Reported, TableFault> {
     let table = Table::new(alloc, stock(&[B]), face)?;
     let counts = [
         counted(&table, 2),
@@ -428,7 +429,7 @@ fn told(alloc: Global, face: &Face) -> Result<Told, TableFault> {
 #[test]
 fn tables(rt: HostRuntime) -> Result<(), Fail> {
     let face = face(rt.alloc())?;
-    assert_eq!(rt; told(rt.alloc(), &face), Ok(TOLD));
+    assert_eq!(rt; reported(rt.alloc(), &face), Ok(REPORTED));
     Ok(())
 }
 
@@ -507,17 +508,17 @@ fn counts(rt: HostRuntime) -> Result<(), Fail> {
     Ok(())
 }
 
-/// With any allocation of the call refused it answers that memory is out, and the same call with memory gives the table.
+/// With any allocation of the call refused it answers out of memory, and the same call with memory gives the table.
 #[test]
 fn table_or_out_of_memory(rt: HostRuntime) {
     let Ok(face) = face(rt.alloc()) else {
         return;
     };
-    let made = match told(rt.alloc(), &face) {
-        Err(TableFault::Memory) => told(rt.alloc(), &face),
+    let made = match reported(rt.alloc(), &face) {
+        Err(TableFault::Memory) => reported(rt.alloc(), &face),
         made => made,
     };
-    assert_eq!(rt; made, Ok(TOLD));
+    assert_eq!(rt; made, Ok(REPORTED));
 }
 
 fn checksum(table: &Table, id: RowId) -> Option<u16> {

@@ -169,68 +169,48 @@ fn check_fault(
 /// A font of one character, in two lines.
 const ONE: &str = "font 1 height 7 space 1 line 1 version 0001\nglyph 65 5 7463f8c620\n";
 
+/// Texts whose font has no header, and the line of the fault.
+const NO_HEADERS: [(&str, usize); 9] = [
+    ("", 1),
+    ("# nothing else\n\n", 3),
+    ("glyph 65 5 7463f8c620\n", 1),
+    ("\nfont 0 height 7 space 1 line 1 version 0001\n", 2),
+    ("font 1 height 33 space 1 line 1 version 0001\n", 1),
+    ("font 1 height 7 space 33 line 1 version 0001\n", 1),
+    ("font 1 height 7 space 1 line 1 version 001\n", 1),
+    ("font 1 height 7 space 1 line 1 version 0001 \n", 1),
+    ("font 000001 height 7 space 1 line 1 version 0001\n", 1),
+];
+
+/// Lines after a font of one character, the fault, and its line.
+const BAD_GLYPHS: [(&str, FontFaultKind, usize); 13] = [
+    ("glyph 65 5\n", FontFaultKind::Glyph, 3),
+    ("glyph 0 5 7463f8c620\n", FontFaultKind::Glyph, 3),
+    ("glyph 65536 5 7463f8c620\n", FontFaultKind::Glyph, 3),
+    ("#\n\nglyph 66 33 00\n", FontFaultKind::Glyph, 5),
+    ("glyph 66 5  7463f8c620\n", FontFaultKind::Glyph, 3),
+    ("glyph 66 5 \n", FontFaultKind::Glyph, 3),
+    (
+        "font 2 height 7 space 1 line 1 version 0001\n",
+        FontFaultKind::Glyph,
+        3,
+    ),
+    ("glyph 66 5 7463f8c6\n", FontFaultKind::Bitmap, 3),
+    ("glyph 66 5 7463f8c62000\n", FontFaultKind::Bitmap, 3),
+    ("glyph 66 5 7463f8c62g\n", FontFaultKind::Bitmap, 3),
+    ("glyph 66 5 -", FontFaultKind::Bitmap, 3),
+    ("glyph 65 2 7554\n", FontFaultKind::Twice, 3),
+    ("glyph 65 5 00\n", FontFaultKind::Bitmap, 3),
+];
+
 #[test]
 fn faults_of_a_font(rt: HostRuntime) -> Result<(), Fail> {
-    for (text, more, kind, line) in [
-        ("", "", FontFaultKind::Header, 1),
-        ("# nothing else\n\n", "", FontFaultKind::Header, 3),
-        ("glyph 65 5 7463f8c620\n", "", FontFaultKind::Header, 1),
-        (
-            "\nfont 0 height 7 space 1 line 1 version 0001\n",
-            "",
-            FontFaultKind::Header,
-            2,
-        ),
-        (
-            "font 1 height 33 space 1 line 1 version 0001\n",
-            "",
-            FontFaultKind::Header,
-            1,
-        ),
-        (
-            "font 1 height 7 space 33 line 1 version 0001\n",
-            "",
-            FontFaultKind::Header,
-            1,
-        ),
-        (
-            "font 1 height 7 space 1 line 1 version 001\n",
-            "",
-            FontFaultKind::Header,
-            1,
-        ),
-        (
-            "font 1 height 7 space 1 line 1 version 0001 \n",
-            "",
-            FontFaultKind::Header,
-            1,
-        ),
-        (
-            "font 000001 height 7 space 1 line 1 version 0001\n",
-            "",
-            FontFaultKind::Header,
-            1,
-        ),
-        (ONE, "glyph 65 5\n", FontFaultKind::Glyph, 3),
-        (ONE, "glyph 0 5 7463f8c620\n", FontFaultKind::Glyph, 3),
-        (ONE, "glyph 65536 5 7463f8c620\n", FontFaultKind::Glyph, 3),
-        (ONE, "#\n\nglyph 66 33 00\n", FontFaultKind::Glyph, 5),
-        (ONE, "glyph 66 5  7463f8c620\n", FontFaultKind::Glyph, 3),
-        (ONE, "glyph 66 5 \n", FontFaultKind::Glyph, 3),
-        (
-            ONE,
-            "font 2 height 7 space 1 line 1 version 0001\n",
-            FontFaultKind::Glyph,
-            3,
-        ),
-        (ONE, "glyph 66 5 7463f8c6\n", FontFaultKind::Bitmap, 3),
-        (ONE, "glyph 66 5 7463f8c62000\n", FontFaultKind::Bitmap, 3),
-        (ONE, "glyph 66 5 7463f8c62g\n", FontFaultKind::Bitmap, 3),
-        (ONE, "glyph 66 5 -", FontFaultKind::Bitmap, 3),
-        (ONE, "glyph 65 2 7554\n", FontFaultKind::Twice, 3),
-        (ONE, "glyph 65 5 00\n", FontFaultKind::Bitmap, 3),
-    ] {
-        check_fault(&rt, rt.alloc(), text, more, FontFault { kind, line })?;
+    let kind = FontFaultKind::Header;
+    for (text, line) in NO_HEADERS {
+        check_fault(&rt, rt.alloc(), text, "", FontFault { kind, line })?;
+    }
+    for (more, kind, line) in BAD_GLYPHS {
+        check_fault(&rt, rt.alloc(), ONE, more, FontFault { kind, line })?;
     }
     Ok(())
 }

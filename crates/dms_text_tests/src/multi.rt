@@ -141,20 +141,16 @@ fn agree(
     Ok(())
 }
 
+fn spot(item: Item, first: usize, past: usize) -> Spot {
+    Spot { item, first, past }
+}
+
 /// The example of the crate's page.
 #[test]
 fn example(rt: HostRuntime) -> Result<(), Fail> {
     let mut read = items(b"A[nl2]");
-    let letter = Spot {
-        item: Item::Char(65),
-        first: 0,
-        past: 1,
-    };
-    let line = Spot {
-        item: Item::NewLine(Some(2)),
-        first: 1,
-        past: 6,
-    };
+    let letter = spot(Item::Char(65), 0, 1);
+    let line = spot(Item::NewLine(Some(2)), 1, 6);
     assert!(rt;
         read.next() == Some(Ok(letter)) && read.next() == Some(Ok(line)) && read.next() == None
     );
@@ -171,25 +167,24 @@ fn parts(row: &str) -> Option<(&str, &str, &str)> {
     Some((text, read, canonical))
 }
 
-/// Asserts that all rows agree, and counts them.
-fn all_agree(rt: &impl Abort, alloc: Global, rows: &str) -> Result<usize, Fail> {
+/// Asserts that there are so many rows, which agree.
+fn all_agree(rt: &impl Abort, alloc: Global, rows: &str, count: usize) -> Result<(), Fail> {
     for row in rows.lines() {
         let (text, read, canonical) = parts(row).ok_or("no row")?;
         agree(rt, alloc, text, read, canonical)?;
     }
-    Ok(rows.lines().count())
+    assert_eq!(rt; rows.lines().count(), count);
+    Ok(())
 }
 
 #[test]
 fn rows_agree(rt: HostRuntime) -> Result<(), Fail> {
-    assert_eq!(rt; all_agree(&rt, rt.alloc(), ROWS)?, 80);
-    Ok(())
+    all_agree(&rt, rt.alloc(), ROWS, 80)
 }
 
 #[test]
 fn cases_agree(rt: HostRuntime) -> Result<(), Fail> {
-    assert_eq!(rt; all_agree(&rt, rt.alloc(), CASES)?, 160);
-    Ok(())
+    all_agree(&rt, rt.alloc(), CASES, 160)
 }
 
 /// Whether the canonical text of so many of the item fits.
@@ -216,12 +211,8 @@ fn text_has_512_octets(rt: HostRuntime) -> Result<(), Fail> {
 #[test]
 fn octets_above_127_are_characters(rt: HostRuntime) -> Result<(), Fail> {
     let mut spots = items(b"\xff");
-    let spot = Spot {
-        item: Item::Char(255),
-        first: 0,
-        past: 1,
-    };
-    assert!(rt; spots.next() == Some(Ok(spot)) && spots.next() == None);
+    let character = spot(Item::Char(255), 0, 1);
+    assert!(rt; spots.next() == Some(Ok(character)) && spots.next() == None);
     let written = rewritten(&rt, rt.alloc(), b"\xff[hc80]")?;
     assert_eq!(rt; written.as_slice(), b"\xff\x80".as_slice());
     Ok(())

@@ -1,6 +1,6 @@
 //! Replies of which two neighbouring octets were left out, doubled or exchanged.
 
-use super::{BLANK, cases, centre, check_taken, publish, told};
+use super::{BLANK, cases, centre, check_taken, publish, reported};
 use dms_centre::{Centre, Command};
 use dms_codes::Order;
 use dms_wire::{Kind, Out, heard};
@@ -40,15 +40,16 @@ fn waiting(rt: &impl Abort, alloc: Global, command: Command<'_>) -> Centre {
     centre
 }
 
-/// The two tell the same of themselves.
+/// Both report the same.
 fn check_same(rt: &impl Abort, one: &Centre, other: &Centre) {
-    assert_eq!(rt; told(one), told(other));
+    assert_eq!(rt; reported(one), reported(other));
     for (number, entry) in other.ledger().iter() {
         assert!(rt; one.ledger().get(number) == Some(entry));
     }
 }
 
-/// A central system that is handed the datagram sends nothing, and tells and sends the same as another, also at the next ten ticks.
+/// A central system that is handed the datagram sends nothing, and reports and sends the same as another, also at the
+/// next ten ticks.
 fn check_unheard(rt: &impl Abort, alloc: Global, command: Command<'_>, datagram: &[u8]) {
     let mut one = waiting(rt, alloc, command);
     let mut other = waiting(rt, alloc, command);
@@ -64,8 +65,8 @@ fn check_unheard(rt: &impl Abort, alloc: Global, command: Command<'_>, datagram:
     }
 }
 
-/// Each pair of a reply's octets is left out, doubled and exchanged: what is no reply any more is as if it had never come. How many are none was counted by
-/// the model of tools/model.
+/// Each pair of a reply's octets is left out, doubled and exchanged: what is no reply any more is as if it had never
+/// come. How many are none was counted by the model of tools/model.
 #[test]
 fn changed_pairs(rt: HostRuntime) -> Result<(), Fail> {
     let (_, opened) = cases::PUBLISHED[0];

@@ -97,7 +97,7 @@ page 1 on 30 off 0 back 0
 ok
 ";
 
-/// Seconds by one line: a message for two minutes, and a silence of one minute, which `heard` begins anew.
+/// Seconds by one line: a message for two minutes, and a silence of one minute, which `heard` begins again.
 pub const SECONDS: &str = "\
 # `admin` sets dmsActivateMessage.0 to row 2.1, for two minutes
 > datagram 3036020100040561646d696ea32a020109020100020100301f301d060d2b060104018936040203060300040c000264020001750200000000

@@ -581,7 +581,7 @@ sent 0 2
 shown 7 1 0000 mode 10 priority 1 remaining 65535 text -
 ",
     ),
-    // and it begins anew after that
+    // and it begins again after that
     (
         "\
 bench
