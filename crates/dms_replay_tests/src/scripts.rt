@@ -9,6 +9,7 @@ use dms_replay::replaying::{bench, replay};
 use dms_replay::script_event::ScriptEvent;
 use dms_streams::Gathered;
 use std::alloc::{AllocError, Global};
+use std::process::Abort;
 use std::test::Fail;
 
 /// Lines that spell no event, each wrong in one word.
@@ -184,9 +185,37 @@ fn addresses(rt: HostRuntime) {
     }
 }
 
+/// The lines of a sign's description before its fonts.
+const BEFORE_FONTS: &str = "\
+size 5 7
+communities a b
+rows 1 1
+order high
+has 0 0
+defaults 0 1 5 5 1 2 2 10 0
+first 1
+";
+
+/// Asserts that the script that is two texts is at fault in this line, and that nothing is written.
+fn check_fault(
+    rt: &impl Abort,
+    alloc: Global,
+    before: &str,
+    more: &str,
+    number: usize,
+) -> Result<(), Fail> {
+    let script = format!(in alloc; "{before}{more}")?;
+    assert_eq!(rt;
+        fault_of(alloc, script.as_str()),
+        (Some(ReplayFault::Line(number)), true),
+        "of {script}"
+    );
+    Ok(())
+}
+
 /// Scripts without a sign, with a sign that is at fault, and with a fault after a sign of its own.
 #[test]
-fn faults(rt: HostRuntime) {
+fn faults(rt: HostRuntime) -> Result<(), Fail> {
     for (script, number) in [
         ("", 1),
         ("\n# nothing\n", 3),
@@ -196,42 +225,12 @@ fn faults(rt: HostRuntime) {
         ("bench sign-tick\n", 1),
         ("sign-tick\nbench\n", 1),
         ("size 23 14\n", 2),
-        (
-            "\
-size 5 7
-communities a b
-rows 1 1
-order high
-has 0 0
-defaults 0 1 5 5 1 2 2 10 0
-first 1
-end
-",
-            8,
-        ),
-        (
-            "\
-size 5 7
-communities a b
-rows 1 1
-order high
-has 0 0
-defaults 0 1 5 5 1 2 2 10 0
-first 1
-font 1 height 7 space 1 line 1 version 0001
-end
-sign-tick
-end
-",
-            11,
-        ),
     ] {
-        assert_eq!(rt;
-            fault_of(rt.alloc(), script),
-            (Some(ReplayFault::Line(number)), true),
-            "of {script}"
-        );
+        check_fault(&rt, rt.alloc(), "", script, number)?;
     }
+    let font = "font 1 height 7 space 1 line 1 version 0001\nend\nsign-tick\nend\n";
+    check_fault(&rt, rt.alloc(), BEFORE_FONTS, "end\n", 8)?;
+    check_fault(&rt, rt.alloc(), BEFORE_FONTS, font, 11)
 }
 
 /// The first request number of the bench sign's centre.
