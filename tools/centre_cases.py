@@ -100,7 +100,7 @@ class Publication:
             (f"{row} is to be validated", *self.sets(4, [(status, integer(7))])),
             (f"whether {row} is valid: it is", *self.reads(5, STATUS, 4)),
             (f"the checksum of {row}, as it should be", *self.reads(6, CHECKSUM, int.from_bytes(self.crc, "big"))),
-            (f"{row} is put up, and accepted", *self.sets(7, [(scalar(3), octets(self.code))])),
+            (f"{row} is activated, and accepted", *self.sets(7, [(scalar(3), octets(self.code))])),
         ]
 
 

@@ -557,7 +557,7 @@ shown 7 1 0000 mode 10 priority 1 remaining 65535 text -
 ",
         0,
     ),
-    // a blank message is put up, and its code accepted
+    // a blank message is activated, and its code accepted
     (
         "replay",
         "\

@@ -17,7 +17,7 @@ refused a value is out of its range
 idle
 last none
 ok
-# blank 1 is put up: its code is sent
+# blank 1 is activated: its code is sent
 > blank 1 65535 255 0.0.0.0
 send 3036020100040561646d696ea32a020101020100020100301f301d060d2b060104018936040203060300040cffffff070001000000000000
 > blank 2 65535 255 0.0.0.0
@@ -99,7 +99,7 @@ ok
 pub const OUTCOMES: &str = "\
 > restart
 ok
-# blank 1 is put up: its code is sent
+# blank 1 is activated: its code is sent
 > blank 1 65535 255 0.0.0.0
 send 3036020100040561646d696ea32a020101020100020100301f301d060d2b060104018936040203060300040cffffff070001000000000000
 # the sign accepts it
@@ -113,7 +113,7 @@ idle
 last accepted
 ledger 1 ffffff070001000000000000 accepted
 ok
-# blank 1 is put up again
+# blank 1 is activated again
 > blank 1 65535 255 0.0.0.0
 send 3036020100040561646d696ea32a020102020100020100301f301d060d2b060104018936040203060300040cffffff070001000000000000
 > restart
@@ -125,7 +125,7 @@ last failed at step 7: the central system was restarted
 ledger 1 ffffff070001000000000000 accepted
 ledger 2 ffffff070001000000000000 unknown
 ok
-# blank 1 is put up for the third time
+# blank 1 is activated for the third time
 > blank 1 65535 255 0.0.0.0
 send 3036020100040561646d696ea32a020103020100020100301f301d060d2b060104018936040203060300040cffffff070001000000000000
 # the sign refuses it with genErr: the cause is asked for

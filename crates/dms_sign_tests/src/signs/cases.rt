@@ -68,7 +68,7 @@ tick 1
 > 302d020100040561646d696ea0210201050201000201003016301406102b0601040189360402030508010503010500
 < 3030020100040561646d696ea2240201050201000201003019301706102b0601040189360402030508010503010203009a66";
 
-/// After `A_IN_ROW_ONE`: it is put up for five minutes, and codes are refused for each cause.
+/// After `A_IN_ROW_ONE`: it is activated for five minutes, and codes are refused for each cause.
 pub const ACTIVATIONS: &str = "\
 # admin sets dmsActivateMessage.0 to 3.1 with checksum 9a66, 5 minutes, priority 10: done
 > 3036020100040561646d696ea32a020106020100020100301f301d060d2b060104018936040203060300040c00050a0300019a66c0000201
