@@ -32,7 +32,7 @@ fn words_of(alloc: Global, line: &str) -> Result<Vec<&str>, AllocError> {
 }
 
 /// The status of a call over this standard input, and whether this is printed.
-fn acted(alloc: Global, call: &Call<'_>, mut input: impl Read, printed: &str) -> (u8, bool) {
+fn acted(alloc: Global, call: &Call<'_>, mut input: impl Read + Drop, printed: &str) -> (u8, bool) {
     let mut output = Vec::new(alloc);
     let status = act(alloc, call, &mut input, &mut output);
     (status, output.as_slice() == printed.as_bytes())

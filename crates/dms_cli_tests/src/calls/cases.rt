@@ -109,10 +109,10 @@ const TO_CENTRE: Call<'static> = Call::Centre {
 };
 
 /// Calls that read the whole standard input before anything is printed.
-pub static READ_FIRST: [Call<'static>; 4] = [CHECKED, DRAWN, ANSWERED, Call::Replay];
+pub const READ_FIRST: [Call<'static>; 4] = [CHECKED, DRAWN, ANSWERED, Call::Replay];
 
 /// Calls that read a description, and then a line at a time.
-pub static READ_BY_LINES: [Call<'static>; 2] = [
+pub const READ_BY_LINES: [Call<'static>; 2] = [
     Call::Sign {
         sign: SignWanted::Described,
     },
@@ -134,7 +134,7 @@ pub static LENGTHS: [(usize, bool, &str); 4] = [
 ];
 
 /// Conversations in which a long line comes, whether the input fails in it, and what is printed.
-pub static LONG_LINES: [(Call<'static>, bool, &str); 4] = [
+pub const LONG_LINES: [(Call<'static>, bool, &str); 4] = [
     // to a sign, a line that ends
     (TO_BENCH, false, "bad line\n"),
     // to a central system
@@ -146,7 +146,7 @@ pub static LONG_LINES: [(Call<'static>, bool, &str); 4] = [
 ];
 
 /// Calls that print line after line: the standard input, and what is printed.
-pub static BY_LINES: [(Call<'static>, &str, &str); 3] = [
+pub const BY_LINES: [(Call<'static>, &str, &str); 3] = [
     // a report
     (
         Call::Replay,
@@ -187,7 +187,7 @@ ok
 ];
 
 /// Calls in which memory may be refused: the standard input, what is printed where it is not, and the status.
-pub static ALLOCATING: [(Call<'static>, &str, &str, u8); 8] = [
+pub const ALLOCATING: [(Call<'static>, &str, &str, u8); 8] = [
     // a text is checked
     (CHECKED, SMALL_SIGN, "ok pages 1\n", 0),
     // its page is drawn
