@@ -1,6 +1,6 @@
 //! Faces by their values, and each fault of a face.
 
-use dms_bench_sign::{DEFAULTS, TALL, defaults_of, face, fonts_of};
+use dms_bench_sign::{DEFAULTS, Other, TALL, defaults_with, face, fonts_of};
 use dms_face::{
     Defaults, Face, FaceFault, Font, FontFault, FontFaultKind, MultiFault, MultiFaultCode, check,
 };
@@ -48,9 +48,11 @@ fn check_face_fault(
     Ok(())
 }
 
-const THIRD: [u8; 9] = [0, 9, 5, 5, 3, 3, 2, 30, 0];
+/// The first font that the bench sign has not.
+const THIRD: Other = Other::Font(3);
 
-const COLOUR: [u8; 9] = [10, 9, 5, 5, 1, 3, 2, 30, 0];
+/// The first number that is no colour.
+const COLOUR: Other = Other::Background(10);
 
 #[test]
 fn faults_of_a_face(rt: HostRuntime) -> Result<(), Fail> {
@@ -58,8 +60,8 @@ fn faults_of_a_face(rt: HostRuntime) -> Result<(), Fail> {
     let both: &[&[u8]] = &[TALL, SMALL];
     let twice: &[&[u8]] = &[TALL, SMALL, TALL];
     let own = DEFAULTS;
-    let third = defaults_of(THIRD);
-    let colour = defaults_of(COLOUR);
+    let third = defaults_with(&[THIRD]);
+    let colour = defaults_with(&[COLOUR]);
     for (width, height, fonts, defaults, fault) in [
         (23, 14, both, own, None),
         (1, 1, both, own, None),
@@ -98,26 +100,35 @@ fn a_face(rt: HostRuntime) -> Result<(), Fail> {
     Ok(())
 }
 
-fn check_fits(rt: &impl Abort, face: &Face, defaults: [u8; 9], fits: bool) {
-    assert_eq!(rt; defaults_of(defaults).fits(face), fits, "{defaults:?}");
+fn check_fits(rt: &impl Abort, face: &Face, others: &[Other], fits: bool) {
+    assert_eq!(rt; defaults_with(others).fits(face), fits, "{others:?}");
 }
 
 #[test]
 fn defaults_that_fit(rt: HostRuntime) -> Result<(), Fail> {
     let face = face(rt.alloc())?;
-    for (defaults, fits) in [
-        ([0, 9, 5, 5, 1, 3, 2, 30, 0], true),
-        ([0, 9, 5, 5, 2, 4, 4, 30, 0], true),
-        ([0, 9, 255, 255, 1, 3, 2, 255, 255], true),
-        (THIRD, false),
-        (COLOUR, false),
-        ([0, 10, 5, 5, 1, 3, 2, 30, 0], false),
-        ([0, 9, 5, 5, 1, 1, 2, 30, 0], false),
-        ([0, 9, 5, 5, 1, 5, 2, 30, 0], false),
-        ([0, 9, 5, 5, 1, 3, 1, 30, 0], false),
-        ([0, 9, 5, 5, 1, 3, 5, 30, 0], false),
+    let own: &[Other] = &[];
+    for (others, fits) in [
+        (own, true),
+        (&[Other::Font(2), Other::Line(4), Other::Page(4)], true),
+        (
+            &[
+                Other::FlashOn(255),
+                Other::FlashOff(255),
+                Other::On(255),
+                Other::Off(255),
+            ],
+            true,
+        ),
+        (&[THIRD], false),
+        (&[COLOUR], false),
+        (&[Other::Foreground(10)], false),
+        (&[Other::Line(1)], false),
+        (&[Other::Line(5)], false),
+        (&[Other::Page(1)], false),
+        (&[Other::Page(5)], false),
     ] {
-        check_fits(&rt, &face, defaults, fits);
+        check_fits(&rt, &face, others, fits);
     }
     Ok(())
 }
@@ -139,8 +150,7 @@ fn answers(alloc: Global) -> Result<Option<[Result<usize, MultiFault>; 2]>, Font
     }
 }
 
-/// With any allocation refused, the fonts of a face are out of memory, and the same face with memory checks texts as
-/// ever.
+/// With any allocation refused, the fonts of a face are out of memory; with memory the same face checks texts.
 #[test]
 fn face_or_out_of_memory(rt: HostRuntime) {
     let wanted = Ok(Some([Ok(2), Err(TOO_BIG)]));

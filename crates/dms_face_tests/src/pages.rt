@@ -1,6 +1,6 @@
 //! Pages of a sign of 23 by 14 with two fonts, drawn.
 
-use dms_bench_sign::{PICTURE_OF_A, defaults_of, drawing, face};
+use dms_bench_sign::{Other, PICTURE_OF_A, defaults_with, drawing, face};
 use dms_face::{Cell, Face, Flash, MultiFault, check, check_with};
 use dms_multi::Lead;
 use dms_pages::{Page, PagesFault, pages, pages_with};
@@ -75,8 +75,7 @@ fn lit_cells(page: &Page) -> u32 {
     count
 }
 
-/// With any allocation of the call refused it answers that memory is out, and the same call with memory gives the
-/// pages.
+/// With any allocation of the call refused it answers out of memory, and the same call with memory gives the pages.
 #[test]
 fn pages_or_out_of_memory(rt: HostRuntime) {
     let Ok(face) = face(rt.alloc()) else {
@@ -199,10 +198,10 @@ fn look_of(page: &Page) -> Option<Look> {
 fn look_under(
     alloc: Global,
     face: &Face,
-    defaults: [u8; 9],
+    others: &[Other],
     text: &[u8],
 ) -> Option<(Result<usize, MultiFault>, usize, Option<Look>)> {
-    let defaults = defaults_of(defaults);
+    let defaults = defaults_with(others);
     if !defaults.fits(face) {
         return None;
     }
@@ -215,17 +214,18 @@ fn look_under(
 #[test]
 fn each_default(rt: HostRuntime) -> Result<(), Fail> {
     let face = face(rt.alloc())?;
-    for (defaults, at, colour, (lit, dark), page) in [
-        ([0, 9, 5, 5, 1, 3, 2, 30, 0], (10, 0), 9, (5, 5), (0, 30, 0)),
-        ([1, 9, 5, 5, 1, 3, 2, 30, 0], (10, 0), 9, (5, 5), (1, 30, 0)),
-        ([0, 4, 5, 5, 1, 3, 2, 30, 0], (10, 0), 4, (5, 5), (0, 30, 0)),
-        ([0, 9, 7, 5, 1, 3, 2, 30, 0], (10, 0), 9, (7, 5), (0, 30, 0)),
-        ([0, 9, 5, 8, 1, 3, 2, 30, 0], (10, 0), 9, (5, 8), (0, 30, 0)),
-        ([0, 9, 5, 5, 2, 3, 2, 30, 0], (11, 0), 9, (5, 5), (0, 30, 0)),
-        ([0, 9, 5, 5, 1, 4, 2, 30, 0], (19, 0), 9, (5, 5), (0, 30, 0)),
-        ([0, 9, 5, 5, 1, 3, 3, 30, 0], (10, 3), 9, (5, 5), (0, 30, 0)),
-        ([0, 9, 5, 5, 1, 3, 2, 40, 0], (10, 0), 9, (5, 5), (0, 40, 0)),
-        ([0, 9, 5, 5, 1, 3, 2, 30, 2], (10, 0), 9, (5, 5), (0, 30, 2)),
+    let own: &[Other] = &[];
+    for (others, at, colour, (lit, dark), page) in [
+        (own, (10, 0), 9, (5, 5), (0, 30, 0)),
+        (&[Other::Background(1)], (10, 0), 9, (5, 5), (1, 30, 0)),
+        (&[Other::Foreground(4)], (10, 0), 4, (5, 5), (0, 30, 0)),
+        (&[Other::FlashOn(7)], (10, 0), 9, (7, 5), (0, 30, 0)),
+        (&[Other::FlashOff(8)], (10, 0), 9, (5, 8), (0, 30, 0)),
+        (&[Other::Font(2)], (11, 0), 9, (5, 5), (0, 30, 0)),
+        (&[Other::Line(4)], (19, 0), 9, (5, 5), (0, 30, 0)),
+        (&[Other::Page(3)], (10, 3), 9, (5, 5), (0, 30, 0)),
+        (&[Other::On(40)], (10, 0), 9, (5, 5), (0, 40, 0)),
+        (&[Other::Off(2)], (10, 0), 9, (5, 5), (0, 30, 2)),
     ] {
         let flash = Some(Flash {
             first: Lead::Lit,
@@ -239,7 +239,7 @@ fn each_default(rt: HostRuntime) -> Result<(), Fail> {
             "[cb5][cf2][fo2][jl2][jp4][pt99o99][cb][cf][fo][jl][jp][pt][fl]A",
         ] {
             assert_eq!(rt;
-                look_under(rt.alloc(), &face, defaults, text.as_bytes()),
+                look_under(rt.alloc(), &face, others, text.as_bytes()),
                 Some((Ok(1), 1, Some((page, (at, cell)))))
             );
         }
