@@ -12,7 +12,18 @@ use std::alloc::Global;
 use std::test::Fail;
 
 /// `A` into changeable row 1.
-const PUBLISH: Command<'static> = centres::publish(3, 1, b"A");
+const PUBLISH: Command<'static> = Command::Publish {
+    memory: 3,
+    number: 1,
+    text: b"A",
+    owner: b"",
+    beacon: 0,
+    pixel: 0,
+    run_priority: 200,
+    minutes: 65535,
+    priority: 255,
+    address: [192, 0, 2, 1],
+};
 
 /// The code of changeable row 1 with `A`, of no address.
 const CODE: Activation = Activation {

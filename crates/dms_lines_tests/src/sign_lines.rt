@@ -30,7 +30,7 @@ fn answered(alloc: Global, talk: &str) -> Result<Vec<u8>, Fail> {
 
 fn put_line(talk: &mut Vec<u8>, line: &str) -> Result<(), AllocError> {
     talk.extend_from_slice(line.as_bytes())?;
-    talk.push(b'\n')
+    talk.extend_from_slice(b"\n")
 }
 
 /// Each line has the answer that stands under it.
