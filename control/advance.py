@@ -39,10 +39,11 @@ class Step:
     def told(self) -> str:
         """In words."""
         when = datetime.datetime.fromtimestamp(self.newest, datetime.timezone.utc).strftime("%d %B %Y, %H:%M:%S UTC")
+        numbers = f"number {self.least}" + (f" to number {self.most}" if self.most != self.least else "")
         return (f"The newest entry of this database is of {when}, {self.seconds:.0f} seconds ago.\n"
                 f"What happened since is not in it: its ledger lacks the activations of that time, and {self.ended}"
                 " commands that had not ended are ended as unknown. Users log in anew, with the passwords of that time.\n"
-                f"Each centre of its {self.signs} signs begins anew, from number {self.least} to number {self.most},"
+                f"Each centre of its {self.signs} signs begins anew, from {numbers},"
                 " above all that were used before")
 
 
