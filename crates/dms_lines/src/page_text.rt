@@ -1,7 +1,8 @@
 //! Pages as text: a line of a page's times and its background, and a line for each row of the matrix.
 
 ghost use Rattle.std.specs.Prelude.{◌≡◌, ◌++◌, ◌<◌, IfOk, OnOk};
-ghost use Rattle.dms_lines.specs.PageText.{cell_text, cells_text, row_text, page_line, rows_text, page_text, pages_text};
+ghost use Rattle.dms_lines.specs.PageText.{cell_text, cells_text, row_text, page_line, rows_text, page_text};
+ghost use Rattle.dms_lines.specs.PageText.{pages_text};
 
 use dms_face::Cell;
 use dms_pages::Page;
@@ -9,8 +10,8 @@ use std::alloc::{AllocError, Global};
 use std::io;
 use std::io::Write;
 
-/// Pages as text, counted from 1: a line `page NUMBER on TENTHS off TENTHS back COLOUR` that tells a page's times, in
-/// tenths of a second, and its background, and a line for each row of the matrix, from the top, with a dot for each
+/// Pages as text, counted from 1: a line `page NUMBER on TENTHS off TENTHS back COLOUR` with a page's times, in tenths
+/// of a second, and its background, and a line for each row of the matrix, from the top, with a dot for each
 /// cell that is unlit, else the digit of its colour. Each line ends in a newline.
 pub fn pages_text(alloc: Global, pages: &[Page]) -> Result<Vec<u8>, AllocError>
     ensures { IfOk result (λ text. text.items ≡ pages_text pages.now) }
