@@ -1,24 +1,25 @@
 /*
  * The proved sign and the proved central system of Wisangub for C (C11) and C++.
  *
- * What each function of the library does is proved: docs/PROVED.md, "Beside", has the contracts. Not proved is what this
- * header and its callers have to keep:
- *   - The declarations below are those of the library, and the functions of this header hand on what they are given. The
- *     project's tests call each.
- *   - `at` is null before the first use, and after that what the library wrote there: nobody else writes it, and a struct
- *     is not copied, for two copies of a struct wisangub_sign are one sign. A sign is used only between wisangub_sign_new,
- *     which answered WISANGUB_DONE, and wisangub_sign_free.
- *   - One sign is used by one thread at a time; two signs may be used by two threads at once. No function is called from a
- *     signal handler.
+ * What each function of the library does is proved: docs/PROVED.md, "Beside", has the contracts. Not proved is what
+ * this header and its callers have to keep:
+ *   - The declarations below are those of the library, and the functions of this header hand on what they are given.
+ *     The project's tests call each.
+ *   - `at` is null before the first use, and after that what the library wrote there: nobody else writes it, and a
+ *     struct is not copied, for two copies of a struct wisangub_sign are one sign. A sign is used only between
+ *     wisangub_sign_new, which answered WISANGUB_DONE, and wisangub_sign_free.
+ *   - One sign is used by one thread at a time; two signs may be used by two threads at once. No function is called
+ *     from a signal handler.
  *   - A pointer that comes with a size points to at least so many octets, and no two pointers of one call overlap.
  *   - malloc, realloc and free are those of the C library, or others that keep its promises and align to 16 octets.
  *
  * There is no global state, no thread, no exit and no abort. wisangub_sign_new and wisangub_centre_new take memory (by
- * malloc), and wisangub_sign_free and wisangub_centre_free give it back; the two calls that draw pages, and the command of
- * a central system, take memory and give it back before they answer; a central system takes some for its ledger, where
- * its command or tick answers MEMORY if there is none; no other call takes any. Sizes are octets and times are seconds. The functions answer one of enum wisangub_answer.
+ * malloc), and wisangub_sign_free and wisangub_centre_free give it back; the two calls that draw pages, and the command
+ * of a central system, take memory and give it back before they answer; a central system takes some for its ledger,
+ * where its command or tick answers MEMORY if there is none; no other call takes any. Sizes are octets and times are
+ * seconds. The functions answer one of enum wisangub_answer.
  *
- * A call that fills a buffer tells the size that it needs in *size. Where the room is smaller it answers TOO_SMALL and
+ * A call that fills a buffer gives the size that it needs in *size. Where the room is smaller it answers TOO_SMALL and
  * does nothing else, and may be called again; null with a room of 0 asks for the size alone.
  */
 #ifndef WISANGUB_H
@@ -37,7 +38,7 @@ extern "C" {
 enum wisangub_answer {
     WISANGUB_DONE = 0,      /* it is done */
     WISANGUB_NOTHING = 1,   /* it is done, and there is nothing to send */
-    WISANGUB_TOO_SMALL = 2, /* a buffer is too small; nothing is done, and the size that is needed is told */
+    WISANGUB_TOO_SMALL = 2, /* a buffer is too small; nothing is done, and the size that is needed is given */
     WISANGUB_MEMORY = 3,    /* no memory; nothing is done */
     WISANGUB_FAULT = 4,     /* what was given is at fault; nothing is done */
     WISANGUB_NULL = 5,      /* a pointer is null; nothing is done */
@@ -57,7 +58,7 @@ struct wisangub_shown {
     uint16_t number;   /* of the row */
     uint16_t checksum; /* of the message */
     uint8_t memory;    /* 1 other, 2 permanent, 3 changeable, 4 volatile, 5 current buffer, 6 schedule, 7 blank */
-    uint8_t mode;      /* how it came up (dmsMsgSourceMode) */
+    uint8_t mode;      /* what activated it (dmsMsgSourceMode) */
     uint8_t priority;  /* 1 to 255 */
     uint8_t beacon;    /* 1 where the beacons are on, else 0 */
     uint8_t pixel;     /* 1 where the pixel service is on, else 0 */
@@ -99,7 +100,7 @@ enum wisangub_layer {
  * tenths of a second, and its background. */
 #define WISANGUB_PAGE_HEAD 3
 
-/* A central system of one sign. Set `at` to null before the first use. What is said of a sign above goes for it, too. */
+/* A central system of one sign. Set `at` to null before the first use. What is said of a sign above goes for it too. */
 struct wisangub_centre {
     void *at;
 };
@@ -194,8 +195,8 @@ static inline uint8_t *wisangub_buffer(void *buffer, size_t room, uint8_t *none)
 }
 
 /*
- * Makes the sign of a description (docs/PROFILE.md has its lines). It shows a blank message and has power.
- * Answers DONE, with the number of the first request of its central system in *first; FAULT, with the line for which the
+ * Makes the sign of a description (docs/PROFILE.md has its lines). It shows a blank message and has power. Answers
+ * DONE, with the number of the first request of its central system in *first; FAULT, with the line for which the
  * description is refused in *line, counted from 1; MEMORY; or NULL, also where the sign is made already.
  */
 static inline enum wisangub_answer wisangub_sign_new(struct wisangub_sign *sign, const void *text, size_t text_size,
@@ -208,9 +209,9 @@ static inline enum wisangub_answer wisangub_sign_new(struct wisangub_sign *sign,
 }
 
 /*
- * Hands the sign a datagram. Answers DONE, with the reply in `reply` and its size in *reply_size; NOTHING, where the sign
- * drops the datagram (*reply_size is 0); TOO_SMALL, where reply_room is below WISANGUB_DATAGRAM: the sign has not heard the
- * datagram, the buffer is as it was, and *reply_size is WISANGUB_DATAGRAM; or NULL. No memory is taken.
+ * Hands the sign a datagram. Answers DONE, with the reply in `reply` and its size in *reply_size; NOTHING, where the
+ * sign drops the datagram (*reply_size is 0); TOO_SMALL, where reply_room is below WISANGUB_DATAGRAM: the sign has not
+ * heard the datagram, the buffer is as it was, and *reply_size is WISANGUB_DATAGRAM; or NULL. No memory is taken.
  */
 static inline enum wisangub_answer wisangub_sign_receive(struct wisangub_sign *sign, const void *datagram,
                                                          size_t datagram_size, void *reply, size_t reply_room,
@@ -233,7 +234,10 @@ static inline enum wisangub_answer wisangub_sign_tick(struct wisangub_sign *sign
     return WISANGUB_DONE;
 }
 
-/* The power is lost; the sign drops every datagram until it is back. Without power nothing changes. Answers DONE or NULL. */
+/*
+ * The power is lost; the sign drops every datagram until it is back. Without power nothing changes. Answers DONE or
+ * NULL.
+ */
 static inline enum wisangub_answer wisangub_sign_power_lost(struct wisangub_sign *sign)
 {
     if (sign == NULL || sign->at == NULL) {
@@ -254,8 +258,8 @@ static inline enum wisangub_answer wisangub_sign_power_back(struct wisangub_sign
 }
 
 /*
- * The silence is over, as after a Get that was answered. It is for one who goes on from a journal, where Gets are recorded
- * by this alone (docs/JOURNAL.md). Answers DONE or NULL.
+ * The silence is over, as after a Get that was answered. It is for one who goes on from a journal, where Gets are
+ * recorded by this alone (docs/JOURNAL.md). Answers DONE or NULL.
  */
 static inline enum wisangub_answer wisangub_sign_heard(struct wisangub_sign *sign)
 {
@@ -332,12 +336,12 @@ static inline enum wisangub_answer wisangub_sign_check(struct wisangub_sign *sig
 }
 
 /*
- * The pages of what the sign shows, one after the other: of each its head of WISANGUB_PAGE_HEAD octets, and then an octet
- * for each cell, row by row from the top, each row from the left; `layer` says what of a cell. So a page has 3 + width *
- * height octets. Answers DONE, TOO_SMALL, MEMORY or NULL.
+ * The pages of what the sign shows, one after the other: of each its head of WISANGUB_PAGE_HEAD octets, and then an
+ * octet for each cell, row by row from the top, each row from the left; `layer` says what of a cell. So a page has
+ * 3 + width * height octets. Answers DONE, TOO_SMALL, MEMORY or NULL.
  */
-static inline enum wisangub_answer wisangub_sign_pages(struct wisangub_sign *sign, enum wisangub_layer layer, void *pages,
-                                                       size_t room, size_t *size)
+static inline enum wisangub_answer wisangub_sign_pages(struct wisangub_sign *sign, enum wisangub_layer layer,
+                                                       void *pages, size_t room, size_t *size)
 {
     uint8_t none = 0, *buffer = wisangub_buffer(pages, room, &none);
     if (sign == NULL || sign->at == NULL || buffer == NULL || size == NULL) {
@@ -347,24 +351,25 @@ static inline enum wisangub_answer wisangub_sign_pages(struct wisangub_sign *sig
 }
 
 /*
- * The pages of a MULTI text on the sign under the defaults of its description, as wisangub_sign_pages gives them. Answers
- * DONE, TOO_SMALL, MEMORY or NULL; or FAULT, with what is wrong with the text in *fault.
+ * The pages of a MULTI text on the sign under the defaults of its description, as wisangub_sign_pages gives them.
+ * Answers DONE, TOO_SMALL, MEMORY or NULL; or FAULT, with what is wrong with the text in *fault.
  */
-static inline enum wisangub_answer wisangub_sign_text_pages(struct wisangub_sign *sign, const void *text, size_t text_size,
-                                                            enum wisangub_layer layer, void *pages, size_t room,
-                                                            size_t *size, struct wisangub_text_fault *fault)
+static inline enum wisangub_answer wisangub_sign_text_pages(struct wisangub_sign *sign, const void *text,
+                                                            size_t text_size, enum wisangub_layer layer, void *pages,
+                                                            size_t room, size_t *size,
+                                                            struct wisangub_text_fault *fault)
 {
     uint8_t none = 0, *buffer = wisangub_buffer(pages, room, &none);
     if (sign == NULL || sign->at == NULL || text == NULL || buffer == NULL || size == NULL || fault == NULL) {
         return WISANGUB_NULL;
     }
-    return (enum wisangub_answer)wisangub_sign_text_pages_at(sign, (const uint8_t *)text, text_size, (uint8_t)layer, buffer,
-                                                             room, size, fault);
+    return (enum wisangub_answer)wisangub_sign_text_pages_at(sign, (const uint8_t *)text, text_size, (uint8_t)layer,
+                                                             buffer, room, size, fault);
 }
 
 /*
- * Which of so many cells are lit, of their looks, for a driver of lamps: eight cells an octet from the left, the first in
- * the highest bit. Answers DONE, TOO_SMALL or NULL.
+ * Which of so many cells are lit, of their looks, for a driver of lamps: eight cells an octet from the left, the first
+ * in the highest bit. Answers DONE, TOO_SMALL or NULL.
  */
 static inline enum wisangub_answer wisangub_row_bits(const uint8_t *looks, size_t count, void *bits, size_t room,
                                                      size_t *size)
@@ -376,7 +381,10 @@ static inline enum wisangub_answer wisangub_row_bits(const uint8_t *looks, size_
     return (enum wisangub_answer)wisangub_row_bits_at(looks, count, buffer, room, size);
 }
 
-/* The checksum of a message (dmsMessageCRC) in *crc: of its text and its two bits, each 0 or 1. Answers DONE or NULL. */
+/*
+ * Gives the checksum of a message (dmsMessageCRC) in *crc: of its text and its two bits, each 0 or 1. Answers DONE or
+ * NULL.
+ */
 static inline enum wisangub_answer wisangub_crc(const void *text, size_t text_size, uint8_t beacon, uint8_t pixel,
                                                 uint16_t *crc)
 {
@@ -399,8 +407,9 @@ static inline enum wisangub_answer wisangub_message_code(enum wisangub_order ord
 }
 
 /* The twelve octets that activate a message (MessageActivationCode). Answers DONE, TOO_SMALL or NULL. */
-static inline enum wisangub_answer wisangub_activation_code(enum wisangub_order order, const struct wisangub_code *parts,
-                                                            void *code, size_t room, size_t *size)
+static inline enum wisangub_answer wisangub_activation_code(enum wisangub_order order,
+                                                            const struct wisangub_code *parts, void *code, size_t room,
+                                                            size_t *size)
 {
     uint8_t none = 0, *buffer = wisangub_buffer(code, room, &none);
     if (parts == NULL || buffer == NULL || size == NULL) {
@@ -418,9 +427,10 @@ static inline void wisangub_sign_free(struct wisangub_sign *sign)
 }
 
 /*
- * Makes a central system, which sends requests with this community of 1 to 32 octets; `first` is the number of the first
- * one. One that is made again must begin above all numbers that it ever used: the caller keeps them (docs/JOURNAL.md).
- * Answers DONE; FAULT, where the community has another size; MEMORY; or NULL, also where it is made already.
+ * Makes a central system, which sends requests with this community of 1 to 32 octets; `first` is the number of the
+ * first one. One that is made again must begin above all numbers that it ever used: the caller keeps them
+ * (docs/JOURNAL.md). Answers DONE; FAULT, where the community has another size; MEMORY; or NULL, also where it is made
+ * already.
  */
 static inline enum wisangub_answer wisangub_centre_new(struct wisangub_centre *centre, const void *community,
                                                        size_t community_size, enum wisangub_order order, uint32_t first)
@@ -428,16 +438,16 @@ static inline enum wisangub_answer wisangub_centre_new(struct wisangub_centre *c
     if (centre == NULL || centre->at != NULL || community == NULL) {
         return WISANGUB_NULL;
     }
-    return (enum wisangub_answer)wisangub_centre_new_at((const uint8_t *)community, community_size, (uint8_t)order, first,
-                                                        centre);
+    return (enum wisangub_answer)wisangub_centre_new_at((const uint8_t *)community, community_size, (uint8_t)order,
+                                                        first, centre);
 }
 
 /*
- * Gives the central system the command that a line spells, without its newline: `publish ..`, `blank ..` or `activate ..`,
- * as in a script (docs/PROFILE.md). Answers DONE, with the request that is to be sent to the sign in `request` and its size
- * in *request_size; FAULT, where the line spells no command; BUSY, USED_UP or RANGE, where it is not taken; TOO_SMALL, where
- * request_room is below WISANGUB_DATAGRAM; MEMORY, which an entry of the ledger takes; or NULL. In all but DONE the central
- * system is as before.
+ * Gives the central system the command that a line spells, without its newline: `publish ..`, `blank ..` or
+ * `activate ..`, as in a script (docs/PROFILE.md). Answers DONE, with the request that is to be sent to the sign in
+ * `request` and its size in *request_size; FAULT, where the line spells no command; BUSY, USED_UP or RANGE, where it is
+ * not taken; TOO_SMALL, where request_room is below WISANGUB_DATAGRAM; MEMORY, which an entry of the ledger takes; or
+ * NULL. In all but DONE the central system is as before.
  */
 static inline enum wisangub_answer wisangub_centre_command(struct wisangub_centre *centre, const void *line,
                                                            size_t line_size, void *request, size_t request_room,
@@ -446,8 +456,8 @@ static inline enum wisangub_answer wisangub_centre_command(struct wisangub_centr
     if (centre == NULL || centre->at == NULL || line == NULL || request == NULL || request_size == NULL) {
         return WISANGUB_NULL;
     }
-    return (enum wisangub_answer)wisangub_centre_command_at(centre, (const uint8_t *)line, line_size, (uint8_t *)request,
-                                                            request_room, request_size);
+    return (enum wisangub_answer)wisangub_centre_command_at(centre, (const uint8_t *)line, line_size,
+                                                            (uint8_t *)request, request_room, request_size);
 }
 
 /*
@@ -467,11 +477,11 @@ static inline enum wisangub_answer wisangub_centre_receive(struct wisangub_centr
 
 /*
  * A tick of the central system's clock: call it once in each second. Answers DONE, with what it sends (again); NOTHING;
- * TOO_SMALL, as above; MEMORY, which an entry of the ledger takes: nothing has changed, and the next tick tries again; or
- * NULL.
+ * TOO_SMALL, as above; MEMORY, which an entry of the ledger takes: nothing has changed, and the next tick tries again;
+ * or NULL.
  */
-static inline enum wisangub_answer wisangub_centre_tick(struct wisangub_centre *centre, void *request, size_t request_room,
-                                                        size_t *request_size)
+static inline enum wisangub_answer wisangub_centre_tick(struct wisangub_centre *centre, void *request,
+                                                        size_t request_room, size_t *request_size)
 {
     if (centre == NULL || centre->at == NULL || request == NULL || request_size == NULL) {
         return WISANGUB_NULL;
@@ -479,7 +489,7 @@ static inline enum wisangub_answer wisangub_centre_tick(struct wisangub_centre *
     return (enum wisangub_answer)wisangub_centre_tick_at(centre, (uint8_t *)request, request_room, request_size);
 }
 
-/* Begins anew, as after a loss of power: the next number and the ledger stay, and a job ends. Answers DONE or NULL. */
+/* Starts again, as after a loss of power: the next number and the ledger stay, and a job ends. Answers DONE or NULL. */
 static inline enum wisangub_answer wisangub_centre_restart(struct wisangub_centre *centre)
 {
     if (centre == NULL || centre->at == NULL) {
@@ -490,7 +500,8 @@ static inline enum wisangub_answer wisangub_centre_restart(struct wisangub_centr
 }
 
 /* How the central system stands. Answers DONE or NULL. */
-static inline enum wisangub_answer wisangub_centre_status(struct wisangub_centre *centre, struct wisangub_status *status)
+static inline enum wisangub_answer wisangub_centre_status(struct wisangub_centre *centre,
+                                                          struct wisangub_status *status)
 {
     if (centre == NULL || centre->at == NULL || status == NULL) {
         return WISANGUB_NULL;
@@ -499,7 +510,10 @@ static inline enum wisangub_answer wisangub_centre_status(struct wisangub_centre
     return WISANGUB_DONE;
 }
 
-/* The entry of this index, from 0, of the ledger: the codes that were sent. Answers DONE, FAULT where there is none, or NULL. */
+/*
+ * The entry of this index, from 0, of the ledger: the codes that were sent. Answers DONE, FAULT where there is none, or
+ * NULL.
+ */
 static inline enum wisangub_answer wisangub_centre_entry(struct wisangub_centre *centre, size_t index,
                                                          struct wisangub_entry *entry)
 {
