@@ -1,5 +1,6 @@
 -- The checksum of a message, 16 bits, by division of polynomials over bits (ISO/IEC 3309).
-use Rattle.std.specs.Prelude.{ℕ, zero, suc, ◌+◌, ◌-◌, ◌*◌, ◌/◌, ◌%◌, ◌==◌, Bool, true, false, not, if◌then◌else◌, List, [], ◌∷◌, ◌++◌, length, map, take, drop, replicate}
+use Rattle.std.specs.Prelude.{ℕ, zero, suc, ◌+◌, ◌-◌, ◌*◌, ◌/◌, ◌%◌, ◌==◌, Bool, true, false, not, if◌then◌else◌}
+use Rattle.std.specs.Prelude.{List, [], ◌∷◌, ◌++◌, length, map, take, drop, replicate}
 use Rattle.std.specs.List.{flat_map}
 
 -- ---- bits
@@ -33,7 +34,9 @@ add (term ∷ terms) (bit ∷ bits) = sum_of_bits term bit ∷ add terms bits
 
 -- x^16 + x^12 + x^5 + 1 without its first term
 abbrev pub divisor : List Bool
-divisor = false ∷ false ∷ false ∷ true ∷ false ∷ false ∷ false ∷ false ∷ false ∷ false ∷ true ∷ false ∷ false ∷ false ∷ false ∷ true ∷ []
+divisor =
+    false ∷ false ∷ false ∷ true ∷ false ∷ false ∷ false ∷ false
+    ∷ false ∷ false ∷ true ∷ false ∷ false ∷ false ∷ false ∷ true ∷ []
 
 -- so many times the first bit is taken away and, where it was 1, the divisor added to the next sixteen
 abbrev pub divided : ℕ → List Bool → List Bool
@@ -53,8 +56,8 @@ sixteen_zeros = replicate 16 false
 abbrev pub first_sixteen_inverted : List Bool → List Bool
 first_sixteen_inverted bits = map not (take 16 bits) ++ drop 16 bits
 
--- The register is preset to ones (the first sixteen bits are inverted), the bits are multiplied by x^16 and divided, and the
--- remainder is complemented.
+-- The register is preset to ones (the first sixteen bits are inverted), the bits are multiplied by x^16 and divided,
+-- and the remainder is complemented.
 abbrev pub checksum : List ℕ → ℕ
 checksum octets = number (map not (remainder (first_sixteen_inverted (flat_map octet_bits octets) ++ sixteen_zeros)))
 

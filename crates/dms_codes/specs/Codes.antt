@@ -34,7 +34,11 @@ number_at octets place = slice_index octets place * 256 + slice_index octets (pl
 
 -- the message that five octets name
 abbrev pub id_of : Order → List ℕ → MessageId
-id_of order octets = record { memory = slice_index octets 0; number = number_at octets 1; crc = in_order order (number_at octets 3) }
+id_of order octets = record {
+  memory = slice_index octets 0;
+  number = number_at octets 1;
+  crc = in_order order (number_at octets 3);
+}
 
 -- the activation that twelve octets are
 abbrev pub activation_of : Order → List ℕ → Activation

@@ -1,4 +1,5 @@
--- what a reader must believe: the checksum of a message, the codes and their octets, the types of memory, the statuses of a row
+-- what a reader must believe: the checksum of a message, the codes and their octets, the types of memory, the statuses
+-- of a row
 pub mod Checksum
 pub mod Codes
 pub mod Memory

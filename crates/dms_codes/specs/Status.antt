@@ -5,7 +5,8 @@ use Rattle.dms_codes.specs.declared.status.Status.TheVariants.{NotUsed, Modifyin
 use Rattle.dms_codes.specs.declared.status.Ask.{Ask}
 use Rattle.dms_codes.specs.declared.status.Ask.TheVariants as asks
 
--- The table of statuses: a row of the first status that is asked this has the second status next. What has no entry is refused.
+-- The table of statuses: a row of the first status that is asked this has the second status next. What has no entry is
+-- refused.
 pub data StatusStep : Status → Ask → Status → Type 0 where
   unused_modify : StatusStep NotUsed asks.Modify Modifying
   unused_release : StatusStep NotUsed asks.NotUsed NotUsed

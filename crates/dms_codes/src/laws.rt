@@ -9,14 +9,16 @@ ghost use Rattle.dms_codes.specs.declared.status.Ask.{Ask};
 ghost use Rattle.dms_codes.specs.declared.memory.Memory.{Memory};
 ghost use Rattle.dms_codes.specs.Memory.{memory_number, memory_of};
 ghost use Rattle.dms_codes.specs.Checksum.{number, octet_bits, remainder, sixteen_zeros};
-ghost use Rattle.dms_codes.specs.Codes.{two_octets, octets_of_checksum, in_order, octets_of_id, octets_of_activation, id_of, activation_of, IsMessageId, IsActivation};
+ghost use Rattle.dms_codes.specs.Codes.{two_octets, octets_of_checksum, in_order, octets_of_id, id_of, IsMessageId};
+ghost use Rattle.dms_codes.specs.Codes.{octets_of_activation, activation_of, IsActivation};
 ghost use Rattle.dms_codes.specs.Status.{StatusStep, next_status};
 
 use crate::checksum::REMAINDERS;
 
 /// Each entry of the table of remainders is the remainder by division.
 pub fn remainders_are_by_division()
-    ensures { (octet : ℕ) → octet < 256 → slice_index REMAINDERS octet ≡ number (remainder (octet_bits octet ++ sixteen_zeros)) }
+    ensures { (octet : ℕ) → octet < 256
+        → slice_index REMAINDERS octet ≡ number (remainder (octet_bits octet ++ sixteen_zeros)) }
 {}
 
 /// Five octets are those of the message that they name, and a message is the one that its octets name.
@@ -36,12 +38,14 @@ pub fn activations_are_their_octets()
 
 /// A checksum's octets in an order are those, the high octet first, of the number that the order makes of it.
 pub fn checksums_have_their_order()
-    ensures { (order : Order) (crc : ℕ) → crc < 2 ^ 16 → two_octets (in_order order crc) ≡ octets_of_checksum order crc }
+    ensures { (order : Order) (crc : ℕ) → crc < 2 ^ 16
+        → two_octets (in_order order crc) ≡ octets_of_checksum order crc }
 {}
 
 /// The next status is that of the table of statuses.
 pub fn next_statuses_are_the_table()
-    ensures { (status : Status) (ask : Ask) (next : Status) → (next_status status ask ≡ Some next) ↔ StatusStep status ask next }
+    ensures { (status : Status) (ask : Ask) (next : Status)
+        → (next_status status ask ≡ Some next) ↔ StatusStep status ask next }
 {}
 
 /// A number has the type of memory whose number it is.

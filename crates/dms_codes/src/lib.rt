@@ -1,4 +1,5 @@
-//! The codes that name a message and activate one, the checksum of a message, and what names a row of the message table.
+//! The codes that name a message and activate one, the checksum of a message, and what names a row of the message
+//! table.
 //!
 //! ```
 //! let id = MessageId { memory: memory::CHANGEABLE, number: 1, crc: crc(b"A", 0, 0) };
