@@ -1,5 +1,6 @@
 -- What puts a message up, and what keeps it from being shown (NTCIP 1203, dmsActivateMessage and dmsActivateMsgError).
-use Rattle.std.specs.Prelude.{ℕ, ◌+◌, ◌*◌, ◌/◌, ◌==◌, ◌||◌, Bool, not, if◌then◌else◌, List, [], ◌∷◌, Option, Some, None, Result, Ok, Err, option_map, nat_lt}
+use Rattle.std.specs.Prelude.{ℕ, ◌+◌, ◌*◌, ◌/◌, ◌==◌, ◌||◌, Bool, not, if◌then◌else◌, List, [], ◌∷◌}
+use Rattle.std.specs.Prelude.{Option, Some, None, Result, Ok, Err, option_map, nat_lt}
 use Rattle.dms_face.specs.declared.defaults.Defaults.{Defaults}
 use Rattle.dms_face.specs.Face.{FaceModel}
 use Rattle.dms_face.specs.Layout.{under}
@@ -11,13 +12,14 @@ use Rattle.dms_codes.specs.declared.row_id.RowId.{RowId}
 use Rattle.dms_table.specs.declared.activation.Cause.{Cause}
 use Rattle.dms_table.specs.declared.activation.Cause.TheVariants as causes
 use Rattle.dms_table.specs.declared.shown.Mode.{Mode}
-use Rattle.dms_table.specs.declared.shown.Mode.TheVariants.{Central, PowerRecovery, CommunicationsLoss, PowerLoss, EndDuration}
+use Rattle.dms_table.specs.declared.shown.Mode.TheVariants.{Central, PowerRecovery, CommunicationsLoss, PowerLoss}
+use Rattle.dms_table.specs.declared.shown.Mode.TheVariants.{EndDuration}
 use Rattle.dms_codes.specs.Status.{is_valid}
 use Rattle.dms_table.specs.Rows.{RowModel, TableModel, RowReading, row_read, row_checksum}
 use Rattle.dms_codes.specs.Memory.{permanent_memory, changeable_memory, volatile_memory, current_buffer, blank_memory}
 
--- What is shown: a copy of its row, the code's name of it, how it came up and by whom, the seconds that are left or no end, and a
--- copy of the defaults.
+-- What is shown: a copy of its row, the code's name of it, how it came up and by whom, the seconds that are left or no
+-- end, and a copy of the defaults.
 pub record ShownModel : Type 0 where
   pub text : List ℕ
   pub owner : List ℕ
@@ -71,14 +73,26 @@ blank_shown defaults mode = record {
 
 -- what is shown, as a row
 abbrev pub shown_row : ShownModel → RowModel
-shown_row shown = record { text = shown.text; owner = shown.owner; beacon = shown.beacon; pixel = shown.pixel; priority = shown.priority; status = Valid }
+shown_row shown = record {
+  text = shown.text;
+  owner = shown.owner;
+  beacon = shown.beacon;
+  pixel = shown.pixel;
+  priority = shown.priority;
+  status = Valid;
+}
 
 -- its checksum reads 0 while it is a blank message
 abbrev pub shown_reading : ShownModel → RowReading
-shown_reading shown = record { row = shown_row shown; checksum = if shown.source.memory == blank_memory then 0 else row_checksum (shown_row shown) }
+shown_reading shown = record {
+  row = shown_row shown;
+  checksum = if shown.source.memory == blank_memory then 0 else row_checksum (shown_row shown);
+}
 
 abbrev pub is_memory : ℕ → Bool
-is_memory memory = memory == permanent_memory || memory == changeable_memory || memory == volatile_memory || memory == current_buffer || memory == blank_memory
+is_memory memory =
+    memory == permanent_memory || memory == changeable_memory || memory == volatile_memory
+    || memory == current_buffer || memory == blank_memory
 
 abbrev pub row_id : MessageId → RowId
 row_id id = record { memory = id.memory; number = id.number }
@@ -101,10 +115,11 @@ has_checksum id message = id.memory == blank_memory || id.crc == message.checksu
 
 -- What is shown stays, whatever the defaults are now.
 abbrev pub text_error : FaceModel → MessageId → RowReading → Option Cause
-text_error face id message = if id.memory == current_buffer then None else option_map causes.Syntax (fault_of face message.row.text)
+text_error face id message =
+    if id.memory == current_buffer then None else option_map causes.Syntax (fault_of face message.row.text)
 
--- Why a code whose row is there is refused: the first of the row's status, its checksum, the code's priority, the row's text that is
--- wrong; none, if nothing is.
+-- Why a code whose row is there is refused: the first of the row's status, its checksum, the code's priority, the row's
+-- text that is wrong; none, if nothing is.
 abbrev pub activation_error : FaceModel → ShownModel → Activation → RowReading → Option Cause
 activation_error face shown code message =
     if not (is_valid message.row.status) then Some causes.Status
@@ -119,7 +134,8 @@ row_refusal face shown code (Some message) = activation_error face shown code me
 -- Why a code is refused: its type of memory, then its number, then its row may be wrong; none, if nothing is.
 abbrev pub refusal : FaceModel → Defaults → TableModel → ShownModel → Activation → Option Cause
 refusal face defaults table shown code =
-    if is_memory code.id.memory then row_refusal (under face defaults) shown code (named table shown code.id) else Some causes.MemoryType
+    if is_memory code.id.memory then row_refusal (under face defaults) shown code (named table shown code.id)
+    else Some causes.MemoryType
 
 abbrev pub cause_number : Cause → ℕ
 cause_number causes.Priority = 3
@@ -170,9 +186,11 @@ unless_refused value (Some cause) = Err cause
 -- the decision on a code of this row
 abbrev pub decided_on : FaceModel → Defaults → ShownModel → Activation → Option RowReading → Result ShownModel Cause
 decided_on face defaults shown code None = Err causes.Number
-decided_on face defaults shown code (Some message) = unless_refused (put_up defaults shown code message) (activation_error (under face defaults) shown code message)
+decided_on face defaults shown code (Some message) =
+    unless_refused (put_up defaults shown code message) (activation_error (under face defaults) shown code message)
 
 -- The decision on a code: its type of memory, then its number, then its row may be wrong; else it puts its message up.
 abbrev pub decided : FaceModel → Defaults → TableModel → ShownModel → Activation → Result ShownModel Cause
 decided face defaults table shown code =
-    if is_memory code.id.memory then decided_on face defaults shown code (named table shown code.id) else Err causes.MemoryType
+    if is_memory code.id.memory then decided_on face defaults shown code (named table shown code.id)
+    else Err causes.MemoryType

@@ -1,5 +1,6 @@
 -- The rows that can be changed, and where the one stands that is being validated.
-use Rattle.std.specs.Prelude.{◌≡◌, ℕ, ◌+◌, ◌==◌, true, if◌then◌else◌, List, Option, Some, None, option_map, slice_get, count_by}
+use Rattle.std.specs.Prelude.{◌≡◌, ℕ, ◌+◌, ◌==◌, true, if◌then◌else◌}
+use Rattle.std.specs.Prelude.{List, Option, Some, None, option_map, slice_get, count_by}
 use Rattle.dms_codes.specs.declared.status.Ask.{Ask}
 use Rattle.dms_codes.specs.Status.{is_validate}
 use Rattle.dms_codes.specs.Memory.{changeable_memory, volatile_memory}
@@ -27,7 +28,8 @@ pub record IsOnly (index : ℕ) (rows : List RowModel) : Type 0 where
 
 -- the row at this place is being validated, and no other of all
 pub record IsOnlyOfAll (place : Place) (changeable volatile : List RowModel) : Type 0 where
-  pub there : option_map row_is_validating (slice_get (of_type place.memory changeable volatile) place.index) ≡ Some true
+  pub there : option_map row_is_validating (slice_get (of_type place.memory changeable volatile) place.index)
+      ≡ Some true
   pub one : count_by row_is_validating changeable + count_by row_is_validating volatile ≡ 1
 
 -- the row at this place alone is being validated, or none is

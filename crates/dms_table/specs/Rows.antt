@@ -1,5 +1,7 @@
 -- The message table: its rows, and what asking, writing and a loss of power make of them (NTCIP 1203, dmsMessageTable).
-use Rattle.std.specs.Prelude.{ℕ, ◌+◌, ◌-◌, ◌≤◌, ◌==◌, ◌&&◌, ◌||◌, Bool, not, if◌then◌else◌, List, [], length, map, count_by, Option, Some, None, option_map, option_and_then, slice_get, slice_set, nat_le}
+use Rattle.std.specs.Prelude.{ℕ, ◌+◌, ◌-◌, ◌≤◌, ◌==◌, ◌&&◌, ◌||◌, Bool, not, if◌then◌else◌, nat_le}
+use Rattle.std.specs.Prelude.{List, [], length, map, count_by, slice_get, slice_set}
+use Rattle.std.specs.Prelude.{Option, Some, None, option_map, option_and_then}
 use Rattle.std.specs.List.{list_any}
 use Rattle.dms_codes.specs.declared.status.Status.{Status}
 use Rattle.dms_codes.specs.declared.status.Status.TheVariants.{NotUsed, Modifying, Valid}
@@ -22,7 +24,8 @@ pub record RowModel : Type 0 where
   pub priority : ℕ
   pub status : Status
 
--- the rows of each type of memory, that of number 1 first; what the sign has; and the order of a checksum's octets in its codes
+-- the rows of each type of memory, that of number 1 first; what the sign has; and the order of a checksum's octets in
+-- its codes
 pub record TableModel : Type 0 where
   pub permanent : List RowModel
   pub changeable : List RowModel
@@ -94,7 +97,8 @@ row_count table memory = length (rows_of table memory)
 
 -- the table with a row of it changed; changeable and volatile rows can be, and None is a refusal
 abbrev pub changed_in : List RowModel → ℕ → (RowModel → Option RowModel) → Option (List RowModel)
-changed_in rows number change = option_and_then (λ row. option_map (slice_set rows (number - 1)) (change row)) (numbered rows number)
+changed_in rows number change =
+    option_and_then (λ row. option_map (slice_set rows (number - 1)) (change row)) (numbered rows number)
 
 abbrev pub with_changeable : TableModel → List RowModel → TableModel
 with_changeable table rows = record table { changeable = rows }
@@ -104,8 +108,10 @@ with_volatile table rows = record table { volatile = rows }
 
 abbrev pub changed : TableModel → RowId → (RowModel → Option RowModel) → Option TableModel
 changed table id change =
-    if id.memory == changeable_memory then option_map (with_changeable table) (changed_in table.changeable id.number change)
-    else if id.memory == volatile_memory then option_map (with_volatile table) (changed_in table.volatile id.number change)
+    if id.memory == changeable_memory
+    then option_map (with_changeable table) (changed_in table.changeable id.number change)
+    else if id.memory == volatile_memory
+    then option_map (with_volatile table) (changed_in table.volatile id.number change)
     else None
 
 -- ---- asking
@@ -176,7 +182,10 @@ released row = unused
 
 -- volatile rows are gone
 abbrev pub after_power : TableModel → TableModel
-after_power table = record table { changeable = map interrupted table.changeable; volatile = map released table.volatile }
+after_power table = record table {
+  changeable = map interrupted table.changeable;
+  volatile = map released table.volatile;
+}
 
 -- ---- every table
 

@@ -18,7 +18,14 @@ field_of (fields.Priority priority) = Priority priority
 
 abbrev pub reading_of : RowView → RowReading
 reading_of view = record {
-  row = record { text = view.text.now; owner = view.owner.now; beacon = view.beacon; pixel = view.pixel; priority = view.priority; status = view.status };
+  row = record {
+    text = view.text.now;
+    owner = view.owner.now;
+    beacon = view.beacon;
+    pixel = view.pixel;
+    priority = view.priority;
+    status = view.status;
+  };
   checksum = view.checksum;
 }
 

@@ -15,4 +15,5 @@ pub record KeepsItsChecksum (memory : ℕ) (text : List ℕ) (beacon pixel check
 
 -- what is read of a row of this type of memory has it, where the row is valid
 pub record HasItWhereValid (memory : ℕ) (reading : RowReading) : Type 0 where
-  pub is : is_valid reading.row.status ≡ true → reading.checksum ≡ shown_checksum memory reading.row.text reading.row.beacon reading.row.pixel
+  pub is : is_valid reading.row.status ≡ true
+      → reading.checksum ≡ shown_checksum memory reading.row.text reading.row.beacon reading.row.pixel

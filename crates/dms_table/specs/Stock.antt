@@ -1,5 +1,6 @@
 -- What a table is made of (this profile).
-use Rattle.std.specs.Prelude.{◌≡◌, ℕ, ◌+◌, ◌&&◌, Bool, not, if◌then◌else◌, length, map, replicate, Option, Some, None, option_map, nat_le, position, All}
+use Rattle.std.specs.Prelude.{◌≡◌, ℕ, ◌+◌, ◌&&◌, Bool, not, if◌then◌else◌, Option, Some, None, option_map}
+use Rattle.std.specs.Prelude.{length, map, replicate, nat_le, position, All}
 use Rattle.std.specs.Int.Digits.{AllBelowBase}
 use Rattle.dms_face.specs.Face.{FaceModel}
 use Rattle.dms_face.specs.Fit.{IsGood}
@@ -14,17 +15,28 @@ use Rattle.dms_codes.specs.Limits.{longest_text, longest_owner}
 use Rattle.dms_table.specs.Validation.{verdict_of, passes, IsShowable}
 
 abbrev pub permanent_row : Permanent → RowModel
-permanent_row message = record { text = message.text.now; owner = message.owner.now; beacon = message.beacon; pixel = message.pixel; priority = message.priority; status = Valid }
+permanent_row message = record {
+  text = message.text.now;
+  owner = message.owner.now;
+  beacon = message.beacon;
+  pixel = message.pixel;
+  priority = message.priority;
+  status = Valid;
+}
 
 abbrev pub services_of : Stock → Services
 services_of stock = record { beacon = stock.beacon; pixel = stock.pixel }
 
 abbrev pub has_ranges : RowModel → Bool
-has_ranges row = nat_le (length row.text) longest_text && nat_le (length row.owner) longest_owner && nat_le row.beacon 1 && nat_le row.pixel 1 && nat_le 1 row.priority && nat_le row.priority 255
+has_ranges row =
+    nat_le (length row.text) longest_text && nat_le (length row.owner) longest_owner
+    && nat_le row.beacon 1 && nat_le row.pixel 1
+    && nat_le 1 row.priority && nat_le row.priority 255
 
 -- a permanent row is one that could be validated
 abbrev pub may_stand : Services → FaceModel → Permanent → Bool
-may_stand services face message = has_ranges (permanent_row message) && passes (verdict_of services face (permanent_row message))
+may_stand services face message =
+    has_ranges (permanent_row message) && passes (verdict_of services face (permanent_row message))
 
 -- one that may not stand
 abbrev pub may_not_stand : Services → FaceModel → Permanent → Bool
@@ -53,7 +65,8 @@ permanent_fault place = faults.Permanent (place + 1)
 -- the first thing that is wrong with a stock
 abbrev pub stock_fault : FaceModel → Stock → Option TableFault
 stock_fault face stock =
-    if are_counts stock then option_map permanent_fault (position (may_not_stand (services_of stock) face) stock.permanent.now)
+    if are_counts stock
+    then option_map permanent_fault (position (may_not_stand (services_of stock) face) stock.permanent.now)
     else Some faults.Counts
 
 -- Where there is nothing wrong with a stock, memory may be wanting.

@@ -1,5 +1,6 @@
 -- The validation of a row (NTCIP 1203, dmsValidateMessageError).
-use Rattle.std.specs.Prelude.{◌≡◌, ℕ, ◌==◌, ◌&&◌, IsTrue, Bool, not, if◌then◌else◌, List, ◌++◌, map, find, Option, Some, None, option_map}
+use Rattle.std.specs.Prelude.{◌≡◌, ℕ, ◌==◌, ◌&&◌, IsTrue, Bool, not, if◌then◌else◌}
+use Rattle.std.specs.Prelude.{List, ◌++◌, map, find, Option, Some, None, option_map}
 use Rattle.dms_face.specs.declared.multi_fault.MultiFault.{MultiFault}
 use Rattle.dms_face.specs.Face.{FaceModel}
 use Rattle.dms_face.specs.Fit.{IsGood, fault_of}
@@ -30,7 +31,8 @@ passes verdict = verdict.error == 2
 -- a row that is being validated becomes valid, or an error
 abbrev pub settled_row : Services → FaceModel → RowModel → RowModel
 settled_row services face row =
-    if row_is_validating row then record row { status = if passes (verdict_of services face row) then Valid else Error } else row
+    if row_is_validating row then record row { status = if passes (verdict_of services face row) then Valid else Error }
+    else row
 
 -- the table once the row that is being validated is settled
 abbrev pub settled : FaceModel → TableModel → TableModel
@@ -54,14 +56,17 @@ pub record IsShowable (services : Services) (face : FaceModel) (row : RowModel) 
   pub has_pixel : row.pixel ≡ 1 → IsTrue services.pixel
 
 -- a row that is valid was so before, or it was being validated and can be shown
-pub data CameToBeValid (services : Services) (face : FaceModel) (before : Option RowModel) (row : RowModel) : Type 0 where
+pub data CameToBeValid
+    (services : Services) (face : FaceModel) (before : Option RowModel) (row : RowModel) : Type 0 where
   was_valid : before ≡ Some row → CameToBeValid services face before row
-  was_settled : before ≡ Some (record row { status = Validating }) → IsShowable services face row → CameToBeValid services face before row
+  was_settled : before ≡ Some (record row { status = Validating }) → IsShowable services face row
+      → CameToBeValid services face before row
 
 -- each row that is valid now
 abbrev pub ValidRowsAreGood : FaceModel → TableModel → TableModel → Type 0
 ValidRowsAreGood face old new =
-    (id : RowId) (row : RowModel) → row_at new id ≡ Some row → row.status ≡ Valid → CameToBeValid old.services face (row_at old id) row
+    (id : RowId) (row : RowModel) → row_at new id ≡ Some row → row.status ≡ Valid
+    → CameToBeValid old.services face (row_at old id) row
 
 -- the text of the row of this number, where it is valid, is good on this face
 abbrev pub HasGoodTextWhereValid : FaceModel → TableModel → ℕ → ℕ → Type 0

@@ -20,4 +20,5 @@ verdict_by validator row = verdict_of validator.services (face_of validator) row
 
 -- a row that passes has a good text
 abbrev pub IsJudged : Validator → RowModel → Type 0
-IsJudged validator row = row_is_validating row ≡ true → passes (verdict_by validator row) ≡ true → IsGood (face_of validator) row.text
+IsJudged validator row =
+    row_is_validating row ≡ true → passes (verdict_by validator row) ≡ true → IsGood (face_of validator) row.text

@@ -8,7 +8,8 @@ ghost use Rattle.dms_codes.specs.Status.{is_valid};
 ghost use Rattle.dms_table.specs.Validation.{HasGoodTextWhereValid};
 ghost use Rattle.dms_face.specs.Layout.{under};
 ghost use Rattle.dms_table.specs.RowsView.{reading_of, IsShort};
-ghost use Rattle.dms_table.specs.Activation.{is_memory, named, activation_error, refusal, shown_by, unless_refused, decided};
+ghost use Rattle.dms_table.specs.Activation.{is_memory, named, activation_error, refusal, shown_by};
+ghost use Rattle.dms_table.specs.Activation.{unless_refused, decided};
 
 use crate::row::RowView;
 use crate::shown::Shown;
@@ -95,7 +96,8 @@ impl Table {
         }
     }
 
-    /// Refuses a code for the first cause that there is. A text that is known to be good under the same defaults is not checked again.
+    /// Refuses a code for the first cause that there is. A text that is known to be good under the same defaults is not
+    /// checked again.
     pub fn judge(
         &self,
         good_under: Option<&Defaults>,
@@ -105,7 +107,8 @@ impl Table {
         shown: &Shown,
     ) -> Result<(), Cause>
         requires fit { IsTrue (fit face.now.fonts defaults.now) }
-        requires good { IfSome good_under (λ known. HasGoodTextWhereValid (under face.now known.now) self.now code.now.id.memory code.now.id.number) }
+        requires good { IfSome good_under (λ known.
+            HasGoodTextWhereValid (under face.now known.now) self.now code.now.id.memory code.now.id.number) }
         ensures { result ≡ unless_refused tt (refusal face.now defaults.now self.now shown.now code.now) }
     {
         if !is_memory(code.id.memory) {
@@ -117,8 +120,8 @@ impl Table {
         }
     }
 
-    /// Puts up the message that a code names, in the place of what is shown; a code that `judge` let pass names one, and by one that names
-    /// none nothing changes.
+    /// Puts up the message that a code names, in the place of what is shown; a code that `judge` let pass names one,
+    /// and by one that names none nothing changes.
     pub fn put_up(&self, defaults: &Defaults, code: &Activation, shown: &mut Shown)
         ensures { shown.new ≡ shown_by defaults.now self.now shown.old code.now }
     {
@@ -160,7 +163,8 @@ fn is_memory(kind: u8) -> bool
     Memory::of(kind).is_some()
 }
 
-/// Refuses a code of this row for the first cause that there is; a text that is known to be good under the same defaults is not checked.
+/// Refuses a code of this row for the first cause that there is; a text that is known to be good under the same
+/// defaults is not checked.
 fn judge_row(
     good_under: Option<&Defaults>,
     face: &Face,
@@ -170,9 +174,11 @@ fn judge_row(
     row: &RowView<'_>,
 ) -> Result<(), Cause>
     requires fit { IsTrue (fit face.now.fonts defaults.now) }
-    requires good { IfSome good_under (λ known. is_valid row.now.status ≡ true → (code.now.id.memory ≡ current_buffer → ⊥)
+    requires good { IfSome good_under (λ known.
+        is_valid row.now.status ≡ true → (code.now.id.memory ≡ current_buffer → ⊥)
         → fault_of (under face.now known.now) row.now.text.now ≡ None) }
-    ensures { result ≡ unless_refused tt (activation_error (under face.now defaults.now) shown.now code.now (reading_of row.now)) }
+    ensures { result
+        ≡ unless_refused tt (activation_error (under face.now defaults.now) shown.now code.now (reading_of row.now)) }
 {
     if row.status != Status::Valid {
         return Err(Cause::Status);

@@ -19,9 +19,12 @@ pub fn one_row_is_validating(table: &Table)
 
 /// What a table does leaves its permanent rows as they are, so they stay good on the face that it was made for.
 pub fn permanent_rows_stay()
-    ensures asked { (old new : TableModel) (id : RowId) (ask : Ask) → asked old id ask ≡ Some new → KeepsPermanentRows old new }
-    ensures written { (old new : TableModel) (id : RowId) (field : FieldModel) → written old id field ≡ Some new → KeepsPermanentRows old new }
+    ensures asked { (old new : TableModel) (id : RowId) (ask : Ask) → asked old id ask ≡ Some new
+        → KeepsPermanentRows old new }
+    ensures written { (old new : TableModel) (id : RowId) (field : FieldModel) → written old id field ≡ Some new
+        → KeepsPermanentRows old new }
     ensures settled { (face : FaceModel) (table : TableModel) → KeepsPermanentRows table (settled face table) }
     ensures after_power { (table : TableModel) → KeepsPermanentRows table (after_power table) }
-    ensures good { (face : FaceModel) (old new : TableModel) → KeepsPermanentRows old new → PermanentRowsAreGood face old → PermanentRowsAreGood face new }
+    ensures good { (face : FaceModel) (old new : TableModel) → KeepsPermanentRows old new
+        → PermanentRowsAreGood face old → PermanentRowsAreGood face new }
 {}

@@ -1,8 +1,10 @@
 //! Rows of the table.
 
-ghost use Rattle.std.specs.Prelude.{◌≡◌, false, true, ◌≤◌, [], Some, None, OnOk, OnErr, IfSome, IsTrue, length, option_map, is_some};
+ghost use Rattle.std.specs.Prelude.{◌≡◌, false, true, ◌≤◌, [], Some, None, OnOk, OnErr, IfSome, IsTrue};
+ghost use Rattle.std.specs.Prelude.{length, option_map, is_some};
 ghost use Rattle.std.specs.Int.Digits.{AllBelowBase};
-ghost use Rattle.dms_table.specs.Rows.{unused, interrupted, is_in_range, with_field, with_status, asked_row, written_row, blank_at, blank_reading, reading, row_is_validating};
+ghost use Rattle.dms_table.specs.Rows.{unused, interrupted, is_in_range, with_field, with_status, asked_row};
+ghost use Rattle.dms_table.specs.Rows.{written_row, blank_at, blank_reading, reading, row_is_validating};
 ghost use Rattle.dms_codes.specs.Status.{is_valid, is_not_used};
 ghost use Rattle.dms_face.specs.Face.{fit};
 ghost use Rattle.dms_table.specs.ValidatorView.{settled_by, verdict_by, IsJudged};
@@ -96,7 +98,14 @@ impl Model for Row {
 
     ghost Value = { RowModel };
 
-    ghost view = { λ r. record { text = r.text.items; owner = r.owner.items; beacon = r.beacon; pixel = r.pixel; priority = r.priority; status = r.status } };
+    ghost view = { λ r. record {
+      text = r.text.items;
+      owner = r.owner.items;
+      beacon = r.beacon;
+      pixel = r.pixel;
+      priority = r.priority;
+      status = r.status;
+    } };
 
     ghost invariant = { λ r. HasItsChecksum r.text.items r.beacon r.pixel r.status r.checksum };
 }

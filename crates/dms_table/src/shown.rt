@@ -76,7 +76,18 @@ impl Model for Shown {
 
     ghost Value = { ShownModel };
 
-    ghost view = { λ s. record { text = s.text.items; owner = s.owner.items; beacon = s.beacon; pixel = s.pixel; priority = s.priority; source = s.source; mode = s.mode; address = s.address; remaining = s.remaining; defaults = s.defaults } };
+    ghost view = { λ s. record {
+      text = s.text.items;
+      owner = s.owner.items;
+      beacon = s.beacon;
+      pixel = s.pixel;
+      priority = s.priority;
+      source = s.source;
+      mode = s.mode;
+      address = s.address;
+      remaining = s.remaining;
+      defaults = s.defaults;
+    } };
 
     ghost invariant = { λ s. KeepsItsChecksum s.source.memory s.text.items s.beacon s.pixel s.checksum };
 }
@@ -181,7 +192,11 @@ impl Shown {
 
     /// It stays, and is up again by this code.
     pub(crate) fn renew(&mut self, code: &Activation)
-        ensures { self.new ≡ record self.old { mode = mode_number Central; address = code.now.address; remaining = seconds_of code.now.minutes } }
+        ensures { self.new ≡ record self.old {
+          mode = mode_number Central;
+          address = code.now.address;
+          remaining = seconds_of code.now.minutes;
+        } }
     {
         self.mode = Mode::Central.number();
         self.address = code.address;
@@ -207,7 +222,8 @@ impl Shown {
     }
 }
 
-/// The checksum of a row of this type of memory while it is shown: 0 of a blank message, and that which a valid row has.
+/// The checksum of a row of this type of memory while it is shown: 0 of a blank message, and that which a valid row
+/// has.
 fn checksum_of(kind: u8, row: &RowView<'_>) -> u16
     requires { HasItWhereValid kind (reading_of row.now) }
     ensures { result ≡ shown_checksum kind row.now.text.now row.now.beacon row.now.pixel }

@@ -3,7 +3,8 @@
 ghost use Rattle.std.specs.Prelude.{◌≡◌, IsTrue, IfNone, IfOk, All, map, replicate, position};
 ghost use Rattle.dms_face.specs.Face.{fit};
 ghost use Rattle.dms_table.specs.Rows.{unused};
-ghost use Rattle.dms_table.specs.Stock.{HasGoodText, are_counts, permanent_row, has_ranges, may_stand, may_not_stand, stock_fault, services_of, HasOctets};
+ghost use Rattle.dms_table.specs.Stock.{HasGoodText, are_counts, permanent_row, has_ranges, may_stand, may_not_stand};
+ghost use Rattle.dms_table.specs.Stock.{stock_fault, services_of, HasOctets};
 ghost use Rattle.dms_table.specs.ValidatorView.{face_of};
 
 use crate::row::{Row, Services};

@@ -1,9 +1,12 @@
 //! The message table.
 
-ghost use Rattle.std.specs.Prelude.{◌≡◌, ◌⊎◌, ◌<◌, ◌+◌, IfNone, map, find, All, IsTrue, IfOk, IfErr, OnOk, OnErr, Some, None, IfSome, option_map, is_some};
+ghost use Rattle.std.specs.Prelude.{◌≡◌, ◌⊎◌, ◌<◌, ◌+◌, IfNone, map, find, All, IsTrue, IfOk, IfErr, OnOk, OnErr};
+ghost use Rattle.std.specs.Prelude.{Some, None, IfSome, option_map, is_some};
 ghost use Rattle.std.specs.Option.{option_copied};
 ghost use Rattle.std.specs.List.{list_any};
-ghost use Rattle.dms_table.specs.Rows.{row_is_validating, rows_of, numbered, row_read, valid_count, unused_count, row_count, is_settling, may_ask, changed_in, asked_row, asked, written_row, written, interrupted, released, after_power, IsTable, TableModel, FieldModel};
+ghost use Rattle.dms_table.specs.Rows.{row_is_validating, rows_of, numbered, row_read, valid_count, unused_count};
+ghost use Rattle.dms_table.specs.Rows.{row_count, is_settling, may_ask, changed_in, asked_row, asked, written_row};
+ghost use Rattle.dms_table.specs.Rows.{written, interrupted, released, after_power, IsTable, TableModel, FieldModel};
 ghost use Rattle.dms_table.specs.RowsView.{field_of, reading_of, IsShort};
 ghost use Rattle.dms_codes.specs.declared.row_id.RowId.{RowId};
 ghost use Rattle.dms_codes.specs.declared.status.Ask.{Ask};
@@ -13,7 +16,8 @@ ghost use Rattle.dms_face.specs.Layout.{under};
 ghost use Rattle.dms_table.specs.Validation.{settled, verdict, ValidRowsAreGood};
 ghost use Rattle.dms_table.specs.PlaceView.{IsOnly, IsPlaced, validating_after};
 ghost use Rattle.dms_table.specs.ValidatorView.{settled_by, verdict_by, IsJudged};
-ghost use Rattle.dms_table.specs.Stock.{permanent_row, has_ranges, stock_fault, table_of, IsFirstFault, PermanentRowsAreGood, KeepsPermanentRows, HasOctets};
+ghost use Rattle.dms_table.specs.Stock.{permanent_row, has_ranges, stock_fault, table_of, IsFirstFault};
+ghost use Rattle.dms_table.specs.Stock.{PermanentRowsAreGood, KeepsPermanentRows, HasOctets};
 ghost use Rattle.dms_table.specs.Activation.{is_memory, named, activation_error, unless_refused, decided};
 
 use crate::activation::Cause;
@@ -44,7 +48,13 @@ impl Model for Table {
 
     ghost Value = { TableModel };
 
-    ghost view = { λ t. record { permanent = t.permanent.items; changeable = t.writable.changeable.items; volatile = t.writable.volatile.items; services = t.services; order = t.order } };
+    ghost view = { λ t. record {
+      permanent = t.permanent.items;
+      changeable = t.writable.changeable.items;
+      volatile = t.writable.volatile.items;
+      services = t.services;
+      order = t.order;
+    } };
 
     ghost invariant = { λ t. IsPlaced t.validating t.writable.changeable.items t.writable.volatile.items };
 }
@@ -213,8 +223,8 @@ impl Table {
         }
     }
 
-    /// Ends the validation of the row that is being validated: it becomes valid, or an error. There is a verdict where there was
-    /// such a row.
+    /// Ends the validation of the row that is being validated: it becomes valid, or an error. There is a verdict where
+    /// there was such a row.
     pub fn settle(&mut self, face: &Face, defaults: &Defaults) -> Option<Verdict>
         requires { IsTrue (fit face.now.fonts defaults.now) }
         ensures rows { self.new ≡ settled (under face.now defaults.now) self.old }

@@ -12,8 +12,8 @@ use dms_face::{Defaults, Face, MultiFault, check_with};
 /// The verdict on a row (NTCIP 1203, dmsValidateMessageError).
 #[derive(Clone, Copy, Debug, PartialEq, Eq)]
 pub struct Verdict {
-    /// A value of dmsValidateMessageError: 2 where the row is valid, 3 for a beacon and 4 for a pixel service that the sign has not,
-    /// 5 for a text that does not fit.
+    /// A value of dmsValidateMessageError: 2 where the row is valid, 3 for a beacon and 4 for a pixel service that the
+    /// sign has not, 5 for a text that does not fit.
     pub error: u8,
     /// The fault of a text that does not fit.
     pub fault: Option<MultiFault>,
