@@ -9,10 +9,11 @@ use Rattle.dms_face.specs.Layout.{under}
 use Rattle.dms_face.specs.Fit.{fault_of}
 use Rattle.dms_table.specs.declared.row.Services.{Services}
 use Rattle.dms_codes.specs.declared.status.Status.{Status}
+use Rattle.dms_table.specs.declared.validation.ValidationError.TheVariants as errors
 use Rattle.dms_table.specs.declared.validation.Verdict.{Verdict}
 use Rattle.dms_table.specs.Rows.{RowModel, TableModel, row_is_validating, interrupted, released, unused, after_power}
 use Rattle.dms_codes.specs.Limits.{longest_text}
-use Rattle.dms_table.specs.Validation.{text_verdict, verdict_of, settled_row, settled, settling_row, verdict}
+use Rattle.dms_table.specs.Validation.{verdict_without_fault, text_verdict, verdict_of, settled_row, settled, settling_row, verdict}
 use Rattle.dms_access.specs.declared.reports.Reports.{Reports}
 use Rattle.dms_sign.specs.State.{SignState, power_recovery_mode, communications_loss_mode, power_loss_mode, end_duration_mode}
 use Rattle.dms_sign.specs.OwnCodes.{showing, put_up_code}
@@ -38,8 +39,8 @@ text_verdict_in_range (Some fault) placed = record { error = omega arith; fault 
 
 verdict_in_range : (services : Services) (face : FaceModel) (row : RowModel) → IsVerdictInRange (verdict_of services face row)
 verdict_in_range services face row =
-    either IsVerdictInRange _ (record { error = 3; fault = None }) _ (record { error = omega arith; fault = tt })
-    (either IsVerdictInRange _ (record { error = 4; fault = None }) (text_verdict (fault_of face row.text)) (record { error = omega arith; fault = tt })
+    either IsVerdictInRange _ (verdict_without_fault errors.Beacons) _ (record { error = omega arith; fault = tt })
+    (either IsVerdictInRange _ (verdict_without_fault errors.PixelService) (text_verdict (fault_of face row.text)) (record { error = omega arith; fault = tt })
     (text_verdict_in_range (fault_of face row.text) (fault_placed face row.text)))
 
 any_if : {X Y : Type 0} (P : Y → Type 0) (f : X → Y) (o : Option X) → ((x : X) → P (f x)) → IfSome (option_map f o) P

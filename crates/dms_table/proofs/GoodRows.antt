@@ -8,11 +8,12 @@ use Rattle.dms_codes.specs.declared.codes.Order.{Order}
 use Rattle.dms_codes.specs.declared.status.Status.{Status}
 use Rattle.dms_codes.specs.declared.status.Status.TheVariants.{NotUsed, Modifying, Validating, Valid, Error}
 use Rattle.dms_table.specs.declared.row.Services.{Services}
+use Rattle.dms_table.specs.declared.validation.ValidationError.TheVariants as errors
 use Rattle.dms_table.specs.declared.validation.Verdict.{Verdict}
 use Rattle.dms_codes.specs.Status.{is_validating}
 use Rattle.dms_table.specs.Rows.{RowModel, TableModel, row_is_validating, numbered, blank_at}
 use Rattle.dms_codes.specs.Memory.{permanent_memory, changeable_memory, volatile_memory, blank_memory}
-use Rattle.dms_table.specs.Validation.{text_verdict, verdict_of, passes, settled_row, settled, IsShowable, CameToBeValid, was_valid, was_settled, ValidRowsAreGood}
+use Rattle.dms_table.specs.Validation.{verdict_without_fault, text_verdict, verdict_of, passes, settled_row, settled, IsShowable, CameToBeValid, was_valid, was_settled, ValidRowsAreGood}
 
 -- a row that passes has a good text
 abbrev IsFound : Services → FaceModel → RowModel → Type 0
@@ -40,9 +41,9 @@ passes_on false wrong other fails h = h
 pub showable : (services : Services) (face : FaceModel) (row : RowModel) → passes (verdict_of services face row) ≡ true → IsGood face row.text → IsShowable services face row
 showable services face row h good = record {
   good = good;
-  has_beacon = has_needed row.beacon services.beacon (record { error = 3; fault = None }) _ refl h;
-  has_pixel = has_needed row.pixel services.pixel (record { error = 4; fault = None }) (text_verdict (fault_of face row.text)) refl
-      (passes_on (row.beacon == 1 && not services.beacon) (record { error = 3; fault = None }) _ refl h);
+  has_beacon = has_needed row.beacon services.beacon (verdict_without_fault errors.Beacons) _ refl h;
+  has_pixel = has_needed row.pixel services.pixel (verdict_without_fault errors.PixelService) (text_verdict (fault_of face row.text)) refl
+      (passes_on (row.beacon == 1 && not services.beacon) (verdict_without_fault errors.Beacons) _ refl h);
 }
 
 -- ---- one row

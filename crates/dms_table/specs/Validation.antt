@@ -7,26 +7,38 @@ use Rattle.dms_face.specs.Fit.{IsGood, fault_of}
 use Rattle.dms_codes.specs.declared.status.Status.TheVariants.{Valid, Validating, Error}
 use Rattle.dms_codes.specs.declared.row_id.RowId.{RowId}
 use Rattle.dms_table.specs.declared.row.Services.{Services}
+use Rattle.dms_table.specs.declared.validation.ValidationError.{ValidationError}
+use Rattle.dms_table.specs.declared.validation.ValidationError.TheVariants as errors
 use Rattle.dms_table.specs.declared.validation.Verdict.{Verdict}
 use Rattle.dms_table.specs.Rows.{RowModel, TableModel, row_is_validating, row_at, rows_of, numbered}
 
--- the verdict on a text: 2 that nothing is wrong, 5 that it does not fit
-abbrev pub text_verdict : Option MultiFault → Verdict
-text_verdict None = record { error = 2; fault = None }
-text_verdict (Some fault) = record { error = 5; fault = Some fault }
+-- what is wrong with a message (NTCIP 1203, dmsValidateMessageError)
+abbrev pub validation_number : ValidationError → ℕ
+validation_number errors.None = 2
+validation_number errors.Beacons = 3
+validation_number errors.PixelService = 4
+validation_number errors.SyntaxMulti = 5
 
--- The verdict on a message is the first of: 3 a beacon, or 4 a pixel service, that the sign has not; that on its text.
+abbrev pub verdict_without_fault : ValidationError → Verdict
+verdict_without_fault error = record { error = validation_number error; fault = None }
+
+-- the verdict on a text: nothing is wrong, or it does not fit
+abbrev pub text_verdict : Option MultiFault → Verdict
+text_verdict None = verdict_without_fault errors.None
+text_verdict (Some fault) = record { error = validation_number errors.SyntaxMulti; fault = Some fault }
+
+-- The verdict on a message is the first of: a beacon, or a pixel service, that the sign has not; that on its text.
 abbrev pub verdict_on : Services → FaceModel → List ℕ → ℕ → ℕ → Verdict
 verdict_on services face text beacon pixel =
-    if beacon == 1 && not services.beacon then record { error = 3; fault = None }
-    else if pixel == 1 && not services.pixel then record { error = 4; fault = None }
+    if beacon == 1 && not services.beacon then verdict_without_fault errors.Beacons
+    else if pixel == 1 && not services.pixel then verdict_without_fault errors.PixelService
     else text_verdict (fault_of face text)
 
 abbrev pub verdict_of : Services → FaceModel → RowModel → Verdict
 verdict_of services face row = verdict_on services face row.text row.beacon row.pixel
 
 abbrev pub passes : Verdict → Bool
-passes verdict = verdict.error == 2
+passes verdict = verdict.error == validation_number errors.None
 
 -- a row that is being validated becomes valid, or an error
 abbrev pub settled_row : Services → FaceModel → RowModel → RowModel

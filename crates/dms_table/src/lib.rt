@@ -29,5 +29,5 @@ pub use row::{Field, Refused, RowView, Services};
 pub use shown::{Mode, Shown};
 pub use stock::{Permanent, Stock, TableFault};
 pub use table::Table;
-pub use validation::Verdict;
+pub use validation::{ValidationError, Verdict};
 pub use writable::{Place, Writable};

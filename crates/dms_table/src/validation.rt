@@ -3,36 +3,68 @@
 ghost use Rattle.std.specs.Prelude.{◌≡◌, IsTrue};
 ghost use Rattle.dms_face.specs.Face.{fit};
 ghost use Rattle.dms_face.specs.Fit.{IsGood};
-ghost use Rattle.dms_table.specs.Validation.{verdict_on, passes};
+ghost use Rattle.dms_table.specs.Validation.{verdict_without_fault, verdict_on, passes};
 ghost use Rattle.dms_table.specs.ValidatorView.{face_of};
 
 use crate::row::Services;
 use dms_face::{Defaults, Face, MultiFault, check_with};
 
+/// What is wrong with a message that is validated: the values of dmsValidateMessageError (NTCIP 1203).
+#[derive(Clone, Copy, Debug, PartialEq, Eq)]
+pub enum ValidationError {
+    /// Nothing.
+    None,
+    /// It has a beacon on, and the sign has none.
+    Beacons,
+    /// It has a pixel service on, and the sign has none.
+    PixelService,
+    /// Its text does not fit.
+    SyntaxMulti,
+}
+
+impl ValidationError {
+    ghost use Rattle.std.specs.Prelude.{◌≡◌};
+    ghost use Rattle.dms_table.specs.Validation.{validation_number};
+
+    /// The error's number in dmsValidateMessageError.
+    pub fn number(self) -> u8
+        ensures { result ≡ validation_number self }
+    {
+        match self {
+            ValidationError::None => 2,
+            ValidationError::Beacons => 3,
+            ValidationError::PixelService => 4,
+            ValidationError::SyntaxMulti => 5,
+        }
+    }
+}
+
 /// The verdict on a row (NTCIP 1203, dmsValidateMessageError).
 #[derive(Clone, Copy, Debug, PartialEq, Eq)]
 pub struct Verdict {
-    /// A value of dmsValidateMessageError: 2 where the row is valid, 3 for a beacon and 4 for a pixel service that the
-    /// sign has not, 5 for a text that does not fit.
+    /// The number of what is wrong (`ValidationError`): 2 where the row is valid, 3 for a beacon and 4 for a pixel
+    /// service that the sign has not, 5 for a text that does not fit.
     pub error: u8,
     /// The fault of a text that does not fit.
     pub fault: Option<MultiFault>,
 }
 
 impl Verdict {
-    const VALID: u8 = 2;
-
-    const BEACONS: u8 = 3;
-
-    const PIXEL_SERVICE: u8 = 4;
-
-    const SYNTAX_MULTI: u8 = 5;
+    /// The verdict of this error, where it is not a text's.
+    fn without_fault(error: ValidationError) -> Verdict
+        ensures { result ≡ verdict_without_fault error }
+    {
+        Verdict {
+            error: error.number(),
+            fault: None,
+        }
+    }
 
     /// Whether nothing is wrong, so that the row becomes valid.
     pub fn passes(&self) -> bool
         ensures { result ≡ passes self.now }
     {
-        self.error == Verdict::VALID
+        self.error == ValidationError::None.number()
     }
 }
 
@@ -52,24 +84,15 @@ impl<'a> Validator<'a> {
         ensures good { IsTrue (passes result) → IsGood (face_of self.now) text.now }
     {
         if beacon == 1 && !self.services.beacon {
-            return Verdict {
-                error: Verdict::BEACONS,
-                fault: None,
-            };
+            return Verdict::without_fault(ValidationError::Beacons);
         }
         if pixel == 1 && !self.services.pixel {
-            return Verdict {
-                error: Verdict::PIXEL_SERVICE,
-                fault: None,
-            };
+            return Verdict::without_fault(ValidationError::PixelService);
         }
         match check_with(self.face, self.defaults, text) {
-            Ok(_) => Verdict {
-                error: Verdict::VALID,
-                fault: None,
-            },
+            Ok(_) => Verdict::without_fault(ValidationError::None),
             Err(fault) => Verdict {
-                error: Verdict::SYNTAX_MULTI,
+                error: ValidationError::SyntaxMulti.number(),
                 fault: Some(fault),
             },
         }
