@@ -16,7 +16,8 @@ use Rattle.dms_table.specs.declared.validation.Verdict.{Verdict}
 use Rattle.dms_codes.specs.Status.{next_status, is_modifying}
 use Rattle.dms_table.specs.Rows.{RowModel, TableModel, FieldModel, Text, Owner, Beacon, Pixel, Priority, unused, rows_of, numbered, blank_at, changed_in, with_changeable, with_volatile, changed, with_status, asked_row, may_ask, asked, is_in_range, with_field, written_row, written, row_is_validating, interrupted, released, after_power}
 use Rattle.dms_codes.specs.Memory.{permanent_memory, changeable_memory, volatile_memory, blank_memory}
-use Rattle.dms_table.specs.Validation.{text_verdict, verdict_of, passes, settled, CameToBeValid, was_valid, ValidRowsAreGood}
+use Rattle.dms_table.specs.declared.validation.ValidationError.TheVariants as errors
+use Rattle.dms_table.specs.Validation.{verdict_without_fault, text_verdict, verdict_of, passes, settled, CameToBeValid, was_valid, ValidRowsAreGood}
 use Rattle.dms_table.proofs.GoodRows.{settled_rows_are_good}
 use Rattle.dms_access.specs.Access.{Write, SetNumber, SetCode, SetField, AskRow, Activate, SetRemaining}
 use Rattle.dms_sign.specs.SetRequest.{with_write, with_writes}
@@ -260,8 +261,8 @@ text_passes (Some fault) h = absurd (cc)
 
 pub good_where_passes : (services : Services) (face : FaceModel) (row : RowModel) → passes (verdict_of services face row) ≡ true → IsGood face row.text
 good_where_passes services face row h =
-    let second = passes_on ((row.beacon == 1) && not services.beacon) (record { error = 3; fault = None }) _ refl h in
-    let third = passes_on ((row.pixel == 1) && not services.pixel) (record { error = 4; fault = None }) (text_verdict (fault_of face row.text)) refl second in
+    let second = passes_on ((row.beacon == 1) && not services.beacon) (verdict_without_fault errors.Beacons) _ refl h in
+    let third = passes_on ((row.pixel == 1) && not services.pixel) (verdict_without_fault errors.PixelService) (text_verdict (fault_of face row.text)) refl second in
     (faultless_law face row.text).0 (text_passes (fault_of face row.text) third)
 
 abbrev IsFound : Services → FaceModel → RowModel → Type 0
