@@ -4,16 +4,17 @@ use Rattle.dms_objects.specs.declared.column.Column.TheVariants.{MemoryType, Num
 use Rattle.dms_objects.specs.declared.scalar.Scalar.TheVariants.{SignHeightPixels, SignWidthPixels, DefaultBackgroundColor, DefaultForegroundColor, DefaultFlashOn, DefaultFlashOff, DefaultFont, DefaultJustificationLine, DefaultJustificationPage, DefaultPageOnTime, DefaultPageOffTime, ColorScheme, NumPermanentMsg, NumChangeableMsg, MaxChangeableMsg, FreeChangeableMemory, NumVolatileMsg, MaxVolatileMsg, FreeVolatileMemory, ValidateMessageError, ActivateMessage, MessageTimeRemaining, MsgTableSource, MsgRequesterId, MsgSourceMode, ShortPowerRecoveryMessage, LongPowerRecoveryMessage, ShortPowerLossTime, CommunicationsLossMessage, TimeCommLoss, PowerLossMessage, EndDurationMessage, ActivateMsgError, MultiSyntaxError, MultiSyntaxErrorPosition, ActivateErrorMsgCode}
 use Rattle.dms_objects.specs.declared.objects.Instances.{Instances}
 use Rattle.dms_objects.specs.declared.objects.Instances.TheVariants.{One, EachRow}
-use Rattle.dms_objects.specs.Objects.{objects, listed, numbers_of, numbers_below_dms, HasRow, is_rising}
+use Rattle.dms_objects.specs.Objects.{objects, listed, numbers_of}
+use Rattle.dms_objects.specs.TableLaws.{numbers_below_dms, HasRow, is_rising}
 use Rattle.dms_objects.specs.declared.objects.Object.{Object}
 
 pub numbers : map (λ (object : Object). numbers_below_dms object.instances) listed ≡ map numbers_of listed
 unfolding objects
 numbers = refl
 
-pub in_order : is_rising (map numbers_of listed) ≡ true
+pub rising : is_rising (map numbers_of listed) ≡ true
 unfolding objects
-in_order = refl
+rising = refl
 
 -- the place of each object's row
 pub each : (instances : Instances) → HasRow instances

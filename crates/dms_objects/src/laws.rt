@@ -7,7 +7,8 @@ ghost use Rattle.dms_objects.specs.declared.objects.Instances.{Instances};
 ghost use Rattle.dms_objects.specs.declared.instance.Instance.TheVariants.{Scalar, Cell};
 ghost use Rattle.dms_objects.specs.declared.scalar.Scalar.TheVariants.{ActivateMessage, ActivateMsgError};
 ghost use Rattle.dms_objects.specs.Names.{activate_message, activate_message_error, cell_name, name_of};
-ghost use Rattle.dms_objects.specs.Objects.{objects, listed, numbers_of, numbers_below_dms, HasRow, is_rising};
+ghost use Rattle.dms_objects.specs.Objects.{objects, listed, numbers_of};
+ghost use Rattle.dms_objects.specs.TableLaws.{numbers_below_dms, HasRow, is_rising};
 ghost use Rattle.dms_objects.specs.declared.objects.Object.{Object};
 
 use crate::objects::OBJECTS;

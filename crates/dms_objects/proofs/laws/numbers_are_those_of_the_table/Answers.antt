@@ -1,4 +1,4 @@
-use Rattle.dms_objects.proofs.Table.{numbers, in_order, each}
+use Rattle.dms_objects.proofs.Table.{numbers, rising, each}
 use Rattle.dms_objects.proofs.laws.numbers_are_those_of_the_table.Goals as goal
 
 pub returns-clause-numbers : goal.returns-clause-numbers
@@ -8,4 +8,4 @@ pub returns-clause-each : goal.returns-clause-each
 returns-clause-each c = each
 
 pub returns-clause-order : goal.returns-clause-order
-returns-clause-order c = in_order
+returns-clause-order c = rising
