@@ -10,12 +10,15 @@ use Rattle.std.proofs.lemmas.Cmp.{nat_list_cmp_total, tied_itself}
 use Rattle.dms_ber.specs.NameOrder.{numbers_cmp}
 use Rattle.dms_objects.specs.declared.column.Column.{Column}
 use Rattle.dms_codes.specs.declared.row_id.RowId.{RowId}
-use Rattle.dms_objects.specs.Names.{below_dms, column_number}
+use Rattle.dms_objects.specs.declared.objects.Instances.{Instances}
+use Rattle.dms_objects.specs.declared.objects.Instances.TheVariants.{One, EachRow}
+use Rattle.dms_objects.specs.Objects.{in_order}
+use Rattle.dms_objects.specs.Names.{below_dms, column_number, scalar_number}
 use Rattle.dms_table.specs.Rows.{TableModel}
 use Rattle.dms_objects.specs.declared.instance.Instance.{Instance}
-use Rattle.dms_objects.specs.declared.instance.Instance.TheVariants.{Scalar, Cell}
+use Rattle.dms_objects.specs.declared.instance.Instance.TheVariants.{Cell}
 use Rattle.dms_objects.specs.Names.{name_of}
-use Rattle.dms_instances.specs.Objects.{before_table, after_table, columns, memories, rows_in, row_ids, cells, instances, is_before, has_name, comes_after, instance_named, next_instance, IsInstance, FirstAfter}
+use Rattle.dms_instances.specs.Objects.{memories, rows_in, row_ids, cells, instances_of, instances, is_before, has_name, comes_after, instance_named, next_instance, IsInstance, FirstAfter}
 use Rattle.dms_instances.proofs.Members.{some_is}
 
 -- ---- the order of names
@@ -143,25 +146,24 @@ cells_rise table c =
     mapped name_of (Cell c) (entry (column_number c ∷ [])) (row_ids table) (entry (column_number c ∷ 8 ∷ []))
     ∙ under_all index (entry (column_number c ∷ [])) [] (row_ids table) (8 ∷ []) (all_rows_rise table)
 
-table_rises : (table : TableModel) → rises name_of (entry []) (flat_map (cells table) columns) (below_dms (5 ∷ 9 ∷ [])) ≡ true
-table_rises table =
-    pieces name_of (cells table) (λ c. entry (column_number c ∷ [])) (λ c. entry (column_number c ∷ 8 ∷ [])) (cells_rise table) (entry []) columns
-    (below_dms (5 ∷ 9 ∷ [])) refl
+-- between the name of an object and what is above its instances
+abbrev start : Instances → List ℕ
+start (One object) = below_dms ((scalar_number object).0 ∷ (scalar_number object).1 ∷ [])
+start (EachRow column) = entry (column_number column ∷ [])
 
-before_rises : rises name_of [] (map Scalar before_table) (entry []) ≡ true
-unfolding name_of
-before_rises = refl
+abbrev stop : Instances → List ℕ
+stop (One object) = below_dms ((scalar_number object).0 ∷ (scalar_number object).1 ∷ 1 ∷ [])
+stop (EachRow column) = entry (column_number column ∷ 8 ∷ [])
 
-after_rises : rises name_of (below_dms (5 ∷ 9 ∷ [])) (map Scalar after_table) (2 ∷ []) ≡ true
+object_rises : (table : TableModel) (which : Instances) → rises name_of (start which) (instances_of table which) (stop which) ≡ true
 unfolding name_of
-after_rises = refl
+object_rises table (One object) =
+    under_all (λ (number : ℕ). number ∷ []) (below_dms ((scalar_number object).0 ∷ (scalar_number object).1 ∷ [])) [] (0 ∷ []) (1 ∷ []) refl
+object_rises table (EachRow column) = cells_rise table column
 
 pub instances_rise : (table : TableModel) → rises name_of [] (instances table) (2 ∷ []) ≡ true
 unfolding instances
-instances_rise table =
-    let cells_end = below_dms (5 ∷ 9 ∷ []) in
-    let first = joined name_of [] (map Scalar before_table) (entry []) (flat_map (cells table) columns) cells_end before_rises (table_rises table) in
-    joined name_of [] (map Scalar before_table ++ flat_map (cells table) columns) cells_end (map Scalar after_table) (2 ∷ []) first after_rises
+instances_rise table = pieces name_of (instances_of table) start stop (object_rises table) [] in_order (2 ∷ []) refl
 
 -- ---- what is found in a list whose names rise
 

@@ -1,5 +1,5 @@
 -- Which instances there are: each object, and each column of each row that can be read.
-use Rattle.std.proofs.Common.{◌≡◌, ◌⊎◌, inl, inr, ◌↔◌, ℕ, zero, suc, ◌-◌, ◌<◌, ◌≤◌, Bool, true, false, cond, ◌==◌, ◌&&◌, List, [], ◌∷◌, ◌++◌, map, length, flat_map, Option, Some, None, slice_get, IsSome, option_map, refl, sym, ap, subst, ◌∙◌, arith, true≢false}
+use Rattle.std.proofs.Common.{◌≡◌, ◌⊎◌, inl, inr, ◌↔◌, ℕ, zero, suc, ◌-◌, ◌<◌, ◌≤◌, Bool, true, false, cond, ◌==◌, List, [], ◌∷◌, length, Option, Some, None, slice_get, IsSome, option_map, refl, sym, ap, subst, ◌∙◌, arith, true≢false}
 use Rattle.std.specs.List.{range_with_len}
 use Rattle.std.proofs.lemmas.Bool.Decides.{nat_tests}
 use Rattle.std.proofs.lemmas.Bool.{eqb-true}
@@ -8,15 +8,15 @@ use Rattle.dms_codes.specs.declared.row_id.RowId.{RowId}
 use Rattle.dms_table.specs.Rows.{RowModel, TableModel, row_read, numbered, reading, rows_of, blank_at, blank_reading}
 use Rattle.dms_table.specs.Activation.{ShownModel, message_at, shown_reading}
 use Rattle.dms_objects.specs.declared.scalar.Scalar.{Scalar}
-use Rattle.dms_objects.specs.declared.instance.Instance.{Instance}
 use Rattle.dms_objects.specs.declared.instance.Instance.TheVariants as kinds
-use Rattle.dms_instances.specs.Objects.{before_table, after_table, columns, memories, rows_in, row_ids, cells, instances, IsInstance}
+use Rattle.dms_objects.specs.declared.objects.Instances.{Instances}
+use Rattle.dms_objects.specs.declared.objects.Instances.TheVariants.{One, EachRow}
+use Rattle.dms_objects.specs.Objects.{in_order, objects}
+use Rattle.dms_objects.proofs.Table.{each}
+use Rattle.dms_instances.specs.Objects.{memories, rows_in, row_ids, instances_of, instances, IsInstance}
 use Rattle.dms_instances.specs.declared.counts.Counts.{Counts}
 use Rattle.dms_instances.specs.Places.{HasCounts, last_number}
-use Rattle.dms_objects.specs.Names.{column_number, scalar_number}
-use Rattle.dms_instances.proofs.InOrder.{found}
-use Rattle.dms_instances.proofs.Inverses.{column_back, scalar_back}
-use Rattle.dms_instances.proofs.Members.{In, some_is, in_left, in_right, in_either, in_map, of_map, in_flat, of_flat, in_range, of_range}
+use Rattle.dms_instances.proofs.Members.{In, some_is, in_map, of_map, in_flat, of_flat, in_range, of_range}
 
 -- ---- rows
 
@@ -146,69 +146,38 @@ read_held table shown row h =
 
 -- ---- instances
 
-abbrev before : List Instance
-before = map kinds.Scalar before_table
-
-abbrev after : List Instance
-after = map kinds.Scalar after_table
-
-abbrev rows : TableModel → List Instance
-rows table = flat_map (cells table) columns
-
-in_before : (table : TableModel) (k : ℕ) (object : Scalar) → slice_get before k ≡ Some (kinds.Scalar object) → IsInstance table (kinds.Scalar object)
-unfolding instances
-in_before table k object h =
-    let first = in_left before (rows table) k (kinds.Scalar object) h in
-    in_left (before ++ rows table) after first.0 (kinds.Scalar object) first.1
-
-in_after : (table : TableModel) (k : ℕ) (object : Scalar) → slice_get after k ≡ Some (kinds.Scalar object) → IsInstance table (kinds.Scalar object)
-unfolding instances
-in_after table k object h = in_right (before ++ rows table) after (kinds.Scalar object) (k, h)
+-- each object is in the table
+listed_there : (which : Instances) → In in_order which
+unfolding objects
+listed_there which = each which
 
 pub object_there : (table : TableModel) (object : Scalar) → IsInstance table (kinds.Scalar object)
+unfolding instances
 object_there table object =
-    let numbers = found (λ other. ((scalar_number other).0 == (scalar_number object).0) && ((scalar_number other).1 == (scalar_number object).1))
-    (before_table ++ after_table) object (scalar_back object) in
-    elim (in_either before_table after_table numbers.0 object numbers.1) [
-      | inl i ↦ let at = in_map kinds.Scalar before_table i.0 object i.1 in in_before table at.0 object at.1
-      | inr i ↦ let at = in_map kinds.Scalar after_table i.0 object i.1 in in_after table at.0 object at.1
-    ]
-
-column_there : (column : Column) → In columns column
-column_there column = let at = found (λ other. column_number other == column_number column) columns column (column_back column) in (at.0, at.1)
+    let at = listed_there (One object) in
+    in_flat (instances_of table) in_order at.0 (One object) (kinds.Scalar object) at.1 (0, refl)
 
 cell_there : (table : TableModel) (column : Column) (row : RowId) → In (row_ids table) row → IsInstance table (kinds.Cell column row)
 unfolding instances
 cell_there table column row i =
+    let at = listed_there (EachRow column) in
     let in_column = in_map (kinds.Cell column) (row_ids table) i.0 row i.1 in
-    let at = column_there column in
-    let in_rows = in_flat (cells table) columns at.0 column (kinds.Cell column row) at.1 in_column in
-    let front = in_right before (rows table) (kinds.Cell column row) in_rows in
-    in_left (before ++ rows table) after front.0 (kinds.Cell column row) front.1
+    in_flat (instances_of table) in_order at.0 (EachRow column) (kinds.Cell column row) at.1 in_column
 
-of_rows : (table : TableModel) (column : Column) (row : RowId) → In (rows table) (kinds.Cell column row) → In (row_ids table) row
-of_rows table column row i =
-    let o = of_flat (cells table) columns i.0 (kinds.Cell column row) i.1 in
-    let r = of_map (kinds.Cell o.0) (row_ids table) o.2.0 (kinds.Cell column row) o.2.1 in
+of_object : (table : TableModel) (which : Instances) (column : Column) (row : RowId) → In (instances_of table which) (kinds.Cell column row)
+    → In (row_ids table) row
+of_object table (One object) column row (zero, e) = absurd (cc)
+of_object table (One object) column row (suc k, e) = absurd (cc)
+of_object table (EachRow other) column row i =
+    let r = of_map (kinds.Cell other) (row_ids table) i.0 (kinds.Cell column row) i.1 in
     let is : r.0 ≡ row = cc in
     subst (In (row_ids table)) is r.2
-
-no_object : (objects : List Scalar) (column : Column) (row : RowId) → In (map kinds.Scalar objects) (kinds.Cell column row) → ⊥
-no_object objects column row i =
-    let o = of_map kinds.Scalar objects i.0 (kinds.Cell column row) i.1 in
-    absurd (cc)
 
 of_cell : (table : TableModel) (column : Column) (row : RowId) → IsInstance table (kinds.Cell column row) → In (row_ids table) row
 unfolding instances
 of_cell table column row there =
-    elim (in_either (before ++ rows table) after there.0 (kinds.Cell column row) there.1) [
-      | inl front ↦
-          elim (in_either before (rows table) front.0 (kinds.Cell column row) front.1) [
-            | inl object ↦ absurd (no_object before_table column row object)
-            | inr cell ↦ of_rows table column row cell
-          ]
-      | inr object ↦ absurd (no_object after_table column row object)
-    ]
+    let o = of_flat (instances_of table) in_order there.0 (kinds.Cell column row) there.1 in
+    of_object table o.0 column row o.2
 
 pub cell_read : (table : TableModel) (shown : ShownModel) (column : Column) (row : RowId)
     → IsInstance table (kinds.Cell column row) ↔ IsSome (message_at table shown row)

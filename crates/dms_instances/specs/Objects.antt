@@ -1,55 +1,22 @@
 -- The objects of a sign: which instances it has, by which names, and in which order they are walked (NTCIP 1203, dms).
-use Rattle.std.specs.Prelude.{◌⊎◌, ◌≡◌, ℕ, Bool, true, false, List, [], ◌∷◌, ◌++◌}
+use Rattle.std.specs.Prelude.{◌⊎◌, ◌≡◌, ℕ, Bool, true, false, List, [], ◌∷◌}
 use Rattle.std.specs.Prelude.{map, length, nat_eq, Option, Some, None, slice_get}
 use Rattle.std.specs.List.{find, flat_map, range_with_len}
 use Rattle.std.specs.Cmp.Lexicographic.{pointwise}
 use Rattle.std.specs.Ordering.{is_lt}
 use Rattle.dms_ber.specs.NameOrder.{numbers_cmp}
 use Rattle.dms_objects.specs.declared.column.Column.{Column}
-use Rattle.dms_objects.specs.declared.column.Column.TheVariants.{MemoryType, Number, MultiString, Owner, Crc}
-use Rattle.dms_objects.specs.declared.column.Column.TheVariants.{Beacon, PixelService, RunTimePriority, Status}
 use Rattle.dms_codes.specs.declared.row_id.RowId.{RowId}
+use Rattle.dms_objects.specs.declared.objects.Instances.{Instances}
+use Rattle.dms_objects.specs.declared.objects.Instances.TheVariants.{One, EachRow}
+use Rattle.dms_objects.specs.Objects.{in_order}
 use Rattle.dms_objects.specs.Names.{name_of}
 use Rattle.dms_table.specs.Rows.{TableModel}
 use Rattle.dms_codes.specs.Memory.{permanent_memory, changeable_memory, volatile_memory, current_buffer, blank_memory}
-use Rattle.dms_objects.specs.declared.scalar.Scalar.{Scalar}
-use Rattle.dms_objects.specs.declared.scalar.Scalar.TheVariants.{SignHeightPixels, SignWidthPixels}
-use Rattle.dms_objects.specs.declared.scalar.Scalar.TheVariants.{DefaultBackgroundColor, DefaultForegroundColor}
-use Rattle.dms_objects.specs.declared.scalar.Scalar.TheVariants.{DefaultFlashOn, DefaultFlashOff, DefaultFont}
-use Rattle.dms_objects.specs.declared.scalar.Scalar.TheVariants.{DefaultJustificationLine, DefaultJustificationPage}
-use Rattle.dms_objects.specs.declared.scalar.Scalar.TheVariants.{DefaultPageOnTime, DefaultPageOffTime, ColorScheme}
-use Rattle.dms_objects.specs.declared.scalar.Scalar.TheVariants.{NumPermanentMsg, NumChangeableMsg, MaxChangeableMsg}
-use Rattle.dms_objects.specs.declared.scalar.Scalar.TheVariants.{FreeChangeableMemory, NumVolatileMsg, MaxVolatileMsg}
-use Rattle.dms_objects.specs.declared.scalar.Scalar.TheVariants.{FreeVolatileMemory, ValidateMessageError}
-use Rattle.dms_objects.specs.declared.scalar.Scalar.TheVariants.{ActivateMessage, MessageTimeRemaining}
-use Rattle.dms_objects.specs.declared.scalar.Scalar.TheVariants.{MsgTableSource, MsgRequesterId, MsgSourceMode}
-use Rattle.dms_objects.specs.declared.scalar.Scalar.TheVariants.{ShortPowerRecoveryMessage, LongPowerRecoveryMessage}
-use Rattle.dms_objects.specs.declared.scalar.Scalar.TheVariants.{ShortPowerLossTime, CommunicationsLossMessage}
-use Rattle.dms_objects.specs.declared.scalar.Scalar.TheVariants.{TimeCommLoss, PowerLossMessage, EndDurationMessage}
-use Rattle.dms_objects.specs.declared.scalar.Scalar.TheVariants.{ActivateMsgError, MultiSyntaxError}
-use Rattle.dms_objects.specs.declared.scalar.Scalar.TheVariants.{MultiSyntaxErrorPosition, ActivateErrorMsgCode}
 use Rattle.dms_objects.specs.declared.instance.Instance.{Instance}
 use Rattle.dms_objects.specs.declared.instance.Instance.TheVariants as kinds
 
 -- ---- the instances of a sign
-
--- the objects before dmsMessageTable and those after it, by their numbers
-abbrev pub before_table : List Scalar
-before_table =
-    SignHeightPixels ∷ SignWidthPixels ∷ DefaultBackgroundColor ∷ DefaultForegroundColor ∷ DefaultFlashOn
-    ∷ DefaultFlashOff ∷ DefaultFont ∷ DefaultJustificationLine ∷ DefaultJustificationPage ∷ DefaultPageOnTime
-    ∷ DefaultPageOffTime ∷ ColorScheme ∷ NumPermanentMsg ∷ NumChangeableMsg ∷ MaxChangeableMsg ∷ FreeChangeableMemory
-    ∷ NumVolatileMsg ∷ MaxVolatileMsg ∷ FreeVolatileMemory ∷ []
-
-abbrev pub after_table : List Scalar
-after_table =
-    ValidateMessageError ∷ ActivateMessage ∷ MessageTimeRemaining ∷ MsgTableSource ∷ MsgRequesterId ∷ MsgSourceMode
-    ∷ ShortPowerRecoveryMessage ∷ LongPowerRecoveryMessage ∷ ShortPowerLossTime ∷ CommunicationsLossMessage
-    ∷ TimeCommLoss ∷ PowerLossMessage ∷ EndDurationMessage ∷ ActivateMsgError ∷ MultiSyntaxError
-    ∷ MultiSyntaxErrorPosition ∷ ActivateErrorMsgCode ∷ []
-
-abbrev pub columns : List Column
-columns = MemoryType ∷ Number ∷ MultiString ∷ Owner ∷ Crc ∷ Beacon ∷ PixelService ∷ RunTimePriority ∷ Status ∷ []
 
 -- 1 to n
 abbrev pub numbers_to : ℕ → List ℕ
@@ -71,9 +38,14 @@ row_ids table = flat_map rows_in (memories table)
 abbrev pub cells : TableModel → Column → List Instance
 cells table column = map (kinds.Cell column) (row_ids table)
 
+-- the instances of an object of the table
+abbrev pub instances_of : TableModel → Instances → List Instance
+instances_of table (One object) = kinds.Scalar object ∷ []
+instances_of table (EachRow column) = cells table column
+
 -- every instance, in the order of names
 unfoldable pub instances : TableModel → List Instance
-instances table = map kinds.Scalar before_table ++ flat_map (cells table) columns ++ map kinds.Scalar after_table
+instances table = flat_map (instances_of table) in_order
 
 -- ---- the walk
 

@@ -1,5 +1,5 @@
 -- What the octets of a name tell of the instance whose name they are (X.690, 8.19; this profile).
-use Rattle.std.specs.Prelude.{◌≡◌, ◌<◌, ◌+◌, ◌==◌, ◌&&◌, ◌++◌, ℕ, List, []}
+use Rattle.std.specs.Prelude.{◌≡◌, ◌<◌, ◌+◌, ◌==◌, ◌&&◌, ℕ, List, []}
 use Rattle.std.specs.Prelude.{◌∷◌, Option, Some, nat_lt, get_or, if◌then◌else◌}
 use Rattle.std.specs.List.{find, flat_map}
 use Rattle.dms_ber.specs.ObjectIdentifier.{sub_identifier_octets}
@@ -8,7 +8,24 @@ use Rattle.dms_objects.specs.declared.column.Column.{Column}
 use Rattle.dms_objects.specs.declared.scalar.Scalar.{Scalar}
 use Rattle.dms_objects.specs.declared.instance.Instance.{Instance}
 use Rattle.dms_objects.specs.declared.instance.Instance.TheVariants as kinds
-use Rattle.dms_instances.specs.Objects.{before_table, after_table, columns}
+use Rattle.dms_objects.specs.declared.objects.Instances.{Instances}
+use Rattle.dms_objects.specs.declared.objects.Instances.TheVariants.{One, EachRow}
+use Rattle.dms_objects.specs.Objects.{in_order}
+
+abbrev pub columns_in : Instances → List Column
+columns_in (One object) = []
+columns_in (EachRow column) = column ∷ []
+
+abbrev pub scalars_in : Instances → List Scalar
+scalars_in (One object) = object ∷ []
+scalars_in (EachRow column) = []
+
+-- the columns, and the objects that have one instance, each in the order of names
+abbrev pub columns : List Column
+columns = flat_map columns_in in_order
+
+abbrev pub scalars : List Scalar
+scalars = flat_map scalars_in in_order
 
 -- the column of this number
 abbrev pub column_at : ℕ → Option Column
@@ -16,8 +33,8 @@ column_at number = find (λ column. column_number column == number) columns
 
 -- the object of this number in this group
 abbrev pub scalar_at : (group number : ℕ) → Option Scalar
-scalar_at group number = find (λ object. ((scalar_number object).0 == group) && ((scalar_number object).1 == number))
-    (before_table ++ after_table)
+scalar_at group number =
+    find (λ object. ((scalar_number object).0 == group) && ((scalar_number object).1 == number)) scalars
 
 -- the octets of the numbers of a name behind its first two (X.690, 8.19)
 abbrev pub octets_below : List ℕ → List ℕ
