@@ -11,16 +11,11 @@ use Rattle.dms_codes.specs.declared.status.Ask.{Ask}
 use Rattle.dms_codes.specs.declared.status.Ask.TheVariants as asks
 use Rattle.dms_table.specs.Rows.{FieldModel, Text, Owner, Beacon, Pixel, Priority}
 use Rattle.dms_codes.specs.Memory.{changeable_memory, volatile_memory}
-use Rattle.dms_codes.specs.Limits.{longest_text, longest_owner}
 use Rattle.dms_objects.specs.declared.scalar.Scalar.{Scalar}
-use Rattle.dms_objects.specs.declared.scalar.Scalar.TheVariants.{DefaultBackgroundColor, DefaultForegroundColor}
-use Rattle.dms_objects.specs.declared.scalar.Scalar.TheVariants.{DefaultFlashOn, DefaultFlashOff, DefaultFont}
-use Rattle.dms_objects.specs.declared.scalar.Scalar.TheVariants.{DefaultJustificationLine, DefaultJustificationPage}
-use Rattle.dms_objects.specs.declared.scalar.Scalar.TheVariants.{DefaultPageOnTime, DefaultPageOffTime}
-use Rattle.dms_objects.specs.declared.scalar.Scalar.TheVariants.{ActivateMessage, MessageTimeRemaining}
-use Rattle.dms_objects.specs.declared.scalar.Scalar.TheVariants.{ShortPowerRecoveryMessage, LongPowerRecoveryMessage}
-use Rattle.dms_objects.specs.declared.scalar.Scalar.TheVariants.{ShortPowerLossTime, CommunicationsLossMessage}
-use Rattle.dms_objects.specs.declared.scalar.Scalar.TheVariants.{TimeCommLoss, PowerLossMessage, EndDurationMessage}
+use Rattle.dms_objects.specs.declared.scalar.Scalar.TheVariants.{DefaultFont, ActivateMessage, MessageTimeRemaining}
+use Rattle.dms_objects.specs.declared.objects.Syntax.{Syntax}
+use Rattle.dms_objects.specs.declared.objects.Syntax.TheVariants.{Range, Asks, Octets}
+use Rattle.dms_objects.specs.Objects.{is_written, scalar_row, column_row}
 use Rattle.dms_objects.specs.declared.instance.Instance.{Instance}
 use Rattle.dms_objects.specs.declared.instance.Instance.TheVariants as kinds
 
@@ -30,32 +25,12 @@ use Rattle.dms_objects.specs.declared.instance.Instance.TheVariants as kinds
 abbrev pub has_writable_rows : ℕ → Bool
 has_writable_rows memory = memory == changeable_memory || memory == volatile_memory
 
+-- by the table of objects
 abbrev pub is_settable_column : Column → Bool
-is_settable_column columns.MemoryType = false
-is_settable_column columns.Number = false
-is_settable_column columns.Crc = false
-is_settable_column _ = true
+is_settable_column column = is_written (column_row column).access
 
 unfoldable pub is_settable_object : Scalar → Bool
-is_settable_object DefaultBackgroundColor = true
-is_settable_object DefaultForegroundColor = true
-is_settable_object DefaultFlashOn = true
-is_settable_object DefaultFlashOff = true
-is_settable_object DefaultFont = true
-is_settable_object DefaultJustificationLine = true
-is_settable_object DefaultJustificationPage = true
-is_settable_object DefaultPageOnTime = true
-is_settable_object DefaultPageOffTime = true
-is_settable_object ActivateMessage = true
-is_settable_object MessageTimeRemaining = true
-is_settable_object ShortPowerRecoveryMessage = true
-is_settable_object LongPowerRecoveryMessage = true
-is_settable_object ShortPowerLossTime = true
-is_settable_object CommunicationsLossMessage = true
-is_settable_object TimeCommLoss = true
-is_settable_object PowerLossMessage = true
-is_settable_object EndDurationMessage = true
-is_settable_object _ = false
+is_settable_object object = is_written (scalar_row object).access
 
 abbrev pub is_settable : Instance → Bool
 is_settable (kinds.Scalar object) = is_settable_object object
@@ -92,46 +67,65 @@ octets_in low high (octet_string octets) =
     if nat_le low (length octets) && nat_le (length octets) high then Some octets else None
 octets_in low high _ = None
 
+-- the number that may be written to an object of this syntax
+abbrev pub writable_number : Syntax → ObjectValue → Option ℕ
+writable_number (Range low high) value = number_in low high value
+writable_number (Asks least most low high) value = number_in low high value
+writable_number _ value = None
+
+-- the octets that may be written to it
+abbrev pub writable_octets : Syntax → ObjectValue → Option (List ℕ)
+writable_octets (Octets low high) value = octets_in low high value
+writable_octets _ value = None
+
 -- the number of a font of the face that a value is
 abbrev pub font_in : FaceModel → ObjectValue → Option ℕ
 font_in face value =
-    option_and_then (λ number. if has_font face.fonts number then Some number else None) (number_in 1 255 value)
+    option_and_then (λ number. if has_font face.fonts number then Some number else None)
+    (writable_number (scalar_row DefaultFont).syntax value)
 
 -- What is asked of a row: modifyReq 6, validateReq 7, notUsedReq 8 (NTCIP 1203, dmsMessageStatus).
 abbrev pub ask_of : ℕ → Ask
 ask_of number = if number == 6 then asks.Modify else if number == 7 then asks.Validate else asks.NotUsed
 
+-- a setting: a code where the object has octets, a number where it has an integer
+abbrev pub setting_in : Syntax → Scalar → ObjectValue → Option Write
+setting_in (Octets low high) object value = option_map (SetCode object) (octets_in low high value)
+setting_in syntax object value = option_map (SetNumber object) (writable_number syntax value)
+
+-- what a value writes to an object that can be set; a number of a font has to be one of the face's, and two objects are
+-- commands
+abbrev pub setting_of : FaceModel → Scalar → ObjectValue → Option Write
+setting_of face DefaultFont value = option_map (SetNumber DefaultFont) (font_in face value)
+setting_of face ActivateMessage value = option_map Activate (writable_octets (scalar_row ActivateMessage).syntax value)
+setting_of face MessageTimeRemaining value =
+    option_map SetRemaining (writable_number (scalar_row MessageTimeRemaining).syntax value)
+setting_of face object value = setting_in (scalar_row object).syntax object value
+
 -- what a value writes to an object; none where its type, its length or its range is wrong
 unfoldable pub object_write : FaceModel → Scalar → ObjectValue → Option Write
-object_write face DefaultBackgroundColor value = option_map (SetNumber DefaultBackgroundColor) (number_in 0 9 value)
-object_write face DefaultForegroundColor value = option_map (SetNumber DefaultForegroundColor) (number_in 0 9 value)
-object_write face DefaultFlashOn value = option_map (SetNumber DefaultFlashOn) (number_in 0 255 value)
-object_write face DefaultFlashOff value = option_map (SetNumber DefaultFlashOff) (number_in 0 255 value)
-object_write face DefaultFont value = option_map (SetNumber DefaultFont) (font_in face value)
-object_write face DefaultJustificationLine value = option_map (SetNumber DefaultJustificationLine) (number_in 2 4 value)
-object_write face DefaultJustificationPage value = option_map (SetNumber DefaultJustificationPage) (number_in 2 4 value)
-object_write face DefaultPageOnTime value = option_map (SetNumber DefaultPageOnTime) (number_in 0 255 value)
-object_write face DefaultPageOffTime value = option_map (SetNumber DefaultPageOffTime) (number_in 0 255 value)
-object_write face ActivateMessage value = option_map Activate (octets_in 12 12 value)
-object_write face MessageTimeRemaining value = option_map SetRemaining (number_in 0 65535 value)
-object_write face ShortPowerRecoveryMessage value = option_map (SetCode ShortPowerRecoveryMessage) (octets_in 5 5 value)
-object_write face LongPowerRecoveryMessage value = option_map (SetCode LongPowerRecoveryMessage) (octets_in 5 5 value)
-object_write face ShortPowerLossTime value = option_map (SetNumber ShortPowerLossTime) (number_in 0 65535 value)
-object_write face CommunicationsLossMessage value = option_map (SetCode CommunicationsLossMessage) (octets_in 5 5 value)
-object_write face TimeCommLoss value = option_map (SetNumber TimeCommLoss) (number_in 0 65535 value)
-object_write face PowerLossMessage value = option_map (SetCode PowerLossMessage) (octets_in 5 5 value)
-object_write face EndDurationMessage value = option_map (SetCode EndDurationMessage) (octets_in 5 5 value)
-object_write face _ value = None
+object_write face object value = if is_written (scalar_row object).access then setting_of face object value else None
+
+-- the number or the octets that may be written to a column
+abbrev pub number_in_column : Column → ObjectValue → Option ℕ
+number_in_column column value = writable_number (column_row column).syntax value
+
+abbrev pub octets_in_column : Column → ObjectValue → Option (List ℕ)
+octets_in_column column value = writable_octets (column_row column).syntax value
 
 unfoldable pub cell_write : Column → RowId → ObjectValue → Option Write
 cell_write columns.MultiString id value =
-    option_map (λ octets. SetField id (Text octets)) (octets_in 0 longest_text value)
-cell_write columns.Owner id value = option_map (λ octets. SetField id (Owner octets)) (octets_in 0 longest_owner value)
-cell_write columns.Beacon id value = option_map (λ number. SetField id (Beacon number)) (number_in 0 1 value)
-cell_write columns.PixelService id value = option_map (λ number. SetField id (Pixel number)) (number_in 0 1 value)
+    option_map (λ octets. SetField id (Text octets)) (octets_in_column columns.MultiString value)
+cell_write columns.Owner id value =
+    option_map (λ octets. SetField id (Owner octets)) (octets_in_column columns.Owner value)
+cell_write columns.Beacon id value =
+    option_map (λ number. SetField id (Beacon number)) (number_in_column columns.Beacon value)
+cell_write columns.PixelService id value =
+    option_map (λ number. SetField id (Pixel number)) (number_in_column columns.PixelService value)
 cell_write columns.RunTimePriority id value =
-    option_map (λ number. SetField id (Priority number)) (number_in 1 255 value)
-cell_write columns.Status id value = option_map (λ number. AskRow id (ask_of number)) (number_in 6 8 value)
+    option_map (λ number. SetField id (Priority number)) (number_in_column columns.RunTimePriority value)
+cell_write columns.Status id value =
+    option_map (λ number. AskRow id (ask_of number)) (number_in_column columns.Status value)
 cell_write _ id value = None
 
 unfoldable pub write_of : FaceModel → Instance → ObjectValue → Option Write

@@ -31,7 +31,10 @@ use Rattle.dms_objects.specs.declared.scalar.Scalar.TheVariants.{SignHeightPixel
 use Rattle.dms_objects.specs.declared.instance.Instance.{Instance}
 use Rattle.dms_objects.specs.declared.instance.Instance.TheVariants as kinds
 use Rattle.dms_objects.specs.Names.{scalar_number, name_of}
-use Rattle.dms_instances.specs.Objects.{before_table, after_table, columns, numbers_to, memories, rows_in, row_ids, cells, instances, instance_named, next_instance, IsInstance}
+use Rattle.dms_objects.specs.declared.objects.Instances.{Instances}
+use Rattle.dms_objects.specs.declared.objects.Instances.TheVariants.{One, EachRow}
+use Rattle.dms_objects.specs.Objects.{in_order}
+use Rattle.dms_instances.specs.Objects.{numbers_to, memories, rows_in, row_ids, instances_of, instances, instance_named, next_instance, IsInstance}
 use Rattle.dms_sign.specs.State.{SignState}
 use Rattle.dms_access.specs.Cells.{number_value, cell_value}
 use Rattle.dms_table.specs.Activation.{minutes_left}
@@ -260,14 +263,17 @@ ids_small table is =
     all_flat IsSmallMemory IsSmallId rows_in (memories table) rows_small
     ((omega arith, permanent), ((omega arith, changeable), ((omega arith, volatile), ((omega arith, omega arith), ((omega arith, omega arith), tt)))))
 
+object_instances_small : (table : TableModel) → IsTableInRange table → (which : Instances)
+    → AllByRecursion IsSmallInstance (instances_of table which)
+object_instances_small table is (One object) = (tt, tt)
+object_instances_small table is (EachRow column) =
+    all_mapped IsSmallId IsSmallInstance (kinds.Cell column) (row_ids table) (λ id h. h) (ids_small table is)
+
 pub instances_small : (table : TableModel) → IsTableInRange table → AllByRecursion IsSmallInstance (instances table)
 unfolding instances
 instances_small table is =
-    let objects = λ (xs : List Scalar). all_mapped (λ (x : Scalar). ⊤) IsSmallInstance kinds.Scalar xs (λ x h. tt) (all_any (λ (x : Scalar). ⊤) xs (λ x. tt)) in
-    let column = λ (c : Column). all_mapped IsSmallId IsSmallInstance (kinds.Cell c) (row_ids table) (λ id h. h) (ids_small table is) in
-    let table_cells = all_flat (λ (c : Column). ⊤) IsSmallInstance (cells table) columns (λ c h. column c) (all_any (λ (c : Column). ⊤) columns (λ c. tt)) in
-    all_append IsSmallInstance (map kinds.Scalar before_table ++ flat_map (cells table) columns) (map kinds.Scalar after_table)
-    (all_append IsSmallInstance (map kinds.Scalar before_table) (flat_map (cells table) columns) (objects before_table) table_cells) (objects after_table)
+    all_flat (λ (which : Instances). ⊤) IsSmallInstance (instances_of table) in_order (λ which h. object_instances_small table is which)
+    (all_any (λ (which : Instances). ⊤) in_order (λ which. tt))
 
 -- ---- names
 
