@@ -15,9 +15,11 @@ TOP = pathlib.Path(__file__).resolve().parent.parent
 TABLE = "crates/dms_objects/specs/Objects.antt"
 MIB, PROFILE = "mibs/DMS-PROFILE-MIB", "docs/PROFILE.md"
 WIDTH = 120
-ROW = re.compile(r'row \(codes "(\w+)"\) (\w+) (\d+) (\w+) (\w+|\(.*\)) \((\w+) \w+\)')
+ROW = re.compile(r'(?:scalar|column)_row (\w+) = row \(codes "(\w+)"\) (\w+) (\d+) (\w+) (\w+|\(.*\))')
+ORDER = re.compile(r"(One|EachRow) (\w+)")
 WORD = re.compile(r"(\w+) (\d+)")
-NODE = re.compile(r"(?m)^group_numbers (\w+) = (.*) ∷ \[\]$")
+GROUP = re.compile(r"(?m)^group_number (\w+) = (\d+)$")
+NODE = re.compile(r"(?m)^node_numbers (\w+) = group_number (\w+) ∷ (.*) ∷ \[\]$")
 ACCESS = {"Read": "read-only", "Write": "read-write", "Command": "read-write"}
 MARKS = {"Read": "", "Write": "w", "Command": "c"}
 CELLS = "| 5.8.1.c.t.n | dmsMessageTable | | | column c of row n of memory type t, below |"
@@ -116,29 +118,37 @@ def wrapped(text: str, begin: str, spaces: int = 8) -> str:
 
 
 def read_table(text: str) -> list[Object]:
-    """The rows of `objects`, each with the comment above it."""
-    nodes = {node: numbers.replace(" ∷ ", ".") for node, numbers in NODE.findall(text)}
-    body = text.partition("\nobjects =\n")[2].partition("\n    ∷ []")[0]
-    objects: list[Object] = []
+    """The objects in the order of the table's last list, each with the comment above its row."""
+    nodes = dict(GROUP.findall(text))
+    nodes |= {node: f"{nodes[group]}.{rest.replace(' ∷ ', '.')}" for node, group, rest in NODE.findall(text)}
+    _, _, rows = text.partition("\n-- ---- the table\n")
+    rows, _, order = rows.partition("\nevery_object =\n")
+    columns = {column for kind, column in ORDER.findall(order) if kind == "EachRow"}
+    objects: dict[str, Object] = {}
     said: list[str] = []
     row = ""
-    for line in [*map(str.strip, body.splitlines()), "--"]:
-        if not line.startswith("--"):
-            row += " " + line
-            continue
-        if row:
-            objects.append(read_row(row, " ".join(said), nodes))
+    for line in [*rows.splitlines(), ""]:
+        if row and not line.startswith("    "):
+            found = ROW.fullmatch(row)
+            if not found:
+                raise BadTable(f"{TABLE}: no row: {row}")
+            objects[found[1]] = object_of(found, " ".join(said), nodes, found[1] in columns)
             said, row = [], ""
-        said.append(line.removeprefix("--").strip())
-    return objects
+        if line.startswith("--"):
+            said.append(line.removeprefix("--").strip())
+        elif " = row (" in f"{line} " or row:
+            row = f"{row} {line.strip()}".strip()
+        else:
+            said = []
+    listed = [name for _, name in ORDER.findall(order.partition("[]")[0])]
+    if sorted(listed) != sorted(objects):
+        raise BadTable(f"{TABLE}: every_object does not name each row once")
+    return [objects[name] for name in listed]
 
 
-def read_row(row: str, said: str, nodes: dict[str, str]) -> Object:
+def object_of(row: re.Match[str], said: str, nodes: dict[str, str], is_column: bool) -> Object:
     """An object of a row, what is said above it, and the numbers of the nodes."""
-    found = ROW.fullmatch(row.strip().removeprefix("∷").strip())
-    if not found:
-        raise BadTable(f"{TABLE}: no row: {row.strip()}")
-    name, node, number, access, syntax, instances = found.groups()
+    _, name, node, number, access, syntax = row.groups()
     if node not in nodes or access not in ACCESS:
         raise BadTable(f"{TABLE}: {name} has no such node or access")
     if not said or '"' in said or "|" in said:
@@ -147,7 +157,7 @@ def read_row(row: str, said: str, nodes: dict[str, str]) -> Object:
     words, values = WORD.findall(rest), Syntax.read(syntax)
     if words and values.bounds != f"({words[0][1]}..{words[-1][1]})":
         raise BadTable(f"{TABLE}: {name} has words for other numbers than {values.bounds}")
-    return Object(name, node, nodes[node], int(number), access, values, instances == "EachRow", said, words)
+    return Object(name, node, nodes[node], int(number), access, values, is_column, said, words)
 
 
 def mib_objects(objects: list[Object]) -> str:

@@ -12,7 +12,7 @@ use Rattle.dms_objects.specs.declared.column.Column.{Column}
 use Rattle.dms_codes.specs.declared.row_id.RowId.{RowId}
 use Rattle.dms_objects.specs.declared.objects.Instances.{Instances}
 use Rattle.dms_objects.specs.declared.objects.Instances.TheVariants.{One, EachRow}
-use Rattle.dms_objects.specs.Objects.{in_order}
+use Rattle.dms_objects.specs.Objects.{every_object}
 use Rattle.dms_objects.specs.Names.{below_dms, column_number, scalar_number}
 use Rattle.dms_table.specs.Rows.{TableModel}
 use Rattle.dms_objects.specs.declared.instance.Instance.{Instance}
@@ -163,7 +163,7 @@ object_rises table (EachRow column) = cells_rise table column
 
 pub instances_rise : (table : TableModel) → rises name_of [] (instances table) (2 ∷ []) ≡ true
 unfolding instances
-instances_rise table = pieces name_of (instances_of table) start stop (object_rises table) [] in_order (2 ∷ []) refl
+instances_rise table = pieces name_of (instances_of table) start stop (object_rises table) [] every_object (2 ∷ []) refl
 
 -- ---- what is found in a list whose names rise
 

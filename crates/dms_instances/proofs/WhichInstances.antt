@@ -11,7 +11,7 @@ use Rattle.dms_objects.specs.declared.scalar.Scalar.{Scalar}
 use Rattle.dms_objects.specs.declared.instance.Instance.TheVariants as kinds
 use Rattle.dms_objects.specs.declared.objects.Instances.{Instances}
 use Rattle.dms_objects.specs.declared.objects.Instances.TheVariants.{One, EachRow}
-use Rattle.dms_objects.specs.Objects.{in_order, objects}
+use Rattle.dms_objects.specs.Objects.{every_object, objects}
 use Rattle.dms_objects.proofs.Table.{each}
 use Rattle.dms_instances.specs.Objects.{memories, rows_in, row_ids, instances_of, instances, IsInstance}
 use Rattle.dms_instances.specs.declared.counts.Counts.{Counts}
@@ -147,7 +147,7 @@ read_held table shown row h =
 -- ---- instances
 
 -- each object is in the table
-listed_there : (which : Instances) → In in_order which
+listed_there : (which : Instances) → In every_object which
 unfolding objects
 listed_there which = each which
 
@@ -155,14 +155,14 @@ pub object_there : (table : TableModel) (object : Scalar) → IsInstance table (
 unfolding instances
 object_there table object =
     let at = listed_there (One object) in
-    in_flat (instances_of table) in_order at.0 (One object) (kinds.Scalar object) at.1 (0, refl)
+    in_flat (instances_of table) every_object at.0 (One object) (kinds.Scalar object) at.1 (0, refl)
 
 cell_there : (table : TableModel) (column : Column) (row : RowId) → In (row_ids table) row → IsInstance table (kinds.Cell column row)
 unfolding instances
 cell_there table column row i =
     let at = listed_there (EachRow column) in
     let in_column = in_map (kinds.Cell column) (row_ids table) i.0 row i.1 in
-    in_flat (instances_of table) in_order at.0 (EachRow column) (kinds.Cell column row) at.1 in_column
+    in_flat (instances_of table) every_object at.0 (EachRow column) (kinds.Cell column row) at.1 in_column
 
 of_object : (table : TableModel) (which : Instances) (column : Column) (row : RowId) → In (instances_of table which) (kinds.Cell column row)
     → In (row_ids table) row
@@ -176,7 +176,7 @@ of_object table (EachRow other) column row i =
 of_cell : (table : TableModel) (column : Column) (row : RowId) → IsInstance table (kinds.Cell column row) → In (row_ids table) row
 unfolding instances
 of_cell table column row there =
-    let o = of_flat (instances_of table) in_order there.0 (kinds.Cell column row) there.1 in
+    let o = of_flat (instances_of table) every_object there.0 (kinds.Cell column row) there.1 in
     of_object table o.0 column row o.2
 
 pub cell_read : (table : TableModel) (shown : ShownModel) (column : Column) (row : RowId)

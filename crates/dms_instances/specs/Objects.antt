@@ -9,7 +9,7 @@ use Rattle.dms_objects.specs.declared.column.Column.{Column}
 use Rattle.dms_codes.specs.declared.row_id.RowId.{RowId}
 use Rattle.dms_objects.specs.declared.objects.Instances.{Instances}
 use Rattle.dms_objects.specs.declared.objects.Instances.TheVariants.{One, EachRow}
-use Rattle.dms_objects.specs.Objects.{in_order}
+use Rattle.dms_objects.specs.Objects.{every_object}
 use Rattle.dms_objects.specs.Names.{name_of}
 use Rattle.dms_table.specs.Rows.{TableModel}
 use Rattle.dms_codes.specs.Memory.{permanent_memory, changeable_memory, volatile_memory, current_buffer, blank_memory}
@@ -45,7 +45,7 @@ instances_of table (EachRow column) = cells table column
 
 -- every instance, in the order of names
 unfoldable pub instances : TableModel → List Instance
-instances table = flat_map (instances_of table) in_order
+instances table = flat_map (instances_of table) every_object
 
 -- ---- the walk
 

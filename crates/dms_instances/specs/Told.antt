@@ -10,7 +10,7 @@ use Rattle.dms_objects.specs.declared.instance.Instance.{Instance}
 use Rattle.dms_objects.specs.declared.instance.Instance.TheVariants as kinds
 use Rattle.dms_objects.specs.declared.objects.Instances.{Instances}
 use Rattle.dms_objects.specs.declared.objects.Instances.TheVariants.{One, EachRow}
-use Rattle.dms_objects.specs.Objects.{in_order}
+use Rattle.dms_objects.specs.Objects.{every_object}
 
 abbrev pub columns_in : Instances → List Column
 columns_in (One object) = []
@@ -22,10 +22,10 @@ scalars_in (EachRow column) = []
 
 -- the columns, and the objects that have one instance, each in the order of names
 abbrev pub columns : List Column
-columns = flat_map columns_in in_order
+columns = flat_map columns_in every_object
 
 abbrev pub scalars : List Scalar
-scalars = flat_map scalars_in in_order
+scalars = flat_map scalars_in every_object
 
 -- the column of this number
 abbrev pub column_at : ℕ → Option Column

@@ -177,8 +177,8 @@ column_row RunTimePriority = row (codes "dmsMessageRunTimePriority") DmsMessageE
 column_row Status = row (codes "dmsMessageStatus") DmsMessageEntry 9 Command (Asks 1 5 6 8)
 
 -- each object by its instances, in the order of names
-abbrev pub in_order : List Instances
-in_order =
+abbrev pub every_object : List Instances
+every_object =
     One SignHeightPixels ∷ One SignWidthPixels ∷ One DefaultBackgroundColor ∷ One DefaultForegroundColor
     ∷ One DefaultFlashOn ∷ One DefaultFlashOff ∷ One DefaultFont ∷ One DefaultJustificationLine
     ∷ One DefaultJustificationPage ∷ One DefaultPageOnTime ∷ One DefaultPageOffTime ∷ One ColorScheme
@@ -209,7 +209,7 @@ named_object row which = (row.name, record {
 
 -- each object with the name that the MIB has, in the order of names
 unfoldable pub objects : List (List ℕ × Object)
-objects = map (λ which. named_object (row_of which) which) in_order
+objects = map (λ which. named_object (row_of which) which) every_object
 
 -- the objects of the rows
 abbrev pub listed : List Object

@@ -33,7 +33,7 @@ use Rattle.dms_objects.specs.declared.instance.Instance.TheVariants as kinds
 use Rattle.dms_objects.specs.Names.{scalar_number, name_of}
 use Rattle.dms_objects.specs.declared.objects.Instances.{Instances}
 use Rattle.dms_objects.specs.declared.objects.Instances.TheVariants.{One, EachRow}
-use Rattle.dms_objects.specs.Objects.{in_order}
+use Rattle.dms_objects.specs.Objects.{every_object}
 use Rattle.dms_instances.specs.Objects.{numbers_to, memories, rows_in, row_ids, instances_of, instances, instance_named, next_instance, IsInstance}
 use Rattle.dms_sign.specs.State.{SignState}
 use Rattle.dms_access.specs.Cells.{number_value, cell_value}
@@ -272,8 +272,8 @@ object_instances_small table is (EachRow column) =
 pub instances_small : (table : TableModel) → IsTableInRange table → AllByRecursion IsSmallInstance (instances table)
 unfolding instances
 instances_small table is =
-    all_flat (λ (which : Instances). ⊤) IsSmallInstance (instances_of table) in_order (λ which h. object_instances_small table is which)
-    (all_any (λ (which : Instances). ⊤) in_order (λ which. tt))
+    all_flat (λ (which : Instances). ⊤) IsSmallInstance (instances_of table) every_object (λ which h. object_instances_small table is which)
+    (all_any (λ (which : Instances). ⊤) every_object (λ which. tt))
 
 -- ---- names
 
