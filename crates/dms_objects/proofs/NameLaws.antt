@@ -6,9 +6,7 @@ use Rattle.dms_ber.specs.ObjectIdentifier.{IsNameInLimits}
 use Rattle.dms_ber.proofs.CanonicalNames.{name_spelled}
 use Rattle.dms_codes.specs.declared.row_id.RowId.{RowId}
 use Rattle.dms_objects.specs.declared.column.Column.{Column}
-use Rattle.dms_objects.specs.declared.column.Column.TheVariants as columns
 use Rattle.dms_objects.specs.declared.scalar.Scalar.{Scalar}
-use Rattle.dms_objects.specs.declared.scalar.Scalar.TheVariants as scalars
 use Rattle.dms_objects.specs.declared.instance.Instance.TheVariants as kinds
 use Rattle.dms_objects.specs.Names.{scalar_number, column_number, name_of, cell_name, object_name}
 use Rattle.dms_objects.specs.NameOctets.{IsNamed}
@@ -26,42 +24,7 @@ object_in_limits group number of_group of_number =
     (omega arith, λ low. omega arith, omega arith, (omega arith, (omega arith, (omega arith, (omega arith, (omega arith, (omega arith, (omega arith, (omega arith, (omega arith, (omega arith, (omega arith, tt))))))))))), omega arith)
 
 object_few : (object : Scalar) → ((scalar_number object).0 < 128) × ((scalar_number object).1 < 128)
-object_few scalars.SignHeightPixels = (omega arith, omega arith)
-object_few scalars.SignWidthPixels = (omega arith, omega arith)
-object_few scalars.DefaultBackgroundColor = (omega arith, omega arith)
-object_few scalars.DefaultForegroundColor = (omega arith, omega arith)
-object_few scalars.DefaultFlashOn = (omega arith, omega arith)
-object_few scalars.DefaultFlashOff = (omega arith, omega arith)
-object_few scalars.DefaultFont = (omega arith, omega arith)
-object_few scalars.DefaultJustificationLine = (omega arith, omega arith)
-object_few scalars.DefaultJustificationPage = (omega arith, omega arith)
-object_few scalars.DefaultPageOnTime = (omega arith, omega arith)
-object_few scalars.DefaultPageOffTime = (omega arith, omega arith)
-object_few scalars.ColorScheme = (omega arith, omega arith)
-object_few scalars.NumPermanentMsg = (omega arith, omega arith)
-object_few scalars.NumChangeableMsg = (omega arith, omega arith)
-object_few scalars.MaxChangeableMsg = (omega arith, omega arith)
-object_few scalars.FreeChangeableMemory = (omega arith, omega arith)
-object_few scalars.NumVolatileMsg = (omega arith, omega arith)
-object_few scalars.MaxVolatileMsg = (omega arith, omega arith)
-object_few scalars.FreeVolatileMemory = (omega arith, omega arith)
-object_few scalars.ValidateMessageError = (omega arith, omega arith)
-object_few scalars.ActivateMessage = (omega arith, omega arith)
-object_few scalars.MessageTimeRemaining = (omega arith, omega arith)
-object_few scalars.MsgTableSource = (omega arith, omega arith)
-object_few scalars.MsgRequesterId = (omega arith, omega arith)
-object_few scalars.MsgSourceMode = (omega arith, omega arith)
-object_few scalars.ShortPowerRecoveryMessage = (omega arith, omega arith)
-object_few scalars.LongPowerRecoveryMessage = (omega arith, omega arith)
-object_few scalars.ShortPowerLossTime = (omega arith, omega arith)
-object_few scalars.CommunicationsLossMessage = (omega arith, omega arith)
-object_few scalars.TimeCommLoss = (omega arith, omega arith)
-object_few scalars.PowerLossMessage = (omega arith, omega arith)
-object_few scalars.EndDurationMessage = (omega arith, omega arith)
-object_few scalars.ActivateMsgError = (omega arith, omega arith)
-object_few scalars.MultiSyntaxError = (omega arith, omega arith)
-object_few scalars.MultiSyntaxErrorPosition = (omega arith, omega arith)
-object_few scalars.ActivateErrorMsgCode = (omega arith, omega arith)
+object_few object = (grind arith, grind arith)
 
 pub object_named : (object : Scalar) (number : ℕ × ℕ) (octets : List ℕ) → number ≡ scalar_number object
     → octets ≡ 43 ∷ 6 ∷ 1 ∷ 4 ∷ 1 ∷ 137 ∷ 54 ∷ 4 ∷ 2 ∷ 3 ∷ number.0 ∷ number.1 ∷ 0 ∷ [] → IsNamed (kinds.Scalar object) octets
@@ -78,15 +41,7 @@ object_named object number octets is written =
 -- ---- cells
 
 column_few : (column : Column) → column_number column < 128
-column_few columns.MemoryType = omega arith
-column_few columns.Number = omega arith
-column_few columns.MultiString = omega arith
-column_few columns.Owner = omega arith
-column_few columns.Crc = omega arith
-column_few columns.Beacon = omega arith
-column_few columns.PixelService = omega arith
-column_few columns.RunTimePriority = omega arith
-column_few columns.Status = omega arith
+column_few column = grind arith
 
 cell_octets : (column : Column) (row : RowId)
     → name_octets (cell_name column row)
