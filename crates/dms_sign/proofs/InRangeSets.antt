@@ -201,8 +201,6 @@ writes_code object (Some octets) is = record { size = omega (arith, is.least, is
 object_writes : (face : FaceModel) (object : Scalar) (value : ObjectValue) → IsValueInLimits value
     → IfSome (object_write face object value) IsWriteInRange
 unfolding object_write
-object_writes face SignHeightPixels value within = tt
-object_writes face SignWidthPixels value within = tt
 object_writes face DefaultBackgroundColor value within =
     writes_number DefaultBackgroundColor 0 9 (number_in 0 9 value) (omega arith) (number_is 0 9 value)
 object_writes face DefaultForegroundColor value within =
@@ -218,23 +216,11 @@ object_writes face DefaultPageOnTime value within =
     writes_number DefaultPageOnTime 0 255 (number_in 0 255 value) (omega arith) (number_is 0 255 value)
 object_writes face DefaultPageOffTime value within =
     writes_number DefaultPageOffTime 0 255 (number_in 0 255 value) (omega arith) (number_is 0 255 value)
-object_writes face ColorScheme value within = tt
-object_writes face NumPermanentMsg value within = tt
-object_writes face NumChangeableMsg value within = tt
-object_writes face MaxChangeableMsg value within = tt
-object_writes face FreeChangeableMemory value within = tt
-object_writes face NumVolatileMsg value within = tt
-object_writes face MaxVolatileMsg value within = tt
-object_writes face FreeVolatileMemory value within = tt
-object_writes face ValidateMessageError value within = tt
 object_writes face ActivateMessage value within =
     if_mapped (AreOctetsWithin 12 12) IsWriteInRange Activate (octets_in 12 12 value)
     (λ octets is. record { size = omega (arith, is.least, is.most); below = is.below }) (octets_are 12 12 value within)
 object_writes face MessageTimeRemaining value within =
     if_mapped (IsWithin 0 65535) IsWriteInRange SetRemaining (number_in 0 65535 value) (λ n is. is.1) (number_is 0 65535 value)
-object_writes face MsgTableSource value within = tt
-object_writes face MsgRequesterId value within = tt
-object_writes face MsgSourceMode value within = tt
 object_writes face ShortPowerRecoveryMessage value within = writes_code ShortPowerRecoveryMessage (octets_in 5 5 value) (octets_are 5 5 value within)
 object_writes face LongPowerRecoveryMessage value within = writes_code LongPowerRecoveryMessage (octets_in 5 5 value) (octets_are 5 5 value within)
 object_writes face ShortPowerLossTime value within =
@@ -243,10 +229,7 @@ object_writes face CommunicationsLossMessage value within = writes_code Communic
 object_writes face TimeCommLoss value within = writes_number TimeCommLoss 0 65535 (number_in 0 65535 value) (omega arith) (number_is 0 65535 value)
 object_writes face PowerLossMessage value within = writes_code PowerLossMessage (octets_in 5 5 value) (octets_are 5 5 value within)
 object_writes face EndDurationMessage value within = writes_code EndDurationMessage (octets_in 5 5 value) (octets_are 5 5 value within)
-object_writes face ActivateMsgError value within = tt
-object_writes face MultiSyntaxError value within = tt
-object_writes face MultiSyntaxErrorPosition value within = tt
-object_writes face ActivateErrorMsgCode value within = tt
+object_writes face _ value within = tt
 
 cell_writes : (column : Column) (id : RowId) (value : ObjectValue) → IsValueInLimits value → IfSome (cell_write column id value) IsWriteInRange
 unfolding cell_write

@@ -82,8 +82,6 @@ any_mapped face f (Some x) each = each x
 
 object_writes : (face : FaceModel) (object : Scalar) (value : ObjectValue) → IfSome (object_write face object value) (WriteFits face)
 unfolding object_write
-object_writes face SignHeightPixels value = tt
-object_writes face SignWidthPixels value = tt
 object_writes face DefaultBackgroundColor value =
     number_writes face DefaultBackgroundColor (λ n. nat_le 0 n && nat_le n 9) (number_in 0 9 value) (λ n e. (and_parts (leb 0 n) (leb n 9) e).1) (number_passes 0 9 value)
 object_writes face DefaultForegroundColor value =
@@ -97,20 +95,8 @@ object_writes face DefaultJustificationPage value =
     number_writes face DefaultJustificationPage (is_within 2 4) (number_in 2 4 value) (λ n e. e) (number_passes 2 4 value)
 object_writes face DefaultPageOnTime value = any_number face DefaultPageOnTime (number_in 0 255 value) (λ n. refl)
 object_writes face DefaultPageOffTime value = any_number face DefaultPageOffTime (number_in 0 255 value) (λ n. refl)
-object_writes face ColorScheme value = tt
-object_writes face NumPermanentMsg value = tt
-object_writes face NumChangeableMsg value = tt
-object_writes face MaxChangeableMsg value = tt
-object_writes face FreeChangeableMemory value = tt
-object_writes face NumVolatileMsg value = tt
-object_writes face MaxVolatileMsg value = tt
-object_writes face FreeVolatileMemory value = tt
-object_writes face ValidateMessageError value = tt
 object_writes face ActivateMessage value = any_mapped face Activate (octets_in 12 12 value) (λ x. tt)
 object_writes face MessageTimeRemaining value = any_mapped face SetRemaining (number_in 0 65535 value) (λ x. tt)
-object_writes face MsgTableSource value = tt
-object_writes face MsgRequesterId value = tt
-object_writes face MsgSourceMode value = tt
 object_writes face ShortPowerRecoveryMessage value = any_mapped face (SetCode ShortPowerRecoveryMessage) (octets_in 5 5 value) (λ x. tt)
 object_writes face LongPowerRecoveryMessage value = any_mapped face (SetCode LongPowerRecoveryMessage) (octets_in 5 5 value) (λ x. tt)
 object_writes face ShortPowerLossTime value = any_number face ShortPowerLossTime (number_in 0 65535 value) (λ n. refl)
@@ -118,10 +104,7 @@ object_writes face CommunicationsLossMessage value = any_mapped face (SetCode Co
 object_writes face TimeCommLoss value = any_number face TimeCommLoss (number_in 0 65535 value) (λ n. refl)
 object_writes face PowerLossMessage value = any_mapped face (SetCode PowerLossMessage) (octets_in 5 5 value) (λ x. tt)
 object_writes face EndDurationMessage value = any_mapped face (SetCode EndDurationMessage) (octets_in 5 5 value) (λ x. tt)
-object_writes face ActivateMsgError value = tt
-object_writes face MultiSyntaxError value = tt
-object_writes face MultiSyntaxErrorPosition value = tt
-object_writes face ActivateErrorMsgCode value = tt
+object_writes face _ value = tt
 
 cell_writes : (face : FaceModel) (column : Column) (id : RowId) (value : ObjectValue) → IfSome (cell_write column id value) (WriteFits face)
 unfolding cell_write
