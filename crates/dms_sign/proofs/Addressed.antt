@@ -4,7 +4,6 @@ use Rattle.dms_wire.specs.declared.message.Kind.{Kind}
 use Rattle.dms_wire.specs.declared.message.Kind.TheVariants.{Get, GetNext, Response, Set}
 use Rattle.dms_wire.specs.Message.{SnmpMessage}
 use Rattle.dms_sign.specs.State.{SignState}
-use Rattle.dms_sign.specs.Requests.{is_community}
 use Rattle.dms_sign.specs.Reply.{is_request, heard, dropped, on_message}
 use Rattle.dms_sign.specs.ReplyView.{is_addressed, answered}
 

@@ -1,12 +1,12 @@
 -- The defaults of a sign stay in their ranges, and name a font of its face.
-use Rattle.std.proofs.Common.{◌≡◌, ℕ, pos, negsuc, ◌+◌, ◌==◌, ◌&&◌, Bool, true, false, cond, IsTrue, List, [], ◌∷◌, map, find, Option, Some, None, Result, Ok, Err, refl, sym, subst, eqb, leb}
+use Rattle.std.proofs.Common.{◌≡◌, ℕ, ◌+◌, ◌==◌, ◌&&◌, Bool, true, false, cond, IsTrue, List, [], ◌∷◌, map, find, Option, Some, None, Result, Ok, Err, refl, sym, subst, eqb, leb}
 use Rattle.std.specs.Prelude.{option_map, option_and_then, unwrap_or, filter_map, nat_lt, nat_le, ⊤}
 use Rattle.std.specs.Option.{IfSome}
 use Rattle.std.specs.List.{AllByRecursion, position_from}
 use Rattle.std.proofs.lemmas.Bool.{and_parts, and_from, eqb-true}
 use Rattle.dms_wire.specs.declared.message.Kind.{Kind}
 use Rattle.dms_wire.specs.declared.message.Kind.TheVariants.{Get, GetNext, Response, Set}
-use Rattle.dms_wire.specs.Message.{ObjectValue, integer, octet_string, null, object_identifier, ip_address, counter, gauge, time_ticks, opaque, VarBind, SnmpMessage}
+use Rattle.dms_wire.specs.Message.{ObjectValue, VarBind, SnmpMessage}
 use Rattle.dms_wire.specs.MessageOf.{message_of}
 use Rattle.dms_face.specs.declared.defaults.Defaults.{Defaults}
 use Rattle.dms_face.specs.Face.{FaceModel, has_font, is_within, fit}
@@ -19,7 +19,7 @@ use Rattle.dms_table.specs.Rows.{TableModel, Text, Owner, Beacon, Pixel, Priorit
 use Rattle.dms_codes.specs.Limits.{longest_text, longest_owner}
 use Rattle.dms_table.specs.Activation.{ShownModel, seconds_of, decided}
 use Rattle.dms_objects.specs.declared.scalar.Scalar.{Scalar}
-use Rattle.dms_objects.specs.declared.scalar.Scalar.TheVariants.{SignHeightPixels, SignWidthPixels, DefaultBackgroundColor, DefaultForegroundColor, DefaultFlashOn, DefaultFlashOff, DefaultFont, DefaultJustificationLine, DefaultJustificationPage, DefaultPageOnTime, DefaultPageOffTime, ColorScheme, NumPermanentMsg, NumChangeableMsg, MaxChangeableMsg, FreeChangeableMemory, NumVolatileMsg, MaxVolatileMsg, FreeVolatileMemory, ValidateMessageError, ActivateMessage, MessageTimeRemaining, MsgTableSource, MsgRequesterId, MsgSourceMode, ShortPowerRecoveryMessage, LongPowerRecoveryMessage, ShortPowerLossTime, CommunicationsLossMessage, TimeCommLoss, PowerLossMessage, EndDurationMessage, ActivateMsgError, MultiSyntaxError, MultiSyntaxErrorPosition, ActivateErrorMsgCode}
+use Rattle.dms_objects.specs.declared.scalar.Scalar.TheVariants.{DefaultBackgroundColor, DefaultForegroundColor, DefaultFlashOn, DefaultFlashOff, DefaultFont, DefaultJustificationLine, DefaultJustificationPage, DefaultPageOnTime, DefaultPageOffTime, ActivateMessage, MessageTimeRemaining, ShortPowerRecoveryMessage, LongPowerRecoveryMessage, ShortPowerLossTime, CommunicationsLossMessage, TimeCommLoss, PowerLossMessage, EndDurationMessage}
 use Rattle.dms_objects.specs.declared.instance.Instance.{Instance}
 use Rattle.dms_objects.specs.declared.instance.Instance.TheVariants as kinds
 use Rattle.dms_objects.specs.Names.{scalar_number}
