@@ -5,7 +5,7 @@ use Rattle.std.specs.Int.Digits.{digits_of}
 use Rattle.std.proofs.lemmas.Int.Digits.{first_digits_of, digits_of_step}
 use Rattle.dms_ber.specs.ObjectIdentifier.{sub_identifier_octets}
 use Rattle.dms_objects.proofs.SubIdentifiers.{one_octet, two_octets}
-use Rattle.dms_instances.specs.Told.{octets_below, row_number_of}
+use Rattle.dms_instances.specs.NameReading.{octets_below, row_number_of}
 use Rattle.dms_instances.proofs.InOrder.{less_or_not}
 
 -- the numbers begin with one of one octet, or with one of 128 or more

@@ -10,7 +10,7 @@ use Rattle.dms_table.specs.Rows.{TableModel}
 use Rattle.dms_instances.specs.declared.counts.Counts.{Counts}
 use Rattle.dms_instances.specs.Objects.{is_before, comes_after, next_instance, IsInstance}
 use Rattle.dms_instances.specs.Places.{HasCounts, last_number, row_place, IsRow, IsFirstRow}
-use Rattle.dms_instances.specs.Told.{column_at, octets_below, row_number_of}
+use Rattle.dms_instances.specs.NameReading.{column_at, octets_below, row_number_of}
 use Rattle.dms_instances.proofs.InOrder.{alike_is, smaller, larger}
 use Rattle.dms_instances.proofs.WhichInstances.{AreOctets, Counted, counted_there, there_counted, last_few}
 use Rattle.dms_instances.proofs.Beginnings.{Begins, begins}

@@ -13,7 +13,7 @@ use Rattle.dms_table.specs.Rows.{TableModel}
 use Rattle.dms_instances.specs.declared.counts.Counts.{Counts}
 use Rattle.dms_instances.specs.Objects.{instances, is_before, comes_after, next_instance, IsInstance, IsFirstAfter, FirstAfter}
 use Rattle.dms_instances.specs.Places.{HasCounts}
-use Rattle.dms_instances.specs.Told.{scalar_at}
+use Rattle.dms_instances.specs.NameReading.{scalar_at}
 use Rattle.dms_instances.proofs.InOrder.{smaller, larger, before_trans, not_before_itself, next_is_first}
 use Rattle.dms_instances.proofs.Inverses.{scalar_back}
 use Rattle.dms_instances.proofs.WhichInstances.{Counted, object_there, there_counted}

@@ -3,7 +3,7 @@ use Rattle.std.proofs.Common.{◌≡◌, Some, arith}
 use Rattle.dms_objects.specs.declared.column.Column.{Column}
 use Rattle.dms_objects.specs.declared.scalar.Scalar.{Scalar}
 use Rattle.dms_objects.specs.Names.{column_number, scalar_number}
-use Rattle.dms_instances.specs.Told.{column_at, scalar_at}
+use Rattle.dms_instances.specs.NameReading.{column_at, scalar_at}
 
 pub column_back : (column : Column) → column_at (column_number column) ≡ Some column
 column_back column = grind arith

@@ -4,7 +4,7 @@ pub mod WhichInstances
 pub mod ObjectRows
 pub mod CellOctets
 pub mod SameOctets
-pub mod Told
+pub mod NamesFound
 pub mod Inverses
 pub mod Beginnings
 pub mod Following

@@ -9,7 +9,7 @@ use Rattle.dms_objects.specs.declared.instance.Instance.{Instance}
 use Rattle.dms_objects.specs.Names.{name_of, below_dms}
 use Rattle.dms_objects.specs.NameOctets.{IsNamed}
 use Rattle.dms_instances.specs.Objects.{has_name}
-use Rattle.dms_instances.specs.Told.{octets_below, under_dms}
+use Rattle.dms_instances.specs.NameReading.{octets_below, under_dms}
 
 -- a name is what is read of its octets
 read_back : (name : List ℕ) → IsNameInLimits name → name ≡ numbers_of (name_octets name)

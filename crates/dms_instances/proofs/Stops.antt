@@ -5,7 +5,7 @@ use Rattle.dms_table.specs.Rows.{TableModel}
 use Rattle.dms_instances.specs.declared.counts.Counts.{Counts}
 use Rattle.dms_instances.specs.Objects.{is_before, next_instance}
 use Rattle.dms_instances.specs.Places.{HasCounts}
-use Rattle.dms_instances.specs.Told.{octets_below, column_at}
+use Rattle.dms_instances.specs.NameReading.{octets_below, column_at}
 use Rattle.dms_instances.proofs.InOrder.{larger}
 use Rattle.dms_instances.proofs.Beginnings.{Begins, begins, ends, small_first}
 use Rattle.dms_instances.proofs.Following.{of_nothing, of_group, group_high, number_high, past_object, before_cells, past_cells}

@@ -2,4 +2,4 @@
 pub mod Objects
 -- only proofs go through these
 pub mod Places
-pub mod Told
+pub mod NameReading

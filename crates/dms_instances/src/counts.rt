@@ -8,7 +8,7 @@ ghost use Rattle.dms_table.specs.Rows.{TableModel};
 ghost use Rattle.dms_objects.specs.Names.{below_dms, cell_name, column_number};
 ghost use Rattle.dms_instances.specs.Objects.{instance_named, next_instance, IsInstance};
 ghost use Rattle.dms_instances.specs.Places.{HasCounts, last_number, row_place, IsRow, IsFirstRow};
-ghost use Rattle.dms_instances.specs.Told.{octets_below};
+ghost use Rattle.dms_instances.specs.NameReading.{octets_below};
 
 use crate::names::{comes_before_dms, known_below_dms, known_by_octets};
 use crate::octets::{

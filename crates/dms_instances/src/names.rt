@@ -5,7 +5,7 @@ ghost use Rattle.dms_ber.specs.ObjectIdentifier.{name_octets};
 ghost use Rattle.dms_objects.specs.NameOctets.{IsNamed};
 ghost use Rattle.dms_objects.specs.Names.{below_dms};
 ghost use Rattle.dms_instances.specs.Objects.{has_name, is_before};
-ghost use Rattle.dms_instances.specs.Told.{octets_below, under_dms};
+ghost use Rattle.dms_instances.specs.NameReading.{octets_below, under_dms};
 
 use dms_ber::{Oid, oid_cmp};
 use dms_objects::Instance;

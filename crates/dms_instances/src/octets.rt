@@ -1,4 +1,4 @@
-//! What the content octets of a name tell: whose name they are, and its numbers one by one.
+//! The content octets of a name: whose name they are, and its numbers one by one.
 
 ghost use Rattle.std.specs.Prelude.{◌≡◌, ◌≤◌, ◌<◌, ◌+◌, ◌∷◌, [], ℕ, List, Some, IfSome, IfNone};
 ghost use Rattle.dms_objects.specs.declared.column.Column.{Column};
@@ -6,7 +6,7 @@ ghost use Rattle.dms_objects.specs.declared.scalar.Scalar.{Scalar};
 ghost use Rattle.dms_objects.specs.declared.instance.Instance.TheVariants as kinds;
 ghost use Rattle.dms_objects.specs.Names.{column_number, scalar_number};
 ghost use Rattle.dms_objects.specs.NameOctets.{IsNamed};
-ghost use Rattle.dms_instances.specs.Told.{column_at, scalar_at, octets_below, row_number_of, IsTold};
+ghost use Rattle.dms_instances.specs.NameReading.{column_at, scalar_at, octets_below, row_number_of, IsFoundBy};
 
 use dms_codes::RowId;
 use dms_objects::{Column, Instance, Scalar};
@@ -18,7 +18,7 @@ const ABOVE_DMS: [u8; 8] = [43, 6, 1, 4, 1, 137, 54, 4];
 #[inline(always)]
 pub(crate) fn instance(content: &[u8]) -> Option<Instance>
     ensures named { IfSome result (λ i. IsNamed i content.now) }
-    ensures told { IsTold content.now result }
+    ensures found { IsFoundBy content.now result }
 {
     match below_dms(content)? {
         [5, 8, 1, column, memory, number] => cell_named(*column, *memory, *number),
@@ -33,7 +33,7 @@ pub(crate) fn instance(content: &[u8]) -> Option<Instance>
 fn cell_named(column: u8, memory: u8, number: u8) -> Option<Instance>
     ensures named { IfSome result (λ i. IsNamed i
         (43 ∷ 6 ∷ 1 ∷ 4 ∷ 1 ∷ 137 ∷ 54 ∷ 4 ∷ 2 ∷ 3 ∷ 5 ∷ 8 ∷ 1 ∷ column ∷ memory ∷ number ∷ [])) }
-    ensures told { (c : Column) → column_number c ≡ column → memory < 128 → number < 128
+    ensures found { (c : Column) → column_number c ≡ column → memory < 128 → number < 128
         → result ≡ Some (kinds.Cell c (record { memory = memory; number = number })) }
 {
     if memory < 128 && number < 128 {
@@ -51,7 +51,7 @@ fn cell_named(column: u8, memory: u8, number: u8) -> Option<Instance>
 fn long_cell_named(column: u8, memory: u8, low: u8) -> Option<Instance>
     ensures named { IfSome result (λ i. IsNamed i
         (43 ∷ 6 ∷ 1 ∷ 4 ∷ 1 ∷ 137 ∷ 54 ∷ 4 ∷ 2 ∷ 3 ∷ 5 ∷ 8 ∷ 1 ∷ column ∷ memory ∷ 129 ∷ low ∷ [])) }
-    ensures told { (c : Column) → column_number c ≡ column → memory < 128 → low < 128
+    ensures found { (c : Column) → column_number c ≡ column → memory < 128 → low < 128
         → result ≡ Some (kinds.Cell c (record { memory = memory; number = 128 + low })) }
 {
     if memory < 128 && low < 128 {
@@ -68,7 +68,7 @@ fn long_cell_named(column: u8, memory: u8, low: u8) -> Option<Instance>
 fn object_named(group: u8, number: u8) -> Option<Instance>
     ensures named { IfSome result
         (λ i. IsNamed i (43 ∷ 6 ∷ 1 ∷ 4 ∷ 1 ∷ 137 ∷ 54 ∷ 4 ∷ 2 ∷ 3 ∷ group ∷ number ∷ 0 ∷ [])) }
-    ensures told { (s : Scalar) → scalar_number s ≡ (group, number) → result ≡ Some (kinds.Scalar s) }
+    ensures found { (s : Scalar) → scalar_number s ≡ (group, number) → result ≡ Some (kinds.Scalar s) }
 {
     Some(Instance::Scalar(scalar_of(group, number)?))
 }
@@ -77,7 +77,7 @@ fn object_named(group: u8, number: u8) -> Option<Instance>
 #[inline]
 pub(crate) fn column_of(number: u8) -> Option<Column>
     ensures named { IfSome result (λ c. column_number c ≡ number) }
-    ensures told { result ≡ column_at number }
+    ensures found { result ≡ column_at number }
 {
     match number {
         1 => Some(Column::MemoryType),
@@ -97,7 +97,7 @@ pub(crate) fn column_of(number: u8) -> Option<Column>
 #[inline]
 pub(crate) fn scalar_of(group: u8, number: u8) -> Option<Scalar>
     ensures named { IfSome result (λ s. scalar_number s ≡ (group, number)) }
-    ensures told { result ≡ scalar_at group number }
+    ensures found { result ≡ scalar_at group number }
 {
     match group {
         2 => vms_object(number),
@@ -112,7 +112,7 @@ pub(crate) fn scalar_of(group: u8, number: u8) -> Option<Scalar>
 #[inline]
 fn vms_object(number: u8) -> Option<Scalar>
     ensures named { IfSome result (λ s. scalar_number s ≡ (2, number)) }
-    ensures told { result ≡ scalar_at 2 number }
+    ensures found { result ≡ scalar_at 2 number }
 {
     match number {
         3 => Some(Scalar::SignHeightPixels),
@@ -125,7 +125,7 @@ fn vms_object(number: u8) -> Option<Scalar>
 #[inline]
 fn multi_object(number: u8) -> Option<Scalar>
     ensures named { IfSome result (λ s. scalar_number s ≡ (4, number)) }
-    ensures told { result ≡ scalar_at 4 number }
+    ensures found { result ≡ scalar_at 4 number }
 {
     match number {
         1 => Some(Scalar::DefaultBackgroundColor),
@@ -146,7 +146,7 @@ fn multi_object(number: u8) -> Option<Scalar>
 #[inline]
 fn message_object(number: u8) -> Option<Scalar>
     ensures named { IfSome result (λ s. scalar_number s ≡ (5, number)) }
-    ensures told { result ≡ scalar_at 5 number }
+    ensures found { result ≡ scalar_at 5 number }
 {
     match number {
         1 => Some(Scalar::NumPermanentMsg),
@@ -165,7 +165,7 @@ fn message_object(number: u8) -> Option<Scalar>
 #[inline]
 fn control_object(number: u8) -> Option<Scalar>
     ensures named { IfSome result (λ s. scalar_number s ≡ (6, number)) }
-    ensures told { result ≡ scalar_at 6 number }
+    ensures found { result ≡ scalar_at 6 number }
 {
     match number {
         3 => Some(Scalar::ActivateMessage),
@@ -193,7 +193,7 @@ fn control_object(number: u8) -> Option<Scalar>
 #[inline]
 pub(crate) fn below_dms(content: &[u8]) -> Option<&[u8]>
     ensures named { IfSome result (λ rest. content.now ≡ 43 ∷ 6 ∷ 1 ∷ 4 ∷ 1 ∷ 137 ∷ 54 ∷ 4 ∷ 2 ∷ 3 ∷ rest.now) }
-    ensures told { IfNone result
+    ensures found { IfNone result
         ((rest : List ℕ) → content.now ≡ 43 ∷ 6 ∷ 1 ∷ 4 ∷ 1 ∷ 137 ∷ 54 ∷ 4 ∷ 2 ∷ 3 ∷ rest → ⊥) }
 {
     match content {

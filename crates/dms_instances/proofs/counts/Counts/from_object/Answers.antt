@@ -17,13 +17,13 @@ pub loop-group-preserved-then-number-last_object :
     goal.loop-group-preserved-then-number-last_object
 loop-group-preserved-then-number-last_object c = λ table has.
     let other = no_table c.loop-group.group c.loop-group.number (sym c.is_table.ensures ∙ c.if-is_table.false) in
-    sym (next_number table c.args.self.now has c.loop-group.group c.loop-group.number (sym c.in_default.ensures.told) other)
+    sym (next_number table c.args.self.now has c.loop-group.group c.loop-group.number (sym c.in_default.ensures.found) other)
     ∙ c.loop-group.invariant table has
 
 pub loop-group-preserved : goal.loop-group-preserved
 loop-group-preserved c = λ table has.
     let other = no_table c.loop-group.group c.loop-group.number (sym c.is_table.ensures ∙ c.if-is_table.false) in
-    sym (next_group table c.args.self.now has c.loop-group.group c.loop-group.number (sym c.in_default.ensures.told) other λ object is.
+    sym (next_group table c.args.self.now has c.loop-group.group c.loop-group.number (sym c.in_default.ensures.found) other λ object is.
     omega (arith, c.last_object.ensures object is, c.if-number-last_object.false))
     ∙ c.loop-group.invariant table has
 

@@ -27,4 +27,4 @@ pub returns-else-number-eq0 : goal.returns-else-number-eq0
 returns-else-number-eq0 c = λ numbers e table has.
     c.from_object-else-number-eq0.ensures table has
     ∙ behind_columns table c.args.self.now has numbers c.in-Some.number c.in-Some.rest.now (e ∙ c.in-Some.ensures.some)
-    (sym c.in-None.ensures.told) (omega (arith, c.if-number-eq0.false))
+    (sym c.in-None.ensures.found) (omega (arith, c.if-number-eq0.false))

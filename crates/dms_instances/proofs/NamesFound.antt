@@ -1,4 +1,4 @@
--- An instance that a table has is the one that its name's octets tell.
+-- An instance that a table has is found by the octets of its name.
 use Rattle.std.proofs.Common.{◌≡◌, inl, inr, ℕ, ◌+◌, ◌-◌, ◌<◌, true, List, Option, Some, None, refl, sym, ap, subst, ◌∙◌, arith}
 use Rattle.std.specs.Cmp.Lexicographic.{bytes_decides}
 use Rattle.dms_ber.specs.ObjectIdentifier.{name_octets}
@@ -14,7 +14,7 @@ use Rattle.dms_table.specs.Rows.{TableModel}
 use Rattle.dms_instances.specs.declared.counts.Counts.{Counts}
 use Rattle.dms_instances.specs.Objects.{has_name, instance_named, IsInstance}
 use Rattle.dms_instances.specs.Places.{HasCounts}
-use Rattle.dms_instances.specs.Told.{IsTold}
+use Rattle.dms_instances.specs.NameReading.{IsFoundBy}
 use Rattle.dms_instances.proofs.CellOctets.{short_named, long_named}
 use Rattle.dms_instances.proofs.InOrder.{named_is, less_or_not}
 use Rattle.dms_instances.proofs.WhichInstances.{AreOctets, Counted, there_counted, last_few}
@@ -24,9 +24,9 @@ octets_of : (name : List ℕ) (i : Instance) (octets : List ℕ) → has_name na
 octets_of name i octets e named =
     ap name_octets (sym ((bytes_decides (name_of i) name).0 e)) ∙ sym (name_is (name_of i) octets named.is)
 
-cell_told : (name : List ℕ) (told : Option Instance) (column : Column) (row : RowId) → IsTold (name_octets name) told
-    → row.memory < 128 → row.number < 256 → has_name name (Cell column row) ≡ true → told ≡ Some (Cell column row)
-cell_told name told column row is memory number e =
+cell_found : (name : List ℕ) (found : Option Instance) (column : Column) (row : RowId) → IsFoundBy (name_octets name) found
+    → row.memory < 128 → row.number < 256 → has_name name (Cell column row) ≡ true → found ≡ Some (Cell column row)
+cell_found name found column row is memory number e =
     elim (less_or_not row.number 128) [
       | inl few ↦
           is.short column row.memory row.number memory few
@@ -43,13 +43,13 @@ cell_told name told column row is memory number e =
           ∙ ap (λ r. Some (Cell column r)) as_row
     ]
 
-pub there_told : (table : TableModel) (n : Counts) (name : List ℕ) (told : Option Instance) → HasCounts table n → AreOctets n
-    → IsTold (name_octets name) told → (i : Instance) → IsInstance table i → has_name name i ≡ true → told ≡ Some i
-there_told table n name told has few is (Scalar object) there e =
+pub there_found : (table : TableModel) (n : Counts) (name : List ℕ) (found : Option Instance) → HasCounts table n → AreOctets n
+    → IsFoundBy (name_octets name) found → (i : Instance) → IsInstance table i → has_name name i ≡ true → found ≡ Some i
+there_found table n name found has few is (Scalar object) there e =
     is.object object (octets_of name (Scalar object) _ e (object_named object _ _ refl refl))
-there_told table n name told has few is (Cell column row) there e =
+there_found table n name found has few is (Cell column row) there e =
     let counted : Counted n row = there_counted table n column row has there in
-    cell_told name told column row is counted.memory (omega (arith, counted.to, last_few n few row.memory)) e
+    cell_found name found column row is counted.memory (omega (arith, counted.to, last_few n few row.memory)) e
 
 -- a name that none has is not found
 pub none_named : (table : TableModel) (name : List ℕ) → ((i : Instance) → IsInstance table i → has_name name i ≡ true → ⊥)

@@ -1,4 +1,4 @@
--- What the octets of a name tell of the instance whose name they are (X.690, 8.19; this profile).
+-- Which instance it is whose name has these octets (X.690, 8.19; this profile).
 use Rattle.std.specs.Prelude.{◌≡◌, ◌<◌, ◌+◌, ◌==◌, ◌&&◌, ℕ, List, []}
 use Rattle.std.specs.Prelude.{◌∷◌, Option, Some, nat_lt, get_or, if◌then◌else◌}
 use Rattle.std.specs.List.{find, flat_map}
@@ -62,12 +62,12 @@ abbrev pub long_cell_content : Column → (memory low : ℕ) → List ℕ
 long_cell_content column memory low = under_dms (5 ∷ 8 ∷ 1 ∷ column_number column ∷ memory ∷ 129 ∷ low ∷ [])
 
 -- whichever object, or cell of a row of a type of memory below 128 and a number below 256, has these octets as its
--- name: it is told
-pub record IsTold (octets : List ℕ) (told : Option Instance) : Type 0 where
-  pub object : (object : Scalar) → octets ≡ object_content object → told ≡ Some (kinds.Scalar object)
+-- name is the one that is found
+pub record IsFoundBy (octets : List ℕ) (found : Option Instance) : Type 0 where
+  pub object : (object : Scalar) → octets ≡ object_content object → found ≡ Some (kinds.Scalar object)
   pub short : (column : Column) (memory number : ℕ) → memory < 128
       → number < 128 → octets ≡ cell_content column memory number
-      → told ≡ Some (kinds.Cell column (record { memory = memory; number = number }))
+      → found ≡ Some (kinds.Cell column (record { memory = memory; number = number }))
   pub long : (column : Column) (memory low : ℕ) → memory < 128
       → low < 128 → octets ≡ long_cell_content column memory low
-      → told ≡ Some (kinds.Cell column (record { memory = memory; number = 128 + low }))
+      → found ≡ Some (kinds.Cell column (record { memory = memory; number = 128 + low }))
