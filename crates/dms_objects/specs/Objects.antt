@@ -199,13 +199,16 @@ row_of (EachRow column) = column_row column
 
 -- an object with the name that the MIB has
 abbrev pub named_object : Row → Instances → List ℕ × Object
-named_object row which = (row.name, record {
-  group = row.group;
-  number = row.number;
-  access = row.access;
-  syntax = row.syntax;
-  instances = which;
-})
+named_object row which = (
+  row.name,
+  record {
+    group = row.group;
+    number = row.number;
+    access = row.access;
+    syntax = row.syntax;
+    instances = which;
+  },
+)
 
 -- each object with the name that the MIB has, in the order of names
 unfoldable pub objects : List (List ℕ × Object)
