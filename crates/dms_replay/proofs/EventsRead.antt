@@ -75,3 +75,5 @@ pub all_read : (order : Order) (all : List (List ℕ)) (left : List NumberedLine
     → SpellsEach (SpellsEvent order) events all
 all_read order all left events read end =
     subst (SpellsEach (SpellsEvent order) events) (sym (read.lines_are ∙ ap (λ rest. read.prefix ++ octets_of_lines rest) end ∙ append-nil read.prefix)) read.spelled
+
+pub ruleset events_read = (none_read, one_more_read, refused, all_read)

@@ -224,3 +224,9 @@ no_room slice octets written report (Some whole) room next result fault lent sam
     let one : other ≡ written = one_report slice other report other_here is ∙ sym as_written in
     let size : length other ≡ length written + 0 = omega (arith, ap length one) in
     failed_is_no_success result fault failed (within 0 (subst (HasRoom room) size has)).0
+
+pub ruleset scripts_read = (is_script, no_sign, no_events)
+
+pub ruleset signs_named = (bench_is_named, sign_is_named, none_is_named)
+
+pub ruleset first_lines = (bench_first, other_first, nothing_first)

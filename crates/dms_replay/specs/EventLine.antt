@@ -3,7 +3,8 @@ use Rattle.std.specs.Prelude.{◌≡◌, ℕ, List, [], ◌∷◌, codes}
 use Rattle.dms_text.specs.Words.{words_of}
 use Rattle.dms_text.specs.Octets.{SpellsOctets}
 use Rattle.dms_codes.specs.declared.codes.Order.{Order}
-use Rattle.dms_world.specs.Event.{EventModel, command, sign_tick, centre_tick, to_sign, to_centre, power_lost, power_back, centre_restart, forge_sign, forge_centre}
+use Rattle.dms_world.specs.Event.{EventModel, command, sign_tick, centre_tick, to_sign, to_centre, power_lost}
+use Rattle.dms_world.specs.Event.{power_back, centre_restart, forge_sign, forge_centre}
 use Rattle.dms_description.specs.Fields.{SpellsFourOctets, SpellsOne}
 use Rattle.dms_commands.specs.CommandLine.{SpellsCommand}
 

@@ -25,8 +25,11 @@ use Rattle.dms_replay.specs.EventReading.{keyword_of}
 
 -- what the words of an event's line are to be
 abbrev pub event_form : Keyword → List Wanted
-event_form (key.Command asked.Publish) = wanted.Keyword keywords.Publish ∷ wanted.Number 0 255 ∷ wanted.Number 0 65535 ∷ wanted.Octets names.Text ∷ wanted.Octets names.Owner ∷ wanted.Number 0 255 ∷ wanted.Number 0 255 ∷ wanted.Number 0 255 ∷ wanted.Number 0 65535 ∷ wanted.Number 0 255 ∷ wanted.Address ∷ []
-event_form (key.Command asked.Blank) = wanted.Keyword keywords.Blank ∷ wanted.Number 0 65535 ∷ wanted.Number 0 65535 ∷ wanted.Number 0 255 ∷ wanted.Address ∷ []
+event_form (key.Command asked.Publish) = wanted.Keyword keywords.Publish ∷ wanted.Number 0 255 ∷ wanted.Number 0 65535
+    ∷ wanted.Octets names.Text ∷ wanted.Octets names.Owner ∷ wanted.Number 0 255 ∷ wanted.Number 0 255
+    ∷ wanted.Number 0 255 ∷ wanted.Number 0 65535 ∷ wanted.Number 0 255 ∷ wanted.Address ∷ []
+event_form (key.Command asked.Blank) = wanted.Keyword keywords.Blank ∷ wanted.Number 0 65535 ∷ wanted.Number 0 65535
+    ∷ wanted.Number 0 255 ∷ wanted.Address ∷ []
 event_form (key.Command asked.Activate) = wanted.Keyword keywords.Activate ∷ wanted.Code ∷ []
 event_form key.SignTick = wanted.Keyword keywords.SignTick ∷ []
 event_form key.CentreTick = wanted.Keyword keywords.CentreTick ∷ []

@@ -14,11 +14,13 @@ events_line count = ended (codes "events " ++ decimal count)
 
 -- how many datagrams the ends sent: to the sign, and to the centre
 abbrev pub sent_line : WorldModel → List ℕ
-sent_line world = ended (codes "sent " ++ decimal (length world.to_sign) ++ codes " " ++ decimal (length world.to_centre))
+sent_line world =
+    ended (codes "sent " ++ decimal (length world.to_sign) ++ codes " " ++ decimal (length world.to_centre))
 
 -- an activation that the sign accepted, and the number of its event
 abbrev pub accepted_line : Order → ℕ × Activation → List ℕ
-accepted_line order accepted = ended (codes "accepted " ++ decimal accepted.0 ++ codes " " ++ code_text order accepted.1)
+accepted_line order accepted =
+    ended (codes "accepted " ++ decimal accepted.0 ++ codes " " ++ code_text order accepted.1)
 
 -- ---- the report
 

@@ -12,7 +12,8 @@ use Rattle.dms_description.specs.BenchSign.{bench_text}
 
 -- the world in which a script's events happen: the centre has the sign's writing community and its order
 abbrev pub beginning_of : Description → WorldModel
-beginning_of it = beginning (start it.config it.table) (centre.start (record { community = it.config.writer; order = it.table.order }) it.first)
+beginning_of it = beginning (start it.config it.table)
+    (centre.start (record { community = it.config.writer; order = it.table.order }) it.first)
 
 -- the lines that name a sign: the word `bench`, or the sign's own description
 pub data NamesSign : List (List ℕ) → Description → Type 0 where

@@ -18,7 +18,8 @@ use std::alloc::{AllocError, Global};
 /// The event that a line spells, or none where it spells none; it spells no other. A code is in this order.
 #[tactic(auto, using(crate::proofs::EventLaws::none_if_not_read))]
 pub fn event(alloc: Global, order: Order, line: &[u8]) -> Result<Option<ScriptEvent>, AllocError>
-    ensures read { IfOk result (λ found. IfSome found (λ event. SpellsEvent order (script_event_model event) line.now)) }
+    ensures read { IfOk result (λ found. IfSome found (λ event.
+        SpellsEvent order (script_event_model event) line.now)) }
     ensures none { IfOk result (λ found. IfNone found ((event : EventModel) → SpellsEvent order event line.now → ⊥)) }
 {
     read_event(alloc, order, line)

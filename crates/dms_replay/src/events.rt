@@ -21,7 +21,8 @@ use std::alloc::Global;
 /// The event of a line. Codes are in this order.
 fn read(alloc: Global, order: Order, line: Line<'_>) -> Result<ScriptEvent, ReplayFault>
     ensures read { IfOk result (λ event. Some (script_event_model event) ≡ event_of order line.entry.octets.now) }
-    ensures line { IfErr result (λ fault. (fault ≡ faults.Memory) ⊎ (IsLine fault × (None ≡ event_of order line.entry.octets.now))) }
+    ensures line { IfErr result (λ fault. (fault ≡ faults.Memory)
+        ⊎ (IsLine fault × (None ≡ event_of order line.entry.octets.now))) }
 {
     match read_event(alloc, order, line.octets) {
         Ok(Some(event)) => Ok(event),
@@ -41,15 +42,17 @@ fn add(events: &mut Vec<ScriptEvent>, event: ScriptEvent) -> Result<(), ReplayFa
 }
 
 /// The events of all lines that are left. Codes are in this order.
-#[tactic(auto, using(crate::proofs::EventsRead::none_read, crate::proofs::EventsRead::one_more_read, crate::proofs::EventsRead::refused, crate::proofs::EventsRead::all_read))]
+#[tactic(auto, using(crate::proofs::EventsRead::events_read))]
 pub(crate) fn events(
     alloc: Global,
     order: Order,
     lines: Lines<'_>,
 ) -> Result<Vec<ScriptEvent>, ReplayFault>
-    ensures read { IfOk result (λ events. SpellsEach (SpellsEvent order) (script_events_model events.items) (octets_of_lines (lines_left lines.entry))) }
+    ensures read { IfOk result (λ events. SpellsEach (SpellsEvent order)
+        (script_events_model events.items) (octets_of_lines (lines_left lines.entry))) }
     ensures line { IfErr result (λ fault. (fault ≡ faults.Memory)
-        ⊎ (IsLine fault × ((events : List EventModel) → SpellsEach (SpellsEvent order) events (octets_of_lines (lines_left lines.entry)) → ⊥))) }
+        ⊎ (IsLine fault × ((events : List EventModel)
+        → SpellsEach (SpellsEvent order) events (octets_of_lines (lines_left lines.entry)) → ⊥))) }
 {
     let mut left = lines;
     let mut events = Vec::new(alloc);

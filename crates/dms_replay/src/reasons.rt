@@ -4,7 +4,8 @@ ghost use Rattle.std.specs.Prelude.{◌≡◌, ◌≤◌, IfOk, IfSome, length, 
 ghost use Rattle.dms_text.specs.Lines.{lines_left};
 ghost use Rattle.dms_description.specs.Description.{longest_input};
 ghost use Rattle.dms_replay.specs.Replayed.{NoScript};
-ghost use Rattle.dms_replay.specs.Reasons.{event_form, event_cause, line_numbered, line_found, event_cause_at, IsCauseOf};
+ghost use Rattle.dms_replay.specs.Reasons.{event_form, event_cause, line_numbered, line_found, event_cause_at};
+ghost use Rattle.dms_replay.specs.Reasons.{IsCauseOf};
 
 use crate::keyword::Keyword;
 use crate::script::{named_sign, read_script};

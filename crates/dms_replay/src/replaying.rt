@@ -1,6 +1,7 @@
 //! A script, run to its report.
 
-ghost use Rattle.std.specs.Prelude.{◌≡◌, ◌≢◌, ◌⊎◌, ◌≤◌, ◌<◌, ◌++◌, ◌∷◌, [], List, ℕ, length, Ok, Err, IfOk, IfErr, OnOk, OnErr, IfSome};
+ghost use Rattle.std.specs.Prelude.{◌≡◌, ◌≢◌, ◌⊎◌, ◌≤◌, ◌<◌, ◌++◌, ◌∷◌, [], List, ℕ, length, Ok, Err, IfOk, IfErr};
+ghost use Rattle.std.specs.Prelude.{OnOk, OnErr, IfSome};
 ghost use Rattle.std.specs.Int.Digits.{AllBelowBase};
 ghost use Rattle.std.specs.Io.KnownBytes.{Keeps};
 ghost use Rattle.dms_streams.specs.Calls.{one_more};
@@ -38,17 +39,22 @@ pub fn replay<R: Source, W: Sink>(
     reader: &mut R,
     writer: &mut W,
 ) -> Result<(), ReplayFault>
-    ensures report { OnOk result (IfSome (R.remaining reader.old) (λ octets. Replayed octets (W.contents writer.old) (W.contents writer.new))) }
-    ensures prefix { result ≡ Err faults.Write → IfSome (R.remaining reader.old) (λ octets. ReplayedPrefix octets (W.contents writer.old) (W.contents writer.new)) }
+    ensures report { OnOk result (IfSome (R.remaining reader.old) (λ octets.
+        Replayed octets (W.contents writer.old) (W.contents writer.new))) }
+    ensures prefix { result ≡ Err faults.Write → IfSome (R.remaining reader.old) (λ octets.
+        ReplayedPrefix octets (W.contents writer.old) (W.contents writer.new)) }
     ensures lawful { OnOk result (IfSome (R.remaining reader.old) RunsLawfully) }
     ensures lawful_prefix { result ≡ Err faults.Write → IfSome (R.remaining reader.old) RunsLawfully }
     ensures nothing { OnErr result (result ≢ Err faults.Write → Keeps (W.contents writer.old) (W.contents writer.new)) }
-    ensures line { (number : ℕ) → result ≡ Err (faults.Line number) → IfSome (R.remaining reader.old) (λ octets. (length octets ≤ longest_input) × NoScript octets) }
-    ensures too_long { result ≡ Err faults.TooLong → IfSome (R.remaining reader.old) (λ octets. longest_input < length octets) }
+    ensures line { (number : ℕ) → result ≡ Err (faults.Line number) → IfSome (R.remaining reader.old) (λ octets.
+        (length octets ≤ longest_input) × NoScript octets) }
+    ensures too_long { result ≡ Err faults.TooLong → IfSome (R.remaining reader.old) (λ octets.
+        longest_input < length octets) }
     ensures read { result ≡ Err faults.Read → R.failed reader.new ≡ one_more (R.failed reader.old) }
     ensures all_read { result ≢ Err faults.Read → R.failed reader.new ≡ R.failed reader.old }
     ensures write { result ≡ Err faults.Write → W.failed writer.new ≡ one_more (W.failed writer.old) }
-    ensures no_room { result ≡ Err faults.Write → IfSome (R.remaining reader.old) (λ octets. HasNoRoom octets (W.room writer.old)) }
+    ensures no_room { result ≡ Err faults.Write → IfSome (R.remaining reader.old) (λ octets.
+        HasNoRoom octets (W.room writer.old)) }
     ensures all_written { result ≢ Err faults.Write → W.failed writer.new ≡ W.failed writer.old }
 {
     let octets = whole_input(alloc, reader)?;

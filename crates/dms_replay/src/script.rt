@@ -26,10 +26,11 @@ pub(crate) struct Script {
 }
 
 /// The script that a text spells.
-#[tactic(auto, using(crate::proofs::ScriptRead::is_script, crate::proofs::ScriptRead::no_sign, crate::proofs::ScriptRead::no_events))]
+#[tactic(auto, using(crate::proofs::ScriptRead::scripts_read))]
 pub(crate) fn read_script(alloc: Global, octets: &[u8]) -> Result<Script, ReplayFault>
     requires { length octets.now ≤ longest_input }
-    ensures read { IfOk result (λ script. (it : Description) × SpellsScript octets.now it (script_events_model script.events.items) × IsMade it script.setup) }
+    ensures read { IfOk result (λ script. (it : Description)
+        × SpellsScript octets.now it (script_events_model script.events.items) × IsMade it script.setup) }
     ensures line { IfErr result (λ fault. (fault ≡ faults.Memory)
         ⊎ (IsLine fault × ((it : Description) (events : List EventModel) → SpellsScript octets.now it events → ⊥))) }
 {
@@ -44,11 +45,13 @@ pub(crate) fn read_script(alloc: Global, octets: &[u8]) -> Result<Script, Replay
 }
 
 /// The sign that the first lines name, and the lines after these.
-#[tactic(auto, using(crate::proofs::ScriptRead::bench_is_named, crate::proofs::ScriptRead::sign_is_named, crate::proofs::ScriptRead::none_is_named))]
+#[tactic(auto, using(crate::proofs::ScriptRead::signs_named))]
 pub(crate) fn named_sign(alloc: Global, octets: &[u8]) -> Result<(Setup, Lines<'_>), ReplayFault>
-    ensures read { IfOk result (λ x. (it : Description) × NamesPrefix (kept_lines octets.now) (octets_left x.1) it × IsMade it x.0) }
+    ensures read { IfOk result (λ x. (it : Description)
+        × NamesPrefix (kept_lines octets.now) (octets_left x.1) it × IsMade it x.0) }
     ensures line { IfErr result (λ fault. (fault ≡ faults.Memory)
-        ⊎ (IsLine fault × ((it : Description) (rest : List (List ℕ)) → NamesPrefix (kept_lines octets.now) rest it → ⊥))) }
+        ⊎ (IsLine fault × ((it : Description) (rest : List (List ℕ))
+        → NamesPrefix (kept_lines octets.now) rest it → ⊥))) }
 {
     if let Some(rest) = after_bench(octets) {
         return match dms_description::bench(alloc) {
@@ -64,7 +67,7 @@ pub(crate) fn named_sign(alloc: Global, octets: &[u8]) -> Result<(Setup, Lines<'
 }
 
 /// The lines after the word `bench`, where that is the first line.
-#[tactic(auto, using(crate::proofs::ScriptRead::bench_first, crate::proofs::ScriptRead::other_first, crate::proofs::ScriptRead::nothing_first))]
+#[tactic(auto, using(crate::proofs::ScriptRead::first_lines))]
 fn after_bench(octets: &[u8]) -> Option<Lines<'_>>
     ensures bench { IfSome result (λ rest. kept_lines octets.now ≡ codes "bench" ∷ octets_left rest) }
     ensures other { IfNone result ((rest : List (List ℕ)) → kept_lines octets.now ≡ codes "bench" ∷ rest → ⊥) }
