@@ -47,7 +47,7 @@ positive_plain n =
     subst P (number_digits_of 256 n (omega arith)) (padded_plain (digits_of 256 n) (first_positive n) (all_below_base_digits_of 256 n (omega arith)))
 
 -- inverted twice
-inverted_back : (octets : List ℕ) → AllBelowBase 256 octets → inverted (inverted octets) ≡ octets
+pub inverted_back : (octets : List ℕ) → AllBelowBase 256 octets → inverted (inverted octets) ≡ octets
 inverted_back [] below = refl
 inverted_back (b ∷ bs) below = ap₂ (λ c cs. c ∷ cs) (omega (arith, below.0)) (inverted_back bs below.1)
 

@@ -1,12 +1,12 @@
 -- A whole number's octets: how large the number is, and what reading it gives.
-use Rattle.std.proofs.Common.{◌≡◌, ℕ, suc, ◌+◌, ◌-◌, ◌*◌, ◌^◌, ◌<◌, ◌≤◌, inl, inr, Bool, true, false, cond, ltb, leb, ℤ, pos, negsuc, List, [], ◌∷◌, length, get_or, Option, Some, None, refl, sym, ap, subst, ◌∙◌, arith, mul-le-mul, le-ltb, le-leb}
+use Rattle.std.proofs.Common.{◌≡◌, ℕ, suc, ◌+◌, ◌-◌, ◌*◌, ◌^◌, ◌<◌, ◌≤◌, inl, inr, Bool, true, false, cond, ltb, ℤ, pos, negsuc, List, [], ◌∷◌, length, get_or, Option, Some, None, refl, sym, ap, subst, ◌∙◌, arith, mul-le-mul, le-ltb, le-leb}
 use Rattle.std.proofs.Math.Pow.{pow_mono}
 use Rattle.std.proofs.lemmas.Nat.{pow-add}
 use Rattle.std.proofs.lemmas.List.{length-map}
 use Rattle.std.proofs.lemmas.Bool.{cases_lt, lt-leb}
 use Rattle.std.proofs.lemmas.Bool.Decides.{nat_tests}
 use Rattle.std.specs.Int.Digits.{number_from_digits, number_from_digits_after}
-use Rattle.dms_ber.specs.Integer.{is_shortest, is_negative, inverted, signed_value, in_range, IsInteger}
+use Rattle.dms_ber.specs.Integer.{is_shortest, inverted, signed_value, in_range, IsInteger}
 use Rattle.dms_ber.specs.Reading.{integer_value}
 
 -- one octet more multiplies by 256
@@ -31,10 +31,6 @@ inverted_after m n (b ∷ bs) h =
 pub inverted_value : (bs : List ℕ) → ((i : ℕ) → get_or bs i 0 < 256)
     → number_from_digits 256 (inverted bs) + number_from_digits 256 bs + 1 ≡ 2 ^ (8 * length bs)
 inverted_value bs h = omega (arith, inverted_after 0 0 bs h)
-
-pub first_negative : (bs : List ℕ) → 0 < length bs → is_negative bs ≡ leb 128 (get_or bs 0 0)
-first_negative [] h = absurd (omega arith)
-first_negative (b ∷ bs) h = refl
 
 too_large : (n : ℕ) → 2 ^ 32 ≤ n → in_range (pos n) ≡ false
 too_large n h = le-ltb n (2 ^ 32) h

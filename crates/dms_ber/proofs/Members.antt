@@ -1,5 +1,6 @@
 -- Members of an element, one after the other: what reading gives is spelled, and what is spelled is read.
 use Rattle.std.proofs.Common.{◌≡◌, ℕ, ℤ, pos, negsuc, ◌++◌, List, [], ◌∷◌, length, Ok, Some, None, Result, Option, ok_or, option_and_then, refl, sym, ap, ◌∙◌, subst, append-nil}
+use Rattle.std.proofs.lemmas.Option.{same_Some}
 use Rattle.dms_ber.specs.declared.fault.WireFault.{WireFault}
 use Rattle.dms_ber.specs.declared.fault.FaultKind.TheVariants.{BadInteger, BadName}
 use Rattle.dms_ber.specs.Length.{IsLength}
@@ -79,7 +80,7 @@ integer_at_only end z front rest e =
     with_only IsInteger (λ c. ok_or (integer_value c.0) (fault BadInteger (offset_of_content end c.0 c.1)))
     (λ c z h. ap (λ o. ok_or o (fault BadInteger (offset_of_content end c.0 c.1))) (integer_only c.0 z h)) 2 end z front rest e
 
-name_of_found : (place : ℕ) (content numbers : List ℕ) → name_of place content ≡ Ok numbers → IsName numbers content
+pub name_of_found : (place : ℕ) (content numbers : List ℕ) → name_of place content ≡ Ok numbers → IsName numbers content
 name_of_found place content numbers h =
     let t = tested (is_name content) (fault BadName place) (Ok (numbers_of content)) numbers h in
     subst (λ ns. IsName ns content) (ok_is (numbers_of content) numbers t.1) (name_found content t.0)
@@ -100,12 +101,9 @@ unfolding name_at
 name_at_only end numbers front rest e =
     with_only IsName (λ c. name_of (offset_of_content end c.0 c.1) c.0) (λ c n h. name_of_only (offset_of_content end c.0 c.1) c.0 n h) 6 end numbers front rest e
 
-pub some_is : {A : Type 0} (x y : A) → Some x ≡ Some y → x ≡ y
-some_is x y h = cc
-
 natural_from : (content : List ℕ) (o : Option ℤ) (n : ℕ) → integer_value content ≡ o → option_and_then natural o ≡ Some n
     → IsInteger (pos n) content
-natural_from content (Some (pos k)) n is h = integer_found content (pos n) (is ∙ ap (λ k. Some (pos k)) (some_is k n h))
+natural_from content (Some (pos k)) n is h = integer_found content (pos n) (is ∙ ap (λ k. Some (pos k)) (same_Some k n h))
 natural_from content (Some (negsuc k)) n is h = cc h
 natural_from content None n is h = cc h
 

@@ -12,6 +12,7 @@ use Rattle.dms_ber.specs.Length.{short_length}
 use Rattle.dms_ber.specs.Integer.{positive_octets, integer_octets}
 use Rattle.dms_ber.specs.ObjectIdentifier.{name_octets}
 use Rattle.dms_ber.proofs.Unique.{base256, digits_number, name_is}
+use Rattle.dms_ber.proofs.BelowBase.{below_inverted}
 
 -- the octets are no longer than any that the relation takes
 pub record NoLonger (short : List ℕ) (Spelled : List ℕ → Type 0) : Type 0 where
@@ -56,7 +57,7 @@ positive_at_most n =
     (λ _. omega arith)
 
 -- no octet stands before digits of which the first is below 128
-positive_whole : (n d : ℕ) (ds : List ℕ) → digits_of 256 n ≡ d ∷ ds → d < 128 → positive_octets n ≡ d ∷ ds
+pub positive_whole : (n d : ℕ) (ds : List ℕ) → digits_of 256 n ≡ d ∷ ds → d < 128 → positive_octets n ≡ d ∷ ds
 positive_whole n d ds e free =
     ap (λ xs. cond (nat_lt (slice_index_or xs 0 128) 128) xs (0 ∷ xs)) e ∙ cond-true (nat_lt d 128) (d ∷ ds) (0 ∷ (d ∷ ds)) (lt-ltb d 128 free)
 
@@ -70,17 +71,13 @@ positive_no_longer b bs below free =
     (λ some. rw (positive_whole (number_from_digits 256 (b ∷ bs)) b bs (digits_number 256 base256 (b ∷ bs) below some) free) (omega arith))
     (cases_eq b 0)
 
-inverted_below : (bs : List ℕ) → AllBelowBase 256 (inverted bs)
-inverted_below [] = tt
-inverted_below (b ∷ bs) = (omega arith, inverted_below bs)
-
 -- either sign: negative is the answer of its test
 signed_no_longer : (b : ℕ) (bs : List ℕ) (negative : Bool) → nat_le 128 b ≡ negative → AllBelowBase 256 (b ∷ bs)
     → length (integer_octets (cond negative (negsuc (number_from_digits 256 (inverted (b ∷ bs)))) (pos (number_from_digits 256 (b ∷ bs))))) ≤ length (b ∷ bs)
 unfolding integer_octets
 signed_no_longer b bs true sign below =
     let large : 128 ≤ b = leb-true 128 b sign in
-    let shorter = positive_no_longer (255 - b) (inverted bs) (inverted_below (b ∷ bs)) (omega arith) in
+    let shorter = positive_no_longer (255 - b) (inverted bs) (below_inverted (b ∷ bs)) (omega arith) in
     omega (arith, shorter, length-map (positive_octets (number_from_digits 256 (inverted (b ∷ bs)))) (λ d. 255 - d), length-map bs (λ d. 255 - d))
 signed_no_longer b bs false sign below = positive_no_longer b bs below (leb-false 128 b sign)
 

@@ -2,7 +2,7 @@
 use Rattle.std.proofs.Common.{◌≡◌, ◌+◌, ◌-◌, ◌<◌, ◌≤◌, ℕ, zero, suc, true, inl, ◌++◌, List, [], ◌∷◌, length, Ok, Err, Result, refl, sym, ap, ◌∙◌, subst, arith, append_assoc, append-nil, length-append}
 use Rattle.std.proofs.lemmas.List.{nil_from_length}
 use Rattle.dms_ber.specs.declared.fault.WireFault.{WireFault}
-use Rattle.dms_ber.specs.declared.fault.FaultKind.TheVariants.{BadName, TrailingBytes}
+use Rattle.dms_ber.specs.declared.fault.FaultKind.TheVariants.{TrailingBytes}
 use Rattle.dms_wire.specs.Message.{ObjectValue, null, VarBind}
 use Rattle.dms_ber.specs.Element.{IsElement, ◌⨾◌}
 use Rattle.dms_ber.specs.ObjectIdentifier.{IsName}
@@ -10,10 +10,10 @@ use Rattle.dms_wire.specs.Spelling.{IsValue, IsBinding, AreBindings}
 use Rattle.dms_ber.specs.Reading.{◌>>=◌, fault, element_at, name_of, name_at, offset_of_content, ended}
 use Rattle.dms_wire.specs.Reading.{value_at, members_at, binding_at, bindings_up_to, bindings_at}
 use Rattle.dms_wire.specs.Walk.{or_none, bindings_within, bindings_of, AreWhole}
-use Rattle.dms_ber.proofs.Elements.{bind_ok, done, ok_is, not_ok, tested}
+use Rattle.dms_ber.proofs.Elements.{bind_ok, done, ok_is, not_ok}
 use Rattle.dms_ber.proofs.Names.{name_found}
 use Rattle.dms_ber.specs.NameReading.{is_name, numbers_of}
-use Rattle.dms_ber.proofs.Members.{Front, after, joined, last, with_found, with_only, name_at_found, name_at_only}
+use Rattle.dms_ber.proofs.Members.{Front, after, joined, last, with_found, with_only, name_at_found, name_at_only, name_of_found}
 use Rattle.dms_wire.proofs.Values.{value_found, value_only}
 
 pub ended_found : (end : ℕ) (bytes : List ℕ) (x : Unit {0}) → ended end bytes ≡ Ok x → bytes ≡ []
@@ -282,11 +282,6 @@ whole_more bytes rest b whole h =
 pub no_first : (bytes : List ℕ) (f : WireFault) → element_at 48 (length bytes) bytes ≡ Err f → bindings_of bytes ≡ []
 unfolding binding_at
 no_first bytes f h = walk_end bytes f (rw h refl)
-
-name_of_found : (place : ℕ) (content numbers : List ℕ) → name_of place content ≡ Ok numbers → IsName numbers content
-name_of_found place content numbers h =
-    let t = tested (is_name content) (fault BadName place) (Ok (numbers_of content)) numbers h in
-    subst (λ ns. IsName ns content) (ok_is (numbers_of content) numbers t.1) (name_found content t.0)
 
 -- the members of a binding that is known to be one, read one after the other
 pub known_name : (end : ℕ) (bytes : List ℕ) (b : VarBind) (c : List ℕ × List ℕ) → members_at end bytes ≡ Ok b → element_at 6 end bytes ≡ Ok c

@@ -3,6 +3,7 @@ use Rattle.std.proofs.Common.{◌≡◌, ◌+◌, ◌-◌, ◌<◌, ◌≤◌, �
 use Rattle.std.proofs.lemmas.Bool.{eqb-true, eq-eqb, ltb-false, lt-ltb, le-ltb, ne_eqb, cases_lt}
 use Rattle.std.proofs.lemmas.List.{length-take-le, take-append-le, take-append-drop, take_at, drop_at}
 use Rattle.std.specs.Int.Digits.{AllBelowBase}
+use Rattle.std.proofs.lemmas.Option.{same_Some}
 use Rattle.dms_ber.specs.declared.fault.WireFault.{WireFault}
 use Rattle.dms_ber.specs.declared.fault.FaultKind.TheVariants.{Truncated, BadTag, BadInteger, BadVersion, TrailingBytes, TooLong}
 use Rattle.dms_wire.specs.declared.message.Kind.{Kind}
@@ -16,7 +17,7 @@ use Rattle.dms_ber.specs.Reading.{◌>>=◌, fault, offset_of_content, length_at
 use Rattle.dms_wire.specs.Reading.{bindings_at, is_zero, kind_of, version_of, version_at, list_at, Numbered, pdu_at, tagged_pdu_at, inside_at, outer_content, outer_at, datagram_at, message_at}
 use Rattle.dms_ber.proofs.Elements.{bind_ok, chosen, done, ok_is, not_ok, guarded, tested, length_found, length_only, content_found, content_only, element_found, element_only}
 use Rattle.dms_ber.proofs.Integers.{integer_found, integer_only}
-use Rattle.dms_ber.proofs.Members.{Front, after, joined, last, some_is, ok_or_found, made, with_found, with_only, integer_at_found, integer_at_only}
+use Rattle.dms_ber.proofs.Members.{Front, after, joined, last, ok_or_found, made, with_found, with_only, integer_at_found, integer_at_only}
 use Rattle.dms_wire.proofs.Bindings.{ended_found, bindings_found, bindings_only}
 use Rattle.dms_ber.specs.Limits.{longest_datagram}
 
@@ -100,7 +101,7 @@ pdu_only end p bytes e =
 
 kind_found : (b : ℕ) (f : WireFault) (k : Kind) → ok_or (kind_of b) f ≡ Ok k → b ≡ tag_of k
 kind_found b f k h =
-    let is : (kind : Kind) → Some kind ≡ Some k → tag_of kind ≡ tag_of k = λ kind h. ap tag_of (some_is kind k h) in
+    let is : (kind : Kind) → Some kind ≡ Some k → tag_of kind ≡ tag_of k = λ kind h. ap tag_of (same_Some kind k h) in
     elim (chosen (b == 160) _ _ (Some k) (ok_or_found (kind_of b) f k h)) [
       | inl t ↦ eqb-true b 160 t.0 ∙ is Get t.1
       | inr n160 ↦ elim (chosen (b == 161) _ _ (Some k) n160.1) [

@@ -10,10 +10,12 @@ use Rattle.dms_ber.specs.Integer.{IsInteger, is_shortest, inverted, positive_oct
 use Rattle.dms_ber.specs.ObjectIdentifier.{IsName, name_octets}
 use Rattle.dms_ber.specs.Element.{IsElement, ◌⨾◌, element}
 use Rattle.dms_ber.proofs.Shortest.{short_length_small, positive_small}
-use Rattle.dms_ber.proofs.ShorterContents.{NoLonger, short_length_monotone, length_no_longer, integer_no_longer, name_no_longer}
+use Rattle.dms_ber.proofs.ShorterContents.{NoLonger, short_length_monotone, length_no_longer, integer_no_longer, name_no_longer, positive_whole}
 use Rattle.dms_ber.specs.Reading.{element_at, content_at}
 use Rattle.dms_ber.proofs.Elements.{ok_is, element_only, content_only}
 use Rattle.dms_ber.proofs.Unique.{base256, digits_number, name_is}
+use Rattle.dms_ber.proofs.BelowBase.{below_inverted}
+use Rattle.dms_ber.proofs.CanonicalIntegers.{inverted_back}
 use Rattle.dms_wire.specs.Message.{ObjectValue, integer, octet_string, null, object_identifier, ip_address, counter, gauge, time_ticks, opaque, VarBind}
 use Rattle.dms_wire.specs.Spelling.{IsAddress, IsValue, IsBinding, AreBindings}
 use Rattle.dms_wire.specs.Canonical.{value_octets, binding_octets}
@@ -69,9 +71,6 @@ length_same (b ∷ bs) n below (inr long) few = long_same b n bs below.1 long.0 
 abbrev padded : List ℕ → List ℕ
 padded ds = cond (nat_lt (slice_index_or ds 0 128) 128) ds (0 ∷ ds)
 
-positive_whole : (n d : ℕ) (ds : List ℕ) → digits_of 256 n ≡ d ∷ ds → d < 128 → positive_octets n ≡ d ∷ ds
-positive_whole n d ds e free = ap padded e ∙ grind (arith, nat_tests)
-
 positive_padded : (n d : ℕ) (ds : List ℕ) → digits_of 256 n ≡ d ∷ ds → 128 ≤ d → positive_octets n ≡ 0 ∷ (d ∷ ds)
 positive_padded n d ds e high = ap padded e ∙ grind (arith, nat_tests)
 
@@ -93,14 +92,6 @@ positive_same b bs below free short =
     (λ some. positive_whole (number_from_digits 256 (b ∷ bs)) b bs (digits_number 256 base256 (b ∷ bs) below some) free)
     (cases_eq b 0)
 
-inverted_below : (bs : List ℕ) → AllBelowBase 256 (inverted bs)
-inverted_below [] = tt
-inverted_below (b ∷ bs) = (omega arith, inverted_below bs)
-
-inverted_back : (bs : List ℕ) → AllBelowBase 256 bs → inverted (inverted bs) ≡ bs
-inverted_back [] below = refl
-inverted_back (b ∷ bs) below = ap₂ (λ c cs. c ∷ cs) (omega (arith, below.0)) (inverted_back bs below.1)
-
 inverted_shortest : (b : ℕ) (bs : List ℕ) → AllBelowBase 256 (b ∷ bs) → 128 ≤ b → is_shortest (b ∷ bs) ≡ true → is_shortest (inverted (b ∷ bs)) ≡ true
 inverted_shortest b [] below high short = refl
 inverted_shortest b (c ∷ bs) below high short = let first = below.0 in let second = below.1.0 in grind (arith, nat_tests)
@@ -110,7 +101,7 @@ signed_same : (b : ℕ) (bs : List ℕ) (negative : Bool) → nat_le 128 b ≡ n
 unfolding integer_octets
 signed_same b bs true sign below short =
     let high : 128 ≤ b = leb-true 128 b sign in
-    ap inverted (positive_same (255 - b) (inverted bs) (inverted_below (b ∷ bs)) (omega arith) (inverted_shortest b bs below high short))
+    ap inverted (positive_same (255 - b) (inverted bs) (below_inverted (b ∷ bs)) (omega arith) (inverted_shortest b bs below high short))
     ∙ inverted_back (b ∷ bs) below
 signed_same b bs false sign below short = positive_same b bs below (leb-false 128 b sign) short
 
