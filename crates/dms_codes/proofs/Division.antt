@@ -42,10 +42,6 @@ divided_front (suc count) (true ∷ front) rest h =
 
 -- ---- a register
 
--- no bits
-pub takes_none : (register : ℕ) → TakesIn [] register register
-takes_none register = record { leaves = λ rest. refl }
-
 -- bits, and then more of them
 pub takes_both : (bits more : List Bool) (before between after : ℕ) → TakesIn bits before between → TakesIn more between after → TakesIn (bits ++ more) before after
 takes_both bits more before between after first second = record {

@@ -1,3 +1,5 @@
+pub mod Options
+pub mod Activations
 pub mod Loops
 pub mod Bits
 pub mod Division

@@ -1,14 +1,5 @@
-use Rattle.std.proofs.Common.{◌≡◌, rules}
-use Rattle.dms_codes.specs.declared.codes.Order.{Order}
-use Rattle.dms_codes.specs.declared.codes.Order.TheVariants.{High, Swapped}
-use Rattle.dms_codes.specs.declared.codes.Activation.{Activation}
-use Rattle.dms_codes.specs.Codes.{octets_of_activation, activation_of, IsActivation}
-use Rattle.dms_codes.proofs.Places.{all_four}
+use Rattle.dms_codes.proofs.Activations.{activation_back}
 use Rattle.dms_codes.proofs.laws.activations_are_their_octets.Goals as goal
 
-back : (order : Order) (a : Activation) → IsActivation a → activation_of order (octets_of_activation order a) ≡ a
-back High a is = let address = all_four a.address is.size in search (rules, address)
-back Swapped a is = let address = all_four a.address is.size in search (rules, address)
-
 pub returns-clause-activation : goal.returns-clause-activation
-returns-clause-activation c = back
+returns-clause-activation c = activation_back
