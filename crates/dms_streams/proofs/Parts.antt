@@ -1,5 +1,5 @@
 -- How much of a piece belongs to the first line.
-use Rattle.std.proofs.Common.{◌≡◌, ◌≢◌, ℕ, ◌+◌, ◌<◌, ◌≤◌, ◌==◌, Bool, true, false, cond, List, [], ◌∷◌, ◌++◌, All, length, take, drop, get_or-take, Some, None, refl, sym, ap, ◌∙◌, subst, arith, append_assoc, take_all, take-append-drop, eq-eqb, eqb-true, length-take}
+use Rattle.std.proofs.Common.{◌≡◌, ◌≢◌, ℕ, ◌+◌, ◌<◌, ◌≤◌, ◌==◌, Bool, true, false, List, [], ◌∷◌, ◌++◌, All, length, take, drop, get_or-take, Some, None, refl, sym, ap, ◌∙◌, subst, arith, append_assoc, take_all, take-append-drop, eq-eqb, eqb-true, length-take}
 use Rattle.std.specs.List.{position, position_or_len}
 use Rattle.std.specs.Io.BufRead.{take_through, drop_through}
 use Rattle.std.proofs.lemmas.Bool.{ltb-false}
@@ -8,6 +8,7 @@ use Rattle.std.proofs.lemmas.List.{take_more, drop_more}
 use Rattle.std.proofs.lemmas.List.Quantifiers.{position-Some}
 use Rattle.std.proofs.lemmas.List.Sums.{fails_before_first}
 use Rattle.std.proofs.BufReadLemmas.{take_through-append, drop_through-append}
+use Rattle.dms_text.proofs.Splits.{none_test}
 use Rattle.dms_streams.specs.Lines.{IsPart, IsLastPart}
 
 abbrev pub is_newline : ℕ → Bool
@@ -43,10 +44,6 @@ part_ends piece n found rest end =
       ap (take_through 10) joined ∙ take_through-append 10 (take n piece) (10 ∷ (drop (n + 1) piece ++ rest)) all ∙ sym (through_newline piece n found),
       ap (drop_through 10) joined ∙ drop_through-append 10 (take n piece) (10 ∷ (drop (n + 1) piece ++ rest)) all,
     )
-
-none_test : (test : Bool) (n : ℕ) → cond test (Some n) None ≡ None → test ≡ false
-none_test true n e = cc
-none_test false n e = refl
 
 -- a piece without a newline
 pub no_newline : (piece : List ℕ) → position is_newline piece ≡ None → All (λ x. x ≢ 10) piece

@@ -16,7 +16,7 @@ first_part p xs n found =
     slice_split_first p xs 0 (omega arith) ∙ ap (λ k. take k xs ∷ slice_split p (drop (k + 1) xs)) same
     ∙ ap (λ rest. take n xs ∷ slice_split p rest) (sym (take_rest xs (n + 1)))
 
-none_test : (test : Bool) (n : ℕ) → cond test (Some n) None ≡ None → test ≡ false
+pub none_test : (test : Bool) (n : ℕ) → cond test (Some n) None ≡ None → test ≡ false
 none_test true n e = cc
 none_test false n e = refl
 
