@@ -44,7 +44,7 @@ unfolding labelled_at
 labelled_only label low high number word rest some spelled =
     goes_on _ _ _ (keyword_only label (word ∷ rest) some) ∙ decimal_only low high number word rest spelled
 
-ended : (words : List (List ℕ)) → is_end words ≡ true → words ≡ []
+pub ended : (words : List (List ℕ)) → is_end words ≡ true → words ≡ []
 ended [] e = refl
 ended (word ∷ words) e = absurd (let never : false ≡ true = e in cc)
 
