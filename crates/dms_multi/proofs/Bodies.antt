@@ -5,6 +5,7 @@ use Rattle.std.specs.Char.{to_ascii_lowercase}
 use Rattle.std.specs.List.{list_all}
 use Rattle.std.specs.Str.{str_to_ascii_lowercase}
 use Rattle.std.proofs.lemmas.Bool.{eqb-true, and_parts, not-true}
+use Rattle.dms_codes.proofs.Options.{mapped_some}
 use Rattle.dms_multi.specs.declared.fault.FaultCode.TheVariants.{UnsupportedTagValue}
 use Rattle.dms_multi.specs.declared.tag.TagName.{TagName}
 use Rattle.dms_multi.specs.declared.tag.TagName.TheVariants.{Cb, Pb, Cf, Fo, Fl, EndFl, Hc, Jl, Jp, Nl, Np, Pt}
@@ -17,7 +18,7 @@ use Rattle.dms_multi.specs.Grammar.{Word, Times, LaterTime, FontValue, FlashTime
 use Rattle.dms_multi.specs.TagReading.{times_of, name_at, lit_first, dark_first, flash_of, page_time_of, item_alone, item_of, body_in, body_item}
 use Rattle.dms_multi.proofs.Cuts.{IsFree, free_append}
 use Rattle.dms_text.proofs.NumberLaws.{number_found, number_only}
-use Rattle.dms_multi.proofs.Values.{chosen, mapped_some, value_found, value_again, free_digits, free_value, times_found, one_letter, times_again, font_found, font_again}
+use Rattle.dms_multi.proofs.Values.{chosen, value_found, value_again, free_digits, free_value, times_found, one_letter, times_again, font_found, font_again}
 use Rattle.dms_multi.proofs.Tags.{spelling, HasName, name_found, name_again}
 
 -- ---- what is found is spelled so

@@ -4,11 +4,12 @@ use Rattle.std.specs.Prelude.{codes}
 use Rattle.std.specs.Char.{to_ascii_lowercase}
 use Rattle.std.specs.Str.{str_to_ascii_lowercase}
 use Rattle.std.proofs.lemmas.Bool.{eqb-true, and_parts, ne_eqb}
+use Rattle.dms_codes.proofs.Options.{mapped_some}
 use Rattle.dms_multi.specs.declared.tag.TagName.{TagName}
 use Rattle.dms_multi.specs.declared.tag.TagName.TheVariants.{Cb, Pb, Cf, Fo, Fl, EndFl, Hc, Jl, Jp, Nl, Np, Pt}
 use Rattle.dms_multi.specs.Grammar.{Word}
 use Rattle.dms_multi.specs.TagReading.{letters_name, end_name, name_at}
-use Rattle.dms_multi.proofs.Values.{chosen, mapped_some, lower_other}
+use Rattle.dms_multi.proofs.Values.{chosen, lower_other}
 
 -- ---- names
 

@@ -8,6 +8,7 @@ use Rattle.std.proofs.lemmas.Bool.Decides.{nat_tests}
 use Rattle.dms_text.specs.Numbers.{SpellsNumber, SpellsDecimal}
 use Rattle.dms_text.specs.Reading.{number_of, within}
 use Rattle.dms_text.proofs.NumberLaws.{number_found, number_only, version_found, version_only}
+use Rattle.dms_codes.proofs.Options.{mapped_some}
 use Rattle.dms_multi.specs.Reading.{cut, decimal_of, value_of}
 use Rattle.dms_multi.specs.TagReading.{time_pair, times_in, times_of, font_pair, font_in, font_of}
 use Rattle.dms_multi.specs.Grammar.{Value, Times, FontValue, Word}
@@ -47,10 +48,6 @@ decimal_again low high n text d =
     ap (option_and_then (within low high)) (number_only 10 5 n text d.spelled) ∙ rw tests refl
 
 -- ---- values
-
-pub mapped_some : {A B : Type 0} (f : A → B) (o : Option A) (y : B) → option_map f o ≡ Some y → (x : A) × (o ≡ Some x) × (f x ≡ y)
-mapped_some f None y e = absurd cc
-mapped_some f (Some x) y e = (x, refl, cc)
 
 value_some : (low high : ℕ) (v : Option ℕ) (n : ℕ) (text : List ℕ) → SpellsDecimal low high n text → Some n ≡ v → Value low high v text
 value_some low high v n text number e = subst (λ (w : Option ℕ). Value low high w text) e number
