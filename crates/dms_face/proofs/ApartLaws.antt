@@ -1,11 +1,12 @@
 -- In a good text no two characters light one cell.
-use Rattle.std.proofs.Common.{◌≡◌, ℕ, zero, suc, ◌+◌, ◌-◌, ◌<◌, ◌≤◌, ◌==◌, ◌&&◌, ◌||◌, ◌⊎◌, inl, inr, Bool, true, false, cond, not, List, [], ◌∷◌, ◌++◌, length, map, fold, take, max, nat_lt, nat_le, Option, Some, None, unwrap_or, refl, sym, ap, subst, ◌∙◌, arith, slice_index_or}
+use Rattle.std.proofs.Common.{◌≡◌, ℕ, zero, suc, ◌+◌, ◌-◌, ◌<◌, ◌≤◌, ◌==◌, ◌&&◌, ◌⊎◌, inl, inr, Bool, true, false, cond, not, List, [], ◌∷◌, ◌++◌, length, map, fold, take, max, nat_lt, nat_le, Option, Some, None, unwrap_or, refl, sym, ap, subst, ◌∙◌, arith, slice_index_or}
 use Rattle.std.specs.Prelude.{All, IfSome, filter, flat_map}
-use Rattle.std.specs.List.{AllByRecursion, count_by, find, list_all, list_any}
-use Rattle.std.proofs.lemmas.Bool.Decides.{nat_tests, leb_tells}
+use Rattle.std.specs.List.{AllByRecursion, count_by, list_all, list_any}
+use Rattle.std.proofs.lemmas.Bool.Decides.{nat_tests}
 use Rattle.std.proofs.lemmas.List.Sums.{sum_by-cons}
 use Rattle.std.proofs.lemmas.List.Elements.{All-from_recursion, recursion_from_All}
 use Rattle.std.proofs.Math.Nat.{le-max_left, le-max_right}
+use Rattle.std.proofs.lemmas.Bool.{cases_lt, or_parts, not-true}
 use Rattle.dms_multi.specs.declared.item.Item.{Item}
 use Rattle.dms_multi.specs.declared.item.Item.TheVariants.{Char, Background, Foreground, Font, FlashOn, FlashEnd, JustLine, JustPage, NewLine, NewPage, PageTime}
 use Rattle.dms_multi.specs.Outcomes.{items_of}
@@ -25,6 +26,7 @@ use Rattle.dms_face.specs.Rules as rules
 use Rattle.dms_face.proofs.Bools.{both}
 use Rattle.dms_face.proofs.RoomLaws.{room_parts}
 use Rattle.dms_face.proofs.RuleLaws.{characters_law}
+use Rattle.dms_face.proofs.Lists.{all_append, if_found, if_or}
 
 -- ---- what holds of each element
 
@@ -35,10 +37,6 @@ every P Q step (x ∷ xs) all = (step x all.0, every P Q step xs all.1)
 every_both : {A : Type 0} (P Q : A → Type 0) (xs : List A) → AllByRecursion P xs → AllByRecursion Q xs → AllByRecursion (λ x. P x × Q x) xs
 every_both P Q [] ps qs = tt
 every_both P Q (x ∷ xs) ps qs = ((ps.0, qs.0), every_both P Q xs ps.1 qs.1)
-
-every_append : {A : Type 0} (P : A → Type 0) (xs ys : List A) → AllByRecursion P xs → AllByRecursion P ys → AllByRecursion P (xs ++ ys)
-every_append P [] ys all more = more
-every_append P (x ∷ xs) ys all more = (all.0, every_append P xs ys all.1 more)
 
 every_parts : {A : Type 0} (P : A → Type 0) (xs ys : List A) → AllByRecursion P (xs ++ ys) → AllByRecursion P xs × AllByRecursion P ys
 every_parts P [] ys all = (tt, all)
@@ -111,12 +109,6 @@ tally_flat p g q (x ∷ xs) all =
 
 -- ---- blocks in a row cover no point twice
 
-split : (a b : ℕ) → (a < b) ⊎ (b ≤ a)
-split a b = elim (leb_tells b a) [
-  | inl is ↦ inr is.1
-  | inr is ↦ inl is.1
-]
-
 -- of blocks that stand from `first` on over `size`, n cover the point c
 record Cover (first size c n : ℕ) : Type 0 where
   one : n ≤ 1
@@ -143,7 +135,7 @@ alone first size c = record {
 
 joined : (first size gap more c m n : ℕ) → Cover first size c m → Cover (first + size + gap) more c n → Cover first (size + gap + more) c (m + n)
 joined first size gap more c m n a b = record {
-  one = elim (split c (first + size + gap)) [
+  one = elim (cases_lt c (first + size + gap)) [
     | inl less ↦ let none : n ≡ 0 = b.before less in let few : m ≤ 1 = a.one in omega (arith, none, few)
     | inr past ↦ let none : m ≡ 0 = a.after (omega (arith, past)) in let few : n ≤ 1 = b.one in omega (arith, none, few)
   ];
@@ -187,13 +179,13 @@ side_cover block whole xs c place =
     (placed_cover block (first_of block whole xs place) (filter (λ x. is_at place (block x)) xs) c)
 
 apart : (c : ℕ) (a b : Span) (m n : ℕ) → overlap a b ≡ false → Cover a.first a.size c m → Cover b.first b.size c n → (m ≡ 0) ⊎ (n ≡ 0)
-apart c a b m n free left right = elim (split c a.first) [
+apart c a b m n free left right = elim (cases_lt c a.first) [
   | inl less ↦ inl (left.before less)
-  | inr from_a ↦ elim (split c (a.first + a.size)) [
+  | inr from_a ↦ elim (cases_lt c (a.first + a.size)) [
     | inr past ↦ inl (left.after past)
-    | inl to_a ↦ elim (split c b.first) [
+    | inl to_a ↦ elim (cases_lt c b.first) [
       | inl less ↦ inr (right.before less)
-      | inr from_b ↦ elim (split c (b.first + b.size)) [
+      | inr from_b ↦ elim (cases_lt c (b.first + b.size)) [
         | inr past ↦ inr (right.after past)
         | inl to_b ↦ absurd (let met : overlap a b ≡ true = grind (arith, nat_tests) in let wrong : true ≡ false = sym met ∙ free in cc)
       ]
@@ -213,22 +205,14 @@ three m n k few_m few_n few_k mn mk nk = elim mn [
   ]
 ]
 
-neither : (a b : Bool) → (a || b) ≡ false → (a ≡ false) × (b ≡ false)
-neither false b none = (refl, none)
-neither true b none = absurd (let wrong : true ≡ false = none in cc)
-
-denied : (a : Bool) → not a ≡ true → a ≡ false
-denied false is = refl
-denied true is = absurd (let wrong : false ≡ true = is in cc)
-
 rooms : (whole : ℕ) (a b c : Span) → have_room whole (a ∷ b ∷ c ∷ []) ≡ true → (overlap a b ≡ false) × (overlap a c ≡ false) × (overlap b c ≡ false)
 rooms whole a b c room =
     let outer = both (nat_le a.size whole && not (list_any (overlap a) (b ∷ c ∷ []))) (have_room whole (b ∷ c ∷ [])) room in
     let first = both (nat_le a.size whole) (not (list_any (overlap a) (b ∷ c ∷ []))) outer.0 in
-    let others = neither (overlap a b) (list_any (overlap a) (c ∷ [])) (denied (list_any (overlap a) (b ∷ c ∷ [])) first.1) in
+    let others = or_parts (overlap a b) (list_any (overlap a) (c ∷ [])) (not-true (list_any (overlap a) (b ∷ c ∷ [])) first.1) in
     let inner = both (nat_le b.size whole && not (list_any (overlap b) (c ∷ []))) (have_room whole (c ∷ [])) outer.1 in
     let second = both (nat_le b.size whole) (not (list_any (overlap b) (c ∷ []))) inner.0 in
-    (others.0, (neither (overlap a c) false others.1).0, (neither (overlap b c) false (denied (list_any (overlap b) (c ∷ [])) second.1)).0)
+    (others.0, (or_parts (overlap a c) false others.1).0, (or_parts (overlap b c) false (not-true (list_any (overlap b) (c ∷ [])) second.1)).0)
 
 spread_cover : {A : Type 0} (block : A → Block) (whole : ℕ) (xs : List A) → blocks_fit whole (map block xs) ≡ true
     → (c : ℕ) → tally (covers block c) (spread block whole xs) ≤ 1
@@ -257,8 +241,8 @@ every_spread : {A : Type 0} (block : A → Block) (whole : ℕ) (P : A → Type 
 every_spread {A} block whole P xs all =
     let Q : ℕ × A → Type 0 = λ placed. P placed.1 in
     let at : (place : Place) → AllByRecursion Q (side_of block whole xs place) = λ place. every_placed block P (first_of block whole xs place) (filter (λ x. is_at place (block x)) xs) (every_filter P (λ x. is_at place (block x)) xs all) in
-    every_append Q (side_of block whole xs Start) (side_of block whole xs Halfway ++ (side_of block whole xs End ++ [])) (at Start)
-    (every_append Q (side_of block whole xs Halfway) (side_of block whole xs End ++ []) (at Halfway) (every_append Q (side_of block whole xs End) [] (at End) tt))
+    all_append Q (side_of block whole xs Start) (side_of block whole xs Halfway ++ (side_of block whole xs End ++ [])) (at Start)
+    (all_append Q (side_of block whole xs Halfway) (side_of block whole xs End ++ []) (at Halfway) (all_append Q (side_of block whole xs End) [] (at End) tt))
 
 -- ---- a picture lights cells of its own block alone
 
@@ -368,25 +352,13 @@ page_lights face x y page fit pictured =
 abbrev HasPictures : FontModel → Type 0
 HasPictures font = AllByRecursion (IsGlyph font.height) font.glyphs
 
-found_or_not : {A : Type 0} (P : A → Type 0) (b : Bool) (x : A) (found : Option A) → P x → IfSome found P → IfSome (cond b (Some x) found) P
-found_or_not P true x found first rest = first
-found_or_not P false x found first rest = rest
-
-found_is : {A : Type 0} (P : A → Type 0) (test : A → Bool) (xs : List A) → AllByRecursion P xs → IfSome (find test xs) P
-found_is P test [] all = tt
-found_is P test (x ∷ xs) all = found_or_not P (test x) x (find test xs) all.0 (found_is P test xs all.1)
-
-unwrapped : {A : Type 0} (P : A → Type 0) (found : Option A) (default : A) → IfSome found P → P default → P (unwrap_or found default)
-unwrapped P None default some other = other
-unwrapped P (Some x) default some other = some
-
 last_is : {A : Type 0} (P : A → Type 0) (said : Item → Option A) (default : A) (items : List Item) → ((item : Item) → IfSome (said item) P) → P default
     → P (last_said said default items)
 last_is P said default [] each first = first
-last_is P said default (item ∷ items) each first = last_is P said (unwrap_or (said item) default) items each (unwrapped P (said item) default (each item) first)
+last_is P said default (item ∷ items) each first = last_is P said (unwrap_or (said item) default) items each (if_or P (said item) default (each item) first)
 
 font_is : (face : FaceModel) → AllByRecursion HasPictures face.fonts → (number : ℕ) → IfSome (font_of face number) HasPictures
-font_is face fonts number = found_is HasPictures (λ (font : FontModel). font.number == number) face.fonts fonts
+font_is face fonts number = if_found HasPictures (λ (font : FontModel). font.number == number) face.fonts fonts
 
 said_font : (face : FaceModel) → AllByRecursion HasPictures face.fonts → (item : Item) → IfSome (font_said face item) HasPictures
 said_font face fonts (Font None) = font_is face fonts face.defaults.font
@@ -405,7 +377,7 @@ said_font face fonts (PageTime on off) = tt
 style_font : (face : FaceModel) → AllByRecursion HasPictures face.fonts → (items : List Item) → HasPictures (style_after face items).font
 style_font face fonts items =
     last_is HasPictures (font_said face) (unwrap_or (font_of face face.defaults.font) no_font) items (said_font face fonts)
-    (unwrapped HasPictures (font_of face face.defaults.font) no_font (font_is face fonts face.defaults.font) tt)
+    (if_or HasPictures (font_of face face.defaults.font) no_font (font_is face fonts face.defaults.font) tt)
 
 abbrev Drawn : ℕ × Character → Type 0
 Drawn placed = IsPictured placed.1
@@ -417,7 +389,7 @@ character_drawn number style (Some glyph) some = (some, tt)
 item_drawn : (face : FaceModel) → AllByRecursion HasPictures face.fonts → (before : List Item) (item : Item) → AllByRecursion Drawn (character_said face before item)
 item_drawn face fonts before (Char character) =
     character_drawn _ (style_after face before) (glyph_of (style_after face before).font character)
-    (found_is (IsGlyph (style_after face before).font.height) (λ (glyph : GlyphModel). glyph.character == character) (style_after face before).font.glyphs (style_font face fonts before))
+    (if_found (IsGlyph (style_after face before).font.height) (λ (glyph : GlyphModel). glyph.character == character) (style_after face before).font.glyphs (style_font face fonts before))
 item_drawn face fonts before (Background colour) = tt
 item_drawn face fonts before (Foreground colour) = tt
 item_drawn face fonts before (Font font) = tt
@@ -432,7 +404,7 @@ item_drawn face fonts before (PageTime on off) = tt
 all_drawn : (face : FaceModel) → AllByRecursion HasPictures face.fonts → (before items : List Item) → AllByRecursion Drawn (characters_said face before items)
 all_drawn face fonts before [] = tt
 all_drawn face fonts before (item ∷ items) =
-    every_append Drawn (character_said face before item) (characters_said face (before ++ item ∷ []) items) (item_drawn face fonts before item) (all_drawn face fonts (before ++ item ∷ []) items)
+    all_append Drawn (character_said face before item) (characters_said face (before ++ item ∷ []) items) (item_drawn face fonts before item) (all_drawn face fonts (before ++ item ∷ []) items)
 
 abbrev page_drawn : PageModel → Type 0
 page_drawn page = AllByRecursion (λ (line : Line). AllByRecursion IsPictured line.characters) page.lines

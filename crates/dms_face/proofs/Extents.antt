@@ -6,10 +6,6 @@ use Rattle.dms_face.specs.Layout.{is_blank}
 use Rattle.dms_face.specs.Room.{average, extent}
 use Rattle.dms_face.specs.Totals.{last_spacing, Sums}
 
-pub is_blank_push : {A : Type 0} → (xs : List A) (x : A) → is_blank (xs ++ x ∷ []) ≡ false
-is_blank_push [] x = refl
-is_blank_push (y ∷ ys) x = refl
-
 pub last_spacing_push : (blocks : List Block) (block : Block) → last_spacing (blocks ++ block ∷ []) ≡ block.spacing
 last_spacing_push [] block = refl
 last_spacing_push (a ∷ []) block = refl
@@ -20,12 +16,6 @@ pub extent_push : (blocks : List Block) (block : Block) → is_blank blocks ≡ 
 extent_push [] block some = cc
 extent_push (a ∷ []) block some = refl
 extent_push (a ∷ b ∷ rest) block some = let more : extent ((b ∷ rest) ++ block ∷ []) ≡ extent (b ∷ rest) + unwrap_or block.gap (average (last_spacing (b ∷ rest)) block.spacing) + block.size = extent_push (b ∷ rest) block refl in omega arith
-
--- the first block of a row
-pub sums_first : (run : Run) (blocks : List Block) (block : Block) → Sums run blocks → run.any ≡ false
-    → Sums (record { any = true; size = block.size; spacing = block.spacing }) (blocks ++ block ∷ [])
-sums_first run [] block sums none = record { any = refl; size = refl; spacing = refl }
-sums_first run (a ∷ rest) block sums none = let wrong : true ≡ false = sym sums.any ∙ none in cc
 
 -- a later block of a row
 pub sums_more : (total : ℕ) (run : Run) (blocks : List Block) (block : Block) → Sums run blocks → run.any ≡ true

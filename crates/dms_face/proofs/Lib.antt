@@ -4,6 +4,7 @@ pub mod PartLaws
 mod PlaceLaws
 pub mod MatchLaws
 pub mod Bools
+pub mod Lists
 pub mod RoomLaws
 pub mod GrowthLaws
 mod RoomTests

@@ -1,15 +1,13 @@
 -- What running sums say of a layout, once a page or a part is closed.
-use Rattle.std.proofs.Common.{◌≡◌, ℕ, ◌+◌, ◌<◌, Bool, true, false, cond, ◌||◌, eqb, List, [], ◌∷◌, length, nat_le, Option, Some, None, refl, ap, sym, ◌∙◌, subst, length-append, arith}
+use Rattle.std.proofs.Common.{◌≡◌, ℕ, ◌+◌, ◌<◌, Bool, true, false, cond, ◌||◌, eqb, List, [], ◌∷◌, length, nat_le, Option, Some, None, refl, ap, sym, ◌∙◌, length-append, arith}
 use Rattle.std.proofs.lemmas.Bool.Decides.{nat_tests}
 use Rattle.std.specs.Borrow.{Bor}
 use Rattle.std.specs.Option.{option_copied, IsSome}
 use Rattle.dms_face.specs.declared.totals.Totals.{Totals}
-use Rattle.dms_face.specs.declared.justification.Part.{Part}
 use Rattle.dms_font.specs.Font.{FontModel}
 use Rattle.dms_face.specs.declared.multi_fault.MultiFaultCode.TheVariants.{TextTooBig, TooManyPages}
 use Rattle.dms_face.specs.Face.{FaceModel, font_in, has_font}
-use Rattle.dms_face.specs.Justification.{same_part}
-use Rattle.dms_face.specs.Layout.{Layout, closed, with_page, with_part}
+use Rattle.dms_face.specs.Layout.{Layout, closed, with_page}
 use Rattle.dms_face.specs.Room.{lines_fit}
 use Rattle.dms_face.specs.Fit.{most_pages}
 use Rattle.dms_face.specs.OnePass.{page_fault}
@@ -36,26 +34,6 @@ pub page_passes : (face : FaceModel) (totals : Totals) (layout : Layout) → Mat
 page_passes face totals layout matches fit less =
     let few : nat_le most_pages (length layout.pages + 1) ≡ false = (let same : totals.pages ≡ length layout.pages = matches.pages in grind (arith, nat_tests)) in
     sym (ap (λ b. cond b (cond (nat_le most_pages (length layout.pages + 1)) (Some TooManyPages) None) (Some TextTooBig)) fit ∙ ap (λ b. cond b (Some TooManyPages) None) few)
-
--- the part changes
-pub part_matches : (totals : Totals) (layout : Layout) (part : Part) → same_part part layout.style.part ≡ false
-    → Matches totals (record layout { lines = closed layout; characters = []; gap = None })
-    → Matches (record totals { part = part }) (with_part layout (record layout.style { part = part }))
-part_matches totals layout part other matches =
-    let P : Layout → Type 0 = λ l. Matches (record totals { part = part }) l in
-    let there : Layout = record { pages = layout.pages; lines = closed layout; characters = []; gap = None; style = record layout.style { part = part } } in
-    let same : with_part layout (record layout.style { part = part }) ≡ there = ap (λ b. cond b layout there) other in
-    subst P (sym same) (record {
-      pages = matches.pages;
-      lines = matches.lines;
-      characters = matches.characters;
-      height = matches.height;
-      spacing = matches.spacing;
-      gap = matches.gap;
-      side = matches.side;
-      part = refl;
-      font = matches.font;
-    })
 
 -- a font that is among these is found
 pub font_found : (fonts : List FontModel) (number : ℕ) → has_font fonts number ≡ true → (font : FontModel) × (font_in fonts number ≡ Some font)

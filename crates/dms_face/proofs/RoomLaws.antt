@@ -4,13 +4,14 @@ use Rattle.std.specs.List.{list_all}
 use Rattle.std.proofs.lemmas.Bool.Decides.{nat_tests}
 use Rattle.std.proofs.lemmas.List.Folds.{list_all-append}
 use Rattle.std.proofs.lemmas.List.{map-append}
+use Rattle.std.proofs.Math.Bool.{and-true}
 use Rattle.dms_face.specs.declared.justification.Part.{Part}
 use Rattle.dms_font.specs.Font.{FontModel}
 use Rattle.dms_face.specs.Face.{FaceModel}
 use Rattle.dms_face.specs.Layout.{Character, Line, PageModel, Layout, Style, is_blank, open_line, standing, closed, has_line_in, page_of, with_line, with_page}
 use Rattle.dms_face.specs.Room.{blocks_fit, line_block, characters_fit, lines_fit, page_fits, has_room}
 use Rattle.dms_face.specs.OnePass.{open_fits}
-use Rattle.dms_face.proofs.Bools.{both, join, and_true}
+use Rattle.dms_face.proofs.Bools.{both, join}
 
 no_overlap : (a b c : ℕ) → nat_lt (max a b) (min (a + 0) (b + c)) ≡ false
 no_overlap a b c = grind (arith, nat_tests)
@@ -28,7 +29,7 @@ abbrev pub page_has_room : FaceModel → PageModel → Bool
 page_has_room face page = page_fits face page.lines
 
 all_push : {A : Type 0} (p : A → Bool) (xs : List A) (x : A) → list_all p xs ≡ true → list_all p (xs ++ x ∷ []) ≡ p x
-all_push p xs x all = list_all-append p xs (x ∷ []) ∙ ap (λ b. b && (p x && true)) all ∙ and_true (p x)
+all_push p xs x all = list_all-append p xs (x ∷ []) ∙ ap (λ b. b && (p x && true)) all ∙ and-true (p x)
 
 -- the lines that stand fit where the closed ones do and the open one does
 standing_fits : (face : FaceModel) (characters : List Character) (lines : List Line) (part : Part) (font : FontModel) (gap : Option ℕ)
@@ -44,7 +45,7 @@ standing_parts face [] lines part font gap all = (all, nothing_fits face.width)
 standing_parts face (c ∷ cs) lines part font gap all =
     let parts = both (list_all (line_fits face) lines) (line_fits face (record { characters = c ∷ cs; part = part; font = font; gap = gap }) && true)
     (sym (list_all-append (line_fits face) lines ((record { characters = c ∷ cs; part = part; font = font; gap = gap }) ∷ [])) ∙ all) in
-    (parts.0, sym (and_true _) ∙ parts.1)
+    (parts.0, sym (and-true _) ∙ parts.1)
 
 -- what has room, part by part
 pub record RoomParts (face : FaceModel) (layout : Layout) : Type 0 where
@@ -92,7 +93,7 @@ part_room face layout style parts = blank_room face layout (closed layout) None 
 pub page_room : (face : FaceModel) (layout : Layout) → RoomParts face layout → has_room face (with_page layout) ≡ lines_fit face (closed layout)
 page_room face layout parts =
     ap (λ b. list_all (page_has_room face) (layout.pages ++ page_of layout.style (closed layout) ∷ []) && b) (nothing_fits face.height)
-    ∙ and_true _
+    ∙ and-true _
     ∙ all_push (page_has_room face) layout.pages (page_of layout.style (closed layout)) parts.pages
     ∙ ap (λ b. b && lines_fit face (closed layout)) (closed_fits face layout parts)
 

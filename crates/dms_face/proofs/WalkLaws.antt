@@ -4,6 +4,7 @@ use Rattle.std.specs.List.{count_by}
 use Rattle.std.proofs.lemmas.Bool.Decides.{nat_tests}
 use Rattle.std.specs.Option.{option_or, option_map}
 use Rattle.std.proofs.lemmas.List.Sums.{fold-append, sum_by-cons}
+use Rattle.std.proofs.Math.Bool.{and-true}
 use Rattle.dms_multi.specs.declared.item.Item.{Item}
 use Rattle.dms_multi.specs.declared.item.Item.TheVariants.{Char, Background, Foreground, Font, FlashOn, FlashEnd, JustLine, JustPage, NewLine, NewPage, PageTime}
 use Rattle.dms_multi.specs.declared.spots.Spot.{Spot}
@@ -22,7 +23,7 @@ use Rattle.dms_face.specs.Layout.{Layout, Style, Turn, styled, closed, with_char
 use Rattle.dms_face.specs.Room.{line_block, lines_fit, has_room}
 use Rattle.dms_face.specs.Fit.{misuse, is_taken, are_allowed, fits, most_pages, code_of, turns_in, first_fault, fault_of_reading, fault_of, page_count, checked_text, is_new_page, or_fault}
 use Rattle.dms_face.specs.OnePass.{room_fault, character_fault, local_fault, or_else, walked}
-use Rattle.dms_face.proofs.Bools.{both, and_true, and_assoc}
+use Rattle.dms_face.proofs.Bools.{both, and_assoc}
 use Rattle.dms_face.proofs.RoomLaws.{RoomParts, room_parts, room_is_open, line_room, part_room, page_room, style_room, nothing_fits}
 
 -- ---- one turn
@@ -88,7 +89,7 @@ turn_law face layout (Some (PageTime on off)) room parts = style_law face layout
 
 allowed_push : (face : FaceModel) (layout : Layout) (front : List Turn) (turn : Turn)
     → are_allowed face layout (front ++ turn ∷ []) ≡ (are_allowed face layout front && is_none (misuse face (fold (with_turn face) layout front) turn))
-allowed_push face layout [] turn = and_true (is_none (misuse face layout turn))
+allowed_push face layout [] turn = and-true (is_none (misuse face layout turn))
 allowed_push face layout (next ∷ front) turn =
     ap (λ b. is_none (misuse face layout next) && b) (allowed_push face (with_turn face layout next) front turn)
     ∙ and_assoc (is_none (misuse face layout next)) (are_allowed face (with_turn face layout next) front) (is_none (misuse face (fold (with_turn face) (with_turn face layout next) front) turn))
