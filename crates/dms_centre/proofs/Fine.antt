@@ -5,17 +5,18 @@ use Rattle.std.proofs.lemmas.Bool.{false≢true}
 use Rattle.dms_wire.specs.Message.{SnmpMessage}
 use Rattle.dms_ber.specs.Element.{element}
 use Rattle.dms_wire.specs.Canonical.{canonical}
-use Rattle.dms_centre.specs.declared.job.Job.{Job as CodeJob}
+use Rattle.dms_requests.specs.declared.job.Job.{Job as CodeJob}
 use Rattle.dms_centre.specs.declared.pending.Pending.{Pending as CodePending}
 use Rattle.dms_centre.specs.declared.stage.Stage.{Stage}
 use Rattle.dms_centre.specs.declared.stage.Stage.TheVariants as stages
 use Rattle.dms_centre.specs.declared.outcome.Outcome.{Outcome}
-use Rattle.dms_centre.specs.State.{Job, Pending, Awaits, Entry, CentreState, is_busy}
-use Rattle.dms_centre.specs.Steps.{is_activating}
+use Rattle.dms_requests.specs.Job.{Job}
+use Rattle.dms_centre.specs.State.{Pending, Awaits, Entry, CentreState, is_busy}
+use Rattle.dms_requests.specs.Steps.{is_activating}
 use Rattle.dms_centre.specs.Sending.{entered}
 use Rattle.dms_centre.specs.Replies.{with_outcome, most_polls}
 use Rattle.dms_centre.specs.Resending.{given_up, is_waiting}
-use Rattle.dms_centre.specs.Requests.{IsWork}
+use Rattle.dms_requests.specs.Requests.{IsWork}
 use Rattle.dms_centre.specs.CodeView.{sent_in, phase_model}
 use Rattle.dms_centre.specs.Invariant.{AllBelow, IsState, IsPhase, IsPending}
 

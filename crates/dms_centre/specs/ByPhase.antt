@@ -2,8 +2,8 @@
 -- happens.
 use Rattle.std.specs.Prelude.{ℕ, ℤ, Bool, true, false, List, []}
 use Rattle.dms_wire.specs.Message.{VarBind, SnmpMessage}
-use Rattle.dms_centre.specs.declared.step.Step.{Step}
-use Rattle.dms_centre.specs.declared.step.Step.TheVariants.{Opening, Opened, Filling, Validating, Polling, Comparing, Activating, Explaining}
+use Rattle.dms_requests.specs.declared.step.Step.{Step}
+use Rattle.dms_requests.specs.declared.step.Step.TheVariants.{Opening, Opened, Filling, Validating, Polling, Comparing, Activating, Explaining}
 use Rattle.dms_centre.specs.State.{CentreState, Phase, Idle, Awaits, Due}
 use Rattle.dms_centre.specs.Sending.{Move, rests, at_step, sends}
 use Rattle.dms_centre.specs.Replies.{is_answer, on_success, on_failure, on_read, on_number, number_read, asked, polled_again, own_checksum}

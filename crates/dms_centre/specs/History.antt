@@ -1,9 +1,10 @@
 -- The central system under one input after another, with all that it sent.
-use Rattle.std.specs.Prelude.{ℕ, ◌≤◌, List, [], ◌∷◌, ◌++◌, length, option_to_list}
-use Rattle.std.specs.Int.Digits.{AllBelowBase}
-use Rattle.dms_centre.specs.State.{SettingsModel, CentreState, start}
+use Rattle.std.specs.Prelude.{ℕ, List, [], ◌∷◌, ◌++◌, option_to_list}
+use Rattle.dms_requests.specs.Job.{SettingsModel}
+use Rattle.dms_centre.specs.State.{CentreState, start}
 use Rattle.dms_centre.specs.Sending.{Move, rests}
-use Rattle.dms_centre.specs.Commands.{CommandModel, IsCommand, commanded}
+use Rattle.dms_requests.specs.Commands.{CommandModel, IsCommand}
+use Rattle.dms_centre.specs.Commands.{commanded}
 use Rattle.dms_centre.specs.Inputs.{received, ticked, restarted}
 
 -- a command of the operator, a datagram whoever sent it, a tick, or a restart
@@ -38,13 +39,7 @@ abbrev pub after_inputs : History → List Input → History
 after_inputs history [] = history
 after_inputs history (input ∷ inputs) = after_inputs (after_input history input) inputs
 
--- ---- the values of settings and inputs
-
--- a community of 1 to 32 octets
-pub record AreSettings (settings : SettingsModel) : Type 0 where
-  pub some : 1 ≤ length settings.community
-  pub few : length settings.community ≤ 32
-  pub octets : AllBelowBase 256 settings.community
+-- ---- the values of inputs
 
 -- whatever is heard
 pub data IsInput : Input → Type 0 where

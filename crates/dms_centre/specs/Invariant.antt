@@ -3,8 +3,7 @@ use Rattle.std.specs.Prelude.{ℕ, ◌<◌, ◌≤◌, List, length, All}
 use Rattle.dms_centre.specs.State.{CentreState, Pending, Phase, Idle, Awaits, Due, Entry}
 use Rattle.dms_centre.specs.Replies.{most_polls}
 use Rattle.dms_centre.specs.Resending.{ticks_to_wait}
-use Rattle.dms_centre.specs.History.{AreSettings}
-use Rattle.dms_centre.specs.Requests.{IsWork}
+use Rattle.dms_requests.specs.Requests.{AreSettings, IsWork}
 
 -- the waiting request has octets, and did not wait for long
 pub record IsPending (pending : Pending) : Type 0 where

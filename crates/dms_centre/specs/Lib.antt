@@ -1,19 +1,15 @@
 -- What a reader must believe: the machine of the central system, and what the code's types say in its words.
 pub mod State
-pub mod Steps
 pub mod Sending
 pub mod Replies
 pub mod Commands
 pub mod Resending
 pub mod Inputs
 pub mod Room
-pub mod PublicationView
-pub mod JobView
 pub mod CodeView
 pub mod Texts
 -- What its laws are stated in.
 pub mod History
-pub mod Requests
 -- What only proofs go through.
 pub mod ByPhase
 pub mod Invariant

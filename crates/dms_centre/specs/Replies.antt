@@ -13,10 +13,11 @@ use Rattle.dms_centre.specs.declared.ended.Ended.TheVariants as endings
 use Rattle.dms_centre.specs.declared.ended.Why.TheVariants.{Status, WrongStatus, StillValidating, OtherChecksum, OddReply, Cause}
 use Rattle.dms_centre.specs.declared.outcome.Outcome.{Outcome}
 use Rattle.dms_centre.specs.declared.outcome.Outcome.TheVariants.{Accepted, Refused}
-use Rattle.dms_centre.specs.declared.step.Step.{Step}
-use Rattle.dms_centre.specs.declared.step.Step.TheVariants.{Opening, Opened, Filling, Validating, Polling, Comparing, Activating, Explaining}
-use Rattle.dms_centre.specs.State.{Work, Job, Entry, CentreState}
-use Rattle.dms_centre.specs.Steps.{is_activating, code_of, bindings_of}
+use Rattle.dms_requests.specs.declared.step.Step.{Step}
+use Rattle.dms_requests.specs.declared.step.Step.TheVariants.{Opening, Opened, Filling, Validating, Polling, Comparing, Activating, Explaining}
+use Rattle.dms_requests.specs.Job.{Work, Job}
+use Rattle.dms_centre.specs.State.{Entry, CentreState}
+use Rattle.dms_requests.specs.Steps.{is_activating, code_of, bindings_of}
 use Rattle.dms_centre.specs.Sending.{Move, rests, ends, fails, waits, at_step, sends}
 
 -- ---- the ledger

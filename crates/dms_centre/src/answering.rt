@@ -1,12 +1,10 @@
 //! What a datagram makes of a central system.
 
-ghost use Rattle.std.specs.Prelude.{◌≡◌, ◌∷◌, [], true, false, Some, None, option_map};
-ghost use Rattle.std.specs.Ordering.{int_eq};
+ghost use Rattle.std.specs.Prelude.{◌≡◌, ◌∷◌, [], true, false, Some, None};
 ghost use Rattle.dms_wire.specs.Message.{null};
 ghost use Rattle.dms_wire.specs.View.{snmp_message};
 ghost use Rattle.dms_objects.specs.Names.{name_of};
-ghost use Rattle.dms_centre.specs.Steps.{is_activating};
-ghost use Rattle.dms_centre.specs.Sending.{ends};
+ghost use Rattle.dms_requests.specs.Steps.{is_activating};
 ghost use Rattle.dms_centre.specs.Inputs.{received};
 ghost use Rattle.dms_centre.specs.Replies.{number_read};
 ghost use Rattle.dms_centre.specs.ByPhase.{is_awaiting, is_answered, succeeds, is_refused, reads, is_reading, asked_at, takes, sends_at, polls_again, checksum_of_job};
@@ -18,9 +16,9 @@ use crate::ledger::decide;
 use crate::outcome::Outcome;
 use crate::reply::number_read;
 use crate::stage::Stage;
-use crate::step::Step;
 use dms_codes::{Order, Status};
 use dms_objects::{Column, Instance, Name, Scalar};
+use dms_requests::Step;
 use dms_wire::{Binds, ErrorStatus, Kind, Message, Out, heard};
 
 /// How many times a row is polled that is being validated.

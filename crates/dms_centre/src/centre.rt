@@ -1,29 +1,30 @@
 //! The central system.
 
 ghost use Rattle.std.specs.Prelude.{◌≡◌, ◌≤◌, ◌<◌, ◌↔◌, ◌⊎◌, [], true, false, length, IsOk, IfOk, IfErr, OnOk, OnErr, Some, None, Err};
+ghost use Rattle.std.specs.Int.Digits.{AllBelowBase};
 ghost use Rattle.dms_centre.specs.declared.fault.CommandFault.TheVariants as faults;
 ghost use Rattle.dms_centre.specs.State.{start, is_busy};
-ghost use Rattle.dms_centre.specs.Steps.{is_activating};
-ghost use Rattle.dms_centre.specs.Commands.{commanded, job_of, refusal_of};
-ghost use Rattle.dms_centre.specs.History.{AreSettings};
+ghost use Rattle.dms_requests.specs.Steps.{is_activating};
+ghost use Rattle.dms_requests.specs.Commands.{job_of};
+ghost use Rattle.dms_centre.specs.Commands.{commanded, refusal_of};
+ghost use Rattle.dms_requests.specs.Requests.{AreSettings};
 ghost use Rattle.dms_centre.specs.Inputs.{ticked, restarted};
 ghost use Rattle.dms_centre.specs.Sending.{ends};
 ghost use Rattle.dms_centre.specs.Room.{enters_at_tick, enters_by};
 ghost use Rattle.dms_centre.specs.ByPhase.{is_awaiting, sends_job, adds_entry};
-ghost use Rattle.dms_centre.specs.CodeView.{settings_model, command_model, ledger_model, sent_in};
+ghost use Rattle.dms_requests.specs.CodeView.{command_model};
+ghost use Rattle.dms_centre.specs.CodeView.{settings_model, ledger_model, sent_in};
 
-use crate::command::Command;
 use crate::ended::{Ended, Why};
 use crate::fault::{CommandFault, NoMemory};
-use crate::job::{Job, kept};
 use crate::ledger::{Entry, enter_job, give_up};
 use crate::outcome::Outcome;
 use crate::pending::{MOST_SENDS, Pending, TICKS_TO_WAIT};
-use crate::request::put_request;
 use crate::settings::{CentreFault, Settings};
 use crate::stage::Stage;
 use arrayvec::ArrayVec;
 use dms_codes::Order;
+use dms_requests::{Command, Job, put_request};
 use dms_wire::Out;
 use indexmap::IndexMap;
 use std::alloc::Global;
@@ -82,6 +83,15 @@ impl Model for Centre {
     }) };
 }
 
+/// A copy of octets.
+fn copied<const N: usize>(octets: &[u8]) -> ArrayVec<u8, N>
+    requires { length octets.now ≤ N }
+    ensures copy { result.items ≡ octets.now }
+    ensures octets { AllBelowBase 256 octets.now }
+{
+    ArrayVec::try_from(octets).unwrap()
+}
+
 impl Centre {
     /// A central system with no job, whose first request has the number `first`. Its ledger takes memory from `alloc` as it grows.
     #[tactic(auto, using(crate::proofs::Fine::begins))]
@@ -94,7 +104,7 @@ impl Centre {
             return Err(CentreFault::Community);
         }
         Ok(Centre {
-            community: kept(community),
+            community: copied(community),
             order: settings.order,
             next: first,
             stage: Stage::Idle,

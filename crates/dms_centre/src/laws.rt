@@ -1,6 +1,6 @@
 //! What holds of every central system, stated as a function with nothing to run.
 
-ghost use Rattle.dms_centre.specs.History.{AreSettings};
+ghost use Rattle.dms_requests.specs.Requests.{AreSettings};
 
 use crate::centre::Centre;
 

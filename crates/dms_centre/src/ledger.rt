@@ -3,16 +3,17 @@
 ghost use Rattle.std.specs.Prelude.{◌≡◌, ◌<◌, ◌++◌, ◌∷◌, [], map, true, false};
 ghost use Rattle.indexmap.specs.IndexMap.{spare};
 ghost use Rattle.dms_centre.specs.declared.outcome.Outcome.TheVariants as outcomes;
-ghost use Rattle.dms_centre.specs.Steps.{is_activating};
+ghost use Rattle.dms_requests.specs.Steps.{is_activating};
 ghost use Rattle.dms_centre.specs.Sending.{entered};
 ghost use Rattle.dms_centre.specs.Replies.{with_outcome};
 ghost use Rattle.dms_centre.specs.Resending.{given_up};
-ghost use Rattle.dms_centre.specs.CodeView.{job_model, ledger_model};
+ghost use Rattle.dms_requests.specs.CodeView.{job_model};
+ghost use Rattle.dms_centre.specs.CodeView.{ledger_model};
 ghost use Rattle.dms_centre.specs.Invariant.{AllBelow};
 
-use crate::job::Job;
 use crate::outcome::Outcome;
 use dms_codes::Activation;
+use dms_requests::Job;
 use indexmap::IndexMap;
 use std::fmt;
 

@@ -1,5 +1,5 @@
 //! The central system of a sign: it does one operator's command at a time, and keeps a ledger of the codes that it
-//! sent.
+//! sent. What it is commanded, and the steps of a job, stand in dms_requests and are named here too.
 //!
 //! ```
 //! let settings = Settings { community: b"admin", order: Order::High };
@@ -14,27 +14,20 @@
 
 mod answering;
 pub mod centre;
-pub mod command;
 pub mod ended;
 pub mod fault;
-mod job;
 pub mod laws;
 pub mod ledger;
 pub mod outcome;
 mod pending;
-pub mod publication;
 mod reply;
-mod request;
 pub mod settings;
 mod stage;
-pub mod step;
 
 pub use centre::Centre;
-pub use command::Command;
+pub use dms_requests::{Attributes, Command, Publication, Step, Terms};
 pub use ended::{Ended, Why};
 pub use fault::{CommandFault, NoMemory};
 pub use ledger::Entry;
 pub use outcome::Outcome;
-pub use publication::{Attributes, Publication, Terms};
 pub use settings::{CentreFault, Settings};
-pub use step::Step;

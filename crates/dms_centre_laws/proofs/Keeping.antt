@@ -13,23 +13,25 @@ use Rattle.dms_centre.specs.declared.ended.Why.TheVariants as reasons
 use Rattle.dms_centre.specs.declared.fault.CommandFault.{CommandFault}
 use Rattle.dms_centre.specs.declared.fault.CommandFault.TheVariants as faults
 use Rattle.dms_centre.specs.declared.outcome.Outcome.TheVariants as outcomes
-use Rattle.dms_centre.specs.declared.step.Step.{Step}
-use Rattle.dms_centre.specs.declared.step.Step.TheVariants.{Opening, Opened, Filling, Validating, Polling, Comparing, Activating, Explaining}
-use Rattle.dms_centre.specs.State.{SettingsModel, Job, Pending, Phase, Idle, Awaits, Due, CentreState, is_busy}
-use Rattle.dms_centre.specs.Steps.{step_number, is_activating}
-use Rattle.dms_centre.specs.Sending.{Move, rests, ends, fails, waits, at_step, last_number, sends, sends_octets, request_octets}
+use Rattle.dms_requests.specs.declared.step.Step.{Step}
+use Rattle.dms_requests.specs.declared.step.Step.TheVariants.{Opening, Opened, Filling, Validating, Polling, Comparing, Activating, Explaining}
+use Rattle.dms_requests.specs.Job.{SettingsModel, Job}
+use Rattle.dms_centre.specs.State.{Pending, Phase, Idle, Awaits, Due, CentreState, is_busy}
+use Rattle.dms_requests.specs.Steps.{step_number, is_activating, last_number}
+use Rattle.dms_centre.specs.Sending.{Move, rests, ends, fails, waits, at_step, sends, sends_octets, request_octets}
 use Rattle.dms_centre.specs.Replies.{decided, polled_again, is_status, own_checksum, on_number, number_read, on_read, asked, on_success, on_failure, on_reply, is_answer}
-use Rattle.dms_centre.specs.Commands.{CommandModel, IsCommand, OfPublish, OfBlank, OfActivate, is_good, refusal_of, job_of, begins, commanded}
+use Rattle.dms_requests.specs.Commands.{CommandModel, IsCommand, OfPublish, OfBlank, OfActivate, is_good, job_of}
+use Rattle.dms_centre.specs.Commands.{refusal_of, begins, commanded}
 use Rattle.dms_centre.specs.Resending.{gives_up, older, sent_again, sends_again, on_silence}
 use Rattle.dms_centre.specs.Inputs.{on_message, on_datagram, received, on_tick, ticked, forgets, restarted}
-use Rattle.dms_centre.specs.History.{AreSettings, Input, IsInput, OfCommand, OfDatagram, OfTick, OfRestart, History, made, move_at, after_input, after_inputs}
-use Rattle.dms_centre.specs.Requests.{IsWork, OfPublishing, OfShowing, IsRequest}
+use Rattle.dms_requests.specs.Requests.{AreSettings, IsWork, OfPublishing, OfShowing, IsRequest}
+use Rattle.dms_centre.specs.History.{Input, IsInput, OfCommand, OfDatagram, OfTick, OfRestart, History, made, move_at, after_input, after_inputs}
 use Rattle.dms_centre_laws.specs.RequestNumbers.{HasNumber, Nothing, Again, New}
 use Rattle.dms_centre_laws.specs.Numbered.{IsAwaited, IsAtWork, IsNumbered, HistoryIsNumbered, Keeps}
 use Rattle.dms_centre_laws.proofs.Lists.{either_way, by_test, on_left, at_end}
 use Rattle.dms_centre_laws.proofs.Numbers.{request_number, requests_push, rise_push, same_push, few_push, count_more, count_of_none, below_next}
-use Rattle.dms_centre.proofs.Requests.{request_reads}
-use Rattle.dms_centre.proofs.Work.{is_job}
+use Rattle.dms_requests.proofs.Requests.{request_reads}
+use Rattle.dms_requests.proofs.JobLaws.{is_job}
 
 -- ---- three moves
 

@@ -5,9 +5,9 @@ use Rattle.std.proofs.lemmas.Option.{same_Some, slice_get_within}
 use Rattle.std.proofs.lemmas.Bool.Decides.{Decides-int_eq}
 use Rattle.dms_wire.specs.Message.{SnmpMessage}
 use Rattle.dms_wire.specs.MessageOf.{message_of}
-use Rattle.dms_centre.specs.State.{SettingsModel}
-use Rattle.dms_centre.specs.Steps.{request_of}
-use Rattle.dms_centre.specs.Requests.{IsRequest}
+use Rattle.dms_requests.specs.Job.{SettingsModel}
+use Rattle.dms_requests.specs.Steps.{request_of}
+use Rattle.dms_requests.specs.Requests.{IsRequest}
 use Rattle.dms_centre_laws.specs.RequestNumbers.{HasNumber, is_number_of, has_number, AreRequests, NumbersRise, EqualNumbersMeanEqualOctets, ThreeSendsAtMost}
 use Rattle.dms_centre_laws.proofs.Lists.{in_push, count_push, count_none}
 

@@ -2,9 +2,11 @@
 use Rattle.std.proofs.Common.{◌≡◌, ℕ, List, [], ◌∷◌, ◌++◌, length, take, Some, None, slice_get, refl, sym, ap, ◌∙◌, subst, append_assoc, append-nil}
 use Rattle.std.specs.List.{AllByRecursion}
 use Rattle.std.proofs.lemmas.Option.{none-some}
-use Rattle.dms_centre.specs.State.{SettingsModel}
-use Rattle.dms_centre.specs.Commands.{CommandModel, refusal_of, job_of}
-use Rattle.dms_centre.specs.History.{AreSettings, Input, Commands, Hears, Ticks, Restarts, IsInput, History, made, after_input, after_inputs}
+use Rattle.dms_requests.specs.Job.{SettingsModel}
+use Rattle.dms_requests.specs.Commands.{CommandModel, job_of}
+use Rattle.dms_centre.specs.Commands.{refusal_of}
+use Rattle.dms_requests.specs.Requests.{AreSettings}
+use Rattle.dms_centre.specs.History.{Input, Commands, Hears, Ticks, Restarts, IsInput, History, made, after_input, after_inputs}
 use Rattle.dms_centre_laws.specs.Ledger.{IsOrdered, CodesAreOrdered}
 use Rattle.dms_centre_laws.proofs.LedgerLaws.{IsKept, is_kept_input, is_kept_made}
 use Rattle.dms_centre_laws.proofs.Working.{OfTaken, AreOf, are_of_input}

@@ -15,10 +15,12 @@ use Rattle.dms_centre.specs.declared.fault.CommandFault.{CommandFault}
 use Rattle.dms_centre.specs.declared.fault.CommandFault.TheVariants as faults
 use Rattle.dms_centre.specs.declared.outcome.Outcome.{Outcome}
 use Rattle.dms_centre.specs.declared.outcome.Outcome.TheVariants as outcomes
-use Rattle.dms_centre.specs.State.{SettingsModel, PublicationModel, Entry, start}
-use Rattle.dms_centre.specs.Steps.{request_of}
+use Rattle.dms_requests.specs.Job.{SettingsModel, PublicationModel}
+use Rattle.dms_centre.specs.State.{Entry, start}
+use Rattle.dms_requests.specs.Steps.{request_of}
 use Rattle.dms_centre.specs.Sending.{sends}
-use Rattle.dms_centre.specs.Commands.{CommandModel, Publish, Blank, Activate, refusal_of, commanded}
+use Rattle.dms_requests.specs.Commands.{CommandModel, Publish, Blank, Activate}
+use Rattle.dms_centre.specs.Commands.{refusal_of, commanded}
 use Rattle.dms_centre.specs.Inputs.{received, ticked, restarted}
 use Rattle.dms_centre.specs.History.{Input, Commands, Hears, Ticks, Restarts, History, made, after_inputs}
 

@@ -6,11 +6,13 @@ use Rattle.dms_wire.specs.MessageOf.{message_of}
 use Rattle.dms_codes.specs.declared.codes.Activation.{Activation}
 use Rattle.dms_centre.specs.declared.outcome.Outcome.{Outcome}
 use Rattle.dms_centre.specs.declared.outcome.Outcome.TheVariants.{Waiting, Accepted, Refused, NoReply, Unknown}
-use Rattle.dms_centre.specs.declared.step.Step.TheVariants.{Activating}
-use Rattle.dms_centre.specs.State.{SettingsModel, Work, Showing, Job, Pending, Awaits, Entry}
-use Rattle.dms_centre.specs.Steps.{code_of, request_of}
+use Rattle.dms_requests.specs.declared.step.Step.TheVariants.{Activating}
+use Rattle.dms_requests.specs.Job.{SettingsModel, Work, Showing, Job}
+use Rattle.dms_centre.specs.State.{Pending, Awaits, Entry}
+use Rattle.dms_requests.specs.Steps.{code_of, request_of}
 use Rattle.dms_centre.specs.Sending.{Move}
-use Rattle.dms_centre.specs.Commands.{CommandModel, refusal_of, job_of}
+use Rattle.dms_requests.specs.Commands.{CommandModel, job_of}
+use Rattle.dms_centre.specs.Commands.{refusal_of}
 use Rattle.dms_centre.specs.History.{Input, Commands, Hears, Ticks, Restarts, made, after_inputs}
 use Rattle.dms_centre_laws.specs.RequestNumbers.{HasNumber}
 

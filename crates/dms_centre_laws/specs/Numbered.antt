@@ -1,9 +1,10 @@
 -- What the central system keeps up so that numbers are used once.
 use Rattle.std.specs.Prelude.{◌≡◌, ℕ, ◌+◌, ◌≤◌, List, count_by, Some, slice_get, option_to_list, ◌++◌}
-use Rattle.dms_centre.specs.State.{SettingsModel, Pending, Phase, Idle, Awaits, Due}
+use Rattle.dms_requests.specs.Job.{SettingsModel}
+use Rattle.dms_centre.specs.State.{Pending, Phase, Idle, Awaits, Due}
 use Rattle.dms_centre.specs.Sending.{Move}
-use Rattle.dms_centre.specs.History.{AreSettings, History}
-use Rattle.dms_centre.specs.Requests.{IsWork, IsRequest}
+use Rattle.dms_requests.specs.Requests.{AreSettings, IsWork, IsRequest}
+use Rattle.dms_centre.specs.History.{History}
 use Rattle.dms_centre_laws.specs.RequestNumbers.{has_number, AreRequests, NumbersRise, EqualNumbersMeanEqualOctets, ThreeSendsAtMost, Sends}
 
 -- The waiting request was sent as often as it says, three times at most, and has the newest number.

@@ -3,9 +3,9 @@ use Rattle.std.specs.Prelude.{◌≡◌, ℕ, ◌+◌, ◌<◌, ◌≤◌, pos, 
 use Rattle.std.specs.Ordering.{int_eq}
 use Rattle.dms_wire.specs.Message.{SnmpMessage}
 use Rattle.dms_wire.specs.MessageOf.{message_of}
-use Rattle.dms_centre.specs.State.{SettingsModel}
+use Rattle.dms_requests.specs.Job.{SettingsModel}
 use Rattle.dms_centre.specs.Sending.{Move}
-use Rattle.dms_centre.specs.Requests.{IsRequest}
+use Rattle.dms_requests.specs.Requests.{IsRequest}
 
 -- ---- the number of a datagram
 

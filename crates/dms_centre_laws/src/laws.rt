@@ -3,8 +3,9 @@
 
 ghost use Rattle.std.specs.Prelude.{ℕ, List};
 ghost use Rattle.std.specs.List.{AllByRecursion};
-ghost use Rattle.dms_centre.specs.State.{SettingsModel};
-ghost use Rattle.dms_centre.specs.History.{AreSettings, Input, IsInput, History, made, move_at, after_input, after_inputs};
+ghost use Rattle.dms_requests.specs.Job.{SettingsModel};
+ghost use Rattle.dms_requests.specs.Requests.{AreSettings};
+ghost use Rattle.dms_centre.specs.History.{Input, IsInput, History, made, move_at, after_input, after_inputs};
 ghost use Rattle.dms_centre_laws.specs.RequestNumbers.{AreRequests, NumbersRise, EqualNumbersMeanEqualOctets, ThreeSendsAtMost, Sends};
 ghost use Rattle.dms_centre_laws.specs.Numbered.{HistoryIsNumbered};
 ghost use Rattle.dms_centre_laws.specs.Ledger.{LedgerMoves, LedgerIsSent, NumbersPutUpTheirCodes, CodesAreOrdered};

@@ -7,7 +7,7 @@ use Rattle.dms_text.specs.Octets.{SpellsOctets}
 use Rattle.dms_text.specs.Reading.{word_at}
 use Rattle.dms_text.proofs.WordLaws.{begun, word_found}
 use Rattle.dms_codes.specs.declared.codes.Order.{Order}
-use Rattle.dms_centre.specs.Commands.{CommandModel, Publish, Blank, Activate}
+use Rattle.dms_requests.specs.Commands.{CommandModel, Publish, Blank, Activate}
 use Rattle.dms_description.specs.Fields.{SpellsOne}
 use Rattle.dms_description.specs.FieldsReading.{last_octets_at}
 use Rattle.dms_description.proofs.FieldLaws.{made_of, last_octets_found, last_octets_only}

@@ -6,7 +6,8 @@ use Rattle.dms_centre.specs.declared.fault.CommandFault.{CommandFault}
 use Rattle.dms_centre.specs.declared.ended.Ended.{Ended}
 use Rattle.dms_centre.specs.declared.ended.Ended.TheVariants.{Never, Accepted, Failed}
 use Rattle.dms_centre.specs.State.{CentreState, is_busy}
-use Rattle.dms_centre.specs.Commands.{CommandModel, refusal_of, commanded}
+use Rattle.dms_requests.specs.Commands.{CommandModel}
+use Rattle.dms_centre.specs.Commands.{refusal_of, commanded}
 use Rattle.dms_centre.specs.Inputs.{received, ticked, restarted}
 use Rattle.dms_centre.specs.Texts.{command_fault_text, ended_text}
 use Rattle.dms_description.specs.ShownLine.{ended}

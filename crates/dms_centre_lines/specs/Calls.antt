@@ -1,6 +1,6 @@
 -- What a line asks of the central system (this profile).
 use Rattle.std.specs.Prelude.{ℕ, List}
-use Rattle.dms_centre.specs.Commands.{CommandModel}
+use Rattle.dms_requests.specs.Commands.{CommandModel}
 
 -- an operator's command; a datagram that reached it; a tick of its clock; a restart; or how it stands
 pub data CentreCall : Type 0 where

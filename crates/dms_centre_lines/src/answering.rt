@@ -1,7 +1,7 @@
 //! A line to a central system, and its answer.
 
 ghost use Rattle.std.specs.Prelude.{◌≡◌, IfOk, OnOk, OnErr, Some, None};
-ghost use Rattle.dms_centre.specs.CodeView.{command_model};
+ghost use Rattle.dms_requests.specs.CodeView.{command_model};
 ghost use Rattle.dms_centre.specs.Commands.{commanded, refusal_of};
 ghost use Rattle.dms_centre.specs.Inputs.{received, ticked, restarted};
 ghost use Rattle.dms_commands.specs.CommandReading.{command_of};

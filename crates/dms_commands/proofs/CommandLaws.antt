@@ -17,10 +17,10 @@ use Rattle.dms_codes.specs.declared.codes.Activation.{Activation}
 use Rattle.dms_codes.specs.Codes.{two_octets, octets_of_checksum, in_order, number_at, octets_of_activation, activation_of, IsActivation}
 use Rattle.dms_codes.proofs.Places.{all_four}
 use Rattle.dms_codes.specs.declared.row_id.RowId.{RowId}
-use Rattle.dms_centre.specs.declared.publication.Attributes.{Attributes}
-use Rattle.dms_centre.specs.declared.publication.Terms.{Terms}
-use Rattle.dms_centre.specs.State.{PublicationModel}
-use Rattle.dms_centre.specs.Commands.{CommandModel, Publish, Blank, Activate}
+use Rattle.dms_requests.specs.declared.publication.Attributes.{Attributes}
+use Rattle.dms_requests.specs.declared.publication.Terms.{Terms}
+use Rattle.dms_requests.specs.Job.{PublicationModel}
+use Rattle.dms_requests.specs.Commands.{CommandModel, Publish, Blank, Activate}
 use Rattle.dms_description.specs.Fields.{SpellsEach, SpellsOctet, SpellsTwoOctets, SpellsOne}
 use Rattle.dms_description.specs.FieldsReading.{if_last}
 use Rattle.dms_description.proofs.WordReading.{last_found}

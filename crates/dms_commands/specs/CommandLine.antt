@@ -2,8 +2,8 @@
 use Rattle.std.specs.Prelude.{◌≡◌, ℕ, List, [], ◌∷◌, codes}
 use Rattle.dms_text.specs.Octets.{SpellsOctets}
 use Rattle.dms_codes.specs.declared.codes.Order.{Order}
-use Rattle.dms_centre.specs.State.{PublicationModel}
-use Rattle.dms_centre.specs.Commands.{CommandModel, Publish, Blank, Activate}
+use Rattle.dms_requests.specs.Job.{PublicationModel}
+use Rattle.dms_requests.specs.Commands.{CommandModel, Publish, Blank, Activate}
 use Rattle.dms_description.specs.Fields.{SpellsOctet, SpellsTwoOctets, SpellsOne}
 use Rattle.dms_commands.specs.CommandFields.{SpellsAddress, SpellsCode}
 

@@ -9,10 +9,10 @@ use Rattle.dms_codes.specs.declared.codes.Order.{Order}
 use Rattle.dms_codes.specs.declared.codes.Activation.{Activation}
 use Rattle.dms_codes.specs.Codes.{activation_of}
 use Rattle.dms_codes.specs.declared.row_id.RowId.{RowId}
-use Rattle.dms_centre.specs.declared.publication.Attributes.{Attributes}
-use Rattle.dms_centre.specs.declared.publication.Terms.{Terms}
-use Rattle.dms_centre.specs.PublicationView.{published}
-use Rattle.dms_centre.specs.Commands.{CommandModel, Publish, Blank, Activate}
+use Rattle.dms_requests.specs.declared.publication.Attributes.{Attributes}
+use Rattle.dms_requests.specs.declared.publication.Terms.{Terms}
+use Rattle.dms_requests.specs.PublicationView.{published}
+use Rattle.dms_requests.specs.Commands.{CommandModel, Publish, Blank, Activate}
 use Rattle.dms_description.specs.FieldsReading.{if_last, octet_at, two_octets_at, octets_at}
 use Rattle.dms_commands.specs.declared.command_word.CommandWord.{CommandWord}
 use Rattle.dms_commands.specs.declared.command_word.CommandWord.TheVariants as key

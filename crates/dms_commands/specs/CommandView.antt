@@ -1,6 +1,6 @@
 -- What the code's commands are (this profile).
-use Rattle.dms_centre.specs.PublicationView.{published}
-use Rattle.dms_centre.specs.Commands as centre
+use Rattle.dms_requests.specs.PublicationView.{published}
+use Rattle.dms_requests.specs.Commands as centre
 use Rattle.dms_commands.specs.declared.owned_command.OwnedCommand.{OwnedCommand}
 use Rattle.dms_commands.specs.declared.owned_command.OwnedCommand.TheVariants as owned
 

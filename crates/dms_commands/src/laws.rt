@@ -3,7 +3,7 @@
 ghost use Rattle.std.specs.Prelude.{◌≡◌, ℕ, List, Some};
 ghost use Rattle.dms_text.specs.Words.{words_of};
 ghost use Rattle.dms_codes.specs.declared.codes.Order.{Order};
-ghost use Rattle.dms_centre.specs.Commands.{CommandModel};
+ghost use Rattle.dms_requests.specs.Commands.{CommandModel};
 ghost use Rattle.dms_commands.specs.CommandLine.{SpellsCommand};
 ghost use Rattle.dms_commands.specs.CommandReading.{command_of};
 

@@ -29,7 +29,7 @@ pub enum OwnedCommand {
 
 impl OwnedCommand {
     ghost use Rattle.std.specs.Prelude.{◌≡◌};
-    ghost use Rattle.dms_centre.specs.CodeView.{command_model};
+    ghost use Rattle.dms_requests.specs.CodeView.{command_model};
     ghost use Rattle.dms_commands.specs.CommandView.{owned_command_model};
 
     /// The command, which borrows the octets.

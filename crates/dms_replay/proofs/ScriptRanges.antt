@@ -13,9 +13,9 @@ use Rattle.dms_table.specs.Rows.{RowModel}
 use Rattle.dms_codes.specs.declared.codes.Order.{Order}
 use Rattle.dms_sign.specs.Communities.{has_community_size}
 use Rattle.dms_sign.specs.InRange.{IsMadeOfOctets}
-use Rattle.dms_centre.specs.Commands.{CommandModel, Publish, Blank, Activate, IsAddress, IsPublication, IsCommand, OfPublish, OfBlank, OfActivate}
-use Rattle.dms_centre.specs.State.{PublicationModel}
-use Rattle.dms_centre.specs.History.{AreSettings}
+use Rattle.dms_requests.specs.Commands.{CommandModel, Publish, Blank, Activate, IsAddress, IsPublication, IsCommand, OfPublish, OfBlank, OfActivate}
+use Rattle.dms_requests.specs.Job.{PublicationModel}
+use Rattle.dms_requests.specs.Requests.{AreSettings}
 use Rattle.dms_world.specs.Event.{EventModel, command, sign_tick, centre_tick, to_sign, to_centre, power_lost, power_back, centre_restart, forge_sign, forge_centre}
 use Rattle.dms_world.specs.World.{IsFresh}
 use Rattle.dms_world.specs.Backed.{Has}

@@ -36,9 +36,10 @@ use Rattle.dms_sign.specs.Reply.{reply_to}
 use Rattle.dms_sign.specs.Reply as sign
 use Rattle.dms_sign.specs.OwnCodes.{put_up_code}
 use Rattle.dms_sign.specs.Events.{after_settling, after_duration, after_silence, after_tick, after_power_loss, after_power_return}
-use Rattle.dms_centre.specs.Steps.{request_of}
+use Rattle.dms_requests.specs.Steps.{request_of}
 use Rattle.dms_centre.specs.Sending.{sends}
-use Rattle.dms_centre.specs.Commands.{commanded, Publish, Activate}
+use Rattle.dms_requests.specs.Commands.{Publish, Activate}
+use Rattle.dms_centre.specs.Commands.{commanded}
 use Rattle.dms_centre.specs.Inputs.{received, ticked, restarted}
 use Rattle.dms_world.specs.Event.{EventModel, command, sign_tick, to_sign, to_centre, forge_sign}
 use Rattle.dms_world.specs.World.{WorldModel, world_after}

@@ -18,16 +18,14 @@ use Rattle.dms_objects.specs.declared.column.Column.TheVariants.{MemoryType, Num
 use Rattle.dms_codes.specs.declared.row_id.RowId.{RowId}
 use Rattle.dms_codes.specs.Codes.{octets_of_activation, IsActivation}
 use Rattle.dms_objects.specs.Names.{below_dms, cell_name, column_number}
-use Rattle.dms_centre.specs.declared.step.Step.{Step}
-use Rattle.dms_centre.specs.declared.step.Step.TheVariants.{Opening, Opened, Filling, Validating, Polling, Comparing, Activating, Explaining}
-use Rattle.dms_centre.specs.State.{SettingsModel, PublicationModel, Work, Publishing}
-use Rattle.dms_centre.specs.Steps.{code_of, row_of, cell, field, fields, bindings_of, request_of}
-use Rattle.dms_centre.specs.Sending.{last_number}
-use Rattle.dms_centre.specs.Commands.{is_publishable}
-use Rattle.dms_centre.specs.History.{AreSettings}
-use Rattle.dms_centre.specs.Requests.{IsWork, OfPublishing, OfShowing}
-use Rattle.dms_centre.proofs.Checksums.{message_checksum_below}
-use Rattle.dms_centre.proofs.Lengths.{length-element, length-number_element, length-binding, length-request}
+use Rattle.dms_requests.specs.declared.step.Step.{Step}
+use Rattle.dms_requests.specs.declared.step.Step.TheVariants.{Opening, Opened, Filling, Validating, Polling, Comparing, Activating, Explaining}
+use Rattle.dms_requests.specs.Job.{SettingsModel, PublicationModel, Work, Publishing}
+use Rattle.dms_requests.specs.Steps.{code_of, row_of, cell, field, fields, bindings_of, request_of, last_number}
+use Rattle.dms_requests.specs.Commands.{is_publishable}
+use Rattle.dms_requests.specs.Requests.{AreSettings, IsWork, OfPublishing, OfShowing}
+use Rattle.dms_requests.proofs.Checksums.{message_checksum_below}
+use Rattle.dms_requests.proofs.Lengths.{length-element, length-number_element, length-binding, length-request}
 use Rattle.dms_codes.specs.Limits.{longest_text, longest_owner}
 use Rattle.dms_ber.specs.Limits.{longest_datagram}
 

@@ -11,16 +11,14 @@ use Rattle.dms_codes.specs.declared.row_id.RowId.{RowId}
 use Rattle.dms_objects.specs.declared.column.Column.{Column}
 use Rattle.dms_objects.specs.declared.column.Column.TheVariants.{MultiString, Owner, Beacon, PixelService, RunTimePriority}
 use Rattle.dms_objects.specs.Names.{cell_name}
-use Rattle.dms_centre.specs.declared.job.RowFields.{RowFields}
-use Rattle.dms_centre.specs.declared.step.Step.{Step}
-use Rattle.dms_centre.specs.State.{SettingsModel, Work, Publishing}
-use Rattle.dms_centre.specs.Steps.{fields, request_of, row_of}
-use Rattle.dms_centre.specs.Sending.{last_number}
-use Rattle.dms_centre.specs.History.{AreSettings}
-use Rattle.dms_centre.specs.Requests.{IsWork}
-use Rattle.dms_centre.specs.CodeView.{IsPushed}
-use Rattle.dms_centre.specs.JobView.{publication_of, work_model}
-use Rattle.dms_centre.proofs.Requests.{request_fits}
+use Rattle.dms_requests.specs.declared.job.RowFields.{RowFields}
+use Rattle.dms_requests.specs.declared.step.Step.{Step}
+use Rattle.dms_requests.specs.Job.{SettingsModel, Work, Publishing}
+use Rattle.dms_requests.specs.Steps.{fields, request_of, row_of, last_number}
+use Rattle.dms_requests.specs.Requests.{AreSettings, IsWork}
+use Rattle.dms_requests.specs.CodeView.{IsPushed}
+use Rattle.dms_requests.specs.JobView.{publication_of, work_model}
+use Rattle.dms_requests.proofs.Requests.{request_fits}
 use Rattle.dms_ber.specs.Limits.{longest_datagram}
 
 pub fits : (settings : SettingsModel) (number : ℕ) (work : Work) (step : Step) (m : SnmpMessage) → AreSettings settings → number ≤ last_number → IsWork work

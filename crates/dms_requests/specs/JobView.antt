@@ -3,9 +3,9 @@
 use Rattle.std.specs.Prelude.{◌≡◌, ℕ, Bool, true, false, Option, Some, None}
 use Rattle.dms_codes.specs.declared.codes.Activation.{Activation}
 use Rattle.dms_codes.specs.Checksum.{message_checksum}
-use Rattle.dms_centre.specs.declared.job.RowFields.{RowFields}
-use Rattle.dms_centre.specs.State.{PublicationModel, Work, Publishing, Showing}
-use Rattle.dms_centre.specs.PublicationView.{published}
+use Rattle.dms_requests.specs.declared.job.RowFields.{RowFields}
+use Rattle.dms_requests.specs.Job.{PublicationModel, Work, Publishing, Showing}
+use Rattle.dms_requests.specs.PublicationView.{published}
 
 -- the message that is written: the code names its row, and its checksum is that of the fields
 abbrev pub publication_of : Activation → RowFields → PublicationModel

@@ -1,14 +1,13 @@
 -- What the code's parts of a command are (this profile).
 use Rattle.std.specs.Prelude.{ℕ, List}
-use Rattle.dms_codes.specs.declared.codes.Activation.{Activation}
 use Rattle.dms_codes.specs.declared.row_id.RowId.{RowId}
-use Rattle.dms_centre.specs.declared.publication.Terms.{Terms}
-use Rattle.dms_centre.specs.declared.publication.Attributes.{Attributes}
-use Rattle.dms_centre.specs.declared.publication.Publication.{Publication}
-use Rattle.dms_centre.specs.declared.command.Parts.{Parts}
-use Rattle.dms_centre.specs.declared.command.Parts.TheVariants as parts
-use Rattle.dms_centre.specs.State.{PublicationModel}
-use Rattle.dms_centre.specs.Commands.{CommandModel, Publish, Blank, Activate}
+use Rattle.dms_requests.specs.declared.publication.Terms.{Terms}
+use Rattle.dms_requests.specs.declared.publication.Attributes.{Attributes}
+use Rattle.dms_requests.specs.declared.publication.Publication.{Publication}
+use Rattle.dms_requests.specs.declared.command.Parts.{Parts}
+use Rattle.dms_requests.specs.declared.command.Parts.TheVariants as parts
+use Rattle.dms_requests.specs.Job.{PublicationModel}
+use Rattle.dms_requests.specs.Commands.{CommandModel, Publish, Blank, Activate}
 
 -- a message of these parts
 abbrev pub published : RowId → (text owner : List ℕ) → Attributes → Terms → PublicationModel

@@ -11,9 +11,9 @@ use Rattle.dms_codes.specs.declared.row_id.RowId.{RowId}
 use Rattle.dms_codes.specs.Checksum.{message_checksum}
 use Rattle.dms_codes.specs.Codes.{octets_of_activation}
 use Rattle.dms_objects.specs.Names.{activate_message, activate_message_error, cell_name}
-use Rattle.dms_centre.specs.declared.step.Step.{Step}
-use Rattle.dms_centre.specs.declared.step.Step.TheVariants.{Opening, Opened, Filling, Validating, Polling, Comparing, Activating, Explaining}
-use Rattle.dms_centre.specs.State.{SettingsModel, Work, Publishing, Showing}
+use Rattle.dms_requests.specs.declared.step.Step.{Step}
+use Rattle.dms_requests.specs.declared.step.Step.TheVariants.{Opening, Opened, Filling, Validating, Polling, Comparing, Activating, Explaining}
+use Rattle.dms_requests.specs.Job.{SettingsModel, Work, Publishing, Showing}
 
 abbrev pub step_number : Step → ℕ
 step_number Opening = 1
@@ -98,6 +98,10 @@ kind_of Polling = Get
 kind_of Comparing = Get
 kind_of Activating = Set
 kind_of Explaining = Get
+
+-- request numbers end here
+abbrev pub last_number : ℕ
+last_number = 2147483647
 
 -- the request of a step, under a number (RFC 1157, 4.1.1)
 unfoldable pub request_of : SettingsModel → ℕ → Work → Step → SnmpMessage

@@ -2,9 +2,9 @@
 
 ghost use Rattle.std.specs.Prelude.{◌≡◌};
 ghost use Rattle.dms_codes.specs.Codes.{IsActivation};
-ghost use Rattle.dms_centre.specs.Commands.{IsCommand, is_good, job_of};
-ghost use Rattle.dms_centre.specs.CodeView.{command_model};
-ghost use Rattle.dms_centre.specs.PublicationView.{parts_model};
+ghost use Rattle.dms_requests.specs.Commands.{IsCommand, is_good, job_of};
+ghost use Rattle.dms_requests.specs.CodeView.{command_model};
+ghost use Rattle.dms_requests.specs.PublicationView.{parts_model};
 
 use crate::publication::{Attributes, Publication, Terms};
 use crate::step::Step;
@@ -126,7 +126,7 @@ impl<'a> Command<'a> {
     }
 
     /// Whether the values of a message to be written, or of a blank message, are in their ranges.
-    pub(crate) fn is_good(&self) -> bool
+    pub fn is_good(&self) -> bool
         ensures { result ≡ is_good (command_model self.now) }
     {
         match self.parts() {
@@ -137,7 +137,7 @@ impl<'a> Command<'a> {
     }
 
     /// The step that its job begins with.
-    pub(crate) fn first_step(&self) -> Step
+    pub fn first_step(&self) -> Step
         ensures { result ≡ (job_of (command_model self.now)).step }
     {
         match self {
@@ -149,9 +149,9 @@ impl<'a> Command<'a> {
 
 impl<'a> From<Publication<'a>> for Command<'a> {
     ghost use Rattle.std.specs.Prelude.{◌≡◌};
-    ghost use Rattle.dms_centre.specs.Commands.{Publish};
-    ghost use Rattle.dms_centre.specs.CodeView.{command_model};
-    ghost use Rattle.dms_centre.specs.PublicationView.{publication_model};
+    ghost use Rattle.dms_requests.specs.Commands.{Publish};
+    ghost use Rattle.dms_requests.specs.CodeView.{command_model};
+    ghost use Rattle.dms_requests.specs.PublicationView.{publication_model};
 
     fn from(publication: Publication<'a>) -> Command<'a>
         ensures { command_model result ≡ Publish (publication_model publication.entry) }

@@ -1,21 +1,20 @@
 //! A job: what is to be activated, and how far it is.
 
-ghost use Rattle.std.specs.Prelude.{◌≡◌, ◌≤◌, true, length};
-ghost use Rattle.std.specs.Int.Digits.{AllBelowBase};
+ghost use Rattle.std.specs.Prelude.{◌≡◌, ◌≤◌, ◌∷◌, [], true, length};
 ghost use Rattle.dms_codes.specs.Checksum.{message_checksum};
-ghost use Rattle.dms_centre.specs.State.{Publishing, Showing};
-ghost use Rattle.dms_centre.specs.Steps.{code_of, row_of};
-ghost use Rattle.dms_centre.specs.Commands.{is_good, is_publishable, job_of};
-ghost use Rattle.dms_centre.specs.Requests.{IsWork};
-ghost use Rattle.dms_centre.specs.CodeView.{command_model, job_model};
-ghost use Rattle.dms_centre.specs.JobView.{HasItsChecksum};
-ghost use Rattle.dms_centre.specs.PublicationView.{publication_model};
+ghost use Rattle.dms_requests.specs.Job.{Publishing, Showing};
+ghost use Rattle.dms_requests.specs.Steps.{code_of, row_of};
+ghost use Rattle.dms_requests.specs.Commands.{blank_code, is_good, is_publishable, job_of, showing};
+ghost use Rattle.dms_requests.specs.Requests.{IsWork};
+ghost use Rattle.dms_requests.specs.CodeView.{command_model, job_model};
+ghost use Rattle.dms_requests.specs.JobView.{HasItsChecksum};
+ghost use Rattle.dms_requests.specs.PublicationView.{publication_model};
 
 use crate::command::{Command, Parts};
-use crate::publication::{Attributes, Publication};
+use crate::publication::{Attributes, Publication, Terms};
 use crate::step::Step;
 use arrayvec::ArrayVec;
-use dms_codes::{Activation, MAX_OWNER, MAX_TEXT, MessageId, RowId, crc, memory};
+use dms_codes::{Activation, MAX_OWNER, MAX_TEXT, MessageId, RowId, crc};
 use std::marker::Model;
 
 /// The fields of a row that is written.
@@ -29,7 +28,7 @@ pub(crate) struct RowFields {
 /// What a job is to activate: a message that it writes first, or one that the sign has. A contract sees the work of the
 /// definitions.
 #[derive(Drop)]
-pub(crate) struct Work {
+pub struct Work {
     /// Whether the message is written first.
     pub(crate) publishes: bool,
     /// The code that puts it up; of a message that is written it lacks the checksum.
@@ -41,10 +40,10 @@ pub(crate) struct Work {
 }
 
 impl Model for Work {
-    ghost use Rattle.dms_centre.specs.State as state;
-    ghost use Rattle.dms_centre.specs.JobView.{HasItsChecksum, work_model};
+    ghost use Rattle.dms_requests.specs.Job as models;
+    ghost use Rattle.dms_requests.specs.JobView.{HasItsChecksum, work_model};
 
-    ghost Value = { state.Work };
+    ghost Value = { models.Work };
 
     ghost view = { λ w. work_model w.publishes w.code w.fields };
 
@@ -53,29 +52,22 @@ impl Model for Work {
 
 /// A job: what is to be activated, and how far it is.
 #[derive(Drop)]
-pub(crate) struct Job {
-    pub(crate) work: Work,
-    pub(crate) step: Step,
+pub struct Job {
+    /// What it is to activate.
+    pub work: Work,
+    /// The step that it is on.
+    pub step: Step,
     /// How many replies said that the row is still being validated.
-    pub(crate) polls: u8,
+    pub polls: u8,
 }
 
-/// The octets of a slice, kept.
-pub(crate) fn kept<const N: usize>(octets: &[u8]) -> ArrayVec<u8, N>
+/// These octets take the place of those that were there.
+fn replace<const N: usize>(old: &mut ArrayVec<u8, N>, octets: &[u8])
     requires { length octets.now ≤ N }
-    ensures kept { result.items ≡ octets.now }
-    ensures octets { AllBelowBase 256 octets.now }
+    ensures { old.new.items ≡ octets.now }
 {
-    ArrayVec::try_from(octets).unwrap()
-}
-
-/// Keeps these octets in the place of others.
-fn replace<const N: usize>(kept: &mut ArrayVec<u8, N>, octets: &[u8])
-    requires { length octets.now ≤ N }
-    ensures { kept.new.items ≡ octets.now }
-{
-    kept.clear();
-    kept.try_extend_from_slice(octets).unwrap();
+    old.clear();
+    old.try_extend_from_slice(octets).unwrap();
 }
 
 impl RowFields {
@@ -96,8 +88,28 @@ impl RowFields {
 }
 
 impl Work {
+    /// A message that the sign has, under the code that puts it up.
+    fn showing(code: Activation) -> Work
+        ensures { result ≡ Showing code }
+    {
+        Work {
+            publishes: false,
+            code,
+            fields: RowFields {
+                text: ArrayVec::new(),
+                owner: ArrayVec::new(),
+                attributes: Attributes {
+                    beacon: 0,
+                    pixel: 0,
+                    run_priority: 0,
+                },
+            },
+            checksum: None,
+        }
+    }
+
     /// The code that puts it up.
-    pub(crate) fn code(&self) -> Activation
+    pub fn code(&self) -> Activation
         ensures { result ≡ code_of self.now }
     {
         let mut code = self.code;
@@ -108,15 +120,15 @@ impl Work {
     }
 
     /// Keeps the checksum of the fields, so that it is computed once a job.
-    pub(crate) fn keep_checksum(&mut self)
+    pub fn keep_checksum(&mut self)
         ensures { self.new ≡ self.old }
     {
         self.checksum = Some(self.fields.checksum(self.checksum));
     }
 
     /// The row that the code names.
-    #[tactic(auto, using(crate::proofs::Work::row_named))]
-    pub(crate) fn row(&self) -> RowId
+    #[tactic(auto, using(crate::proofs::JobLaws::row_named))]
+    pub fn row(&self) -> RowId
         ensures { result ≡ row_of self.now }
     {
         RowId {
@@ -164,39 +176,24 @@ impl Work {
 }
 
 impl Job {
-    /// No job.
-    pub(crate) fn none() -> Job {
+    /// A job that nothing has begun: blank message 0, which no command names.
+    pub fn none() -> Job
+        ensures { job_model result ≡ showing (blank_code 0 0 0 (0 ∷ 0 ∷ 0 ∷ 0 ∷ [])) }
+    {
+        let terms = Terms {
+            minutes: 0,
+            priority: 0,
+            address: [0; 4],
+        };
         Job {
-            work: Work {
-                publishes: false,
-                code: Activation {
-                    minutes: 0,
-                    priority: 0,
-                    id: MessageId {
-                        memory: memory::BLANK,
-                        number: 0,
-                        crc: 0,
-                    },
-                    address: [0; 4],
-                },
-                fields: RowFields {
-                    text: ArrayVec::new(),
-                    owner: ArrayVec::new(),
-                    attributes: Attributes {
-                        beacon: 0,
-                        pixel: 0,
-                        run_priority: 0,
-                    },
-                },
-                checksum: None,
-            },
+            work: Work::showing(terms.blank_code(0)),
             step: Step::Activating,
             polls: 0,
         }
     }
 
     /// The job that a command begins, in the place of the last one.
-    pub(crate) fn begin(&mut self, command: &Command<'_>)
+    pub fn begin(&mut self, command: &Command<'_>)
         requires { is_good (command_model command.now) ≡ true }
         ensures job { job_model self.new ≡ job_of (command_model command.now) }
         ensures work { IsWork self.new.work }

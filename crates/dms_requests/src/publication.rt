@@ -17,7 +17,7 @@ pub struct Terms {
 
 impl Terms {
     ghost use Rattle.std.specs.Prelude.{◌≡◌};
-    ghost use Rattle.dms_centre.specs.Commands.{blank_code};
+    ghost use Rattle.dms_requests.specs.Commands.{blank_code};
 
     /// The code that activates a message on these terms.
     pub(crate) fn code(self, id: MessageId) -> Activation
@@ -74,8 +74,8 @@ pub struct Publication<'a> {
 
 impl Publication<'_> {
     ghost use Rattle.std.specs.Prelude.{◌≡◌};
-    ghost use Rattle.dms_centre.specs.Commands.{IsPublication, is_publishable};
-    ghost use Rattle.dms_centre.specs.PublicationView.{publication_model};
+    ghost use Rattle.dms_requests.specs.Commands.{IsPublication, is_publishable};
+    ghost use Rattle.dms_requests.specs.PublicationView.{publication_model};
 
     /// Each value is in the range of its type.
     pub(crate) fn has_ranges(self)

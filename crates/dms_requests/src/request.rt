@@ -7,11 +7,9 @@ ghost use Rattle.dms_wire.specs.declared.message.Kind.TheVariants as kinds;
 ghost use Rattle.dms_wire.specs.Written.{octets_of_bindings};
 ghost use Rattle.dms_wire.specs.View.{message_around, object_value, var_bind};
 ghost use Rattle.dms_objects.specs.Names.{cell_name, name_of};
-ghost use Rattle.dms_centre.specs.Steps.{fields, request_of};
-ghost use Rattle.dms_centre.specs.Sending.{last_number};
-ghost use Rattle.dms_centre.specs.History.{AreSettings};
-ghost use Rattle.dms_centre.specs.Requests.{IsWork};
-ghost use Rattle.dms_centre.specs.CodeView.{IsPushed, asking};
+ghost use Rattle.dms_requests.specs.Steps.{fields, request_of, last_number};
+ghost use Rattle.dms_requests.specs.Requests.{AreSettings, IsWork};
+ghost use Rattle.dms_requests.specs.CodeView.{IsPushed, asking};
 ghost use Rattle.dms_ber.specs.Limits.{longest_datagram};
 
 use crate::job::Work;
@@ -28,7 +26,7 @@ const VALIDATE_REQUEST: i64 = 7;
 
 /// Writes the request of a step, under a number, over what `out` holds.
 #[tactic(auto, using(crate::proofs::Requests::request_fits), unfolding(crate::specs::Steps::request_of, dms_objects::specs::Names::name_of))]
-pub(crate) fn put_request(
+pub fn put_request(
     community: &[u8],
     order: Order,
     number: u32,

@@ -23,7 +23,7 @@ pub enum Step {
 
 impl Step {
     ghost use Rattle.std.specs.Prelude.{◌≡◌};
-    ghost use Rattle.dms_centre.specs.Steps.{is_activating, step_number};
+    ghost use Rattle.dms_requests.specs.Steps.{is_activating, step_number};
 
     /// The step's number, 1 to 8.
     pub fn number(self) -> u8
@@ -41,7 +41,8 @@ impl Step {
         }
     }
 
-    pub(crate) fn is_activating(self) -> bool
+    /// Whether it puts the message up.
+    pub fn is_activating(self) -> bool
         ensures { result ≡ is_activating self }
     {
         self == Step::Activating

@@ -1,9 +1,11 @@
 -- What each event makes of a centre's ledger, and that each code of it is that of a command which the centre took.
 use Rattle.std.proofs.Common.{◌≡◌, ◌⊎◌, inl, inr, ℕ, zero, suc, List, length, Option, Some, None, option_map, slice_get, refl, sym, ap, ◌∙◌, subst}
 use Rattle.std.proofs.lemmas.Option.{none-some}
-use Rattle.dms_centre.specs.State.{Work, Entry, CentreState}
-use Rattle.dms_centre.specs.Steps.{code_of}
-use Rattle.dms_centre.specs.Commands.{CommandModel, refusal_of, job_of}
+use Rattle.dms_requests.specs.Job.{Work}
+use Rattle.dms_centre.specs.State.{Entry, CentreState}
+use Rattle.dms_requests.specs.Steps.{code_of}
+use Rattle.dms_requests.specs.Commands.{CommandModel, job_of}
+use Rattle.dms_centre.specs.Commands.{refusal_of}
 use Rattle.dms_centre.specs.History.{Input, Hears, IsInput, History, move_at, after_input}
 use Rattle.dms_centre_laws.specs.Ledger.{LedgerMoves}
 use Rattle.dms_centre_laws.proofs.LedgerLaws.{IsKept, ledger_move}

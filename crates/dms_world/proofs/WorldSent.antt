@@ -4,9 +4,10 @@ use Rattle.std.proofs.lemmas.Bool.{cases_lt}
 use Rattle.std.proofs.lemmas.Option.{same_Some}
 use Rattle.dms_codes.specs.declared.codes.Activation.{Activation}
 use Rattle.dms_codes.specs.Codes.{octets_of_activation}
-use Rattle.dms_centre.specs.declared.step.Step.TheVariants.{Activating}
-use Rattle.dms_centre.specs.State.{SettingsModel, Showing, Entry}
-use Rattle.dms_centre.specs.Steps.{request_of}
+use Rattle.dms_requests.specs.declared.step.Step.TheVariants.{Activating}
+use Rattle.dms_requests.specs.Job.{SettingsModel, Showing}
+use Rattle.dms_centre.specs.State.{Entry}
+use Rattle.dms_requests.specs.Steps.{request_of}
 use Rattle.dms_centre_laws.specs.RequestNumbers.{HasNumber}
 use Rattle.dms_centre_laws.specs.Ledger.{PutsUp}
 use Rattle.dms_centre_laws.proofs.Numbers.{below_next}

@@ -2,7 +2,8 @@
 
 ghost use Rattle.std.specs.Prelude.{◌≡◌, ◌++◌, true, None, OnOk, OnErr, option_to_list};
 ghost use Rattle.dms_sign.specs.Reply.{received as sign_received};
-ghost use Rattle.dms_centre.specs.CodeView.{command_model, sent_in};
+ghost use Rattle.dms_requests.specs.CodeView.{command_model};
+ghost use Rattle.dms_centre.specs.CodeView.{sent_in};
 ghost use Rattle.dms_centre.specs.Commands.{commanded, refusal_of};
 ghost use Rattle.dms_centre.specs.Inputs.{received as centre_received, ticked};
 ghost use Rattle.dms_world.specs.CodeView.{event_model, seen, HasNoMemory};

@@ -2,7 +2,7 @@ use Rattle.std.proofs.Common.{◌≡◌, ◌++◌, ◌∷◌, [], ap, subst, ◌
 use Rattle.dms_wire.specs.View.{object_value}
 use Rattle.dms_wire.specs.Written.{octets_of_bindings}
 use Rattle.dms_objects.specs.Names.{name_of}
-use Rattle.dms_centre.proofs.request.push_field.Goals as goal
+use Rattle.dms_requests.proofs.request.push_field.Goals as goal
 
 pub returns : goal.returns
 unfolding name_of

@@ -1,7 +1,7 @@
 use Rattle.std.proofs.Common.{◌∙◌, ap}
 use Rattle.dms_wire.specs.Written.{octets_of_bindings}
-use Rattle.dms_centre.proofs.Written.{pushed_five, published_fields}
-use Rattle.dms_centre.proofs.request.push_fields.Goals as goal
+use Rattle.dms_requests.proofs.Written.{pushed_five, published_fields}
+use Rattle.dms_requests.proofs.request.push_fields.Goals as goal
 
 pub returns : goal.returns
 returns c =

@@ -3,7 +3,7 @@ use Rattle.std.proofs.lemmas.Int.{to_z-of_z}
 use Rattle.dms_wire.specs.Message.{integer}
 use Rattle.dms_wire.specs.Written.{octets_of_bindings}
 use Rattle.dms_objects.specs.Names.{cell_name}
-use Rattle.dms_centre.proofs.request.push_number.Goals as goal
+use Rattle.dms_requests.proofs.request.push_number.Goals as goal
 
 pub returns : goal.returns
 returns c bindings before =

@@ -1,5 +1,5 @@
-use Rattle.dms_centre.proofs.Written.{done_around}
-use Rattle.dms_centre.proofs.request.put_fields.Goals as goal
+use Rattle.dms_requests.proofs.Written.{done_around}
+use Rattle.dms_requests.proofs.request.put_fields.Goals as goal
 
 pub unwrap-requires : goal.unwrap-requires
 unwrap-requires c = (done_around c.write_around.result c.write_around.new.out.items _ _ (c.header.ensures _) (c.write_around.ensures _ c.push_fields.ensures) c.requires).ok

@@ -1,9 +1,9 @@
 use Rattle.std.proofs.Common.{refl}
 use Rattle.dms_objects.specs.Names.{name_of}
-use Rattle.dms_centre.specs.Steps.{request_of}
-use Rattle.dms_centre.specs.declared.step.Step.TheVariants.{Opening, Opened, Filling, Validating, Comparing, Activating, Explaining}
-use Rattle.dms_centre.proofs.Written.{fits}
-use Rattle.dms_centre.proofs.request.put_request.Goals as goal
+use Rattle.dms_requests.specs.Steps.{request_of}
+use Rattle.dms_requests.specs.declared.step.Step.TheVariants.{Opening, Opened, Filling, Validating, Comparing, Activating, Explaining}
+use Rattle.dms_requests.proofs.Written.{fits}
+use Rattle.dms_requests.proofs.request.put_request.Goals as goal
 
 pub put_one-requires : goal.put_one-requires
 unfolding request_of name_of

@@ -1,8 +1,8 @@
 use Rattle.std.proofs.Common.{sym, subst}
 use Rattle.dms_codes.specs.Codes.{IsActivation}
-use Rattle.dms_centre.specs.Commands.{IsCommand, OfPublish, OfBlank, OfActivate}
-use Rattle.dms_centre.specs.PublicationView.{parts_model}
-use Rattle.dms_centre.proofs.command.Command.has_ranges.Goals as goal
+use Rattle.dms_requests.specs.Commands.{IsCommand, OfPublish, OfBlank, OfActivate}
+use Rattle.dms_requests.specs.PublicationView.{parts_model}
+use Rattle.dms_requests.proofs.command.Command.has_ranges.Goals as goal
 
 pub returns-in-Publish : goal.returns-in-Publish
 returns-in-Publish c =

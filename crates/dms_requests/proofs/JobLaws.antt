@@ -1,12 +1,12 @@
 -- What a job is to put up has the values of its command.
 use Rattle.std.proofs.Common.{◌≡◌, Bool, true, false, ap, arith}
 use Rattle.dms_codes.specs.declared.codes.Activation.{Activation}
-use Rattle.dms_centre.specs.declared.job.RowFields.{RowFields}
-use Rattle.dms_centre.specs.State.{Work}
-use Rattle.dms_centre.specs.Steps.{row_of}
-use Rattle.dms_centre.specs.Commands.{CommandModel, IsCommand, OfPublish, OfBlank, OfActivate, is_good, job_of}
-use Rattle.dms_centre.specs.Requests.{IsWork, OfPublishing, OfShowing}
-use Rattle.dms_centre.specs.JobView.{work_model}
+use Rattle.dms_requests.specs.declared.job.RowFields.{RowFields}
+use Rattle.dms_requests.specs.Job.{Work}
+use Rattle.dms_requests.specs.Steps.{row_of}
+use Rattle.dms_requests.specs.Commands.{CommandModel, IsCommand, OfPublish, OfBlank, OfActivate, is_good, job_of}
+use Rattle.dms_requests.specs.Requests.{IsWork, OfPublishing, OfShowing}
+use Rattle.dms_requests.specs.JobView.{work_model}
 
 -- a command that is taken has a job whose values are in their ranges
 pub is_job : (command : CommandModel) → IsCommand command → is_good command ≡ true → IsWork (job_of command).work

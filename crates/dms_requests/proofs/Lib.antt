@@ -1,0 +1,5 @@
+pub mod JobLaws
+pub mod Checksums
+pub mod Lengths
+pub mod Requests
+pub mod Written

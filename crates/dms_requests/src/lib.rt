@@ -1,0 +1,24 @@
+//! What an operator commands, and the requests that each command becomes: a job goes step by step, and each step has
+//! one request.
+//!
+//! ```
+//! let command = Command::Blank { number: 1, minutes: 65535, priority: 255, address: [192, 0, 2, 1] };
+//! let mut job = Job::none();
+//! job.begin(&command);
+//! let mut out = Out::new();
+//! put_request(b"admin", Order::High, 1, &job.work, job.step, &mut out);
+//! assert!(rt; job.step.is_activating() && !out.is_empty());
+//! ```
+#![tactic(auto)]
+
+pub mod command;
+pub mod job;
+pub mod publication;
+pub mod request;
+pub mod step;
+
+pub use command::Command;
+pub use job::{Job, Work};
+pub use publication::{Attributes, Publication, Terms};
+pub use request::put_request;
+pub use step::Step;
