@@ -1,4 +1,4 @@
--- What holds of a central system between its calls is kept up.
+-- What holds of a central system between its calls holds after each.
 use Rattle.std.proofs.Common.{◌≡◌, ℕ, ◌+◌, ◌<◌, ◌≤◌, ◌==◌, Bool, true, false, if◌then◌else◌, List, [], ◌∷◌, ◌++◌, map, length, Some, refl, sym, subst, arith}
 use Rattle.std.proofs.lemmas.List.Elements.{All-cons, All-head, All-tail, All-append}
 use Rattle.std.proofs.lemmas.Bool.{false≢true}

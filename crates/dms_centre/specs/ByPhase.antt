@@ -1,12 +1,14 @@
--- The moves of Sending, Replies and Inputs as functions of a state and its phase, whatever the phase is: where the phase cannot be, nothing
--- happens.
+-- The moves of Sending, Replies and Inputs as functions of a state and its phase, whatever the phase is: where the
+-- phase cannot be, nothing happens.
 use Rattle.std.specs.Prelude.{ℕ, ℤ, Bool, true, false, List, []}
 use Rattle.dms_wire.specs.Message.{VarBind, SnmpMessage}
 use Rattle.dms_requests.specs.declared.step.Step.{Step}
-use Rattle.dms_requests.specs.declared.step.Step.TheVariants.{Opening, Opened, Filling, Validating, Polling, Comparing, Activating, Explaining}
+use Rattle.dms_requests.specs.declared.step.Step.TheVariants.{Opening, Opened, Filling, Validating, Polling, Comparing}
+use Rattle.dms_requests.specs.declared.step.Step.TheVariants.{Activating, Explaining}
 use Rattle.dms_centre.specs.State.{CentreState, Phase, Idle, Awaits, Due}
 use Rattle.dms_centre.specs.Sending.{Move, rests, at_step, sends}
-use Rattle.dms_centre.specs.Replies.{is_answer, on_success, on_failure, on_read, on_number, number_read, asked, polled_again, own_checksum}
+use Rattle.dms_centre.specs.Replies.{is_answer, on_success, on_failure, on_read, on_number, number_read, asked}
+use Rattle.dms_centre.specs.Replies.{polled_again, own_checksum}
 use Rattle.dms_centre.specs.Room.{enters}
 
 abbrev pub is_awaiting : Phase → Bool

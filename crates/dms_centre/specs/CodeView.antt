@@ -34,7 +34,12 @@ abbrev pub entry_given_up : Outcome → Entry → Entry
 entry_given_up outcome entry = if is_waiting entry.outcome then record entry { outcome = outcome } else entry
 
 abbrev pub pending_model : Pending → state.Pending
-pending_model pending = record { number = pending.number; octets = pending.octets.items; sends = pending.sends; age = pending.age }
+pending_model pending = record {
+  number = pending.number;
+  octets = pending.octets.items;
+  sends = pending.sends;
+  age = pending.age;
+}
 
 abbrev pub phase_model : Stage → Job → Pending → state.Phase
 phase_model stages.Idle job pending = state.Idle

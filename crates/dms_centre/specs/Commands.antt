@@ -1,4 +1,4 @@
--- An operator's command (this profile): what keeps it from being taken, and what it makes of the state.
+-- An operator's command (this profile): why it is refused, and what it makes of the state.
 use Rattle.std.specs.Prelude.{not, Option, Some, None, nat_lt, if◌then◌else◌}
 use Rattle.dms_requests.specs.Job.{Job}
 use Rattle.dms_requests.specs.Commands.{CommandModel, is_good, job_of}
@@ -8,7 +8,7 @@ use Rattle.dms_centre.specs.declared.fault.CommandFault.TheVariants as faults
 use Rattle.dms_centre.specs.State.{CentreState, is_busy}
 use Rattle.dms_centre.specs.Sending.{Move, rests, sends}
 
--- the first thing that keeps it
+-- the first reason to refuse it
 abbrev pub refusal_of : CentreState → CommandModel → Option CommandFault
 refusal_of state command =
     if is_busy state.phase then Some faults.Busy

@@ -1,5 +1,6 @@
 -- What a reply to the waiting request makes of a job (this profile): on each step it goes on, waits or ends.
-use Rattle.std.specs.Prelude.{ℕ, ℤ, pos, ◌+◌, ◌==◌, ◌&&◌, Bool, true, false, nat_eq, nat_lt, List, [], ◌∷◌, map, Option, Some, None, if◌then◌else◌}
+use Rattle.std.specs.Prelude.{ℕ, ℤ, pos, ◌+◌, ◌==◌, ◌&&◌, Bool, true, false, nat_eq, nat_lt, List, [], ◌∷◌, map, Option}
+use Rattle.std.specs.Prelude.{Some, None, if◌then◌else◌}
 use Rattle.std.specs.Ordering.{int_eq}
 use Rattle.std.specs.Cmp.Lexicographic.{pointwise}
 use Rattle.dms_wire.specs.declared.message.Kind.{Kind}
@@ -10,11 +11,13 @@ use Rattle.dms_codes.specs.declared.status.Status.TheVariants as statuses
 use Rattle.dms_codes.specs.Codes.{in_order}
 use Rattle.dms_codes.specs.Status.{status_number}
 use Rattle.dms_centre.specs.declared.ended.Ended.TheVariants as endings
-use Rattle.dms_centre.specs.declared.ended.Why.TheVariants.{Status, WrongStatus, StillValidating, OtherChecksum, OddReply, Cause}
+use Rattle.dms_centre.specs.declared.ended.Why.TheVariants.{Status, WrongStatus, StillValidating, OtherChecksum}
+use Rattle.dms_centre.specs.declared.ended.Why.TheVariants.{OddReply, Cause}
 use Rattle.dms_centre.specs.declared.outcome.Outcome.{Outcome}
 use Rattle.dms_centre.specs.declared.outcome.Outcome.TheVariants.{Accepted, Refused}
 use Rattle.dms_requests.specs.declared.step.Step.{Step}
-use Rattle.dms_requests.specs.declared.step.Step.TheVariants.{Opening, Opened, Filling, Validating, Polling, Comparing, Activating, Explaining}
+use Rattle.dms_requests.specs.declared.step.Step.TheVariants.{Opening, Opened, Filling, Validating, Polling, Comparing}
+use Rattle.dms_requests.specs.declared.step.Step.TheVariants.{Activating, Explaining}
 use Rattle.dms_requests.specs.Job.{Work, Job}
 use Rattle.dms_centre.specs.State.{Entry, CentreState}
 use Rattle.dms_requests.specs.Steps.{is_activating, code_of, bindings_of}
@@ -48,7 +51,8 @@ is_status n status = int_eq n (pos status)
 abbrev pub own_checksum : Order → Work → ℕ
 own_checksum order work = in_order order (code_of work).id.crc
 
--- The row must be modifying; it must become valid; its checksum must be the operator's. What dmsActivateMsgError reads is kept as the reason.
+-- The row must be modifying; it must become valid; its checksum must be the operator's. What dmsActivateMsgError reads
+-- is the reason.
 abbrev pub on_number : CentreState → Job → Step → ℤ → Move
 on_number state job Opened n =
     if is_status n (status_number statuses.Modifying) then sends state (at_step job Filling)
@@ -71,7 +75,8 @@ integer_of value = None
 
 -- what a GET of one object read: one binding, with the name that was asked, and an INTEGER
 abbrev pub number_read : (asked answered : List VarBind) → Option ℤ
-number_read (asked ∷ []) (answered ∷ []) = if pointwise nat_eq answered.name asked.name then integer_of answered.value else None
+number_read (asked ∷ []) (answered ∷ []) =
+    if pointwise nat_eq answered.name asked.name then integer_of answered.value else None
 number_read asked answered = None
 
 abbrev pub on_read : CentreState → Job → Option ℤ → Move
@@ -111,4 +116,5 @@ is_response kind = false
 -- a Response with the centre's community, under the number that waits
 abbrev pub is_answer : CentreState → ℕ → SnmpMessage → Bool
 is_answer state number message =
-    is_response message.kind && pointwise nat_eq message.community state.settings.community && int_eq message.request (pos number)
+    is_response message.kind && pointwise nat_eq message.community state.settings.community
+    && int_eq message.request (pos number)

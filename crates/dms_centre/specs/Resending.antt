@@ -1,5 +1,5 @@
--- How the central system waits for a reply (this profile): the same octets go out again, a number of times; then the activations that
--- wait are given up.
+-- How the central system waits for a reply (this profile): it sends the octets again, a number of times, and then gives
+-- up the activations that wait.
 use Rattle.std.specs.Prelude.{ℕ, ◌+◌, Bool, true, false, map, Some, nat_lt, if◌then◌else◌}
 use Rattle.dms_centre.specs.declared.ended.Why.TheVariants as reasons
 use Rattle.dms_centre.specs.declared.outcome.Outcome.{Outcome}
@@ -38,9 +38,10 @@ abbrev pub sent_again : Pending → Pending
 sent_again pending = record pending { sends = pending.sends + 1; age = 0 }
 
 abbrev pub sends_again : CentreState → Job → Pending → Move
-sends_again state job pending = record { sent = Some pending.octets; state = record state { phase = Awaits job (sent_again pending) } }
+sends_again state job pending =
+    record { sent = Some pending.octets; state = record state { phase = Awaits job (sent_again pending) } }
 
--- At the third tick without a reply the same octets are sent again, three times in all; then the job fails.
+-- At the third tick without a reply the octets are sent again, three times in all; then the job fails.
 abbrev pub on_silence : CentreState → Job → Pending → Move
 on_silence state job pending =
     if nat_lt (pending.age + 1) ticks_to_wait then rests (record state { phase = Awaits job (older pending) })

@@ -1,5 +1,5 @@
--- The state of the central system: its settings, its job, the request that waits for a reply, and the ledger of the codes that it sent
--- (this profile).
+-- The state of the central system: its settings, its job, the request that waits for a reply, and the ledger of the
+-- codes that it sent (this profile).
 use Rattle.std.specs.Prelude.{ℕ, Bool, true, false, List, []}
 use Rattle.dms_codes.specs.declared.codes.Activation.{Activation}
 use Rattle.dms_centre.specs.declared.ended.Ended.{Ended}
@@ -7,7 +7,8 @@ use Rattle.dms_centre.specs.declared.ended.Ended.TheVariants.{Never}
 use Rattle.dms_centre.specs.declared.outcome.Outcome.{Outcome}
 use Rattle.dms_requests.specs.Job.{SettingsModel, Job}
 
--- A request that waits for its reply: its number and octets, how many times they were sent, and the ticks since the last time.
+-- A request that waits for its reply: its number and octets, how many times they were sent, and the ticks since the
+-- last time.
 pub record Pending : Type 0 where
   pub number : ℕ
   pub octets : List ℕ

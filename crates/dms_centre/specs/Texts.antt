@@ -1,4 +1,5 @@
--- What the outcomes, ends and faults of the central system print (this profile). An outcome prints its word of the report.
+-- What the outcomes, ends and faults of the central system print (this profile). An outcome prints its word of the
+-- report.
 use Rattle.std.specs.Prelude.{ℕ, List, ◌++◌, codes, decimal}
 use Rattle.std.specs.Fmt.{signed_decimal}
 use Rattle.dms_centre.specs.declared.outcome.Outcome.{Outcome}

@@ -7,7 +7,8 @@ ghost use Rattle.dms_objects.specs.Names.{name_of};
 ghost use Rattle.dms_requests.specs.Steps.{is_activating};
 ghost use Rattle.dms_centre.specs.Inputs.{received};
 ghost use Rattle.dms_centre.specs.Replies.{number_read};
-ghost use Rattle.dms_centre.specs.ByPhase.{is_awaiting, is_answered, succeeds, is_refused, reads, is_reading, asked_at, takes, sends_at, polls_again, checksum_of_job};
+ghost use Rattle.dms_centre.specs.ByPhase.{is_awaiting, is_answered, succeeds, is_refused, reads, is_reading, asked_at};
+ghost use Rattle.dms_centre.specs.ByPhase.{takes, sends_at, polls_again, checksum_of_job};
 ghost use Rattle.dms_centre.specs.CodeView.{sent_in};
 
 use crate::centre::Centre;
@@ -25,8 +26,8 @@ use dms_wire::{Binds, ErrorStatus, Kind, Message, Out, heard};
 const MOST_POLLS: u8 = 10;
 
 impl Centre {
-    /// Takes a datagram, whoever sent it: what does not answer the waiting request changes nothing. What is sent is in `out`, which is
-    /// empty where nothing is. No memory is taken.
+    /// Takes a datagram, whoever sent it: what does not answer the waiting request changes nothing. What is sent is in
+    /// `out`, which is empty where nothing is. No memory is taken.
     #[tactic(auto, using(crate::proofs::Unheard::unheard), unfolding(crate::specs::Inputs::received))]
     pub fn receive(&mut self, datagram: &[u8], out: &mut Out)
         ensures state { self.new.state ≡ (received self.old.state datagram.now).state }
@@ -175,7 +176,7 @@ impl Centre {
                 }
             }
             Step::Comparing => {
-                self.job.work.keep_checksum();
+                self.job.work.store_checksum();
                 if number == i64::from(self.checksum()) {
                     self.job.step = Step::Activating;
                     self.stage = Stage::Due;

@@ -1,6 +1,7 @@
 //! The central system.
 
-ghost use Rattle.std.specs.Prelude.{◌≡◌, ◌≤◌, ◌<◌, ◌↔◌, ◌⊎◌, [], true, false, length, IsOk, IfOk, IfErr, OnOk, OnErr, Some, None, Err};
+ghost use Rattle.std.specs.Prelude.{◌≡◌, ◌≤◌, ◌<◌, ◌↔◌, ◌⊎◌, [], true, false, length, IsOk, IfOk, IfErr, OnOk, OnErr};
+ghost use Rattle.std.specs.Prelude.{Some, None, Err};
 ghost use Rattle.std.specs.Int.Digits.{AllBelowBase};
 ghost use Rattle.dms_centre.specs.declared.fault.CommandFault.TheVariants as faults;
 ghost use Rattle.dms_centre.specs.State.{start, is_busy};
@@ -38,8 +39,8 @@ const LAST_NUMBER: u32 = 2_147_483_647;
 
 /// The central system of one sign.
 ///
-/// It does one command at a time, by a job of up to eight requests, and keeps a ledger of the codes that it sent. A contract sees the state
-/// of the definitions, and how many more entries the ledger takes without memory.
+/// It does one command at a time, by a job of up to eight requests, and keeps a ledger of the codes that it sent. A
+/// contract sees the state of the definitions, and how many more entries the ledger takes without memory.
 #[derive(Drop)]
 pub struct Centre {
     community: ArrayVec<u8, MAX_COMMUNITY>,
@@ -93,11 +94,13 @@ fn copied<const N: usize>(octets: &[u8]) -> ArrayVec<u8, N>
 }
 
 impl Centre {
-    /// A central system with no job, whose first request has the number `first`. Its ledger takes memory from `alloc` as it grows.
+    /// A central system with no job, whose first request has the number `first`. Its ledger takes memory from `alloc`
+    /// as it grows.
     #[tactic(auto, using(crate::proofs::Fine::begins))]
     pub fn new(alloc: Global, settings: Settings<'_>, first: u32) -> Result<Centre, CentreFault>
         ensures made { IfOk result (λ centre. centre.state ≡ start (settings_model settings.entry) first) }
-        ensures community { IsOk result ↔ ((1 ≤ length settings.entry.community.now) × (length settings.entry.community.now ≤ 32)) }
+        ensures community { IsOk result
+            ↔ ((1 ≤ length settings.entry.community.now) × (length settings.entry.community.now ≤ 32)) }
     {
         let community = settings.community;
         if community.is_empty() || community.len() > MAX_COMMUNITY {
@@ -143,7 +146,8 @@ impl Centre {
         let _ = &self.next;
     }
 
-    /// Begins anew, as after a loss of power: the next number and the ledger stay, a job ends, and what was waited for is unknown.
+    /// Restarts, as after a loss of power: the next number and the ledger stay, a job ends, and the outcome of an
+    /// activation that waits is unknown.
     #[tactic(auto, using(crate::proofs::Fine::given_up_below), unfolding(crate::specs::Inputs::restarted))]
     pub fn restart(&mut self)
         ensures state { self.new.state ≡ restarted self.old.state }
@@ -156,17 +160,21 @@ impl Centre {
         }
     }
 
-    /// Takes the operator's command, or says the first thing that keeps it. What is sent is in `out`, which is empty where nothing is.
-    /// Memory is taken for an entry of the ledger alone, by a blank message and an activation that are taken.
+    /// Takes the operator's command, or refuses it for the first reason that there is. What is sent is in `out`, which
+    /// is empty where nothing is. Memory is taken for an entry of the ledger alone, by a blank message and an
+    /// activation that are taken.
     #[tactic(auto, unfolding(crate::specs::Commands::commanded, crate::specs::Sending::sends))]
     pub fn command(&mut self, command: Command<'_>, out: &mut Out) -> Result<(), CommandFault>
         ensures state { OnOk result (self.new.state ≡ (commanded self.old.state (command_model command.entry)).state) }
-        ensures sent { OnOk result (sent_in out.new.items ≡ (commanded self.old.state (command_model command.entry)).sent) }
+        ensures sent { OnOk result (sent_in out.new.items
+            ≡ (commanded self.old.state (command_model command.entry)).sent) }
         ensures taken { OnOk result (refusal_of self.old.state (command_model command.entry) ≡ None) }
-        ensures refused { IfErr result (λ fault. (fault ≡ faults.Memory) ⊎ (refusal_of self.old.state (command_model command.entry) ≡ Some fault)) }
+        ensures refused { IfErr result (λ fault. (fault ≡ faults.Memory)
+            ⊎ (refusal_of self.old.state (command_model command.entry) ≡ Some fault)) }
         ensures memory { result ≡ Err faults.Memory → (refusal_of self.old.state (command_model command.entry) ≡ None)
             × (is_activating (job_of (command_model command.entry)).step ≡ true) × (self.old.spare ≡ 0) }
-        ensures room { enters_by self.old.state (command_model command.entry) ≡ false → self.new.spare ≡ self.old.spare }
+        ensures room { enters_by self.old.state (command_model command.entry) ≡ false
+            → self.new.spare ≡ self.old.spare }
         ensures unchanged { OnErr result (self.new.state ≡ self.old.state) }
         ensures silent { OnErr result (out.new.items ≡ []) }
     {
@@ -183,8 +191,9 @@ impl Centre {
         Ok(())
     }
 
-    /// One tick of the clock: a request that waits grows older, is sent again, or is given up; what is due is sent. What is sent is in
-    /// `out`, which is empty where nothing is. Memory is taken for an entry of the ledger alone, before an activation that is due.
+    /// One tick of the clock: a request that waits grows older, is sent again, or is given up; what is due is sent.
+    /// What is sent is in `out`, which is empty where nothing is. Memory is taken for an entry of the ledger alone,
+    /// before an activation that is due.
     #[tactic(auto, unfolding(crate::specs::Inputs::ticked))]
     pub fn tick(&mut self, out: &mut Out) -> Result<(), NoMemory>
         ensures state { OnOk result (self.new.state ≡ (ticked self.old.state).state) }
@@ -222,7 +231,7 @@ impl Centre {
         self.order
     }
 
-    /// The first thing that keeps a command from being taken, want of memory aside.
+    /// The first reason to refuse a command, want of memory aside.
     pub fn refusal(&self, command: &Command<'_>) -> Option<CommandFault>
         ensures { result ≡ refusal_of self.now.state (command_model command.now) }
     {

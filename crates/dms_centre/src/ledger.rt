@@ -74,7 +74,8 @@ fn enter(ledger: &mut IndexMap<u32, Entry>, number: u32, code: Activation)
 pub(crate) fn enter_job(ledger: &mut IndexMap<u32, Entry>, number: u32, job: &Job)
     requires room { is_activating job.now.step ≡ true → 0 < spare ledger.old }
     requires below { AllBelow number (ledger_model ledger.old.entries) }
-    ensures entries { ledger_model ledger.new.entries ≡ entered (ledger_model ledger.old.entries) number (job_model job.now) }
+    ensures entries { ledger_model ledger.new.entries
+        ≡ entered (ledger_model ledger.old.entries) number (job_model job.now) }
     ensures spare { is_activating job.now.step ≡ false → spare ledger.new ≡ spare ledger.old }
 {
     if job.step.is_activating() {
@@ -84,7 +85,8 @@ pub(crate) fn enter_job(ledger: &mut IndexMap<u32, Entry>, number: u32, job: &Jo
 
 /// The entry of this number, if there is one, has this outcome.
 pub(crate) fn decide(ledger: &mut IndexMap<u32, Entry>, number: u32, outcome: Outcome)
-    ensures entries { ledger_model ledger.new.entries ≡ map (with_outcome number outcome) (ledger_model ledger.old.entries) }
+    ensures entries { ledger_model ledger.new.entries
+        ≡ map (with_outcome number outcome) (ledger_model ledger.old.entries) }
     ensures room { spare ledger.new ≡ spare ledger.old }
 {
     if let Some(index) = ledger.get_index_of(&number) {

@@ -47,7 +47,7 @@ impl Pending {
         self.age = 0;
     }
 
-    /// The same octets go out again.
+    /// Its octets go out again.
     pub(crate) fn send_again(&mut self, out: &mut Out)
         requires sends { self.old.sends < 255 }
         requires empty { out.old.items ≡ [] }

@@ -68,7 +68,7 @@ KeptAt state input move = LedgerKept state.settings state.next state.ledger inpu
 
 -- ---- entries in their places
 
--- the same entries, with what the input tells of them
+-- these entries, with what the input reports of them
 record EntriesMove (settings : SettingsModel) (input : Input) (before ledger : List Entry) : Type 0 where
   same_length : length ledger ≡ length before
   kept : (k : ℕ) (entry : Entry) → slice_get before k ≡ Some entry → (later : Entry) × (slice_get ledger k ≡ Some later) × EntryMoves settings input entry later

@@ -102,7 +102,7 @@ first_datagram = refl
 abbrev silence : ℕ → List Input
 silence ticks = publish ∷ replicate ticks Ticks
 
--- the same octets at ticks 3 and 6, and the end at tick 9
+-- its octets again at ticks 3 and 6, and the end at tick 9
 silent : map (λ ticks. length (after (silence ticks)).sent) (2 ∷ 3 ∷ 5 ∷ 6 ∷ 8 ∷ 9 ∷ 12 ∷ []) ≡ 1 ∷ 2 ∷ 2 ∷ 3 ∷ 3 ∷ 3 ∷ 3 ∷ []
 unfolding canonical pdu_octets numbers_octets binding_octets element integer_octets name_octets octet_bits message_of request_of sends commanded received ticked restarted
 silent = refl
@@ -173,7 +173,7 @@ wrong_status : summary (publish ∷ reply 1 0 ∷ reported 2 9 1 ∷ []) ≡ rec
 unfolding canonical pdu_octets numbers_octets binding_octets element integer_octets name_octets octet_bits message_of request_of sends commanded received ticked restarted
 wrong_status = refl
 
--- the status is told twice
+-- the status is reported twice
 abbrev reported_twice : Input
 reported_twice = Hears (
     0x30 ∷ 0x45 ∷ 0x02 ∷ 0x01 ∷ 0x00 ∷ 0x04 ∷ 0x05 ∷ 0x61 ∷ 0x64 ∷ 0x6d ∷ 0x69 ∷ 0x6e ∷ 0xa2 ∷ 0x39 ∷ 0x02

@@ -27,14 +27,16 @@ pub record Answers (settings : SettingsModel) (number : ℕ) (message : SnmpMess
 -- What an input makes of the outcome of a number's entry. An outcome once known stays.
 pub data Becomes (settings : SettingsModel) (number : ℕ) : Input → Outcome → Outcome → Type 0 where
   Stays : (input : Input) (outcome : Outcome) → Becomes settings number input outcome outcome
-  IsAccepted : (octets : List ℕ) (reply : SnmpMessage) → message_of octets ≡ Some reply → Answers settings number reply → reply.status ≡ pos 0
+  IsAccepted : (octets : List ℕ) (reply : SnmpMessage) → message_of octets ≡ Some reply → Answers settings number reply
+      → reply.status ≡ pos 0
       → Becomes settings number (Hears octets) Waiting Accepted
-  IsRefused : (octets : List ℕ) (reply : SnmpMessage) → message_of octets ≡ Some reply → Answers settings number reply → (reply.status ≡ pos 0 → ⊥)
+  IsRefused : (octets : List ℕ) (reply : SnmpMessage) → message_of octets ≡ Some reply → Answers settings number reply
+      → (reply.status ≡ pos 0 → ⊥)
       → Becomes settings number (Hears octets) Waiting (Refused reply.status)
   IsUnheard : Becomes settings number Ticks Waiting NoReply
   IsForgotten : Becomes settings number Restarts Waiting Unknown
 
--- an entry, and the same later
+-- an entry, and that entry later
 pub record EntryMoves (settings : SettingsModel) (input : Input) (entry later : Entry) : Type 0 where
   pub number : later.number ≡ entry.number
   pub code : later.code ≡ entry.code
@@ -58,7 +60,8 @@ pub record IsNewEntry (settings : SettingsModel) (next : ℕ) (move : Move) (ent
   pub puts_up : PutsUp settings next entry.code octets
 
 -- Entries stay in their places; at most one is new, and comes last.
-pub record LedgerMoves (settings : SettingsModel) (next : ℕ) (before : List Entry) (input : Input) (move : Move) : Type 0 where
+pub record LedgerMoves (settings : SettingsModel) (next : ℕ) (before : List Entry) (input : Input)
+    (move : Move) : Type 0 where
   pub kept : (k : ℕ) (entry : Entry) → slice_get before k ≡ Some entry
       → (later : Entry) × (slice_get move.state.ledger k ≡ Some later) × EntryMoves settings input entry later
   pub each : (k : ℕ) (later : Entry) → slice_get move.state.ledger k ≡ Some later
@@ -75,7 +78,8 @@ pub record WasSent (settings : SettingsModel) (sent : List (List ℕ)) (entry : 
   pub puts_up : PutsUp settings entry.number entry.code octets
 
 -- Entries have numbers below the next one, which rise, and each was sent.
-pub record LedgerIsSent (settings : SettingsModel) (next : ℕ) (ledger : List Entry) (sent : List (List ℕ)) : Type 0 where
+pub record LedgerIsSent (settings : SettingsModel) (next : ℕ) (ledger : List Entry)
+    (sent : List (List ℕ)) : Type 0 where
   pub below : (k : ℕ) (entry : Entry) → slice_get ledger k ≡ Some entry → entry.number < next
   pub rise : (j k : ℕ) (earlier later : Entry) → j < k → slice_get ledger j ≡ Some earlier
       → slice_get ledger k ≡ Some later → earlier.number < later.number
@@ -84,7 +88,8 @@ pub record LedgerIsSent (settings : SettingsModel) (next : ℕ) (ledger : List E
 -- Each datagram of an entry's number puts the entry's code up.
 abbrev pub NumbersPutUpTheirCodes : SettingsModel → List Entry → List (List ℕ) → Type 0
 NumbersPutUpTheirCodes settings ledger sent =
-    (k j : ℕ) (entry : Entry) (octets : List ℕ) → slice_get ledger k ≡ Some entry → slice_get sent j ≡ Some octets → HasNumber entry.number octets
+    (k j : ℕ) (entry : Entry) (octets : List ℕ) → slice_get ledger k ≡ Some entry → slice_get sent j ≡ Some octets
+    → HasNumber entry.number octets
     → PutsUp settings entry.number entry.code octets
 
 -- ---- whose code it is
@@ -100,4 +105,5 @@ pub record IsOrdered (settings : SettingsModel) (first : ℕ) (inputs : List Inp
 -- Each code of the ledger is that of a command that was taken.
 abbrev pub CodesAreOrdered : SettingsModel → ℕ → List Input → List Entry → Type 0
 CodesAreOrdered settings first inputs ledger =
-    (k : ℕ) (entry : Entry) → slice_get ledger k ≡ Some entry → (work : Work) × IsOrdered settings first inputs work × (entry.code ≡ code_of work)
+    (k : ℕ) (entry : Entry) → slice_get ledger k ≡ Some entry
+    → (work : Work) × IsOrdered settings first inputs work × (entry.code ≡ code_of work)

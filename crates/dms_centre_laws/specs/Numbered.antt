@@ -5,7 +5,8 @@ use Rattle.dms_centre.specs.State.{Pending, Phase, Idle, Awaits, Due}
 use Rattle.dms_centre.specs.Sending.{Move}
 use Rattle.dms_requests.specs.Requests.{AreSettings, IsWork, IsRequest}
 use Rattle.dms_centre.specs.History.{History}
-use Rattle.dms_centre_laws.specs.RequestNumbers.{has_number, AreRequests, NumbersRise, EqualNumbersMeanEqualOctets, ThreeSendsAtMost, Sends}
+use Rattle.dms_centre_laws.specs.RequestNumbers.{has_number, AreRequests, NumbersRise, EqualNumbersMeanEqualOctets}
+use Rattle.dms_centre_laws.specs.RequestNumbers.{ThreeSendsAtMost, Sends}
 
 -- The waiting request was sent as often as it says, three times at most, and has the newest number.
 pub record IsOut (settings : SettingsModel) (next : ℕ) (pending : Pending) (sent : List (List ℕ)) : Type 0 where

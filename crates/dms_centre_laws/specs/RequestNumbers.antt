@@ -27,7 +27,8 @@ has_number number octets = is_number_of number (message_of octets)
 -- Each datagram spells a request, whose number is below the next one.
 abbrev pub AreRequests : SettingsModel → ℕ → List (List ℕ) → Type 0
 AreRequests settings next sent =
-    (k : ℕ) (octets : List ℕ) → slice_get sent k ≡ Some octets → (number : ℕ) × (number < next) × IsRequest settings number octets
+    (k : ℕ) (octets : List ℕ) → slice_get sent k ≡ Some octets
+    → (number : ℕ) × (number < next) × IsRequest settings number octets
 
 -- No later datagram has a lower number.
 abbrev pub NumbersRise : List (List ℕ) → Type 0
@@ -40,7 +41,7 @@ EqualNumbersMeanEqualOctets sent =
     (j k number : ℕ) (one other : List ℕ) → slice_get sent j ≡ Some one → slice_get sent k ≡ Some other
     → HasNumber number one → HasNumber number other → one ≡ other
 
--- The same request goes out three times at most.
+-- A request goes out three times at most.
 abbrev pub ThreeSendsAtMost : List (List ℕ) → Type 0
 ThreeSendsAtMost sent = (number : ℕ) → count_by (has_number number) sent ≤ 3
 
@@ -51,4 +52,5 @@ pub data Sends (settings : SettingsModel) (next : ℕ) (sent : List (List ℕ)) 
   Nothing : move.sent ≡ None → move.state.next ≡ next → Sends settings next sent move
   Again : (octets : List ℕ) (k : ℕ) → move.sent ≡ Some octets → slice_get sent k ≡ Some octets
       → move.state.next ≡ next → Sends settings next sent move
-  New : (octets : List ℕ) → move.sent ≡ Some octets → IsRequest settings next octets → move.state.next ≡ next + 1 → Sends settings next sent move
+  New : (octets : List ℕ) → move.sent ≡ Some octets → IsRequest settings next octets → move.state.next ≡ next + 1
+      → Sends settings next sent move

@@ -6,38 +6,48 @@ ghost use Rattle.std.specs.List.{AllByRecursion};
 ghost use Rattle.dms_requests.specs.Job.{SettingsModel};
 ghost use Rattle.dms_requests.specs.Requests.{AreSettings};
 ghost use Rattle.dms_centre.specs.History.{Input, IsInput, History, made, move_at, after_input, after_inputs};
-ghost use Rattle.dms_centre_laws.specs.RequestNumbers.{AreRequests, NumbersRise, EqualNumbersMeanEqualOctets, ThreeSendsAtMost, Sends};
+ghost use Rattle.dms_centre_laws.specs.RequestNumbers.{AreRequests, NumbersRise, EqualNumbersMeanEqualOctets};
+ghost use Rattle.dms_centre_laws.specs.RequestNumbers.{ThreeSendsAtMost, Sends};
 ghost use Rattle.dms_centre_laws.specs.Numbered.{HistoryIsNumbered};
 ghost use Rattle.dms_centre_laws.specs.Ledger.{LedgerMoves, LedgerIsSent, NumbersPutUpTheirCodes, CodesAreOrdered};
 
 /// Each datagram that is sent spells a request of the machine, whose number is below the next one; no later datagram
 /// has a lower number; and what goes out at an input went out before, or is a new request, which takes the next number.
 pub fn numbers_rise()
-    ensures requests { (settings : SettingsModel) (first : ℕ) (inputs : List Input) → AreSettings settings → AllByRecursion IsInput inputs
-        → AreRequests settings (after_inputs (made settings first) inputs).state.next (after_inputs (made settings first) inputs).sent }
-    ensures rise { (settings : SettingsModel) (first : ℕ) (inputs : List Input) → AreSettings settings → AllByRecursion IsInput inputs
+    ensures requests { (settings : SettingsModel) (first : ℕ) (inputs : List Input) → AreSettings settings
+        → AllByRecursion IsInput inputs
+        → AreRequests settings (after_inputs (made settings first) inputs).state.next
+        (after_inputs (made settings first) inputs).sent }
+    ensures rise { (settings : SettingsModel) (first : ℕ) (inputs : List Input) → AreSettings settings
+        → AllByRecursion IsInput inputs
         → NumbersRise (after_inputs (made settings first) inputs).sent }
     ensures next { (settings : SettingsModel) (first : ℕ) (inputs : List Input) (input : Input) → AreSettings settings
-        → AllByRecursion IsInput inputs → IsInput input → Sends settings (after_inputs (made settings first) inputs).state.next
-        (after_inputs (made settings first) inputs).sent (move_at (after_inputs (made settings first) inputs).state input) }
+        → AllByRecursion IsInput inputs → IsInput input
+        → Sends settings (after_inputs (made settings first) inputs).state.next
+        (after_inputs (made settings first) inputs).sent
+        (move_at (after_inputs (made settings first) inputs).state input) }
 {}
 
-/// Datagrams with one number are the same octets.
+/// Datagrams with one number have equal octets.
 pub fn equal_numbers_mean_equal_octets()
-    ensures { (settings : SettingsModel) (first : ℕ) (inputs : List Input) → AreSettings settings → AllByRecursion IsInput inputs
+    ensures { (settings : SettingsModel) (first : ℕ) (inputs : List Input) → AreSettings settings
+        → AllByRecursion IsInput inputs
         → EqualNumbersMeanEqualOctets (after_inputs (made settings first) inputs).sent }
 {}
 
 /// At most three datagrams have one number.
 pub fn three_sends_at_most()
-    ensures { (settings : SettingsModel) (first : ℕ) (inputs : List Input) → AreSettings settings → AllByRecursion IsInput inputs
+    ensures { (settings : SettingsModel) (first : ℕ) (inputs : List Input) → AreSettings settings
+        → AllByRecursion IsInput inputs
         → ThreeSendsAtMost (after_inputs (made settings first) inputs).sent }
 {}
 
 /// What the laws above rest on: it holds of the central system as it is made, and each input keeps it up.
 pub fn numbers_are_kept()
-    ensures made { (settings : SettingsModel) (first : ℕ) → AreSettings settings → HistoryIsNumbered (made settings first) }
-    ensures input { (history : History) (input : Input) → HistoryIsNumbered history → IsInput input → HistoryIsNumbered (after_input history input) }
+    ensures made { (settings : SettingsModel) (first : ℕ) → AreSettings settings
+        → HistoryIsNumbered (made settings first) }
+    ensures input { (history : History) (input : Input) → HistoryIsNumbered history → IsInput input
+        → HistoryIsNumbered (after_input history input) }
 {}
 
 /// An entry of the ledger, once made, keeps its place, its number and its code, and its outcome changes only from
@@ -46,17 +56,20 @@ pub fn numbers_are_kept()
 pub fn ledger_is_kept()
     ensures { (settings : SettingsModel) (first : ℕ) (inputs : List Input) (input : Input) → AreSettings settings
         → AllByRecursion IsInput inputs → IsInput input
-        → LedgerMoves settings (after_inputs (made settings first) inputs).state.next (after_inputs (made settings first) inputs).state.ledger
+        → LedgerMoves settings (after_inputs (made settings first) inputs).state.next
+        (after_inputs (made settings first) inputs).state.ledger
         input (move_at (after_inputs (made settings first) inputs).state input) }
 {}
 
 /// The entries' numbers rise, and the request of each was sent. Whatever was sent with an entry's number puts the
 /// entry's code up.
 pub fn entries_were_sent()
-    ensures sent { (settings : SettingsModel) (first : ℕ) (inputs : List Input) → AreSettings settings → AllByRecursion IsInput inputs
+    ensures sent { (settings : SettingsModel) (first : ℕ) (inputs : List Input) → AreSettings settings
+        → AllByRecursion IsInput inputs
         → LedgerIsSent settings (after_inputs (made settings first) inputs).state.next
         (after_inputs (made settings first) inputs).state.ledger (after_inputs (made settings first) inputs).sent }
-    ensures codes { (settings : SettingsModel) (first : ℕ) (inputs : List Input) → AreSettings settings → AllByRecursion IsInput inputs
+    ensures codes { (settings : SettingsModel) (first : ℕ) (inputs : List Input) → AreSettings settings
+        → AllByRecursion IsInput inputs
         → NumbersPutUpTheirCodes settings (after_inputs (made settings first) inputs).state.ledger
         (after_inputs (made settings first) inputs).sent }
 {}
@@ -64,6 +77,7 @@ pub fn entries_were_sent()
 /// Each code of the ledger is that of a command that was taken; the code of a publication has the checksum of the
 /// operator's message.
 pub fn codes_are_ordered()
-    ensures { (settings : SettingsModel) (first : ℕ) (inputs : List Input) → AreSettings settings → AllByRecursion IsInput inputs
+    ensures { (settings : SettingsModel) (first : ℕ) (inputs : List Input) → AreSettings settings
+        → AllByRecursion IsInput inputs
         → CodesAreOrdered settings first inputs (after_inputs (made settings first) inputs).state.ledger }
 {}

@@ -52,7 +52,8 @@ last_line last = ended (codes "last " ++ last_text last)
 -- how the central system stands: its job, the end of the last one, and its ledger, a line each as in a report
 abbrev pub status_lines : CentreState → List ℕ
 status_lines state =
-    job_line (is_busy state.phase) ++ last_line state.last ++ flat_map (ledger_line state.settings.order) state.ledger ++ ok_line
+    job_line (is_busy state.phase) ++ last_line state.last ++ flat_map (ledger_line state.settings.order) state.ledger
+    ++ ok_line
 
 -- ---- the answer to a line
 

@@ -6,7 +6,8 @@ ghost use Rattle.dms_centre.specs.Commands.{commanded, refusal_of};
 ghost use Rattle.dms_centre.specs.Inputs.{received, ticked, restarted};
 ghost use Rattle.dms_commands.specs.CommandReading.{command_of};
 ghost use Rattle.dms_lines.specs.AnswerLines.{ok_line};
-ghost use Rattle.dms_centre_lines.specs.Answers.{answer_text, after_line, call_answer, after_call, command_line, sent_line};
+ghost use Rattle.dms_centre_lines.specs.Answers.{answer_text, after_line, call_answer, after_call, command_line};
+ghost use Rattle.dms_centre_lines.specs.Answers.{sent_line};
 ghost use Rattle.dms_centre_lines.specs.CallReading.{or_command};
 ghost use Rattle.dms_centre_lines.specs.CodeView.{call_model};
 
@@ -22,10 +23,11 @@ use std::alloc::{AllocError, Global};
 /// Does what a line asks of the central system, and answers it: one line or more, each with a newline at its end. The
 /// line comes without its newline; a carriage return at its end belongs to its last word.
 ///
-/// - `publish ..`, `blank ..` and `activate ..`, as in a script, give it a command: `send OCTETS`, with what goes out in hexadecimal digits,
-///   or `refused` and why.
-/// - `datagram OCTETS` hands it a datagram, and `tick` is a tick of its clock: `send OCTETS`, or `ok` where nothing goes out.
-/// - `restart` begins it anew: `ok`.
+/// - `publish ..`, `blank ..` and `activate ..`, as in a script, give it a command: `send OCTETS`, with what goes out
+///   in hexadecimal digits, or `refused` and why.
+/// - `datagram OCTETS` hands it a datagram, and `tick` is a tick of its clock: `send OCTETS`, or `ok` where nothing
+///   goes out.
+/// - `restart` restarts it: `ok`.
 /// - `status`: `busy` or `idle`, `last` and how the last job ended, the ledger's lines of a report, and `ok`.
 /// - Any other line is a `bad line`, and changes nothing.
 ///
@@ -58,8 +60,10 @@ fn answer_call(alloc: Global, centre: &mut Centre, call: Call) -> Result<Vec<u8>
 
 /// A line that is a command, or a bad line.
 fn answer_command(alloc: Global, centre: &mut Centre, line: &[u8]) -> Result<Vec<u8>, AllocError>
-    ensures text { IfOk result (λ text. text.items ≡ call_answer centre.old.state (or_command None (command_of centre.old.state.settings.order line.now))) }
-    ensures state { OnOk result (centre.new.state ≡ after_call centre.old.state (or_command None (command_of centre.old.state.settings.order line.now))) }
+    ensures text { IfOk result (λ text. text.items
+        ≡ call_answer centre.old.state (or_command None (command_of centre.old.state.settings.order line.now))) }
+    ensures state { OnOk result (centre.new.state
+        ≡ after_call centre.old.state (or_command None (command_of centre.old.state.settings.order line.now))) }
     ensures unchanged { OnErr result (centre.new.state ≡ centre.old.state) }
 {
     match read_command(alloc, centre.order(), line)? {
@@ -71,7 +75,8 @@ fn answer_command(alloc: Global, centre: &mut Centre, line: &[u8]) -> Result<Vec
 /// The operator gives a command.
 #[tactic(auto, unfolding(dms_centre::specs::Commands::commanded))]
 fn give(alloc: Global, centre: &mut Centre, asked: Command<'_>) -> Result<Vec<u8>, AllocError>
-    ensures text { IfOk result (λ text. text.items ≡ command_line centre.old.state (command_model asked.entry) (refusal_of centre.old.state (command_model asked.entry))) }
+    ensures text { IfOk result (λ text. text.items ≡ command_line centre.old.state (command_model asked.entry)
+        (refusal_of centre.old.state (command_model asked.entry))) }
     ensures state { OnOk result (centre.new.state ≡ (commanded centre.old.state (command_model asked.entry)).state) }
     ensures unchanged { OnErr result (centre.new.state ≡ centre.old.state) }
 {
@@ -119,7 +124,7 @@ fn tick(alloc: Global, centre: &mut Centre) -> Result<Vec<u8>, AllocError>
     }
 }
 
-/// It begins anew.
+/// It restarts.
 fn restart(alloc: Global, centre: &mut Centre) -> Result<Vec<u8>, AllocError>
     ensures text { IfOk result (λ text. text.items ≡ ok_line) }
     ensures state { OnOk result (centre.new.state ≡ restarted centre.old.state) }

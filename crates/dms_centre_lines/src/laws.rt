@@ -11,23 +11,30 @@ ghost use Rattle.dms_centre_lines.specs.SpelledCalls.{SpellsCentreCall, SpellsNo
 
 /// The call that is read of a line is spelled by it, and a call that a line spells is read of it.
 pub fn calls_are_read_where_they_are_spelled()
-    ensures found { (order : Order) (line : List ℕ) (call : CentreCall) → call_of order line ≡ Some call → SpellsCentreCall order call line }
-    ensures only { (order : Order) (line : List ℕ) (call : CentreCall) → SpellsCentreCall order call line → call_of order line ≡ Some call }
+    ensures found { (order : Order) (line : List ℕ) (call : CentreCall) → call_of order line ≡ Some call
+        → SpellsCentreCall order call line }
+    ensures only { (order : Order) (line : List ℕ) (call : CentreCall) → SpellsCentreCall order call line
+        → call_of order line ≡ Some call }
 {}
 
 /// A line spells at most one call.
 pub fn a_line_spells_at_most_one_call()
-    ensures { (order : Order) (line : List ℕ) (call other : CentreCall) → SpellsCentreCall order call line → SpellsCentreCall order other line
+    ensures { (order : Order) (line : List ℕ) (call other : CentreCall) → SpellsCentreCall order call line
+        → SpellsCentreCall order other line
         → call ≡ other }
 {}
 
 /// The answer to a line, and the central system after it, are those of the call that the line spells; a line that
 /// spells none is a bad line, and changes nothing.
 pub fn answers_are_those_of_calls()
-    ensures text { (state : CentreState) (line : List ℕ) (call : CentreCall) → SpellsCentreCall state.settings.order call line
+    ensures text { (state : CentreState) (line : List ℕ) (call : CentreCall)
+        → SpellsCentreCall state.settings.order call line
         → answer_text state line ≡ call_answer state (Some call) }
-    ensures after { (state : CentreState) (line : List ℕ) (call : CentreCall) → SpellsCentreCall state.settings.order call line
+    ensures after { (state : CentreState) (line : List ℕ) (call : CentreCall)
+        → SpellsCentreCall state.settings.order call line
         → after_line state line ≡ after_call state (Some call) }
-    ensures bad_line { (state : CentreState) (line : List ℕ) → SpellsNoCall state.settings.order line → answer_text state line ≡ bad_line }
-    ensures unchanged { (state : CentreState) (line : List ℕ) → SpellsNoCall state.settings.order line → after_line state line ≡ state }
+    ensures bad_line { (state : CentreState) (line : List ℕ) → SpellsNoCall state.settings.order line
+        → answer_text state line ≡ bad_line }
+    ensures unchanged { (state : CentreState) (line : List ℕ) → SpellsNoCall state.settings.order line
+        → after_line state line ≡ state }
 {}

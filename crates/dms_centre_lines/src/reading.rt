@@ -17,7 +17,7 @@ pub(crate) enum Call {
     Datagram(Vec<u8>),
     /// Its clock ticks.
     Tick,
-    /// It begins anew.
+    /// It restarts.
     Restart,
     /// How does it stand?
     Status,

@@ -19,7 +19,8 @@ pub record SpellsPublication (publication : PublicationModel) (words : List (Lis
   pub minutes_word : List ℕ
   pub priority_word : List ℕ
   pub address_word : List ℕ
-  pub words_are : words ≡ codes "publish" ∷ memory_word ∷ number_word ∷ text_word ∷ owner_word ∷ beacon_word ∷ pixel_word ∷ run_word
+  pub words_are : words
+      ≡ codes "publish" ∷ memory_word ∷ number_word ∷ text_word ∷ owner_word ∷ beacon_word ∷ pixel_word ∷ run_word
       ∷ minutes_word ∷ priority_word ∷ address_word ∷ []
   pub memory : SpellsOctet publication.memory memory_word
   pub number : SpellsTwoOctets publication.number number_word

@@ -6,6 +6,7 @@ use Rattle.dms_commands.specs.declared.owned_command.OwnedCommand.TheVariants as
 
 -- the command that was read
 abbrev pub owned_command_model : OwnedCommand → centre.CommandModel
-owned_command_model (owned.Publish row text owner attributes terms) = centre.Publish (published row text.items owner.items attributes terms)
+owned_command_model (owned.Publish row text owner attributes terms) =
+    centre.Publish (published row text.items owner.items attributes terms)
 owned_command_model (owned.Blank number terms) = centre.Blank number terms.minutes terms.priority terms.address
 owned_command_model (owned.Activate code) = centre.Activate code

@@ -8,4 +8,5 @@ use Rattle.dms_description.specs.ShownLine.{code_text, ended}
 -- a code of the ledger, the number of its request, and what became of it
 abbrev pub ledger_line : Order → Entry → List ℕ
 ledger_line order entry =
-    ended (codes "ledger " ++ decimal entry.number ++ codes " " ++ code_text order entry.code ++ codes " " ++ outcome_text entry.outcome)
+    ended (codes "ledger " ++ decimal entry.number ++ codes " " ++ code_text order entry.code ++ codes " "
+    ++ outcome_text entry.outcome)

@@ -14,7 +14,8 @@ use std::io::Write;
 
 /// Appends a line for each activation of the ledger, in the order of their requests.
 pub fn put_ledger(report: &mut Vec<u8>, centre: &Centre) -> Result<(), AllocError>
-    ensures { OnOk result (report.new.items ≡ report.old.items ++ flat_map (ledger_line centre.now.state.settings.order) centre.now.state.ledger) }
+    ensures { OnOk result (report.new.items
+        ≡ report.old.items ++ flat_map (ledger_line centre.now.state.settings.order) centre.now.state.ledger) }
 {
     put_entries(report, centre.order(), centre.ledger())
 }
@@ -47,7 +48,8 @@ fn put_entries(
     order: Order,
     ledger: &IndexMap<u32, Entry>,
 ) -> Result<(), AllocError>
-    ensures { OnOk result (report.new.items ≡ report.old.items ++ flat_map (λ (entry : ℕ × Entry). ledger_line order (entry_model entry)) ledger.now.entries) }
+    ensures { OnOk result (report.new.items ≡ report.old.items
+        ++ flat_map (λ (entry : ℕ × Entry). ledger_line order (entry_model entry)) ledger.now.entries) }
 {
     for (number, entry) in ledger.iter() {
         put_entry(report, order, *number, entry)?;

@@ -20,7 +20,7 @@ is_job c (OfBlank number minutes priority address small long high is) good = OfS
 })
 is_job c (OfActivate code is) good = OfShowing code is
 
--- the row of what is kept
+-- the row of the stored work
 pub row_named : (publishes : Bool) (code : Activation) (fields : RowFields) (work : Work) → work_model publishes code fields ≡ work
     → record { memory = code.id.memory; number = code.id.number } ≡ row_of work
 row_named true code fields work view = ap row_of view

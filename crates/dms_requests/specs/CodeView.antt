@@ -10,18 +10,19 @@ use Rattle.dms_requests.specs.Commands as commanding
 use Rattle.dms_requests.specs.Job as models
 
 abbrev pub command_model : Command → commanding.CommandModel
-command_model (commands.Publish memory number text owner beacon pixel run_priority minutes priority address) = commanding.Publish (record {
-  memory = memory;
-  number = number;
-  text = text.now;
-  owner = owner.now;
-  beacon = beacon;
-  pixel = pixel;
-  run_priority = run_priority;
-  minutes = minutes;
-  priority = priority;
-  address = address;
-})
+command_model (commands.Publish memory number text owner beacon pixel run_priority minutes priority address) =
+    commanding.Publish (record {
+      memory = memory;
+      number = number;
+      text = text.now;
+      owner = owner.now;
+      beacon = beacon;
+      pixel = pixel;
+      run_priority = run_priority;
+      minutes = minutes;
+      priority = priority;
+      address = address;
+    })
 command_model (commands.Blank number minutes priority address) = commanding.Blank number minutes priority address
 command_model (commands.Activate code) = commanding.Activate code
 
@@ -43,4 +44,5 @@ asking community kind number bindings = record {
 
 -- what is there of bindings once one more was pushed
 abbrev pub IsPushed : Option (List ℕ) → VarBind → Option (List ℕ) → Type 0
-IsPushed old binding new = (bindings : List VarBind) → old ≡ octets_of_bindings bindings → new ≡ octets_of_bindings (bindings ++ binding ∷ [])
+IsPushed old binding new = (bindings : List VarBind) → old ≡ octets_of_bindings bindings
+    → new ≡ octets_of_bindings (bindings ++ binding ∷ [])

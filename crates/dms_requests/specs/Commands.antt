@@ -17,7 +17,8 @@ pub data CommandModel : Type 0 where
 
 -- ---- with which values a command can be taken
 
--- Only changeable and volatile rows can be written, numbers begin at 1, and each field has its limits (NTCIP 1203, dmsMessageTable).
+-- Only changeable and volatile rows can be written, numbers begin at 1, and each field has its limits (NTCIP 1203,
+-- dmsMessageTable).
 abbrev pub is_publishable : PublicationModel → Bool
 is_publishable p =
     (p.memory == changeable_memory || p.memory == volatile_memory) && nat_lt 0 p.number
@@ -69,6 +70,7 @@ pub record IsPublication (p : PublicationModel) : Type 0 where
 
 pub data IsCommand : CommandModel → Type 0 where
   OfPublish : (p : PublicationModel) → IsPublication p → IsCommand (Publish p)
-  OfBlank : (number minutes priority : ℕ) (address : List ℕ) → number < 2 ^ 16 → minutes < 2 ^ 16 → priority < 2 ^ 8 → IsAddress address
+  OfBlank : (number minutes priority : ℕ) (address : List ℕ) → number < 2 ^ 16 → minutes < 2 ^ 16 → priority < 2 ^ 8
+      → IsAddress address
       → IsCommand (Blank number minutes priority address)
   OfActivate : (code : Activation) → IsActivation code → IsCommand (Activate code)

@@ -9,8 +9,8 @@ pub record SettingsModel : Type 0 where
   pub community : List ℕ
   pub order : Order
 
--- A message to be written into a row and activated: the row, its fields (NTCIP 1203, dmsMessageTable), and how it is activated
--- (MessageActivationCode).
+-- A message to be written into a row and activated: the row, its fields (NTCIP 1203, dmsMessageTable), and how it is
+-- activated (MessageActivationCode).
 pub record PublicationModel : Type 0 where
   pub memory : ℕ
   pub number : ℕ

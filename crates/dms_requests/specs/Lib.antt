@@ -1,4 +1,5 @@
--- What a reader must believe: commands, jobs and the request of each step, and what the code's types say in their words.
+-- What a reader must believe: commands, jobs and the request of each step, and what the code's types say in their
+-- words.
 pub mod Job
 pub mod Steps
 pub mod Commands

@@ -1,4 +1,5 @@
--- The eight steps of a job, and the request of each (NTCIP 1203 by object name; the order of the steps is this profile's).
+-- The eight steps of a job, and the request of each (NTCIP 1203 by object name; the order of the steps is this
+-- profile's).
 use Rattle.std.specs.Prelude.{ℕ, pos, Bool, true, false, List, [], ◌∷◌}
 use Rattle.dms_wire.specs.declared.message.Kind.{Kind}
 use Rattle.dms_wire.specs.declared.message.Kind.TheVariants.{Get, Set}
@@ -6,13 +7,15 @@ use Rattle.dms_wire.specs.Message.{ObjectValue, integer, octet_string, null, Var
 use Rattle.dms_codes.specs.declared.codes.Order.{Order}
 use Rattle.dms_codes.specs.declared.codes.Activation.{Activation}
 use Rattle.dms_objects.specs.declared.column.Column.{Column}
-use Rattle.dms_objects.specs.declared.column.Column.TheVariants.{MultiString, Owner, Crc, Beacon, PixelService, RunTimePriority, Status}
+use Rattle.dms_objects.specs.declared.column.Column.TheVariants.{MultiString, Owner, Crc, Beacon, PixelService}
+use Rattle.dms_objects.specs.declared.column.Column.TheVariants.{RunTimePriority, Status}
 use Rattle.dms_codes.specs.declared.row_id.RowId.{RowId}
 use Rattle.dms_codes.specs.Checksum.{message_checksum}
 use Rattle.dms_codes.specs.Codes.{octets_of_activation}
 use Rattle.dms_objects.specs.Names.{activate_message, activate_message_error, cell_name}
 use Rattle.dms_requests.specs.declared.step.Step.{Step}
-use Rattle.dms_requests.specs.declared.step.Step.TheVariants.{Opening, Opened, Filling, Validating, Polling, Comparing, Activating, Explaining}
+use Rattle.dms_requests.specs.declared.step.Step.TheVariants.{Opening, Opened, Filling, Validating, Polling, Comparing}
+use Rattle.dms_requests.specs.declared.step.Step.TheVariants.{Activating, Explaining}
 use Rattle.dms_requests.specs.Job.{SettingsModel, Work, Publishing, Showing}
 
 abbrev pub step_number : Step → ℕ

@@ -13,7 +13,7 @@ use dms_codes::{Activation, RowId};
 /// The highest number of a blank message.
 const LAST_BLANK: u16 = 255;
 
-/// What an operator orders.
+/// A command of an operator.
 #[derive(Clone, Copy, Debug)]
 pub enum Command<'a> {
     /// To write a message into a row, and to activate it.

@@ -71,12 +71,12 @@ fn replace<const N: usize>(old: &mut ArrayVec<u8, N>, octets: &[u8])
 }
 
 impl RowFields {
-    /// Their checksum: that which was kept, or else it is computed.
-    fn checksum(&self, kept: Option<u16>) -> u16
-        requires { HasItsChecksum kept self.now }
+    /// Their checksum: the stored one, or else it is computed.
+    fn checksum(&self, stored: Option<u16>) -> u16
+        requires { HasItsChecksum stored self.now }
         ensures { result ≡ message_checksum self.now.text.items self.now.attributes.beacon self.now.attributes.pixel }
     {
-        match kept {
+        match stored {
             Some(checksum) => checksum,
             None => crc(
                 self.text.as_slice(),
@@ -119,8 +119,8 @@ impl Work {
         code
     }
 
-    /// Keeps the checksum of the fields, so that it is computed once a job.
-    pub fn keep_checksum(&mut self)
+    /// Stores the checksum of the fields, so that it is computed once a job.
+    pub fn store_checksum(&mut self)
         ensures { self.new ≡ self.old }
     {
         self.checksum = Some(self.fields.checksum(self.checksum));

@@ -21,7 +21,12 @@ impl Terms {
 
     /// The code that activates a message on these terms.
     pub(crate) fn code(self, id: MessageId) -> Activation
-        ensures { result ≡ record { minutes = self.minutes; priority = self.priority; id = id; address = self.address } }
+        ensures { result ≡ record {
+          minutes = self.minutes;
+          priority = self.priority;
+          id = id;
+          address = self.address;
+        } }
     {
         let Terms {
             minutes,

@@ -25,7 +25,7 @@ const MODIFY_REQUEST: i64 = 6;
 const VALIDATE_REQUEST: i64 = 7;
 
 /// Writes the request of a step, under a number, over what `out` holds.
-#[tactic(auto, using(crate::proofs::Requests::request_fits), unfolding(crate::specs::Steps::request_of, dms_objects::specs::Names::name_of))]
+#[tactic(auto, unfolding(crate::specs::Steps::request_of, dms_objects::specs::Names::name_of))]
 pub fn put_request(
     community: &[u8],
     order: Order,
@@ -37,7 +37,8 @@ pub fn put_request(
     requires settings { AreSettings (record { community = community.now; order = order }) }
     requires number { number ≤ last_number }
     requires work { IsWork work.now }
-    ensures { out.new.items ≡ canonical (request_of (record { community = community.now; order = order }) number work.now step) }
+    ensures { out.new.items
+        ≡ canonical (request_of (record { community = community.now; order = order }) number work.now step) }
 {
     let row = work.row();
     let status = Instance::Cell(Column::Status, row);
@@ -139,7 +140,8 @@ fn push_number(fields: &mut BindingOctets, row: RowId, column: Column, number: u
 
 /// A field more of a row.
 fn push_field(fields: &mut BindingOctets, row: RowId, column: Column, value: Value<'_>)
-    ensures { IsPushed fields.old (record { name = cell_name column row; value = object_value value.entry }) fields.new }
+    ensures { IsPushed fields.old
+        (record { name = cell_name column row; value = object_value value.entry }) fields.new }
 {
     let name = Name::of(Instance::Cell(column, row));
     fields.push(&Bind {
@@ -157,8 +159,10 @@ fn put_one(
     value: Value<'_>,
     out: &mut Out,
 )
-    requires { length (canonical (asking community.now kind number (record { name = name_of object; value = object_value value } ∷ []))) ≤ longest_datagram }
-    ensures { out.new.items ≡ canonical (asking community.now kind number (record { name = name_of object; value = object_value value.entry } ∷ [])) }
+    requires { length (canonical (asking community.now kind number
+        (record { name = name_of object; value = object_value value } ∷ []))) ≤ longest_datagram }
+    ensures { out.new.items ≡ canonical
+        (asking community.now kind number (record { name = name_of object; value = object_value value.entry } ∷ [])) }
 {
     let name = Name::of(object);
     let binds = [Bind {

@@ -1,6 +1,7 @@
 //! The steps of a job.
 
-/// A step of a job: the request that it sends. Publishing takes all eight, activating a message that is there the last two.
+/// A step of a job: the request that it sends. Publishing takes all eight, activating a message that is there the last
+/// two.
 #[derive(Clone, Copy, Debug, PartialEq, Eq)]
 pub enum Step {
     /// 1: asks that the row may be modified.

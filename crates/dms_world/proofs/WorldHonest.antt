@@ -121,7 +121,7 @@ answered_by_the_sign world events fresh fair count number code octets reply ther
       status_is = sym (status_reported s request is.datagram up (request_kind world number code) one) ∙ ap (λ (m : SnmpMessage). m.status) meant;
     }
 
--- ---- what the centre was told
+-- ---- what was reported to the centre
 
 -- what the centre heard is in flight
 in_flight : (world : WorldModel) (events : List EventModel) → NothingIsForged events → (count : ℕ) (octets : List ℕ)
@@ -147,7 +147,7 @@ later_answer world events count later number code status le was = record {
   status_is = was.status_is;
 }
 
--- the reply that told it was the sign's
+-- the reply that reported it was the sign's
 answer_heard : (world : WorldModel) (events : List EventModel) → IsFresh world → AreEvents events → NothingIsForged events → (count number : ℕ)
     → (code : Activation) (status : ℤ) (was : WasHeard world events count number code) → was.reply.status ≡ status
     → IsAnsweredWith world events count number code status

@@ -50,7 +50,7 @@ unfolding sign_reply.received
 answered_is_heard s datagram reply m e spelled =
     heard_test s m (is_heard s m) reply (ap (λ o. (on_message_if s o).reply) (sym spelled) ∙ e)
 
--- ---- the status that a reply tells
+-- ---- the status that a reply reports
 
 status_by : (m : SnmpMessage) (a : Answer) (b : Bool) → b ≡ true → (cond b (response_of m a) (response_to m too_big 0)).status ≡ pos (error_status_number a.status)
 status_by m a true e = refl

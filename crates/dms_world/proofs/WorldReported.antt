@@ -1,4 +1,4 @@
--- An entry that is accepted or refused was told so by a reply that the centre heard while the entry waited.
+-- What is recorded of an entry that is accepted or refused was reported by a reply that the centre heard while it waited.
 use Rattle.std.proofs.Common.{◌≡◌, inl, inr, ℕ, zero, suc, pos, ◌<◌, List, Option, Some, None, slice_get, refl, sym, subst, arith}
 use Rattle.std.proofs.lemmas.Option.{none-some}
 use Rattle.dms_wire.specs.Message.{SnmpMessage}

@@ -192,6 +192,6 @@ sure_at world events fresh (suc count) = sure_next world events count fresh (sur
 pub is_backed : (world : WorldModel) (events : List EventModel) → IsFresh world → IsBacked world events
 is_backed world events fresh = (sure_at world events fresh (length events)).shown
 
--- the copy that is kept at a loss of power too
+-- the copy that is stored at a loss of power too
 pub kept_is_backed : (world : WorldModel) (events : List EventModel) → IsFresh world → KeptIsBacked world events
 kept_is_backed world events fresh = (sure_at world events fresh (length events)).kept

@@ -1,4 +1,4 @@
--- What is shown, what is kept, and the rows of a sign, after any events.
+-- What is shown, what is stored, and the rows of a sign, after any events.
 use Rattle.std.proofs.Common.{◌≡◌, ◌⊎◌, inl, inr, ℕ, zero, suc, List, length, Option, refl, sym, subst, ◌∙◌, arith}
 use Rattle.dms_face.specs.declared.defaults.Defaults.{Defaults}
 use Rattle.dms_codes.specs.declared.codes.Activation.{Activation}

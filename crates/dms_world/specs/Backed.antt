@@ -1,4 +1,5 @@
--- What a sign shows is blank, or a message that was validated and whose checksum stands in the code that activated it (this profile).
+-- What a sign shows is blank, or a message that was validated and whose checksum stands in the code that activated it
+-- (this profile).
 use Rattle.std.specs.Prelude.{◌≡◌, ◌⊎◌, ℕ, ◌≤◌, List, [], length, slice_get, Option, Some}
 use Rattle.dms_face.specs.declared.defaults.Defaults.{Defaults}
 use Rattle.dms_face.specs.Layout.{under}
@@ -35,7 +36,8 @@ WasPutUp world events count id =
 -- by then the code had stood among the sign's own
 abbrev pub WasTheSigns : WorldModel → List EventModel → ℕ → MessageId → Type 0
 WasTheSigns world events count id =
-    (earlier : ℕ) × (earlier ≤ count) × IsOwnCode world.sign.table.order (world_at world events earlier).sign.fallbacks id
+    (earlier : ℕ) × (earlier ≤ count)
+    × IsOwnCode world.sign.table.order (world_at world events earlier).sign.fallbacks id
 
 -- ---- the row that the code names
 
@@ -56,7 +58,8 @@ pub record Held (row : RowModel) (shown : ShownModel) : Type 0 where
 abbrev pub WasHeld : WorldModel → List EventModel → ℕ → ShownModel → Type 0
 WasHeld world events count shown =
     (earlier : ℕ) × (row : RowModel) × (earlier ≤ count)
-    × (stored_row (world_at world events earlier).sign.table shown.source.memory shown.source.number ≡ Some row) × Held row shown
+    × (stored_row (world_at world events earlier).sign.table shown.source.memory shown.source.number ≡ Some row)
+    × Held row shown
 
 -- ---- the defaults of then
 
@@ -67,8 +70,9 @@ WereDefaults world events count defaults =
 
 -- ---- what is shown
 
--- It is good under the copy of the defaults that was made as it was activated, and the sign has what it needs; its checksum is that of its
--- source; the source is the code of an accepted activation or was one of the sign's own; and the source's row held it.
+-- It is good under the copy of the defaults that was made as it was activated, and the sign has what it needs; its
+-- checksum is that of its source; the source is the code of an accepted activation or was one of the sign's own; and
+-- the source's row held it.
 pub record IsValidated (world : WorldModel) (events : List EventModel) (count : ℕ) (shown : ShownModel) : Type 0 where
   pub good : IsShowable world.sign.table.services (under world.sign.config.face shown.defaults) (shown_row shown)
   pub checksum : message_checksum shown.text shown.beacon shown.pixel ≡ shown.source.crc

@@ -5,7 +5,8 @@ use Rattle.dms_world.specs.declared.event.Event.{Event}
 use Rattle.dms_world.specs.declared.event.Event.TheVariants as events
 use Rattle.dms_world.specs.declared.world.World.{World}
 use Rattle.dms_world.specs.declared.running.Stopped.{Stopped}
-use Rattle.dms_world.specs.Event.{EventModel, command, sign_tick, centre_tick, to_sign, to_centre, power_lost, power_back, centre_restart, forge_sign, forge_centre}
+use Rattle.dms_world.specs.Event.{EventModel, command, sign_tick, centre_tick, to_sign, to_centre, power_lost}
+use Rattle.dms_world.specs.Event.{power_back, centre_restart, forge_sign, forge_centre}
 use Rattle.dms_world.specs.World.{WorldModel}
 
 abbrev pub event_model : Event → EventModel

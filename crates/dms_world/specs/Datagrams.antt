@@ -2,8 +2,8 @@
 use Rattle.dms_ber.specs.Limits.{longest_datagram}
 use Rattle.std.specs.Prelude.{ℕ, ◌≤◌, ◌+◌, Bool, ◌&&◌, nat_le, List, map, slice_range}
 
--- the octets of each datagram, the oldest first, whether there is room for one more, however long a datagram may be, and for how many
--- octets and places together there is memory
+-- the octets of each datagram, the oldest first, whether there is room for one more, however long a datagram may be,
+-- and for how many octets and places together there is memory
 pub record DatagramsModel : Type 0 where
   pub sent : List (List ℕ)
   pub has_room : Bool
@@ -22,4 +22,5 @@ IsWithin count place = (place.0 ≤ place.1) × (place.1 ≤ count)
 
 -- room for the most octets of a datagram behind so many, and for one place behind so many
 abbrev pub is_room : (octets most_octets places most_places : ℕ) → Bool
-is_room octets most_octets places most_places = nat_le (octets + longest_datagram) most_octets && nat_le (places + 1) most_places
+is_room octets most_octets places most_places =
+    nat_le (octets + longest_datagram) most_octets && nat_le (places + 1) most_places

@@ -2,8 +2,9 @@
 use Rattle.std.specs.Prelude.{ℕ, List}
 use Rattle.dms_requests.specs.Commands.{CommandModel}
 
--- A datagram is its octets. `to_sign` hands over the datagram of this place, from 0, among all that the centre ever sent, and
--- `to_centre` one of the sign's. A datagram that no event names is lost, and one that two events name is repeated.
+-- A datagram is its octets. `to_sign` hands over the datagram of this place, from 0, among all that the centre ever
+-- sent, and `to_centre` one of the sign's. A datagram that no event names is lost, and one that two events name is
+-- repeated.
 pub data EventModel : Type 0 where
   command : CommandModel → EventModel
   sign_tick : EventModel

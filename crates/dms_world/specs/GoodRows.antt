@@ -15,10 +15,12 @@ use Rattle.dms_world.specs.Backed.{stored_row}
 abbrev pub CouldBeShown : WorldModel → Defaults → RowModel → Type 0
 CouldBeShown world defaults row = IsShowable world.sign.table.services (under world.sign.config.face defaults) row
 
--- Why a row is valid after the first events, so many of them: it is permanent, and was good under the face's own defaults as the sign was
--- made; or one of the events settled it, and it was good under the defaults of that moment.
-pub data WasGood (world : WorldModel) (events : List EventModel) (count memory number : ℕ) (row : RowModel) : Type 0 where
-  was_made : memory ≡ permanent_memory → CouldBeShown world world.sign.config.face.defaults row → WasGood world events count memory number row
+-- Why a row is valid after the first events, so many of them: it is permanent, and was good under the face's own
+-- defaults as the sign was made; or one of the events settled it, and it was good under the defaults of that moment.
+pub data WasGood (world : WorldModel) (events : List EventModel) (count memory number : ℕ)
+    (row : RowModel) : Type 0 where
+  was_made : memory ≡ permanent_memory → CouldBeShown world world.sign.config.face.defaults row
+      → WasGood world events count memory number row
   was_settled : memory ≢ permanent_memory → (before : ℕ) → before < count
       → stored_row (world_at world events before).sign.table memory number ≡ Some (record row { status = Validating })
       → stored_row (world_at world events (suc before)).sign.table memory number ≡ Some row
@@ -28,7 +30,8 @@ pub data WasGood (world : WorldModel) (events : List EventModel) (count memory n
 -- each row that is valid was good when it was settled
 abbrev pub ValidRowsWereGood : WorldModel → List EventModel → Type 0
 ValidRowsWereGood world events =
-    (memory number : ℕ) (row : RowModel) → stored_row (world_after world events).sign.table memory number ≡ Some row → row.status ≡ Valid
+    (memory number : ℕ) (row : RowModel) → stored_row (world_after world events).sign.table memory number ≡ Some row
+    → row.status ≡ Valid
     → WasGood world events (length events) memory number row
 
 -- at most one row is being validated

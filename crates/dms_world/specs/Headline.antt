@@ -1,5 +1,5 @@
--- What holds of a sign and its centre after any events (this profile).
--- These are commands, ticks, losses of power, restarts and deliveries, with datagrams lost, repeated, reordered and forged.
+-- What holds of a sign and its centre after any events (this profile). These are commands, ticks, losses of power,
+-- restarts and deliveries, with datagrams lost, repeated, reordered and forged.
 use Rattle.std.specs.Prelude.{◌≡◌, Bool, true, false, List, ⊤}
 use Rattle.dms_requests.specs.Commands.{CommandModel, IsCommand}
 use Rattle.dms_world.specs.Event.{EventModel, command, forge_sign, forge_centre}
@@ -35,9 +35,10 @@ pub record LedgerIsTrue (world : WorldModel) (events : List EventModel) : Type 0
   pub accepted : AcceptedWasAccepted world events
   pub refused : RefusedWasRefused world events
 
--- No number is given to two requests: a request that is sent again is the same one. What is shown is blank, or a validated message whose
--- checksum stands in the code that activated it. Rows and defaults are as they should be. Each code of the ledger was an operator's; and,
--- where nothing is forged, a code is recorded as accepted or refused only after the sign accepted or refused it.
+-- No number is given to two requests: a request that is sent again is unchanged. What is shown is blank, or a
+-- validated message whose checksum stands in the code that activated it. Rows and defaults are as they should be. Each
+-- code of the ledger was an operator's; and, where nothing is forged, a code is recorded as accepted or refused only
+-- after the sign accepted or refused it.
 pub record Headline (world : WorldModel) (events : List EventModel) : Type 0 where
   pub requests_agree : RequestsAgree world events
   pub backed : IsBacked world events
@@ -50,4 +51,5 @@ pub record Headline (world : WorldModel) (events : List EventModel) : Type 0 whe
 
 -- It holds from every fresh world on.
 abbrev pub HeadlineHolds : Type 0
-HeadlineHolds = (world : WorldModel) (events : List EventModel) → IsFresh world → AreEvents events → Headline world events
+HeadlineHolds = (world : WorldModel) (events : List EventModel) → IsFresh world → AreEvents events
+    → Headline world events

@@ -1,4 +1,5 @@
--- The ledger of a centre is honest: its requests have numbers of their own, and what it says of a code is what the sign did (this profile).
+-- The ledger of a centre is honest: its requests have numbers of their own, and what it says of a code is what the sign
+-- did (this profile).
 use Rattle.std.specs.Prelude.{◌≡◌, ◌≢◌, ℕ, ℤ, pos, suc, ◌<◌, ◌≤◌, true, List, [], ◌∷◌, slice_get, Some, None}
 use Rattle.dms_wire.specs.ErrorStatus.{error_status_number}
 use Rattle.dms_wire.specs.Message.{SnmpMessage}
@@ -22,7 +23,7 @@ use Rattle.dms_world.specs.Backed.{Has}
 
 -- ---- numbers
 
--- A request has a number of its own, across restarts too, and goes out three times at most, as the same octets.
+-- A request has a number of its own, across restarts too, and goes out three times at most, its octets unchanged.
 pub record RequestsAgree (world : WorldModel) (events : List EventModel) : Type 0 where
   pub same : EqualNumbersMeanEqualOctets (world_after world events).to_sign
   pub few : ThreeSendsAtMost (world_after world events).to_sign
@@ -40,7 +41,8 @@ pub record IsSentAt (world : WorldModel) (events : List EventModel) (number coun
   pub sent : WasSent world events number count
   pub least : (fewer : ℕ) → WasSent world events number fewer → count ≤ fewer
 
--- The event that follows on so many others handed the sign a datagram that spells the request of this number, and that had been sent before.
+-- The event that follows on so many others handed the sign a datagram that spells the request of this number, and that
+-- had been sent before.
 pub record WasDelivered (world : WorldModel) (events : List EventModel) (number before : ℕ) : Type 0 where
   pub sent_at : ℕ
   pub is_sent_at : IsSentAt world events number sent_at
@@ -57,12 +59,15 @@ pub record WasAnswered (world : WorldModel) (events : List EventModel) (number b
   pub heard : is_heard (world_at world events before).sign delivered.has_number.message ≡ true
 
 -- the request that it answered
-abbrev pub request_in : {world : WorldModel} {events : List EventModel} {number before : ℕ} → WasAnswered world events number before → SnmpMessage
+abbrev pub request_in : {world : WorldModel} {events : List EventModel} {number before : ℕ}
+    → WasAnswered world events number before → SnmpMessage
 request_in answered = answered.delivered.has_number.message
 
 -- what it answered
-abbrev pub answer_in : {world : WorldModel} {events : List EventModel} {number before : ℕ} → WasAnswered world events number before → Answer
-answer_in {world} {events} {number} {before} answered = answer_of_any_size (world_at world events before).sign (request_in answered)
+abbrev pub answer_in : {world : WorldModel} {events : List EventModel} {number before : ℕ}
+    → WasAnswered world events number before → Answer
+answer_in {world} {events} {number} {before} answered =
+    answer_of_any_size (world_at world events before).sign (request_in answered)
 
 -- ---- what the ledger says
 
@@ -73,15 +78,16 @@ Carries message octets = message.bindings ≡ activates octets ∷ []
 abbrev pub shown_checksum : ShownModel → ℕ
 shown_checksum shown = message_checksum shown.text shown.beacon shown.pixel
 
--- The sign accepted the code of the entry as it answered its request: the same octets, whatever the orders of the two ends. Where they
--- have one order, and the code names a row, what was activated then has the code's checksum.
+-- The sign accepted the code of the entry as it answered its request: the same octets, whatever the orders of the two
+-- ends. Where they have one order, and the code names a row, what was activated then has the code's checksum.
 pub record WasAccepted (world : WorldModel) (events : List EventModel) (entry : Entry) : Type 0 where
   pub before : ℕ
   pub answered : WasAnswered world events entry.number before
   pub code : Activation
   pub accepted : (answer_in answered).accepted ≡ Some code
   pub listed : Has (world_after world events).accepted (suc before, code)
-  pub same : octets_of_activation world.sign.table.order code ≡ octets_of_activation world.centre.settings.order entry.code
+  pub same : octets_of_activation world.sign.table.order code
+      ≡ octets_of_activation world.centre.settings.order entry.code
   pub carries : Carries (request_in answered) (octets_of_activation world.centre.settings.order entry.code)
   pub put_up : entry.code.id.memory ≢ current_buffer → entry.code.id.memory ≢ blank_memory
       → world.sign.table.order ≡ world.centre.settings.order
@@ -96,7 +102,8 @@ pub record WasRefused (world : WorldModel) (events : List EventModel) (entry : E
 -- each entry that is accepted
 abbrev pub AcceptedWasAccepted : WorldModel → List EventModel → Type 0
 AcceptedWasAccepted world events =
-    (entry : Entry) → Has (world_after world events).centre.ledger entry → entry.outcome ≡ Accepted → WasAccepted world events entry
+    (entry : Entry) → Has (world_after world events).centre.ledger entry → entry.outcome ≡ Accepted
+    → WasAccepted world events entry
 
 -- each entry that is refused
 abbrev pub RefusedWasRefused : WorldModel → List EventModel → Type 0
@@ -106,8 +113,8 @@ RefusedWasRefused world events =
 
 -- ---- whose codes the ledger has
 
--- The code of the entry is that of a command which the centre took; of a publication it has the checksum of the operator's text, beacon
--- and pixel service.
+-- The code of the entry is that of a command which the centre took; of a publication it has the checksum of the
+-- operator's text, beacon and pixel service.
 pub record WasOrdered (world : WorldModel) (events : List EventModel) (entry : Entry) : Type 0 where
   pub before : ℕ
   pub asked : CommandModel
@@ -116,4 +123,5 @@ pub record WasOrdered (world : WorldModel) (events : List EventModel) (entry : E
   pub code : code_of (job_of asked).work ≡ entry.code
 
 abbrev pub LedgerWasOrdered : WorldModel → List EventModel → Type 0
-LedgerWasOrdered world events = (entry : Entry) → Has (world_after world events).centre.ledger entry → WasOrdered world events entry
+LedgerWasOrdered world events = (entry : Entry) → Has (world_after world events).centre.ledger entry
+    → WasOrdered world events entry

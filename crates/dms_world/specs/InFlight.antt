@@ -1,4 +1,4 @@
--- What holds at every moment between two ends, of what is kept and of what is in flight (this profile).
+-- What holds at every moment between two ends, of what is stored and of what is in flight (this profile).
 use Rattle.std.specs.Prelude.{◌≡◌, ℕ, pos, suc, ◌<◌, List, length, slice_get, Some}
 use Rattle.std.specs.List.{Contains}
 use Rattle.dms_wire.specs.declared.message.Kind.TheVariants.{Set}
@@ -36,7 +36,8 @@ pub record WasReplied (world : WorldModel) (events : List EventModel) (reply : L
 
 -- each datagram to the centre is the sign's answer to the request of its number
 abbrev pub RepliesAreTheSigns : WorldModel → List EventModel → Type 0
-RepliesAreTheSigns world events = (reply : List ℕ) → Has (world_after world events).to_centre reply → WasReplied world events reply
+RepliesAreTheSigns world events = (reply : List ℕ) → Has (world_after world events).to_centre reply
+    → WasReplied world events reply
 
 -- The event that follows on so many others hands the sign this datagram: one that the centre sent, or a forged one.
 pub data IsHanded (world : WorldModel) (events : List EventModel) (before : ℕ) (datagram : List ℕ) : Type 0 where
@@ -44,8 +45,10 @@ pub data IsHanded (world : WorldModel) (events : List EventModel) (before : ℕ)
       → slice_get (world_at world events before).to_sign place ≡ Some datagram → IsHanded world events before datagram
   was_forged : slice_get events before ≡ Some (forge_sign datagram) → IsHanded world events before datagram
 
--- At that event the sign answered a SET, a binding of which sets dmsActivateMessage to these octets, with this Response.
-pub record AnswersActivation (world : WorldModel) (events : List EventModel) (before : ℕ) (octets : List ℕ) (response : SnmpMessage) : Type 0 where
+-- At that event the sign answered a SET, a binding of which sets dmsActivateMessage to these octets, with this
+-- Response.
+pub record AnswersActivation (world : WorldModel) (events : List EventModel) (before : ℕ) (octets : List ℕ)
+    (response : SnmpMessage) : Type 0 where
   pub datagram : List ℕ
   pub handed : IsHanded world events before datagram
   pub request : SnmpMessage
@@ -72,4 +75,5 @@ NumbersAreBelowNext world events =
 -- the octets of the request that the centre waits for
 abbrev pub WaitingWasSent : WorldModel → List EventModel → Type 0
 WaitingWasSent world events =
-    (job : Job) (pending : Pending) → (world_after world events).centre.phase ≡ Awaits job pending → Has (world_after world events).to_sign pending.octets
+    (job : Job) (pending : Pending) → (world_after world events).centre.phase ≡ Awaits job pending
+    → Has (world_after world events).to_sign pending.octets

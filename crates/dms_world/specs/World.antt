@@ -1,5 +1,6 @@
 -- A sign and a centre, with every datagram that was ever sent between them, under any list of events (this profile).
-use Rattle.std.specs.Prelude.{◌≡◌, ℕ, zero, suc, List, [], ◌∷◌, ◌++◌, length, slice_get, Option, Some, None, option_to_list}
+use Rattle.std.specs.Prelude.{◌≡◌, ℕ, zero, suc, List, [], ◌∷◌, ◌++◌, length, slice_get, Option, Some, None}
+use Rattle.std.specs.Prelude.{option_to_list}
 use Rattle.dms_codes.specs.declared.codes.Activation.{Activation}
 use Rattle.dms_table.specs.Rows.{TableModel}
 use Rattle.dms_sign.specs.State.{ConfigModel, SignState, start as sign_start}
@@ -13,10 +14,11 @@ use Rattle.dms_centre.specs.Commands.{commanded}
 use Rattle.dms_requests.specs.Requests.{AreSettings}
 use Rattle.dms_centre.specs.Inputs.{received as centre_received, ticked, restarted}
 use Rattle.dms_sign.specs.Construction.{CanBeMade}
-use Rattle.dms_world.specs.Event.{EventModel, command, sign_tick, centre_tick, to_sign, to_centre, power_lost, power_back, centre_restart, forge_sign, forge_centre}
+use Rattle.dms_world.specs.Event.{EventModel, command, sign_tick, centre_tick, to_sign, to_centre, power_lost}
+use Rattle.dms_world.specs.Event.{power_back, centre_restart, forge_sign, forge_centre}
 
--- The lists hold all datagrams that the ends ever sent, the oldest first; each activation that the sign accepted stands beside the
--- number of its event, from 1.
+-- The lists hold all datagrams that the ends ever sent, the oldest first; each activation that the sign accepted stands
+-- beside the number of its event, from 1.
 pub record WorldModel : Type 0 where
   pub sign : SignState
   pub centre : CentreState
@@ -86,7 +88,13 @@ world_after world events = world_at world events (length events)
 -- ---- worlds in which nothing happened yet
 
 abbrev pub beginning : SignState → CentreState → WorldModel
-beginning sign_state centre_state = record { sign = sign_state; centre = centre_state; to_sign = []; to_centre = []; accepted = [] }
+beginning sign_state centre_state = record {
+  sign = sign_state;
+  centre = centre_state;
+  to_sign = [];
+  to_centre = [];
+  accepted = [];
+}
 
 -- both ends are as they are made, of octets, and nothing was sent
 pub record IsFresh (world : WorldModel) : Type 0 where

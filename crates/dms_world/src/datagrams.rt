@@ -22,7 +22,8 @@ impl Model for Datagrams {
 
     ghost view = { λ kept. record {
       sent = datagrams_at kept.octets.items kept.places.items;
-      has_room = is_room (vec_len kept.octets) (vec_capacity kept.octets) (vec_len kept.places) (vec_capacity kept.places);
+      has_room = is_room (vec_len kept.octets) (vec_capacity kept.octets) (vec_len kept.places)
+          (vec_capacity kept.places);
       memory = vec_capacity kept.octets + vec_capacity kept.places;
     } };
 

@@ -14,15 +14,17 @@ pub enum Event<'a> {
     SignTick,
     /// The centre's clock ticks.
     CentreTick,
-    /// The sign is handed the datagram of this place, from 0, among all that the centre ever sent; where there is none, nothing happens.
+    /// The sign is handed the datagram of this place, from 0, among all that the centre ever sent; where there is none,
+    /// nothing happens.
     ToSign(u32),
-    /// The centre is handed the datagram of this place, from 0, among all that the sign ever sent; where there is none, nothing happens.
+    /// The centre is handed the datagram of this place, from 0, among all that the sign ever sent; where there is none,
+    /// nothing happens.
     ToCentre(u32),
     /// The sign loses its power.
     PowerLost,
     /// The sign's power is back, after so many seconds.
     PowerBack(u32),
-    /// The centre begins anew.
+    /// The centre restarts.
     CentreRestart,
     /// The sign is handed these octets, whoever made them.
     ForgeSign(&'a [u8]),

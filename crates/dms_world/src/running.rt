@@ -35,23 +35,27 @@ impl fmt::Display for Stopped {
 
 impl Error for Stopped {}
 
-/// The events happen in a world, one after another, counted from 1. Where there is no memory for one, the run stops before it, with the world
-/// after those that happened; only a command that is taken, a tick of the centre, a forged datagram and the delivery of a datagram that was sent can want
-/// memory. A command that the centre refuses for another reason changes nothing.
+/// The events happen in a world, one after another, counted from 1. Where there is no memory for one, the run stops
+/// before it, with the world after those that happened; only a command that is taken, a tick of the centre, a forged
+/// datagram and the delivery of a datagram that was sent can want memory. A command that the centre refuses for another
+/// reason changes nothing.
 ///
-/// What holds of the events that happened, from a fresh world on, is said beside: no request number is given to two requests; what is shown
-/// is blank, or a validated message whose checksum stands in the code that activated it; and, where nothing is forged, the centre records a
-/// code as accepted only after the sign accepted it.
+/// What holds of the events that happened, from a fresh world on, is said beside: no request number is given to two
+/// requests; what is shown is blank, or a validated message whose checksum stands in the code that activated it; and,
+/// where nothing is forged, the centre records a code as accepted only after the sign accepted it.
 pub fn run(world: &mut World, events: &[Event<'_>]) -> Result<(), Stopped>
     ensures world { seen world.new ≡ world_after (seen world.old) (happened result events.now) }
     ensures stopped { IfErr result (λ stopped. StopsAt (seen world.new) (events_model events.now) stopped.done) }
     ensures requests_agree { IsFresh (seen world.old) → RequestsAgree (seen world.old) (happened result events.now) }
     ensures backed { IsFresh (seen world.old) → IsBacked (seen world.old) (happened result events.now) }
     ensures copied_defaults { IsFresh (seen world.old) → CopiedDefaults (seen world.old) (happened result events.now) }
-    ensures rows_were_good { IsFresh (seen world.old) → ValidRowsWereGood (seen world.old) (happened result events.now) }
-    ensures one_row_is_validating { IsFresh (seen world.old) → OneRowIsValidating (seen world.old) (happened result events.now) }
+    ensures rows_were_good { IsFresh (seen world.old)
+        → ValidRowsWereGood (seen world.old) (happened result events.now) }
+    ensures one_row_is_validating { IsFresh (seen world.old)
+        → OneRowIsValidating (seen world.old) (happened result events.now) }
     ensures defaults_fit { IsFresh (seen world.old) → DefaultsFit (seen world.old) (happened result events.now) }
-    ensures ledger_was_ordered { IsFresh (seen world.old) → LedgerWasOrdered (seen world.old) (happened result events.now) }
+    ensures ledger_was_ordered { IsFresh (seen world.old)
+        → LedgerWasOrdered (seen world.old) (happened result events.now) }
     ensures ledger_is_true { IsFresh (seen world.old) → NothingIsForged (happened result events.now)
         → LedgerIsTrue (seen world.old) (happened result events.now) }
     ensures always { IsFresh (seen world.old) → Always (seen world.old) (happened result events.now) }

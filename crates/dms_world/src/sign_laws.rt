@@ -1,4 +1,5 @@
-//! Laws on what a sign holds and shows after any list of events, forged datagrams among them, stated as functions with nothing to run.
+//! Laws on what a sign holds and shows after any list of events, forged datagrams among them, stated as functions with
+//! nothing to run.
 
 ghost use Rattle.std.specs.Prelude.{List};
 ghost use Rattle.dms_world.specs.Event.{EventModel};
@@ -21,13 +22,15 @@ pub fn defaults_fit()
     ensures { (world : WorldModel) (events : List EventModel) → IsFresh world → DefaultsFit world events }
 {}
 
-/// Each row that is valid is a permanent one, or was good under the defaults of the moment at which an event settled it.
+/// Each row that is valid is a permanent one, or was good under the defaults of the moment at which an event settled
+/// it.
 pub fn rows_were_good()
     ensures { (world : WorldModel) (events : List EventModel) → IsFresh world → ValidRowsWereGood world events }
 {}
 
-/// What is shown is blank, or it is a message of a row that was valid: good under the copy of the defaults that was made as it was put
-/// up, with a checksum that stands in the code of an activation that was accepted, or in one of the sign's own codes.
+/// What is shown is blank, or it is a message of a row that was valid: good under the copy of the defaults that was
+/// made as it was put up, with a checksum that stands in the code of an activation that was accepted, or in one of the
+/// sign's own codes.
 pub fn backed()
     ensures { (world : WorldModel) (events : List EventModel) → IsFresh world → IsBacked world events }
 {}

@@ -31,14 +31,16 @@ pub struct World {
     pub to_sign: Datagrams,
     /// The datagrams that the sign ever sent, the oldest first.
     pub to_centre: Datagrams,
-    /// Each activation that the sign accepted, beside the number of its event: events are counted from 1 in each call of `run`.
+    /// Each activation that the sign accepted, beside the number of its event: events are counted from 1 in each call
+    /// of `run`.
     pub accepted: Vec<(usize, Activation)>,
-    /// What an end sends is written here, before it is kept.
+    /// What an end sends is written here, before it is stored.
     buffer: Out,
 }
 
 impl World {
-    /// The world of two ends, in which nothing was sent. It takes no memory; its lists take it from `alloc` as they grow.
+    /// The world of two ends, in which nothing was sent. It takes no memory; its lists take it from `alloc` as they
+    /// grow.
     pub fn new(alloc: Global, sign: Sign, centre: Centre) -> World
         ensures world { seen result ≡ beginning sign centre.state }
         ensures fresh { IsNewSign sign → IsNewCentre centre.state → IsFresh (seen result) }
@@ -57,8 +59,8 @@ impl World {
         }
     }
 
-    /// The event of this number happens. Where memory is wanting, nothing changes: what its lists need is had before either end is
-    /// called.
+    /// The event of this number happens. Where memory is wanting, nothing changes: what its lists need is had before
+    /// either end is called.
     pub(crate) fn happen(&mut self, number: usize, event: &Event<'_>) -> Result<(), AllocError>
         ensures world { OnOk result (seen self.new ≡ happens number (seen self.old) (event_model event.now)) }
         ensures unchanged { OnErr result (seen self.new ≡ seen self.old) }
@@ -136,8 +138,10 @@ fn hand_to_sign(
     reply: &mut Out,
 ) -> Result<(), AllocError>
     ensures sign { OnOk result (sign.new ≡ (sign_received sign.old datagram.now).after) }
-    ensures sent { OnOk result (to_centre.new.sent ≡ to_centre.old.sent ++ option_to_list (sign_received sign.old datagram.now).reply) }
-    ensures accepted { OnOk result (accepted.new.items ≡ accepted.old.items ++ noted number (sign_received sign.old datagram.now).accepted) }
+    ensures sent { OnOk result (to_centre.new.sent
+        ≡ to_centre.old.sent ++ option_to_list (sign_received sign.old datagram.now).reply) }
+    ensures accepted { OnOk result (accepted.new.items
+        ≡ accepted.old.items ++ noted number (sign_received sign.old datagram.now).accepted) }
     ensures sign_kept { OnErr result (sign.new ≡ sign.old) }
     ensures sent_kept { OnErr result (to_centre.new.sent ≡ to_centre.old.sent) }
     ensures accepted_kept { OnErr result (accepted.new.items ≡ accepted.old.items) }
@@ -163,7 +167,8 @@ fn hand_to_centre(
     request: &mut Out,
 ) -> Result<(), AllocError>
     ensures state { OnOk result (centre.new.state ≡ (centre_received centre.old.state datagram.now).state) }
-    ensures sent { OnOk result (to_sign.new.sent ≡ to_sign.old.sent ++ option_to_list (centre_received centre.old.state datagram.now).sent) }
+    ensures sent { OnOk result (to_sign.new.sent
+        ≡ to_sign.old.sent ++ option_to_list (centre_received centre.old.state datagram.now).sent) }
     ensures state_kept { OnErr result (centre.new.state ≡ centre.old.state) }
     ensures sent_kept { OnErr result (to_sign.new.sent ≡ to_sign.old.sent) }
 {
@@ -182,7 +187,8 @@ fn command_centre(
     request: &mut Out,
 ) -> Result<(), AllocError>
     ensures state { OnOk result (centre.new.state ≡ (commanded centre.old.state (command_model command.entry)).state) }
-    ensures sent { OnOk result (to_sign.new.sent ≡ to_sign.old.sent ++ option_to_list (commanded centre.old.state (command_model command.entry)).sent) }
+    ensures sent { OnOk result (to_sign.new.sent
+        ≡ to_sign.old.sent ++ option_to_list (commanded centre.old.state (command_model command.entry)).sent) }
     ensures state_kept { OnErr result (centre.new.state ≡ centre.old.state) }
     ensures sent_kept { OnErr result (to_sign.new.sent ≡ to_sign.old.sent) }
     ensures taken { OnErr result (refusal_of centre.old.state (command_model command.entry) ≡ None) }
