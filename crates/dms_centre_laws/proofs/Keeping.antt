@@ -20,11 +20,11 @@ use Rattle.dms_centre.specs.State.{Pending, Phase, Idle, Awaits, Due, CentreStat
 use Rattle.dms_requests.specs.Steps.{step_number, is_activating, last_number}
 use Rattle.dms_centre.specs.Sending.{Move, rests, ends, fails, waits, at_step, sends, sends_octets, request_octets}
 use Rattle.dms_centre.specs.Replies.{decided, polled_again, is_status, own_checksum, on_number, number_read, on_read, asked, on_success, on_failure, on_reply, is_answer}
-use Rattle.dms_requests.specs.Commands.{CommandModel, IsCommand, OfPublish, OfBlank, OfActivate, is_good, job_of}
+use Rattle.dms_requests.specs.Commands.{CommandModel, IsCommand, is_good, job_of}
 use Rattle.dms_centre.specs.Commands.{refusal_of, begins, commanded}
 use Rattle.dms_centre.specs.Resending.{gives_up, older, sent_again, sends_again, on_silence}
 use Rattle.dms_centre.specs.Inputs.{on_message, on_datagram, received, on_tick, ticked, forgets, restarted}
-use Rattle.dms_requests.specs.Requests.{AreSettings, IsWork, OfPublishing, OfShowing, IsRequest}
+use Rattle.dms_requests.specs.Requests.{AreSettings, IsWork, IsRequest}
 use Rattle.dms_centre.specs.History.{Input, IsInput, OfCommand, OfDatagram, OfTick, OfRestart, History, made, move_at, after_input, after_inputs}
 use Rattle.dms_centre_laws.specs.RequestNumbers.{HasNumber, Nothing, Again, New}
 use Rattle.dms_centre_laws.specs.Numbered.{IsAwaited, IsAtWork, IsNumbered, HistoryIsNumbered, Keeps}
