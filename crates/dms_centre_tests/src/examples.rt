@@ -1,8 +1,9 @@
-//! The examples of the first pages of dms_centre and dms_world.
+//! The examples of the first pages of dms_requests, dms_centre and dms_world.
 
 use dms_bench_sign::{face, stock};
 use dms_centre::{Centre, Command, Settings};
 use dms_codes::Order;
+use dms_requests::{Job, put_request};
 use dms_sign::{Config, Sign};
 use dms_wire::Out;
 use dms_world::{Event, World, run};
@@ -19,6 +20,16 @@ const SETTINGS: Settings<'static> = Settings {
     community: b"admin",
     order: Order::High,
 };
+
+#[test]
+fn requests(rt: HostRuntime) -> Result<(), Fail> {
+    let mut job = Job::none();
+    job.begin(&BLANK);
+    let mut out = Out::new();
+    put_request(b"admin", Order::High, 1, &job.work, job.step, &mut out);
+    assert!(rt; job.step.is_activating() && !out.is_empty());
+    Ok(())
+}
 
 #[test]
 fn centre(rt: HostRuntime) -> Result<(), Fail> {

@@ -1,5 +1,5 @@
-//! Laws on what is stored and what is in flight between a sign and its centre after any events, stated as functions with
-//! nothing to run.
+//! Laws on what is stored and what is in flight between a sign and its centre after any events, stated as functions
+//! with nothing to run.
 
 ghost use Rattle.std.specs.Prelude.{List};
 ghost use Rattle.dms_world.specs.Event.{EventModel};
