@@ -29,7 +29,7 @@ abbrev pub put_first : List ℕ → List ℕ → List ℕ
 put_first octets buffer = octets ++ drop (length octets) buffer
 
 -- ---- octets that a buffer has room for or not; where it has none the buffer stays as it is, and the size that is
--- needed is told
+-- needed is given
 
 abbrev pub given_answer : List ℕ → ℕ → ℕ
 given_answer octets room = if nat_lt room (length octets) then too_small else done
@@ -37,7 +37,7 @@ given_answer octets room = if nat_lt room (length octets) then too_small else do
 abbrev pub given_buffer : List ℕ → List ℕ → List ℕ
 given_buffer octets buffer = if nat_lt (length buffer) (length octets) then buffer else put_first octets buffer
 
--- what is old stays where memory is wanting
+-- out of memory what is old stays
 abbrev pub unless_memory : {A : Type 0} → ℕ → A → A → A
 unless_memory answer old new = if answer == no_memory then old else new
 
@@ -61,10 +61,12 @@ abbrev pub after_datagram : SignState → List ℕ → ℕ → SignState
 after_datagram s datagram room = if nat_lt room longest_datagram then s else (received s datagram).after
 
 abbrev pub datagram_answer : SignState → List ℕ → ℕ → ℕ
-datagram_answer s datagram room = if nat_lt room longest_datagram then too_small else answer_of (received s datagram).reply
+datagram_answer s datagram room =
+    if nat_lt room longest_datagram then too_small else answer_of (received s datagram).reply
 
 abbrev pub datagram_size : SignState → List ℕ → ℕ → ℕ
-datagram_size s datagram room = if nat_lt room longest_datagram then longest_datagram else size_of (received s datagram).reply
+datagram_size s datagram room =
+    if nat_lt room longest_datagram then longest_datagram else size_of (received s datagram).reply
 
 abbrev pub datagram_buffer : SignState → List ℕ → List ℕ → List ℕ
 datagram_buffer s datagram buffer =

@@ -14,4 +14,5 @@ abbrev pub message_of : CodeParts → MessageId
 message_of parts = record { memory = parts.memory; number = parts.number; crc = parts.checksum }
 
 abbrev pub activation_of : CodeParts → Activation
-activation_of parts = record { minutes = parts.minutes; priority = parts.priority; id = message_of parts; address = parts.address }
+activation_of parts =
+    record { minutes = parts.minutes; priority = parts.priority; id = message_of parts; address = parts.address }

@@ -1,5 +1,6 @@
 -- Pages as octets (this profile): of each page its times, its background, and an octet for each cell.
-use Rattle.std.specs.Prelude.{ℕ, ◌+◌, ◌*◌, ◌/◌, ◌%◌, ◌==◌, if◌then◌else◌, List, [], ◌∷◌, ◌++◌, length, map, flat_map, Option, Some, None, Result, Ok, Err, slice_index_or}
+use Rattle.std.specs.Prelude.{ℕ, ◌+◌, ◌*◌, ◌/◌, ◌%◌, ◌==◌, if◌then◌else◌, List, [], ◌∷◌, ◌++◌, length, map, flat_map}
+use Rattle.std.specs.Prelude.{Option, Some, None, Result, Ok, Err, slice_index_or}
 use Rattle.std.specs.List.{range_with_len}
 use Rattle.dms_multi.specs.declared.item.Lead.{Lead}
 use Rattle.dms_multi.specs.declared.item.Lead.TheVariants.{Lit, Dark}
@@ -36,7 +37,8 @@ dark_time (Some flash) = flash.dark
 
 -- what is asked of each cell: at 0 its look, at 1 how long it is lit while it flashes, else how long it is dark
 abbrev pub cell_octet : ℕ → Cell → ℕ
-cell_octet layer cell = if layer == 0 then look cell else if layer == 1 then lit_time cell.flash else dark_time cell.flash
+cell_octet layer cell =
+    if layer == 0 then look cell else if layer == 1 then lit_time cell.flash else dark_time cell.flash
 
 -- ---- pages
 

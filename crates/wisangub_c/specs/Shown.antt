@@ -1,4 +1,4 @@
--- What a sign shows, and what is wrong with a text, as C is told it (this profile).
+-- What a sign shows, and what is wrong with a text, as it is given to C (this profile).
 use Rattle.std.specs.Prelude.{ℕ, Result, Ok, Err}
 use Rattle.dms_face.specs.declared.multi_fault.MultiFault.{MultiFault}
 use Rattle.dms_face.specs.FaultCode.{number_of_code}

@@ -26,7 +26,7 @@ pub(crate) fn put_first(octets: &[u8], buffer: &mut [u8])
     buffer[..octets.len()].copy_from_slice(octets);
 }
 
-/// Gives octets into a buffer, and tells how many they are; where the buffer has no room for them it stays as it is.
+/// Gives octets into a buffer, and their number; where the buffer has no room for them it stays as it is.
 pub(crate) fn give(octets: &[u8], buffer: &mut [u8], size: &mut usize) -> u32
     ensures answer { result ≡ given_answer octets.now (length buffer.old) }
     ensures some_memory { (result == no_memory) ≡ false }

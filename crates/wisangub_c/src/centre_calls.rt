@@ -8,10 +8,15 @@ ghost use Rattle.dms_centre.specs.Inputs.{received, ticked, restarted};
 ghost use Rattle.dms_centre.specs.Commands.{commanded, refusal_of};
 ghost use Rattle.dms_requests.specs.CodeView.{command_model};
 ghost use Rattle.dms_centre.specs.CodeView.{settings_model, entry_model, sent_in};
-ghost use Rattle.wisangub_c.specs.Answers.{done, no_memory, too_small, at_fault, unless_memory, answer_of, size_of, buffer_with};
+ghost use Rattle.wisangub_c.specs.Answers.{done, no_memory, too_small, at_fault, unless_memory, answer_of, size_of};
+ghost use Rattle.wisangub_c.specs.Answers.{buffer_with};
 ghost use Rattle.wisangub_c.specs.Codes.{order_of};
-ghost use Rattle.wisangub_c.specs.Centre.{IsCommunity, IsPlaced, command_in, refusal_answer, given_command_answer, given_command_size, given_command_buffer, command_answer, command_size, command_buffer, after_command, code_parts};
-ghost use Rattle.wisangub_c.specs.Centre.{outcome_number, outcome_status, ledger_entry, entry_answer, entry_after, ended_number, ended_step, ended_why, ended_value, why_number, why_value, busy_number, centre_status};
+ghost use Rattle.wisangub_c.specs.Centre.{IsCommunity, IsPlaced, command_in, refusal_answer, given_command_answer};
+ghost use Rattle.wisangub_c.specs.Centre.{given_command_size, given_command_buffer, command_answer, command_size};
+ghost use Rattle.wisangub_c.specs.Centre.{command_buffer, after_command, code_parts};
+ghost use Rattle.wisangub_c.specs.Centre.{outcome_number, outcome_status, ledger_entry, entry_answer, entry_after};
+ghost use Rattle.wisangub_c.specs.Centre.{ended_number, ended_step, ended_why, ended_value, why_number, why_value};
+ghost use Rattle.wisangub_c.specs.Centre.{busy_number, centre_status};
 
 use crate::answers::{AT_FAULT, DONE, NO_MEMORY, NOTHING_SENT, TOO_SMALL, put_first};
 use crate::centre_handle::CentreHandle;
@@ -92,11 +97,12 @@ pub extern "C" fn wisangub_centre_new_at(
     centre: &mut CentrePlace,
 ) -> u32
     ensures answer { (result ≡ done) ⊎ ((result ≡ at_fault) ⊎ (result ≡ no_memory)) }
-    ensures made { result ≡ done → IsPlaced (start (record { community = community.now; order = order_of order }) first) centre.new.value }
+    ensures made { result ≡ done
+        → IsPlaced (start (record { community = community.now; order = order_of order }) first) centre.new.value }
     ensures community { result ≡ done → IsCommunity community.now }
     ensures fault { result ≡ at_fault → IsCommunity community.now → ⊥ }
     ensures memory { result ≡ no_memory → IsCommunity community.now }
-    ensures kept { (result == done) ≡ false → centre.new ≡ centre.old }
+    ensures unchanged { (result == done) ≡ false → centre.new ≡ centre.old }
 {
     let settings = Settings {
         community,
@@ -148,10 +154,17 @@ fn give_command(
     size: &mut usize,
 ) -> u32
     requires { longest_datagram ≤ length request.old }
-    ensures state { centre.new.state ≡ unless_memory result centre.old.state (commanded centre.old.state (command_model asked.entry)).state }
-    ensures answer { result ≡ unless_memory result no_memory (given_command_answer centre.old.state (command_model asked.entry) (refusal_of centre.old.state (command_model asked.entry))) }
-    ensures size { size.new ≡ unless_memory result size.old (given_command_size centre.old.state (command_model asked.entry) (refusal_of centre.old.state (command_model asked.entry)) size.old) }
-    ensures request { request.new ≡ unless_memory result request.old (given_command_buffer centre.old.state (command_model asked.entry) (refusal_of centre.old.state (command_model asked.entry)) request.old) }
+    ensures state { centre.new.state ≡ unless_memory result centre.old.state
+        (commanded centre.old.state (command_model asked.entry)).state }
+    ensures answer { result ≡ unless_memory result no_memory
+        (given_command_answer centre.old.state (command_model asked.entry)
+        (refusal_of centre.old.state (command_model asked.entry))) }
+    ensures size { size.new ≡ unless_memory result size.old
+        (given_command_size centre.old.state (command_model asked.entry)
+        (refusal_of centre.old.state (command_model asked.entry)) size.old) }
+    ensures request { request.new ≡ unless_memory result request.old
+        (given_command_buffer centre.old.state (command_model asked.entry)
+        (refusal_of centre.old.state (command_model asked.entry)) request.old) }
 {
     if let Some(fault) = centre.refusal(&asked) {
         return refusal_answer(fault);
@@ -172,10 +185,14 @@ fn command(
     size: &mut usize,
 ) -> u32
     requires { longest_datagram ≤ length request.old }
-    ensures state { centre.new.state ≡ unless_memory result centre.old.state (after_command centre.old.state (command_in centre.old.state line.now)) }
-    ensures answer { result ≡ unless_memory result no_memory (command_answer centre.old.state (command_in centre.old.state line.now)) }
-    ensures size { size.new ≡ unless_memory result size.old (command_size centre.old.state (command_in centre.old.state line.now) size.old) }
-    ensures request { request.new ≡ unless_memory result request.old (command_buffer centre.old.state (command_in centre.old.state line.now) request.old) }
+    ensures state { centre.new.state ≡ unless_memory result centre.old.state
+        (after_command centre.old.state (command_in centre.old.state line.now)) }
+    ensures answer { result ≡ unless_memory result no_memory
+        (command_answer centre.old.state (command_in centre.old.state line.now)) }
+    ensures size { size.new ≡ unless_memory result size.old
+        (command_size centre.old.state (command_in centre.old.state line.now) size.old) }
+    ensures request { request.new ≡ unless_memory result request.old
+        (command_buffer centre.old.state (command_in centre.old.state line.now) request.old) }
 {
     match read_command(alloc, centre.order(), line) {
         Ok(Some(asked)) => give_command(centre, asked.lent(), request, size),
@@ -194,15 +211,21 @@ pub extern "C" fn wisangub_centre_command_at(
     request: &mut [u8],
     size: &mut usize,
 ) -> u32
-    ensures short { length request.old < longest_datagram → (result ≡ too_small) × (centre.new.value ≡ centre.old.value) × (size.new ≡ longest_datagram) × (request.new ≡ request.old) }
+    ensures short { length request.old < longest_datagram
+        → (result ≡ too_small) × (centre.new.value ≡ centre.old.value)
+        × (size.new ≡ longest_datagram) × (request.new ≡ request.old) }
     ensures state { longest_datagram ≤ length request.old
-        → centre.new.value.state ≡ unless_memory result centre.old.value.state (after_command centre.old.value.state (command_in centre.old.value.state line.now)) }
+        → centre.new.value.state ≡ unless_memory result centre.old.value.state
+        (after_command centre.old.value.state (command_in centre.old.value.state line.now)) }
     ensures answer { longest_datagram ≤ length request.old
-        → result ≡ unless_memory result no_memory (command_answer centre.old.value.state (command_in centre.old.value.state line.now)) }
+        → result ≡ unless_memory result no_memory
+        (command_answer centre.old.value.state (command_in centre.old.value.state line.now)) }
     ensures size { longest_datagram ≤ length request.old
-        → size.new ≡ unless_memory result size.old (command_size centre.old.value.state (command_in centre.old.value.state line.now) size.old) }
+        → size.new ≡ unless_memory result size.old
+        (command_size centre.old.value.state (command_in centre.old.value.state line.now) size.old) }
     ensures request { longest_datagram ≤ length request.old
-        → request.new ≡ unless_memory result request.old (command_buffer centre.old.value.state (command_in centre.old.value.state line.now) request.old) }
+        → request.new ≡ unless_memory result request.old
+        (command_buffer centre.old.value.state (command_in centre.old.value.state line.now) request.old) }
 {
     if request.len() < MAX_DATAGRAM {
         *size = MAX_DATAGRAM;
@@ -233,11 +256,17 @@ pub extern "C" fn wisangub_centre_receive_at(
     request: &mut [u8],
     size: &mut usize,
 ) -> u32
-    ensures short { length request.old < longest_datagram → (result ≡ too_small) × (centre.new.value ≡ centre.old.value) × (size.new ≡ longest_datagram) × (request.new ≡ request.old) }
-    ensures state { longest_datagram ≤ length request.old → centre.new.value.state ≡ (received centre.old.value.state datagram.now).state }
-    ensures answer { longest_datagram ≤ length request.old → result ≡ answer_of (received centre.old.value.state datagram.now).sent }
-    ensures size { longest_datagram ≤ length request.old → size.new ≡ size_of (received centre.old.value.state datagram.now).sent }
-    ensures request { longest_datagram ≤ length request.old → request.new ≡ buffer_with (received centre.old.value.state datagram.now).sent request.old }
+    ensures short { length request.old < longest_datagram
+        → (result ≡ too_small) × (centre.new.value ≡ centre.old.value)
+        × (size.new ≡ longest_datagram) × (request.new ≡ request.old) }
+    ensures state { longest_datagram ≤ length request.old
+        → centre.new.value.state ≡ (received centre.old.value.state datagram.now).state }
+    ensures answer { longest_datagram ≤ length request.old
+        → result ≡ answer_of (received centre.old.value.state datagram.now).sent }
+    ensures size { longest_datagram ≤ length request.old
+        → size.new ≡ size_of (received centre.old.value.state datagram.now).sent }
+    ensures request { longest_datagram ≤ length request.old
+        → request.new ≡ buffer_with (received centre.old.value.state datagram.now).sent request.old }
 {
     if request.len() < MAX_DATAGRAM {
         *size = MAX_DATAGRAM;
@@ -252,7 +281,8 @@ fn tick(centre: &mut Centre, request: &mut [u8], size: &mut usize) -> u32
     ensures state { centre.new.state ≡ unless_memory result centre.old.state (ticked centre.old.state).state }
     ensures answer { result ≡ unless_memory result no_memory (answer_of (ticked centre.old.state).sent) }
     ensures size { size.new ≡ unless_memory result size.old (size_of (ticked centre.old.state).sent) }
-    ensures request { request.new ≡ unless_memory result request.old (buffer_with (ticked centre.old.state).sent request.old) }
+    ensures request { request.new ≡ unless_memory result request.old
+        (buffer_with (ticked centre.old.state).sent request.old) }
 {
     let mut out = Out::new();
     match centre.tick(&mut out) {
@@ -269,11 +299,18 @@ pub extern "C" fn wisangub_centre_tick_at(
     request: &mut [u8],
     size: &mut usize,
 ) -> u32
-    ensures short { length request.old < longest_datagram → (result ≡ too_small) × (centre.new.value ≡ centre.old.value) × (size.new ≡ longest_datagram) × (request.new ≡ request.old) }
-    ensures state { longest_datagram ≤ length request.old → centre.new.value.state ≡ unless_memory result centre.old.value.state (ticked centre.old.value.state).state }
-    ensures answer { longest_datagram ≤ length request.old → result ≡ unless_memory result no_memory (answer_of (ticked centre.old.value.state).sent) }
-    ensures size { longest_datagram ≤ length request.old → size.new ≡ unless_memory result size.old (size_of (ticked centre.old.value.state).sent) }
-    ensures request { longest_datagram ≤ length request.old → request.new ≡ unless_memory result request.old (buffer_with (ticked centre.old.value.state).sent request.old) }
+    ensures short { length request.old < longest_datagram
+        → (result ≡ too_small) × (centre.new.value ≡ centre.old.value)
+        × (size.new ≡ longest_datagram) × (request.new ≡ request.old) }
+    ensures state { longest_datagram ≤ length request.old
+        → centre.new.value.state ≡ unless_memory result centre.old.value.state (ticked centre.old.value.state).state }
+    ensures answer { longest_datagram ≤ length request.old
+        → result ≡ unless_memory result no_memory (answer_of (ticked centre.old.value.state).sent) }
+    ensures size { longest_datagram ≤ length request.old
+        → size.new ≡ unless_memory result size.old (size_of (ticked centre.old.value.state).sent) }
+    ensures request { longest_datagram ≤ length request.old
+        → request.new ≡ unless_memory result request.old
+        (buffer_with (ticked centre.old.value.state).sent request.old) }
 {
     if request.len() < MAX_DATAGRAM {
         *size = MAX_DATAGRAM;
@@ -282,7 +319,7 @@ pub extern "C" fn wisangub_centre_tick_at(
     tick(centre.as_mut(), request, size)
 }
 
-/// The central system begins anew, as after a loss of power.
+/// The central system starts again, as after a loss of power.
 #[unsafe(no_mangle)]
 pub extern "C" fn wisangub_centre_restart_at(centre: &mut CentreHandle)
     ensures state { centre.new.value.state ≡ restarted centre.old.value.state }
@@ -430,7 +467,7 @@ fn ledger_entry(number: u32, entry: &Entry) -> LedgerEntry
     }
 }
 
-fn tell_entry(centre: &Centre, index: usize, entry: &mut LedgerEntry) -> u32
+fn put_entry(centre: &Centre, index: usize, entry: &mut LedgerEntry) -> u32
     ensures answer { result ≡ entry_answer (slice_get centre.now.state.ledger index) }
     ensures entry { entry.new ≡ entry_after (slice_get centre.now.state.ledger index) entry.old }
 {
@@ -454,7 +491,7 @@ pub extern "C" fn wisangub_centre_entry_at(
     ensures answer { result ≡ entry_answer (slice_get centre.old.value.state.ledger index) }
     ensures entry { entry.new ≡ entry_after (slice_get centre.old.value.state.ledger index) entry.old }
 {
-    tell_entry(centre.as_mut(), index, entry)
+    put_entry(centre.as_mut(), index, entry)
 }
 
 /// Gives the central system's memory back: its place has none then, and its pointer is null.

@@ -90,7 +90,8 @@ pub extern "C" fn wisangub_activation_code_at(
     code: &mut [u8],
     size: &mut usize,
 ) -> u32
-    ensures answer { result ≡ given_answer (octets_of_activation (order_of order) (activation_of parts.now)) (length code.old) }
+    ensures answer { result ≡ given_answer (octets_of_activation (order_of order) (activation_of parts.now))
+        (length code.old) }
     ensures size { size.new ≡ length (octets_of_activation (order_of order) (activation_of parts.now)) }
     ensures code { code.new ≡ given_buffer (octets_of_activation (order_of order) (activation_of parts.now)) code.old }
 {

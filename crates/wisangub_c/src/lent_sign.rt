@@ -11,7 +11,8 @@ use dms_sign::Sign;
 impl SignHandle {
     /// The sign. What is done to it is done to the handle's.
     pub(crate) fn as_mut(&mut self) -> &mut Sign
-        ensures* writes_back { sem 𝓛 (follows handle_row sign_row self.entry.ghost_name result.ghost_name (λ w. record self.entry.now { value = w })) }
+        ensures* writes_back { sem 𝓛 (follows handle_row sign_row self.entry.ghost_name result.ghost_name
+            (λ w. record self.entry.now { value = w })) }
         ensures value { result.now ≡ self.old.value }
     {
         unsafe { &mut *(self.at as *mut Sign) }

@@ -17,9 +17,11 @@ use std::alloc::Global;
 
 /// Gives the octets of pages.
 fn give_pages(alloc: Global, layer: u8, pages: &[Page], octets: &mut [u8], size: &mut usize) -> u32
-    ensures answer { result ≡ unless_memory result no_memory (given_answer (pages_octets layer pages.now) (length octets.old)) }
+    ensures answer { result ≡ unless_memory result no_memory
+        (given_answer (pages_octets layer pages.now) (length octets.old)) }
     ensures size { size.new ≡ unless_memory result size.old (length (pages_octets layer pages.now)) }
-    ensures octets { octets.new ≡ unless_memory result octets.old (given_buffer (pages_octets layer pages.now) octets.old) }
+    ensures octets { octets.new ≡ unless_memory result octets.old
+        (given_buffer (pages_octets layer pages.now) octets.old) }
 {
     match pages_octets(alloc, layer, pages) {
         Ok(made) => give(made.as_slice(), octets, size),
@@ -37,9 +39,11 @@ pub extern "C" fn wisangub_sign_pages_at(
     size: &mut usize,
 ) -> u32
     ensures same { sign.new.value ≡ sign.old.value }
-    ensures answer { result ≡ unless_memory result no_memory (given_answer (shown_octets layer sign.old.value) (length octets.old)) }
+    ensures answer { result ≡ unless_memory result no_memory
+        (given_answer (shown_octets layer sign.old.value) (length octets.old)) }
     ensures size { size.new ≡ unless_memory result size.old (length (shown_octets layer sign.old.value)) }
-    ensures octets { octets.new ≡ unless_memory result octets.old (given_buffer (shown_octets layer sign.old.value) octets.old) }
+    ensures octets { octets.new ≡ unless_memory result octets.old
+        (given_buffer (shown_octets layer sign.old.value) octets.old) }
 {
     match shown_pages(alloc, sign.as_mut()) {
         Ok(pages) => give_pages(alloc, layer, pages.as_slice(), octets, size),
@@ -59,10 +63,14 @@ pub extern "C" fn wisangub_sign_text_pages_at(
     fault: &mut TextFault,
 ) -> u32
     ensures same { sign.new.value ≡ sign.old.value }
-    ensures answer { result ≡ unless_memory result no_memory (drawn_answer layer (drawn_text sign.old.value.config.face text.now) (length octets.old)) }
-    ensures size { size.new ≡ unless_memory result size.old (drawn_size layer (drawn_text sign.old.value.config.face text.now) size.old) }
-    ensures octets { octets.new ≡ unless_memory result octets.old (drawn_buffer layer (drawn_text sign.old.value.config.face text.now) octets.old) }
-    ensures fault { fault.new ≡ unless_memory result fault.old (fault_after (drawn_text sign.old.value.config.face text.now) fault.old) }
+    ensures answer { result ≡ unless_memory result no_memory
+        (drawn_answer layer (drawn_text sign.old.value.config.face text.now) (length octets.old)) }
+    ensures size { size.new ≡ unless_memory result size.old
+        (drawn_size layer (drawn_text sign.old.value.config.face text.now) size.old) }
+    ensures octets { octets.new ≡ unless_memory result octets.old
+        (drawn_buffer layer (drawn_text sign.old.value.config.face text.now) octets.old) }
+    ensures fault { fault.new ≡ unless_memory result fault.old
+        (fault_after (drawn_text sign.old.value.config.face text.now) fault.old) }
 {
     match pages(alloc, sign.as_mut().face(), text) {
         Ok(pages) => give_pages(alloc, layer, pages.as_slice(), octets, size),

@@ -2,7 +2,8 @@
 
 ghost use Rattle.std.specs.Prelude.{◌≡◌, ◌++◌, ◌∷◌, [], ◌<◌, ◌≤◌, ◌+◌, ◌*◌, ◌/◌, length, flat_map, IfOk, OnOk};
 ghost use Rattle.wisangub_c.specs.Answers.{put_first};
-ghost use Rattle.wisangub_c.specs.Pages.{first_mark, lit_mark, look, lit_time, dark_time, cell_octet, row_octets, rows_octets, page_octets, pages_octets, lit_in, eight_bits, row_bits};
+ghost use Rattle.wisangub_c.specs.Pages.{first_mark, lit_mark, look, lit_time, dark_time, cell_octet, row_octets};
+ghost use Rattle.wisangub_c.specs.Pages.{rows_octets, page_octets, pages_octets, lit_in, eight_bits, row_bits};
 
 use dms_face::{Cell, Flash};
 use dms_multi::Lead;
@@ -37,7 +38,8 @@ fn put_page(octets: &mut Vec<u8>, layer: u8, page: &Page) -> Result<(), AllocErr
 
 /// The times of a page and its background.
 fn put_times(octets: &mut Vec<u8>, page: &Page) -> Result<(), AllocError>
-    ensures { OnOk result (octets.new.items ≡ octets.old.items ++ (page.now.on ∷ page.now.off ∷ page.now.background ∷ [])) }
+    ensures { OnOk result (octets.new.items
+        ≡ octets.old.items ++ (page.now.on ∷ page.now.off ∷ page.now.background ∷ [])) }
 {
     octets.extend_from_slice(&[page.on(), page.off(), page.back()])
 }

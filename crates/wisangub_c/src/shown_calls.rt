@@ -22,7 +22,7 @@ pub struct ShownNow {
     pub checksum: u16,
     /// The type of memory that the code named.
     pub memory: u8,
-    /// How it came up (dmsMsgSourceMode).
+    /// What activated it (dmsMsgSourceMode).
     pub mode: u8,
     /// Its priority.
     pub priority: u8,
@@ -67,7 +67,7 @@ pub(crate) fn text_fault(fault: MultiFault) -> TextFault
     }
 }
 
-/// What the sign shows: the row's name, how it came up, its priority and the minutes that are left.
+/// What the sign shows: the row's name, what activated it, its priority and the minutes that are left.
 #[unsafe(no_mangle)]
 pub extern "C" fn wisangub_sign_shown_at(sign: &mut SignHandle, shown: &mut ShownNow)
     ensures same { sign.new.value ≡ sign.old.value }

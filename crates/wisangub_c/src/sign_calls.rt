@@ -8,7 +8,8 @@ ghost use Rattle.dms_description.specs.Description.{Description, SpellsSign};
 ghost use Rattle.dms_sign.specs.State.{start};
 ghost use Rattle.dms_sign.specs.Reply.{received, after_get};
 ghost use Rattle.dms_sign.specs.Events.{after_tick, after_power_loss, after_power_return};
-ghost use Rattle.wisangub_c.specs.Answers.{done, no_memory, at_fault, answer_of, size_of, buffer_with, after_datagram, datagram_answer, datagram_size, datagram_buffer};
+ghost use Rattle.wisangub_c.specs.Answers.{done, no_memory, at_fault, answer_of, size_of, buffer_with, after_datagram};
+ghost use Rattle.wisangub_c.specs.Answers.{datagram_answer, datagram_size, datagram_buffer};
 
 use crate::answers::{AT_FAULT, DONE, NO_MEMORY, NOTHING_SENT, TOO_SMALL, put_first};
 use crate::loose::Loose;
@@ -57,7 +58,7 @@ pub extern "C" fn wisangub_sign_new_at(
     ensures made { result ≡ done → (it : Description) × SpellsSign (kept_lines text.now) it
         × (sign.new.value ≡ Some (start it.config it.table)) × (first.new ≡ it.first) }
     ensures fault { result ≡ at_fault → (it : Description) → SpellsSign (kept_lines text.now) it → ⊥ }
-    ensures kept { (result == done) ≡ false → (sign.new ≡ sign.old) × (first.new ≡ first.old) }
+    ensures unchanged { (result == done) ≡ false → (sign.new ≡ sign.old) × (first.new ≡ first.old) }
     ensures line { (result == at_fault) ≡ false → line.new ≡ line.old }
 {
     match made(alloc, text) {

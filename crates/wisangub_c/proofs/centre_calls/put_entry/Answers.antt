@@ -1,7 +1,7 @@
 use Rattle.std.proofs.Common.{◌∙◌, None, sym, ap}
 use Rattle.wisangub_c.specs.Centre.{entry_answer, entry_after}
 use Rattle.wisangub_c.proofs.Entries.{entry_at}
-use Rattle.wisangub_c.proofs.centre_calls.tell_entry.Goals as goal
+use Rattle.wisangub_c.proofs.centre_calls.put_entry.Goals as goal
 
 pub returns-in-Some-clause-entry : goal.returns-in-Some-clause-entry
 returns-in-Some-clause-entry c =
