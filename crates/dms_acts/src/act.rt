@@ -6,8 +6,8 @@ use dms_calls::{Call, Form, SignWanted};
 use dms_description::Setup;
 use dms_parties::{LiveCentre, LiveSign};
 use dms_printing::{
-    activation, code, decode, list_items, print_count, print_pages, say_why_dropped, status_after,
-    tell, tell_hex_fault,
+    activation, code, decode, list_items, print_count, print_hex_fault, print_line, print_pages,
+    say_why_dropped, status_after,
 };
 use dms_replay::{ReplayFault, address, bench};
 use dms_sign::Receipt;
@@ -30,7 +30,7 @@ pub fn act<R: Read, W: Write>(
     act_saying(alloc, call, reader, writer, &mut Vec::new(alloc))
 }
 
-/// The same, and says in words on the standard error why an input was refused or dropped.
+/// Carries out the call as `act` does, and says in words on the standard error why an input was refused or dropped.
 pub fn act_saying<R: Read, W: Write, E: Write>(
     alloc: Global,
     call: &Call<'_>,
@@ -49,11 +49,11 @@ pub fn act_saying<R: Read, W: Write, E: Write>(
             drawing,
         } => match setup(alloc, sign, reader) {
             Ok(setup) => print_pages(alloc, text, setup.sign.face(), drawing, writer, errors),
-            Err(refusal) => tell_refusal(writer, errors, refusal),
+            Err(refusal) => report_refusal(writer, errors, refusal),
         },
         Call::Decode { hex, spaced, form } => decode(alloc, hex, spaced, form, writer),
         Call::Items { text, form } => list_items(alloc, text, form, writer, errors),
-        Call::Version => tell(writer, VERSION, 0),
+        Call::Version => print_line(writer, VERSION, 0),
         Call::Code(words) => {
             let address = address(words.terms.address.as_bytes());
             code(alloc, &words, address, writer)
@@ -77,11 +77,11 @@ fn be_sign<R: Read, W: Write, E: Write>(
     errors: &mut E,
 ) -> u8 {
     let Ok(mut input) = Input::new(alloc, Counted::new(&mut *reader)) else {
-        return tell(writer, "memory", 1);
+        return print_line(writer, "memory", 1);
     };
     match live_setup(alloc, wanted, &mut input) {
         Ok(setup) => talk(alloc, LiveSign::new(setup.sign), &mut input, writer),
-        Err(refusal) => tell_refusal(writer, errors, refusal),
+        Err(refusal) => report_refusal(writer, errors, refusal),
     }
 }
 
@@ -94,15 +94,15 @@ fn be_centre<R: Read, W: Write, E: Write>(
     errors: &mut E,
 ) -> u8 {
     let Ok(mut input) = Input::new(alloc, Counted::new(&mut *reader)) else {
-        return tell(writer, "memory", 1);
+        return print_line(writer, "memory", 1);
     };
     let setup = match live_setup(alloc, wanted, &mut input) {
         Ok(setup) => setup,
-        Err(refusal) => return tell_refusal(writer, errors, refusal),
+        Err(refusal) => return report_refusal(writer, errors, refusal),
     };
     match LiveCentre::new(alloc, &setup) {
         Ok(centre) => talk(alloc, centre, &mut input, writer),
-        Err(_) => tell(writer, "memory", 1),
+        Err(_) => print_line(writer, "memory", 1),
     }
 }
 
@@ -155,7 +155,7 @@ fn print_report<R: Read, W: Write, E: Write>(
     match replayed(alloc, &mut Counted::new(&mut *reader), &mut sink) {
         Ok(()) => 0,
         Err(refusal) if refusal.fault == ReplayFault::Write => 1,
-        Err(refusal) => tell_refusal(writer, errors, refusal),
+        Err(refusal) => report_refusal(writer, errors, refusal),
     }
 }
 
@@ -170,21 +170,21 @@ fn answer<R: Read, W: Write, E: Write>(
 ) -> u8 {
     let datagram = match hex::decode(alloc, digits.as_bytes()) {
         Ok(datagram) => datagram,
-        Err(fault) => return tell_hex_fault(Form::Lines, writer, fault),
+        Err(fault) => return print_hex_fault(Form::Lines, writer, fault),
     };
     let mut setup = match setup(alloc, sign, reader) {
         Ok(setup) => setup,
-        Err(refusal) => return tell_refusal(writer, errors, refusal),
+        Err(refusal) => return report_refusal(writer, errors, refusal),
     };
     let mut reply = Out::new();
     match setup.sign.receive(datagram.as_slice(), &mut reply) {
         Receipt::Dropped => {
             say_why_dropped(datagram.as_slice(), errors);
-            tell(writer, "dropped", 1)
+            print_line(writer, "dropped", 1)
         }
         Receipt::Replied | Receipt::Accepted(_) => match hex::encode(alloc, reply.as_slice()) {
-            Ok(text) => tell(writer, text.as_str(), 0),
-            Err(_) => tell(writer, "memory", 1),
+            Ok(text) => print_line(writer, text.as_str(), 0),
+            Err(_) => print_line(writer, "memory", 1),
         },
     }
 }
@@ -201,7 +201,7 @@ fn check_text<R: Read, W: Write, E: Write>(
     match setup(alloc, sign, reader) {
         Ok(setup) => print_count(alloc, text, setup.sign.face(), form, writer, errors),
         Err(refusal) => match form {
-            Form::Lines => tell_refusal(writer, errors, refusal),
+            Form::Lines => report_refusal(writer, errors, refusal),
             Form::Json => {
                 let _ = refusal.say(errors);
                 status_after(1, writeln!(writer, "{{\"refused\":\"{}\"}}", refusal.fault))
@@ -211,7 +211,7 @@ fn check_text<R: Read, W: Write, E: Write>(
 }
 
 /// Prints what is wrong with a script or a description on the standard input, or that there is no memory.
-fn tell_refusal<W: Write, E: Write>(writer: &mut W, errors: &mut E, refusal: Refusal) -> u8 {
-    let _ = refusal.tell(writer, errors);
+fn report_refusal<W: Write, E: Write>(writer: &mut W, errors: &mut E, refusal: Refusal) -> u8 {
+    let _ = refusal.report(writer, errors);
     1
 }

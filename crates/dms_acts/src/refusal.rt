@@ -34,11 +34,11 @@ impl From<ReplayFault> for Refusal {
 impl Refusal {
     ghost use Rattle.std.specs.Prelude.{OnOk};
     ghost use Rattle.std.specs.Io.KnownBytes.{Appends};
-    ghost use Rattle.dms_acts.specs.Told.{fault_line, cause_line, empty_line, said};
+    ghost use Rattle.dms_acts.specs.RefusalText.{fault_line, cause_line, empty_line, said};
 
     /// Prints the fault on the standard output, and says on the standard error what is wrong with its line. It says so
     /// also where the fault is not printed.
-    pub fn tell<W: Write, E: Write>(&self, writer: &mut W, errors: &mut E) -> io::Result<()>
+    pub fn report<W: Write, E: Write>(&self, writer: &mut W, errors: &mut E) -> io::Result<()>
         ensures printed { OnOk result (Appends (W.contents writer.old) (W.contents writer.new)
             (fault_line self.now.fault)) }
         ensures said { OnOk result (Appends (E.contents errors.old) (E.contents errors.new) (said self.now)) }

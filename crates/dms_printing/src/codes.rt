@@ -6,7 +6,7 @@ ghost use Rattle.dms_codes.specs.declared.codes.Order.TheVariants.{High, Swapped
 ghost use Rattle.dms_codes.specs.declared.codes.Activation.{Activation};
 ghost use Rattle.dms_printing.specs.CodeLine.{code_line};
 
-use crate::statuses::{status, tell};
+use crate::statuses::{print_line, status};
 use dms_calls::{ActivationWords, CodeWords, TermWords};
 use dms_codes::{Activation, MAX_TEXT, MessageId, Order, crc};
 use dms_text::version;
@@ -21,10 +21,10 @@ pub fn code<W: Write>(
     writer: &mut W,
 ) -> u8 {
     let Some(address) = address else {
-        return tell(writer, "bad address", 2);
+        return print_line(writer, "bad address", 2);
     };
     if words.text.len() > MAX_TEXT {
-        return tell(writer, "text too long", 1);
+        return print_line(writer, "text too long", 1);
     }
     let crc = crc(
         words.text.as_bytes(),
@@ -38,7 +38,7 @@ pub fn code<W: Write>(
     };
     let mut lines = Vec::new(alloc);
     if writeln!(lines, "crc {crc:04x}").is_err() {
-        return tell(writer, "memory", 1);
+        return print_line(writer, "memory", 1);
     }
     print_code(alloc, lines, id, &words.terms, address, writer)
 }
@@ -51,10 +51,10 @@ pub fn activation<W: Write>(
     writer: &mut W,
 ) -> u8 {
     let Some(crc) = version(words.checksum.as_bytes()) else {
-        return tell(writer, "bad checksum", 2);
+        return print_line(writer, "bad checksum", 2);
     };
     let Some(address) = address else {
-        return tell(writer, "bad address", 2);
+        return print_line(writer, "bad address", 2);
     };
     let id = MessageId {
         memory: words.message.memory,
@@ -76,7 +76,7 @@ fn print_code<W: Write>(
     let code = on_terms(id, terms, address);
     match put_code(alloc, &mut lines, order_of(terms), &code) {
         Ok(()) => status(writer.write_all(lines.as_slice())),
-        Err(_) => tell(writer, "memory", 1),
+        Err(_) => print_line(writer, "memory", 1),
     }
 }
 

@@ -1,4 +1,4 @@
-//! Answers as objects of JSON, whose fields are named by the words that the lines of the same answer have.
+//! Answers as objects of JSON, whose fields are named by the words of the answer as lines.
 
 use crate::fields::{is_printable, kind_name};
 use crate::names::write_object;

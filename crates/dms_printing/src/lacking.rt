@@ -47,8 +47,8 @@ impl fmt::Display for Lack {
     }
 }
 
-/// What a face lacks for a text with this fault, where that is a character, a font or room. Nothing is told where no
-/// matrix has the room, or where there is no memory to look.
+/// What a face lacks for a text with this fault, where that is a character, a font or room. `None` where no matrix has
+/// the room, and where there is no memory to look.
 pub(crate) fn what_lacks(
     alloc: Global,
     face: &Face,
@@ -151,7 +151,7 @@ fn takes(
     }
 }
 
-/// A font of the same sizes, of which no picture has a lit lamp.
+/// A font with the sizes of this one, of which no picture has a lit lamp.
 fn unlit(alloc: Global, font: &Font) -> Result<Font, AllocError> {
     let mut text = Vec::new(alloc);
     writeln!(

@@ -20,6 +20,6 @@ pub mod statuses;
 pub mod texts;
 
 pub use codes::{activation, code};
-pub use reading::{decode, list_items, say_why_dropped, tell_hex_fault};
-pub use statuses::{status, status_after, tell};
+pub use reading::{decode, list_items, print_hex_fault, say_why_dropped};
+pub use statuses::{print_line, status, status_after};
 pub use texts::{print_count, print_pages};

@@ -3,7 +3,7 @@
 use crate::fields::write_message;
 use crate::item_lines::write_items;
 use crate::json::{put_items, put_message};
-use crate::statuses::{status, status_after, tell};
+use crate::statuses::{print_line, status, status_after};
 use dms_calls::Form;
 use dms_wire::{WireFault, read};
 use hex::FromHexError;
@@ -26,11 +26,11 @@ pub fn decode<W: Write>(
     };
     let datagram = match octets {
         Ok(datagram) => datagram,
-        Err(fault) => return tell_hex_fault(form, writer, fault),
+        Err(fault) => return print_hex_fault(form, writer, fault),
     };
     let message = match read(datagram.as_slice()) {
         Ok(message) => message,
-        Err(fault) => return tell_wire_fault(form, writer, fault),
+        Err(fault) => return print_wire_fault(form, writer, fault),
     };
     let mut fields = Vec::new(alloc);
     let made = match form {
@@ -39,7 +39,7 @@ pub fn decode<W: Write>(
     };
     match made {
         Ok(()) => status(writer.write_all(fields.as_slice())),
-        Err(_) => tell_refused(form, writer, "memory", 1),
+        Err(_) => print_refused(form, writer, "memory", 1),
     }
 }
 
@@ -62,7 +62,7 @@ pub fn list_items<W: Write, E: Write>(
             let _ = writeln!(errors, "{fault}");
             status_after(1, writer.write_all(lines.as_slice()))
         }
-        Err(_) => tell_refused(form, writer, "memory", 1),
+        Err(_) => print_refused(form, writer, "memory", 1),
     }
 }
 
@@ -79,10 +79,10 @@ fn spaced_octets(alloc: Global, digits: &str) -> Result<Vec<u8>, FromHexError> {
 }
 
 /// Prints that digits are no octets, or that there is no memory.
-pub fn tell_hex_fault<W: Write>(form: Form, writer: &mut W, fault: FromHexError) -> u8 {
+pub fn print_hex_fault<W: Write>(form: Form, writer: &mut W, fault: FromHexError) -> u8 {
     match fault {
-        FromHexError::OutOfMemory => tell_refused(form, writer, "memory", 1),
-        _ => tell_refused(form, writer, "not hex", 2),
+        FromHexError::OutOfMemory => print_refused(form, writer, "memory", 1),
+        _ => print_refused(form, writer, "not hex", 2),
     }
 }
 
@@ -98,7 +98,7 @@ pub fn say_why_dropped<E: Write>(datagram: &[u8], errors: &mut E) {
 }
 
 /// Prints why octets spell no message, and where.
-fn tell_wire_fault<W: Write>(form: Form, writer: &mut W, fault: WireFault) -> u8 {
+fn print_wire_fault<W: Write>(form: Form, writer: &mut W, fault: WireFault) -> u8 {
     status_after(
         1,
         match form {
@@ -113,9 +113,9 @@ fn tell_wire_fault<W: Write>(form: Form, writer: &mut W, fault: WireFault) -> u8
 }
 
 /// Prints a refusal, and gives the status, or 1 where it was not written.
-fn tell_refused<W: Write>(form: Form, writer: &mut W, words: &str, status: u8) -> u8 {
+fn print_refused<W: Write>(form: Form, writer: &mut W, words: &str, status: u8) -> u8 {
     match form {
-        Form::Lines => tell(writer, words, status),
+        Form::Lines => print_line(writer, words, status),
         Form::Json => { status_after(status, writeln!(writer, "{{\"refused\":\"{words}\"}}")) }
     }
 }

@@ -26,7 +26,7 @@ pub fn status_after(refused: u8, written: io::Result<()>) -> u8
 }
 
 /// Prints a line, and gives the status, or 1 where the line was not written.
-pub fn tell<W: Write>(writer: &mut W, line: &str, status: u8) -> u8
+pub fn print_line<W: Write>(writer: &mut W, line: &str, status: u8) -> u8
     ensures status { result ≢ 1 → result ≡ status }
     ensures printed { result ≢ 1
         → Appends (W.contents writer.old) (W.contents writer.new) (line.now ++ codes "\n") }

@@ -1,7 +1,7 @@
 //! Texts on a face: the number of their pages, their pages, and their faults.
 
 use crate::lacking::what_lacks;
-use crate::statuses::{status, status_after, tell};
+use crate::statuses::{print_line, status, status_after};
 use dms_calls::{Drawing, Form};
 use dms_face::{Face, MultiFault, check};
 use dms_lines::{numbered_page, pages_text};
@@ -51,9 +51,9 @@ pub fn print_pages<W: Write, E: Write>(
     let pages = match pages(alloc, face, text.as_bytes()) {
         Ok(pages) => pages,
         Err(PagesFault::Multi(fault)) => {
-            return tell_fault(alloc, text, face, fault, writer, errors);
+            return print_fault(alloc, text, face, fault, writer, errors);
         }
-        Err(PagesFault::Memory) => return tell(writer, "memory", 1),
+        Err(PagesFault::Memory) => return print_line(writer, "memory", 1),
     };
     match drawing.page {
         None if drawing.svg => {
@@ -66,7 +66,7 @@ pub fn print_pages<W: Write, E: Write>(
             Some(page) => {
                 print_document(numbered_page(alloc, usize::from(number), page), writer)
             }
-            None => tell(writer, "no such page", 1),
+            None => print_line(writer, "no such page", 1),
         },
     }
 }
@@ -75,12 +75,12 @@ pub fn print_pages<W: Write, E: Write>(
 fn print_document<W: Write>(document: Result<Vec<u8>, AllocError>, writer: &mut W) -> u8 {
     match document {
         Ok(document) => status(writer.write_all(document.as_slice())),
-        Err(_) => tell(writer, "memory", 1),
+        Err(_) => print_line(writer, "memory", 1),
     }
 }
 
 /// Prints the fault of a text, which is refused, and says it in words.
-fn tell_fault<W: Write, E: Write>(
+fn print_fault<W: Write, E: Write>(
     alloc: Global,
     text: &str,
     face: &Face,
