@@ -15,7 +15,7 @@ use std::fmt;
 pub enum Usage {
     /// It is at fault, or asks for help: the lines that say so.
     Line(String),
-    /// The same, and `--sign` is followed by a word, as if that were the file of a description.
+    /// It is at fault, and `--sign` is followed by a word, as if that were the file of a description.
     NamesFile(String),
     /// It has no subcommand, or one without its words.
     NoCall,
@@ -29,7 +29,8 @@ impl fmt::Display for Usage {
             Usage::Line(lines) => f.write_str(lines.as_str()),
             Usage::NamesFile(lines) => writeln!(
                 f,
-                "{lines}\nhint: --sign takes no file: the description is read from the standard input, as in --sign < FILE"
+                "{lines}\nhint: --sign takes no file: the description is read from the standard input, as in \
+                 --sign < FILE"
             ),
             Usage::NoCall => writeln!(f, "a subcommand and its words are wanted"),
             Usage::Memory => writeln!(f, "error: out of memory"),
@@ -56,7 +57,7 @@ fn lines_of<S: AsStr>(alloc: Global, words: &[S], error: clap::Error) -> Usage {
     }
 }
 
-/// Whether a word follows `--sign`, in the same word after `=` or as the next one.
+/// Whether a word follows `--sign`, after `=` or as the next one.
 fn names_file<S: AsStr>(words: &[S]) -> bool {
     let mut is_after_sign = false;
     for word in words {

@@ -5,7 +5,8 @@ use std::alloc::{AllocError, Global};
 
 /// Which sign answers.
 const WHICH_SIGN: &str =
-    "Where --sign is not given the bench sign answers: 23 columns and 14 rows, with the characters 1 A B [ ] and the permanent message B.\nWith --sign the standard input describes the sign: signtool check --sign TEXT < FILE";
+    "Where --sign is not given the bench sign answers: 23 columns and 14 rows, with the characters 1 A B [ ] and the \
+     permanent message B.\nWith --sign the standard input describes the sign: signtool check --sign TEXT < FILE";
 
 /// The types of memory that a code can name.
 const MEMORIES: [&str; 5] = ["2", "3", "4", "5", "7"];
@@ -117,7 +118,8 @@ fn sign<'a>(alloc: Global) -> Arg<'a> {
     flag(
         alloc,
         "sign",
-        "the sign that the standard input describes, in place of the bench sign, which is 23 by 14 and has the characters 1 A B [ ]",
+        "the sign that the standard input describes, in place of the bench sign, which is 23 by 14 and has the \
+         characters 1 A B [ ]",
     )
 }
 

@@ -66,10 +66,11 @@ impl Model for LiveCentre {
 
 impl LiveCentre {
     /// The centre of a sign, as it starts: it has the sign's writing community and its order, and the first number that
-    /// was described. `Err` comes only where memory is wanting.
+    /// was described. `Err` only out of memory.
     pub fn new(alloc: Global, setup: &Setup) -> Result<LiveCentre, AllocError>
         ensures { IfOk result (λ party. party
-            ≡ start (record { community = setup.now.sign.config.writer; order = setup.now.sign.table.order }) setup.now.first) }
+            ≡ start (record { community = setup.now.sign.config.writer; order = setup.now.sign.table.order })
+            setup.now.first) }
     {
         let settings = Settings {
             community: setup.sign.writer(),
