@@ -2,9 +2,10 @@
 use Rattle.std.proofs.Common.{◌≡◌, ◌≢◌, ℕ, ◌+◌, ◌-◌, ◌*◌, ◌%◌, ◌^◌, ◌==◌, ◌<◌, ◌≤◌, ◌&&◌, ◌||◌, Bool, true, false, not, refl, sym, ap, ◌∙◌, arith, min, inl, inr}
 use Rattle.std.specs.Prelude.{bit_and, nat_le, nat_lt}
 use Rattle.std.specs.Int.{w32, bit_at, bit_not, trailing_zeros}
-use Rattle.std.proofs.lemmas.Bool.{cases_Bool, cases_lt, and_parts, and_from, or_cases, or_left, or_right, leb-true, le-leb, ltb-true, lt-ltb, eqb-true, eq-eqb, false_from_ne_true}
+use Rattle.std.proofs.lemmas.Bool.{cases_Bool, cases_lt, and_parts, and_from, or_cases, or_left, or_right, leb-true, le-leb, ltb-true, lt-ltb, eqb-true, eq-eqb, false_from_ne_true, not-true}
 use Rattle.std.proofs.lemmas.Nat.{and_mask, and_le_l}
 use Rattle.std.proofs.lemmas.Nat.Bits.{bit_at-lt, bit_at-zero, bit_at_and, bit_at_ones, bit_at_ones_above, bit_at_above, bit_at_clear_same, bit_at_clear_other, bit_at-trailing_zeros}
+use Rattle.std.proofs.Math.Bool.{and-true}
 use Rattle.dms_font.specs.Glyph.{GlyphModel, lit_at, is_bit}
 use Rattle.dms_pages.specs.Drawing.{is_lit_in_row}
 use Rattle.dms_pages.proofs.DrawingLaws.{same_test}
@@ -20,14 +21,6 @@ above n k small high = no_bit n k (bit_at_above n 32 k small high)
 and_false : (b : Bool) → (b && false) ≡ false
 and_false true = refl
 and_false false = refl
-
-and_true : (b : Bool) → (b && true) ≡ b
-and_true true = refl
-and_true false = refl
-
-is_false : (b : Bool) → not b ≡ true → b ≡ false
-is_false true e = sym e
-is_false false e = refl
 
 -- the lowest bit of a number that is not 0
 pub lowest_bit : (left column : ℕ) → 0 < left → left < 2 ^ 32 → column ≡ trailing_zeros w32 left → (column < 32) × (is_bit left column ≡ true)
@@ -54,7 +47,7 @@ bits_without row column k small inside =
             | inl below ↦ ap (λ d. d == 1) (bit_at_clear_other w32 row column inside k below apart)
             | inr high ↦ above (cleared row column) k (omega (arith, and_le_l row (bit_not w32 (1 * 2 ^ column % 2 ^ 32)))) high ∙ sym (above row k small high)
           ] in
-          kept ∙ sym (ap (λ b. is_bit row k && not b) there ∙ and_true (is_bit row k))
+          kept ∙ sym (ap (λ b. is_bit row k && not b) there ∙ and-true (is_bit row k))
     ]
 
 pub less_without : (row column : ℕ) → column < 32 → is_bit row column ≡ true → cleared row column < row
@@ -93,13 +86,13 @@ none_done first row place = false_from_ne_true _ (λ on.
     let bit = is_bit row (place - first) in
     let parts = and_parts (nat_le first place) (bit && not bit) on in
     let bits = and_parts bit (not bit) parts.1 in
-    let wrong : true ≡ false = sym bits.0 ∙ is_false bit bits.1 in
+    let wrong : true ≡ false = sym bits.0 ∙ not-true bit bits.1 in
     absurd cc)
 
 pub all_done : (first row place : ℕ) → is_done first row 0 place ≡ (nat_le first place && is_bit row (place - first))
 all_done first row place =
     ap (λ b. nat_le first place && (is_bit row (place - first) && not b)) (no_bit 0 (place - first) (bit_at-zero (place - first)))
-    ∙ ap (λ b. nat_le first place && b) (and_true (is_bit row (place - first)))
+    ∙ ap (λ b. nat_le first place && b) (and-true (is_bit row (place - first)))
 
 -- one bit more
 pub one_done : (first row left column less place : ℕ) → is_bit left column ≡ true → ((k : ℕ) → is_bit left k ≡ true → is_bit row k ≡ true)
@@ -117,7 +110,7 @@ one_done first row left column less place on among is = same_test _ _
           let parts = and_parts (nat_le first place) (is_bit row (place - first) && not (is_bit left (place - first))) before in
           let bits = and_parts (is_bit row (place - first)) (not (is_bit left (place - first))) parts.1 in
           and_from _ _ parts.0 (and_from _ _ bits.0
-          (ap not (is (place - first) ∙ ap (λ b. b && not (place - first == column)) (is_false (is_bit left (place - first)) bits.1))))
+          (ap not (is (place - first) ∙ ap (λ b. b && not (place - first == column)) (not-true (is_bit left (place - first)) bits.1))))
     ])
     (λ h.
     let parts = and_parts (nat_le first place) (is_bit row (place - first) && not (is_bit less (place - first))) h in
@@ -129,7 +122,7 @@ one_done first row left column less place on among is = same_test _ _
             | inl same ↦ let k : place - first ≡ column = eqb-true _ _ same in or_left _ _ (eq-eqb place (first + column) (omega arith))
             | inr other ↦
                 let kept : is_bit less (place - first) ≡ true = is (place - first) ∙ and_from _ _ there (ap not other) in
-                absurd (let wrong : true ≡ false = sym kept ∙ is_false (is_bit less (place - first)) bits.1 in cc)
+                absurd (let wrong : true ≡ false = sym kept ∙ not-true (is_bit less (place - first)) bits.1 in cc)
           ]
       | inr gone ↦ or_right _ _ (and_from _ _ parts.0 (and_from _ _ bits.0 (ap not gone)))
     ])

@@ -4,6 +4,7 @@ use Rattle.std.specs.List.{list_all}
 use Rattle.std.specs.Option.{option_or, option_map}
 use Rattle.std.proofs.lemmas.Bool.{and_parts, cases_Bool}
 use Rattle.std.proofs.lemmas.Grind.{fold-append}
+use Rattle.dms_codes.proofs.Options.{mapped_none}
 use Rattle.dms_multi.specs.declared.spots.Spot.{Spot}
 use Rattle.dms_multi.specs.declared.fault.SyntaxFault.{SyntaxFault}
 use Rattle.dms_multi.specs.Outcomes.{outcomes_of, items_in, items_of, fault_in}
@@ -52,10 +53,6 @@ neither : {A : Type 0} (a b : Option A) → option_or a b ≡ None → (a ≡ No
 neither None b none = (refl, none)
 neither (Some x) b none = absurd (let wrong : Some x ≡ None = none in cc)
 
-unmapped : {A B : Type 0} (f : A → B) (o : Option A) → option_map f o ≡ None → o ≡ None
-unmapped f None none = refl
-unmapped f (Some x) none = absurd (let wrong : Some (f x) ≡ None = none in cc)
-
 otherwise : {A : Type 0} (b : Bool) (x : A) (o : Option A) → cond b (Some x) o ≡ None → o ≡ None
 otherwise true x o none = absurd (let wrong : Some x ≡ None = none in cc)
 otherwise false x o none = none
@@ -65,5 +62,5 @@ unfolding pages_of fault_of
 pages_fit face text none =
     let read = outcomes_of text in
     let parts = neither (first_fault face [] (turns_in (length text) read)) (option_map syntax_fault (fault_in read)) (otherwise _ _ _ none) in
-    let fit = reading_fits face (length text) read (unmapped syntax_fault (fault_in read) parts.1) parts.0 in
+    let fit = reading_fits face (length text) read (mapped_none syntax_fault (fault_in read) parts.1) parts.0 in
     (and_parts _ _ (and_parts _ _ fit).1).0

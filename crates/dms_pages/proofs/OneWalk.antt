@@ -1,6 +1,5 @@
 -- One walk judges the items of a text and lays them out.
 use Rattle.std.proofs.Common.{◌≡◌, ℕ, ◌≤◌, ◌<◌, ◌+◌, List, [], ◌∷◌, length, map, fold, Option, Some, None, IfNone, Result, Ok, Err, refl, sym, ap, subst, ◌∙◌}
-use Rattle.std.specs.Prelude.{is_ok}
 use Rattle.dms_codes.specs.Limits.{longest_text}
 use Rattle.dms_multi.specs.declared.spots.Spot.{Spot}
 use Rattle.dms_multi.specs.declared.fault.SyntaxFault.{SyntaxFault}
@@ -9,7 +8,6 @@ use Rattle.dms_face.specs.declared.multi_fault.MultiFault.{MultiFault}
 use Rattle.dms_face.specs.declared.multi_fault.MultiFaultCode.{MultiFaultCode}
 use Rattle.dms_face.specs.declared.multi_fault.MultiFaultCode.TheVariants.{TextTooBig}
 use Rattle.dms_face.specs.declared.totals.Totals.{Totals}
-use Rattle.dms_face.specs.FaultCode.{syntax_fault}
 use Rattle.dms_face.specs.Face.{FaceModel}
 use Rattle.dms_face.specs.Layout.{PageModel, Layout, blank_layout, closed, with_item, with_turn, with_page}
 use Rattle.dms_face.specs.Room.{lines_fit}
@@ -18,11 +16,6 @@ use Rattle.dms_face.specs.Cells.{pages_of}
 use Rattle.dms_face.specs.OnePass.{room_fault, local_fault, or_else, walked}
 use Rattle.dms_face.specs.Totals.{Matches, Holds, AreSmall, Takes}
 use Rattle.dms_face.proofs.WalkLaws.{checked_long, checked_walk}
-use Rattle.dms_pages.specs.declared.text_pages.PagesFault.{PagesFault}
-use Rattle.dms_pages.specs.declared.text_pages.PagesFault.TheVariants.{Multi, Memory}
-use Rattle.dms_pages.specs.Drawn.{DrawnPage, drawn, drawn_text}
-use Rattle.dms_pages.specs.DrawnView.{GivesPages}
-use Rattle.dms_pages.specs.Laid.{GivesLaid}
 use Rattle.dms_pages.proofs.LayingLaws.{laid_all}
 
 -- the fault of an answer, if it is one
@@ -81,22 +74,6 @@ laid_more face text totals next layout after rest spot more fault state is none 
       pages = state.pages ∙ ap (pages_after face layout) is;
     })
 
--- An item has a fault.
-pub item_fault : (face : FaceModel) (text : List ℕ) (totals next : Totals) (layout : Layout) (rest : List (Result Spot SyntaxFault)) (spot : Spot) (more : List (Result Spot SyntaxFault))
-    (fault : Option MultiFaultCode) (code : MultiFaultCode) → IsLaidTo face text totals layout rest → rest ≡ Ok spot ∷ more → fault ≡ Some code
-    → Takes face totals next fault (λ (layout : Layout). local_fault face layout (Some spot.item)) (λ (layout : Layout). with_item face layout spot.item)
-    → fault_of face text ≡ Some (record { code = code; place = spot.first })
-item_fault face text totals next layout rest spot more fault code state is found takes =
-    let wrong : local_fault face layout (Some spot.item) ≡ Some code = sym (takes.fault layout state.holds) ∙ found in
-    let walk : walked face (length text) layout rest ≡ Err (record { code = code; place = spot.first }) =
-    ap (walked face (length text) layout) is ∙ ap (λ o. or_else spot.first o (walked face (length text) (with_item face layout spot.item) more)) wrong in
-    state.fault ∙ ap (λ (a : Result ℕ MultiFault). fault_in_answer a) walk
-
--- The text has a fault of its grammar.
-pub grammar_fault : (face : FaceModel) (text : List ℕ) (totals : Totals) (layout : Layout) (rest : List (Result Spot SyntaxFault)) (fault : SyntaxFault) (more : List (Result Spot SyntaxFault))
-    → IsLaidTo face text totals layout rest → rest ≡ Err fault ∷ more → fault_of face text ≡ Some (syntax_fault fault)
-grammar_fault face text totals layout rest fault more state is = state.fault ∙ ap (λ r. fault_in_answer (walked face (length text) layout r)) is
-
 -- The text's end has this fault, or none.
 pub end_fault : (face : FaceModel) (text : List ℕ) (totals : Totals) (layout : Layout) (rest : List (Result Spot SyntaxFault)) (fault : Option MultiFaultCode)
     → IsLaidTo face text totals layout rest → rest ≡ [] → ((l : Layout) → Matches totals l → fault ≡ room_fault (lines_fit face (closed l)))
@@ -117,9 +94,3 @@ good_laid face text totals layout last rest fault pages state is found none clos
 -- a text that is too long
 pub long_fault : (face : FaceModel) (text : List ℕ) → longest_text < length text → fault_of face text ≡ Some (record { code = TextTooBig; place = longest_text })
 long_fault face text long = fault_answered face text (Err (record { code = TextTooBig; place = longest_text })) (checked_long face text long)
-
--- Where no text is laid out, no page is drawn.
-pub none_drawn : {A B : Type 0} (laid : A → List PageModel) (made : B → List DrawnPage) (face : FaceModel) (text : List ℕ) (fault : PagesFault)
-    → GivesLaid laid (Err fault) face text → (fault ≡ Memory → fault_of face text ≡ None) → GivesPages made (Err fault) (drawn_text face text)
-none_drawn laid made face text (Multi fault) gives memory = ap (or_fault (map (drawn face) (pages_of face text))) gives
-none_drawn laid made face text Memory gives memory = ap (λ o. is_ok (or_fault (map (drawn face) (pages_of face text)) o)) (memory refl)

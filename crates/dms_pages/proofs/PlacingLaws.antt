@@ -2,7 +2,7 @@
 use Rattle.std.proofs.Common.{◌≡◌, ℕ, ◌+◌, ◌-◌, ◌<◌, ◌≤◌, Bool, true, false, cond, List, [], ◌∷◌, ◌++◌, length, get_or, take, drop, filter, map, refl, sym, ap, ◌∙◌, arith, append_assoc, inl, inr}
 use Rattle.std.specs.List.{flat_map, list_all}
 use Rattle.std.proofs.lemmas.List.Folds.{list_all_at}
-use Rattle.std.proofs.lemmas.Bool.{and_parts, cases_Bool, leb-true}
+use Rattle.std.proofs.lemmas.Bool.{cases_Bool}
 use Rattle.std.proofs.lemmas.List.{take-append-drop, map-append, append-nil}
 use Rattle.std.proofs.lemmas.List.Elements.{filter-append, filter_more}
 use Rattle.std.proofs.lemmas.List.Concat.{flat_map-append}
@@ -12,7 +12,7 @@ use Rattle.dms_face.specs.declared.room.Block.{Block}
 use Rattle.dms_face.specs.declared.room.Run.{Run}
 use Rattle.dms_face.specs.Face.{FaceModel}
 use Rattle.dms_face.specs.Layout.{Character, Line}
-use Rattle.dms_face.specs.Room.{gap_between, extent, placed_from, at_place, extent_at, begin, spread, blocks_fit, character_block, line_block, line_height}
+use Rattle.dms_face.specs.Room.{gap_between, extent, placed_from, at_place, extent_at, begin, spread, character_block, line_block, line_height}
 use Rattle.dms_face.specs.Cells.{PlacedCharacter, line_characters}
 use Rattle.dms_pages.specs.Drawing.{has_place, placed_above, lines_characters}
 use Rattle.dms_face.specs.Totals.{Sums}
@@ -44,23 +44,12 @@ front_extent block place i xs =
     let whole : extent_at place (map block xs) ≡ extent (map block (filter p xs)) = ap extent (at_place-map block place xs) in
     omega (arith, front, whole, ap extent split)
 
--- one thing more, at another place
-pub among_other : {A : Type 0} (block : A → Block) (place : Place) (i : ℕ) (xs : List A) (x : A) → i < length xs → get_or xs i x ≡ x → has_place block place x ≡ false
-    → among block place (i + 1) xs ≡ among block place i xs
-among_other block place i xs x below at other =
-    let p = has_place block place in
-    filter_more p xs i x below ∙ ap (λ y. filter p (take i xs) ++ cond (p y) (y ∷ []) []) at ∙ ap (λ b. filter p (take i xs) ++ cond b (x ∷ []) []) other ∙ append-nil _
-
 -- one thing more, at this place
 pub among_more : {A : Type 0} (block : A → Block) (place : Place) (i : ℕ) (xs : List A) (x : A) → i < length xs → get_or xs i x ≡ x → has_place block place x ≡ true
     → among block place (i + 1) xs ≡ among block place i xs ++ x ∷ []
 among_more block place i xs x below at here =
     let p = has_place block place in
     filter_more p xs i x below ∙ ap (λ y. filter p (take i xs) ++ cond (p y) (y ∷ []) []) at ∙ ap (λ b. filter p (take i xs) ++ cond b (x ∷ []) []) here
-
-pub sums_other : {A : Type 0} (block : A → Block) (place : Place) (i : ℕ) (xs : List A) (x : A) (run : Run) → i < length xs → get_or xs i x ≡ x → has_place block place x ≡ false
-    → Sums run (map block (among block place i xs)) → Sums run (map block (among block place (i + 1) xs))
-sums_other block place i xs x run below at other sums = rw (among_other block place i xs x below at other) sums
 
 pub sums_more_of : {A : Type 0} (block : A → Block) (place : Place) (i : ℕ) (xs : List A) (x : A) (run : Run) → i < length xs → get_or xs i x ≡ x → has_place block place x ≡ true
     → Sums run (map block (among block place i xs) ++ block x ∷ []) → Sums run (map block (among block place (i + 1) xs))
@@ -80,14 +69,6 @@ placed_push block start (y ∷ z ∷ rest) x =
     ap (λ ps. (start, y) ∷ ps) (placed_push block next (z ∷ rest) x)
     ∙ ap (λ n. (start, y) ∷ (placed_from block next (z ∷ rest) ++ (n, x) ∷ []))
     (let e : next + more - (block x).size ≡ start + ((block y).size + gap_between (block y) (block z) + more) - (block x).size = omega arith in e)
-
--- the places have room
-pub places_fit : (whole : ℕ) (blocks : List Block) → blocks_fit whole blocks ≡ true → (extent_at Start blocks ≤ whole) × (extent_at Halfway blocks ≤ whole) × (extent_at End blocks ≤ whole)
-places_fit whole blocks fit =
-    let first = and_parts _ _ fit in
-    let second = and_parts _ _ first.1 in
-    let third = and_parts _ _ second.1 in
-    (leb-true _ _ ((and_parts _ _ first.0).0), leb-true _ _ ((and_parts _ _ second.0).0), leb-true _ _ ((and_parts _ _ third.0).0))
 
 -- three parts, one after the other
 pub three_parts : {A B : Type 0} (f : A → B) (before : List B) (x y z : List A) → ((before ++ map f x) ++ map f y) ++ map f z ≡ before ++ map f (x ++ (y ++ (z ++ [])))

@@ -1,13 +1,12 @@
 -- Cells are the styles that their numbers name.
 use Rattle.std.proofs.Common.{◌≡◌, ◌≢◌, ℕ, zero, suc, ◌+◌, ◌<◌, ◌==◌, ◌&&◌, Bool, true, false, List, [], ◌∷◌, ◌++◌, length, map, get_or, set, replicate, length-append, refl, sym, ap, subst, ◌∙◌, arith, inl, inr}
 use Rattle.std.specs.Prelude.{slice_index_or}
-use Rattle.std.proofs.lemmas.Bool.{cases_Bool, and_parts, and_from, cases_lt, eqb-true, eq-eqb}
-use Rattle.std.proofs.lemmas.List.{get_or-map, length-map, length-set, get_or-set_same, get_or-set_other, get_or_append_left, get_or-replicate, length-replicate}
-use Rattle.std.proofs.Math.Seq.{get_or-append_seam}
+use Rattle.std.proofs.lemmas.Bool.{cases_Bool, and_parts, and_from, eqb-true, eq-eqb}
+use Rattle.std.proofs.lemmas.List.{get_or-map, length-map, length-set, get_or-set_same, get_or-set_other, get_or_append_left}
 use Rattle.dms_face.specs.declared.cell.Cell.{Cell}
 use Rattle.dms_pages.specs.Drawn.{unlit}
 use Rattle.dms_pages.specs.Drawing.{covered}
-use Rattle.dms_pages.specs.Styled.{StyledCells, style, AreStyled, IsLitStyle, Lights}
+use Rattle.dms_pages.specs.Styled.{StyledCells, style, AreStyled, Lights}
 
 -- cells of these styles with these numbers
 abbrev pub with_numbers : List Cell → List ℕ → StyledCells
@@ -76,47 +75,12 @@ lit_before styles numbers place number on are stays = record {
       ];
 }
 
--- one cell more of a style of the list
-pub are_styled_set : (styles : List Cell) (numbers : List ℕ) (place number : ℕ) → AreStyled styles numbers → number < length styles → AreStyled styles (set numbers place number)
-are_styled_set styles numbers place number are below = record {
-  some = are.some;
-  unlit_first = are.unlit_first;
-  lit_others = are.lit_others;
-  below = λ k inside.
-      let within : k < length numbers = omega (arith, length-set numbers place number) in
-      elim (cases_Bool (k == place)) [
-        | inl here ↦
-            let same : k ≡ place = eqb-true _ _ here in
-            let is : get_or (set numbers place number) k 0 ≡ number = ap (λ i. get_or (set numbers i number) k 0) (sym same) ∙ get_or-set_same numbers k number 0 within in
-            subst (λ n. n < length styles) (sym is) below
-        | inr there ↦
-            let other_place : k ≢ place = λ same. let wrong : true ≡ false = sym (eq-eqb k place same) ∙ there in cc in
-            subst (λ n. n < length styles) (sym (get_or-set_other numbers place k number 0 other_place)) (are.below k within)
-      ];
-}
-
 -- a style more
 pub style_kept : (styles : List Cell) (lit : Cell) (k : ℕ) → k < length styles → style (styles ++ lit ∷ []) k ≡ style styles k
 style_kept styles lit k below = get_or_append_left styles (lit ∷ []) (unlit 0) k below
 
-pub style_new : (styles : List Cell) (lit : Cell) → style (styles ++ lit ∷ []) (length styles) ≡ lit
-style_new styles lit = get_or-append_seam styles lit [] (unlit 0)
-
 length_more : (styles : List Cell) (lit : Cell) → length (styles ++ lit ∷ []) ≡ length styles + 1
 length_more styles lit = length-append styles (lit ∷ [])
-
-pub are_styled_more : (styles : List Cell) (numbers : List ℕ) (lit : Cell) → AreStyled styles numbers → lit.lit ≡ true → AreStyled (styles ++ lit ∷ []) numbers
-are_styled_more styles numbers lit are bright = record {
-  some = omega (arith, length_more styles lit);
-  unlit_first = ap (λ (cell : Cell). cell.lit) (style_kept styles lit 0 are.some) ∙ are.unlit_first;
-  lit_others = λ k some below. elim (cases_lt k (length styles)) [
-    | inl old ↦ ap (λ (cell : Cell). cell.lit) (style_kept styles lit k old) ∙ are.lit_others k some old
-    | inr new ↦
-        let last : k ≡ length styles = omega (arith, length_more styles lit, below) in
-        ap (λ i. (style (styles ++ lit ∷ []) i).lit) last ∙ ap (λ (cell : Cell). cell.lit) (style_new styles lit) ∙ bright
-  ];
-  below = λ k inside. omega (arith, length_more styles lit, are.below k inside);
-}
 
 -- and each cell shows what it showed
 pub same_cells : (styles : List Cell) (numbers : List ℕ) (lit : Cell) → ((k : ℕ) → k < length numbers → get_or numbers k 0 < length styles)
@@ -130,24 +94,5 @@ map_replicate : {A B : Type 0} (f : A → B) (count : ℕ) (x : A) → map f (re
 map_replicate f zero x = refl
 map_replicate f (suc count) x = ap (λ l. f x ∷ l) (map_replicate f count x)
 
--- the first styles
-pub dark_styled : (background count : ℕ) (numbers : List ℕ) → numbers ≡ replicate count 0 → AreStyled (unlit background ∷ []) numbers
-dark_styled background count numbers are = record {
-  some = omega arith;
-  unlit_first = refl;
-  lit_others = λ k some below. absurd (omega arith);
-  below = λ k inside.
-      let dark : ℕ = 0 in
-      let zero_there : get_or numbers k 0 ≡ 0 =
-      ap (λ l. get_or l k 0) are ∙ get_or-replicate count k dark dark (omega (arith, ap length are, length-replicate count dark)) in
-      omega (arith, zero_there);
-}
-
 pub dark_cells : (background count : ℕ) (numbers : List ℕ) → numbers ≡ replicate count 0 → map (style (unlit background ∷ [])) numbers ≡ replicate count (unlit background)
 dark_cells background count numbers are = ap (map (style (unlit background ∷ []))) are ∙ map_replicate (style (unlit background ∷ [])) count 0
-
--- a place in the list whose style is lit is the number of a lit style
-pub is_lit_style : (styles : List Cell) (lit : Cell) (number : ℕ) → (style styles 0).lit ≡ false → lit.lit ≡ true → number < length styles → style styles number ≡ lit
-    → IsLitStyle styles number
-is_lit_style styles lit zero dark bright below is = absurd (let wrong : true ≡ false = sym bright ∙ ap (λ (cell : Cell). cell.lit) (sym is) ∙ dark in cc)
-is_lit_style styles lit (suc number) dark bright below is = record { lit = omega arith; below = below; shines = ap (λ (cell : Cell). cell.lit) is ∙ bright }
