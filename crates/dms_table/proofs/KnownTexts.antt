@@ -14,7 +14,7 @@ use Rattle.dms_table.specs.Rows.{RowModel, TableModel, RowReading, rows_of, numb
 use Rattle.dms_table.specs.Validation.{HasGoodTextWhereValid}
 use Rattle.dms_table.specs.Activation.{ShownModel, shown_reading, named}
 
-valid_status : (status : Status) → is_valid status ≡ true → status ≡ Valid
+pub valid_status : (status : Status) → is_valid status ≡ true → status ≡ Valid
 valid_status NotUsed h = cc
 valid_status Modifying h = cc
 valid_status Validating h = cc

@@ -3,7 +3,7 @@ use Rattle.std.proofs.Common.{◌≡◌, ℕ, zero, suc, ◌+◌, ◌-◌, ◌�
 use Rattle.std.specs.Prelude.{OnOk, OnErr, option_map, option_and_then}
 use Rattle.std.specs.Option.{is_some}
 use Rattle.std.proofs.lemmas.List.Elements.{All-cons}
-use Rattle.std.proofs.lemmas.Option.{get_or_from_slice_get}
+use Rattle.std.proofs.lemmas.Option.{get_or_from_slice_get, same_Some}
 use Rattle.dms_face.specs.Face.{FaceModel}
 use Rattle.dms_table.specs.declared.row.Services.{Services}
 use Rattle.dms_table.specs.Rows.{RowModel, FieldModel, TableModel, row_is_validating, changed_in, asked_row, written_row, is_settling, may_ask}
@@ -50,9 +50,6 @@ only_after row rows place is = record {
 
 -- ---- what settling the row at the place makes of all rows
 
-same_row : (row other : RowModel) → Some row ≡ Some other → row ≡ other
-same_row row other e = cc
-
 free_settled : (b : Bool) (row settled : RowModel) → b ≡ false → cond b settled row ≡ row
 free_settled true row settled e = cc
 free_settled false row settled e = refl
@@ -61,7 +58,7 @@ pub only_settled : (services : Services) (face : FaceModel) (rows : List RowMode
     → set rows place (settled_row services face row) ≡ map (settled_row services face) rows
 only_settled services face [] place row is e = absurd (cc)
 only_settled services face (first ∷ rows) zero row is e =
-    let same : first ≡ row = same_row first row e in
+    let same : first ≡ row = same_Some first row e in
     let rest : map (settled_row services face) rows ≡ rows = unsettled services face rows (any_validating rows (first_alone first rows is)) in
     ap (λ (r : RowModel). settled_row services face r ∷ rows) (sym same) ∙ ap (λ rest. settled_row services face first ∷ rest) (sym rest)
 only_settled services face (first ∷ rows) (suc place) row is e =
@@ -96,7 +93,7 @@ pub only_all : (P : RowModel → Type 0) (rows : List RowModel) (place : ℕ) (r
     → (row_is_validating row ≡ true → P row) → All (λ row. row_is_validating row ≡ true → P row) rows
 only_all P [] place row is e holds = absurd (cc)
 only_all P (first ∷ rows) zero row is e holds =
-    let same : first ≡ row = same_row first row e in
+    let same : first ≡ row = same_Some first row e in
     All-cons (λ row. row_is_validating row ≡ true → P row) first rows (subst (λ row. row_is_validating row ≡ true → P row) (sym same) holds)
     (none_all P rows (first_alone first rows is))
 only_all P (first ∷ rows) (suc place) row is e holds =
@@ -123,14 +120,14 @@ kept_set : (rows : List RowModel) (i place : ℕ) (row new : RowModel) → slice
     → option_map row_is_validating (slice_get rows place) ≡ Some true → option_map row_is_validating (slice_get (set rows i new) place) ≡ Some true
 kept_set [] i place row new e free there = absurd (cc)
 kept_set (first ∷ rows) zero zero row new e free there =
-    let same : row_is_validating first ≡ row_is_validating row = ap row_is_validating (same_row first row e) in
+    let same : row_is_validating first ≡ row_is_validating row = ap row_is_validating (same_Some first row e) in
     let is : row_is_validating first ≡ true = is_row (row_is_validating first) there in
     absurd (cc)
 kept_set (first ∷ rows) zero (suc place) row new e free there = there
 kept_set (first ∷ rows) (suc i) zero row new e free there = there
 kept_set (first ∷ rows) (suc i) (suc place) row new e free there = kept_set rows i place row new e free there
 
-set_there : (rows : List RowModel) (i : ℕ) (row new : RowModel) → slice_get rows i ≡ Some row → slice_get (set rows i new) i ≡ Some new
+pub set_there : (rows : List RowModel) (i : ℕ) (row new : RowModel) → slice_get rows i ≡ Some row → slice_get (set rows i new) i ≡ Some new
 set_there [] i row new e = absurd (cc)
 set_there (first ∷ rows) zero row new e = refl
 set_there (first ∷ rows) (suc i) row new e = set_there rows i row new e

@@ -1,9 +1,10 @@
 -- What settling makes of a table.
-use Rattle.std.proofs.Common.{◌≡◌, ◌||◌, ◌++◌, Bool, true, false, List, map, find, Option, Some, None, All, refl, ap, sym, ◌∙◌}
+use Rattle.std.proofs.Common.{◌≡◌, ◌++◌, true, false, List, map, find, Option, Some, None, All, refl, ap, sym, ◌∙◌}
 use Rattle.std.specs.Prelude.{option_map}
 use Rattle.std.specs.List.{list_any}
 use Rattle.std.specs.Option.{option_or}
 use Rattle.std.proofs.lemmas.List.Folds.{find-append}
+use Rattle.std.proofs.lemmas.Bool.{or_parts}
 use Rattle.dms_face.specs.Face.{FaceModel}
 use Rattle.dms_table.specs.declared.row.Services.{Services}
 use Rattle.dms_table.specs.declared.validation.Verdict.{Verdict}
@@ -56,19 +57,15 @@ all_of_type Volatile P changeable volatile none all = (none_all P changeable non
 
 -- ---- where no row is being validated
 
-neither : (a b : Bool) → (a || b) ≡ false → (a ≡ false) × (b ≡ false)
-neither false b none = (refl, none)
-neither true b none = cc
-
 pub nothing_settled : (face : FaceModel) (table : TableModel) → is_settling table ≡ false → table ≡ settled face table
 nothing_settled face table none =
-    let parts = neither (list_any row_is_validating table.changeable) (list_any row_is_validating table.volatile) none in
+    let parts = or_parts (list_any row_is_validating table.changeable) (list_any row_is_validating table.volatile) none in
     ap (λ (rows : List RowModel). record table { changeable = rows }) (sym (unsettled table.services face table.changeable parts.0))
     ∙ ap (λ (rows : List RowModel). record table { changeable = map (settled_row table.services face) table.changeable; volatile = rows }) (sym (unsettled table.services face table.volatile parts.1))
 
 pub no_verdict : (face : FaceModel) (table : TableModel) → is_settling table ≡ false → None ≡ verdict face table
 no_verdict face table none =
-    let parts = neither (list_any row_is_validating table.changeable) (list_any row_is_validating table.volatile) none in
+    let parts = or_parts (list_any row_is_validating table.changeable) (list_any row_is_validating table.volatile) none in
     let found : find row_is_validating (table.changeable ++ table.volatile) ≡ None =
     find-append row_is_validating table.changeable table.volatile
     ∙ ap (λ (o : Option RowModel). option_or o (find row_is_validating table.volatile)) (not_found table.changeable parts.0)

@@ -15,11 +15,8 @@ use Rattle.std.proofs.lemmas.List.Elements.{All-cons, All-append}
 use Rattle.dms_face.specs.Fit.{IsGood}
 use Rattle.dms_table.specs.Rows.{RowModel, TableModel}
 use Rattle.dms_codes.proofs.Loops.{none_passes}
+use Rattle.dms_codes.proofs.Options.{mapped_none}
 use Rattle.dms_table.proofs.GoodRows.{showable}
-
-none_mapped : {A B : Type 0} (f : A → B) (o : Option A) → option_map f o ≡ None → o ≡ None
-none_mapped f None h = refl
-none_mapped f (Some x) h = cc
 
 none_after : {A : Type 0} (b : Bool) (o : Option A) (x : A) → (if b then o else Some x) ≡ None → o ≡ None
 none_after true o x h = h
@@ -40,7 +37,7 @@ all_ranges face stock h = λ k d within.
     front
     (has_ranges (permanent_row (get_or stock.permanent.now k d)))
     (passes (verdict_of (services_of stock) face (permanent_row (get_or stock.permanent.now k d))))
-    (none_passes (may_not_stand (services_of stock) face) stock.permanent.now (none_mapped permanent_fault (position (may_not_stand (services_of stock) face) stock.permanent.now) (none_after (are_counts stock) _ _ h)) k d within)
+    (none_passes (may_not_stand (services_of stock) face) stock.permanent.now (mapped_none permanent_fault (position (may_not_stand (services_of stock) face) stock.permanent.now) (none_after (are_counts stock) _ _ h)) k d within)
 
 -- the fault of a stock whose counts are right
 pub fault_is : (face : FaceModel) (stock : Stock) (counts : Bool) (place : Option ℕ) (services : Services) (defaults : Defaults)
@@ -70,7 +67,7 @@ permanent_rows_are_good face stock table faultless good made =
     let all : All (IsShowable (services_of stock) face) (map permanent_row stock.permanent.now) =
     all_mapped (IsShowable (services_of stock) face) permanent_row stock.permanent.now (λ k d within.
     stands_showable (services_of stock) face (get_or stock.permanent.now k d)
-    (none_passes (may_not_stand (services_of stock) face) stock.permanent.now (none_mapped permanent_fault (position (may_not_stand (services_of stock) face) stock.permanent.now) (none_after (are_counts stock) _ _ faultless)) k d within)
+    (none_passes (may_not_stand (services_of stock) face) stock.permanent.now (mapped_none permanent_fault (position (may_not_stand (services_of stock) face) stock.permanent.now) (none_after (are_counts stock) _ _ faultless)) k d within)
     (good k d within)) in
     subst (PermanentRowsAreGood face) (sym made) all
 
