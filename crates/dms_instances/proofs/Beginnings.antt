@@ -3,10 +3,10 @@ use Rattle.std.proofs.Common.{◌≡◌, ◌⊎◌, inl, inr, ℕ, ◌+◌, ◌-
 use Rattle.std.proofs.lemmas.Bool.Decides.{nat_tests}
 use Rattle.std.specs.Int.Digits.{digits_of}
 use Rattle.std.proofs.lemmas.Int.Digits.{first_digits_of, digits_of_step}
+use Rattle.std.proofs.lemmas.Bool.{cases_lt}
 use Rattle.dms_ber.specs.ObjectIdentifier.{sub_identifier_octets}
 use Rattle.dms_objects.proofs.SubIdentifiers.{one_octet, two_octets}
 use Rattle.dms_instances.specs.NameReading.{octets_below, row_number_of}
-use Rattle.dms_instances.proofs.InOrder.{less_or_not}
 
 -- the numbers begin with one of one octet, or with one of 128 or more
 pub record Begins (numbers : List ℕ) (octet : ℕ) (more : List ℕ) : Type 0 where
@@ -30,7 +30,7 @@ high n rest octet more many e =
 pub begins : (numbers : List ℕ) (octet : ℕ) (more : List ℕ) → octets_below numbers ≡ octet ∷ more → Begins numbers octet more
 begins [] octet more e = absurd (cc)
 begins (n ∷ ns) octet more e =
-    elim (less_or_not n 128) [
+    elim (cases_lt n 128) [
       | inl few ↦
           let one : n ∷ octets_below ns ≡ octet ∷ more = ap (λ xs. xs ++ octets_below ns) (sym (one_octet n few)) ∙ e in
           record { first = n; others = ns; are = refl; is = inl (cc, few, cc) }
@@ -64,7 +64,7 @@ three n rest octet second more many e =
 -- 129 and an octet below 128 are a number below 256
 two : (n : ℕ) (rest : List ℕ) (low : ℕ) (more : List ℕ) → low < 128 → octets_below (n ∷ rest) ≡ 129 ∷ low ∷ more → n ≡ 128 + low
 two n rest low more few e =
-    elim (less_or_not n 16384) [
+    elim (cases_lt n 16384) [
       | inl most ↦
           let one = one_octet n in
           let two = λ (least : 128 ≤ n). two_octets n least most in

@@ -1,5 +1,5 @@
 -- The instances of a sign stand in the strict order of their names; what the walk finds.
-use Rattle.std.proofs.Common.{◌≡◌, ◌⊎◌, inl, inr, ℕ, zero, suc, ◌+◌, ◌<◌, Bool, true, false, ◌&&◌, nat_eq, Less, Ordering, List, [], ◌∷◌, ◌++◌, map, flat_map, find, Option, Some, None, slice_get, refl, sym, ap, subst, ◌∙◌, arith, ◌≤◌}
+use Rattle.std.proofs.Common.{◌≡◌, ◌⊎◌, inl, inr, ℕ, zero, suc, ◌+◌, ◌<◌, Bool, true, false, ◌&&◌, nat_eq, Less, Ordering, List, [], ◌∷◌, ◌++◌, map, flat_map, find, Option, Some, None, slice_get, refl, sym, ap, subst, ◌∙◌, arith}
 use Rattle.std.specs.Cmp.Lexicographic.{pointwise, bytes_decides}
 use Rattle.std.specs.List.{range_with_len}
 use Rattle.std.specs.Ordering.{is_lt}
@@ -7,6 +7,7 @@ use Rattle.std.proofs.lemmas.Bool.Decides.{nat_tests}
 use Rattle.std.proofs.lemmas.Bool.{and_parts, and_from, both_ways, cond-true, cond-false, false_from_ne_true}
 use Rattle.dms_ber.proofs.Elements.{chosen}
 use Rattle.std.proofs.lemmas.Cmp.{nat_list_cmp_total, tied_itself}
+use Rattle.std.proofs.lemmas.Option.{same_Some}
 use Rattle.dms_ber.specs.NameOrder.{numbers_cmp}
 use Rattle.dms_objects.specs.declared.column.Column.{Column}
 use Rattle.dms_codes.specs.declared.row_id.RowId.{RowId}
@@ -19,7 +20,6 @@ use Rattle.dms_objects.specs.declared.instance.Instance.{Instance}
 use Rattle.dms_objects.specs.declared.instance.Instance.TheVariants.{Cell}
 use Rattle.dms_objects.specs.Names.{name_of}
 use Rattle.dms_instances.specs.Objects.{memories, rows_in, row_ids, cells, instances_of, instances, is_before, has_name, comes_after, instance_named, next_instance, IsInstance, FirstAfter}
-use Rattle.dms_instances.proofs.Members.{some_is}
 
 -- ---- the order of names
 
@@ -51,10 +51,6 @@ smaller m n a b h = grind (arith, nat_tests)
 
 pub larger : (m n : ℕ) (a b : List ℕ) → n < m → is_before (m ∷ a) (n ∷ b) ≡ false
 larger m n a b h = grind (arith, nat_tests)
-
--- two numbers are in this order or not
-pub less_or_not : (a b : ℕ) → (a < b) ⊎ (b ≤ a)
-less_or_not a b = grind (arith, nat_tests)
 
 -- ---- rising names
 
@@ -182,7 +178,7 @@ pub found : {X : Type 0} (test : X → Bool) (xs : List X) (i : X) → find test
 found test [] i h = absurd (cc)
 found test (x ∷ xs) i h =
     elim (chosen (test x) (Some x) (find test xs) (Some i) h) [
-      | inl here ↦ (0, here.1, subst (λ x. test x ≡ true) (some_is x i here.1) here.0)
+      | inl here ↦ (0, here.1, subst (λ x. test x ≡ true) (same_Some x i here.1) here.0)
       | inr later ↦ let f = found test xs i later.1 in (suc f.0, f.1, f.2)
     ]
 
@@ -194,7 +190,7 @@ least name low (x ∷ xs) high r i h zero j g t = grind arith
 least name low (x ∷ xs) high r i h (suc k) j g t =
     let parts = and_parts (is_before low (name_of x)) (rises name_of (name_of x) xs high) r in
     elim (chosen (comes_after name x) (Some x) (find (comes_after name) xs) (Some i) h) [
-      | inl here ↦ inr (subst (λ i. is_before (name_of i) (name_of j) ≡ true) (some_is x i here.1) (above (name_of x) xs high parts.1 k j g))
+      | inl here ↦ inr (subst (λ i. is_before (name_of i) (name_of j) ≡ true) (same_Some x i here.1) (above (name_of x) xs high parts.1 k j g))
       | inr later ↦ least name (name_of x) xs high parts.1 i later.1 k j g t
     ]
 
@@ -211,7 +207,7 @@ named_found : (low : List ℕ) (xs : List Instance) (high : List ℕ) → rises 
     → find (has_name (name_of i)) xs ≡ Some i
 named_found low [] high r k i h = absurd (cc)
 named_found low (x ∷ xs) high r zero i h =
-    let is : x ≡ i = some_is x i h in
+    let is : x ≡ i = same_Some x i h in
     let same = (bytes_decides (name_of x) (name_of i)).1 (ap name_of is) in
     cond-true (has_name (name_of i) x) (Some x) (find (has_name (name_of i)) xs) same ∙ h
 named_found low (x ∷ xs) high r (suc k) i h =

@@ -2,9 +2,6 @@
 use Rattle.std.proofs.Common.{◌≡◌, ◌⊎◌, inl, inr, ℕ, zero, suc, ◌+◌, ◌<◌, ◌≤◌, List, [], ◌∷◌, ◌++◌, map, flat_map, Some, slice_get, refl, ap, subst, arith}
 use Rattle.std.specs.List.{range_with_len}
 
-pub some_is : {X : Type 0} (x y : X) → Some x ≡ Some y → x ≡ y
-some_is x y h = cc
-
 -- an element of the list
 abbrev pub In : {X : Type 0} → List X → X → Type 0
 In xs x = (k : ℕ) × (slice_get xs k ≡ Some x)

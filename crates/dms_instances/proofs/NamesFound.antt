@@ -1,6 +1,7 @@
 -- An instance that a table has is found by the octets of its name.
 use Rattle.std.proofs.Common.{◌≡◌, inl, inr, ℕ, ◌+◌, ◌-◌, ◌<◌, true, List, Option, Some, None, refl, sym, ap, subst, ◌∙◌, arith}
 use Rattle.std.specs.Cmp.Lexicographic.{bytes_decides}
+use Rattle.std.proofs.lemmas.Bool.{cases_lt}
 use Rattle.dms_ber.specs.ObjectIdentifier.{name_octets}
 use Rattle.dms_ber.proofs.Unique.{name_is}
 use Rattle.dms_codes.specs.declared.row_id.RowId.{RowId}
@@ -16,7 +17,7 @@ use Rattle.dms_instances.specs.Objects.{has_name, instance_named, IsInstance}
 use Rattle.dms_instances.specs.Places.{HasCounts}
 use Rattle.dms_instances.specs.NameReading.{IsFoundBy}
 use Rattle.dms_instances.proofs.CellOctets.{short_named, long_named}
-use Rattle.dms_instances.proofs.InOrder.{named_is, less_or_not}
+use Rattle.dms_instances.proofs.InOrder.{named_is}
 use Rattle.dms_instances.proofs.WhichInstances.{AreOctets, Counted, there_counted, last_few}
 
 -- a name that is an instance's has its octets
@@ -27,7 +28,7 @@ octets_of name i octets e named =
 cell_found : (name : List ℕ) (found : Option Instance) (column : Column) (row : RowId) → IsFoundBy (name_octets name) found
     → row.memory < 128 → row.number < 256 → has_name name (Cell column row) ≡ true → found ≡ Some (Cell column row)
 cell_found name found column row is memory number e =
-    elim (less_or_not row.number 128) [
+    elim (cases_lt row.number 128) [
       | inl few ↦
           is.short column row.memory row.number memory few
           (octets_of name (Cell column row) _ e (short_named column (column_number column) row.memory row.number refl memory few))

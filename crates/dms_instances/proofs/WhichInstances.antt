@@ -3,6 +3,7 @@ use Rattle.std.proofs.Common.{◌≡◌, ◌⊎◌, inl, inr, ◌↔◌, ℕ, ze
 use Rattle.std.specs.List.{range_with_len}
 use Rattle.std.proofs.lemmas.Bool.Decides.{nat_tests}
 use Rattle.std.proofs.lemmas.Bool.{eqb-true}
+use Rattle.std.proofs.lemmas.Option.{same_Some}
 use Rattle.dms_objects.specs.declared.column.Column.{Column}
 use Rattle.dms_codes.specs.declared.row_id.RowId.{RowId}
 use Rattle.dms_table.specs.Rows.{RowModel, TableModel, row_read, numbered, reading, rows_of, blank_at, blank_reading}
@@ -16,7 +17,7 @@ use Rattle.dms_objects.proofs.Table.{each}
 use Rattle.dms_instances.specs.Objects.{memories, rows_in, row_ids, instances_of, instances, IsInstance}
 use Rattle.dms_instances.specs.declared.counts.Counts.{Counts}
 use Rattle.dms_instances.specs.Places.{HasCounts, last_number}
-use Rattle.dms_instances.proofs.Members.{In, some_is, in_map, of_map, in_flat, of_flat, in_range, of_range}
+use Rattle.dms_instances.proofs.Members.{In, in_map, of_map, in_flat, of_flat, in_range, of_range}
 
 -- ---- rows
 
@@ -85,21 +86,21 @@ Reads table shown number memory = number ≤ memory.1 → IsSome (message_at tab
 held_read : (table : TableModel) (shown : ShownModel) (k : ℕ) (memory : ℕ × ℕ) (number : ℕ) → slice_get (memories table) k ≡ Some memory → 1 ≤ number
     → Reads table shown number memory
 held_read table shown zero memory number h from =
-    let is : (2, length table.permanent) ≡ memory = some_is (2, length table.permanent) memory h in
+    let is : (2, length table.permanent) ≡ memory = same_Some (2, length table.permanent) memory h in
     subst (Reads table shown number) is λ to. mapped_some reading (numbered table.permanent number) (numbered_some table.permanent number from to)
 held_read table shown (suc zero) memory number h from =
-    let is : (3, length table.changeable) ≡ memory = some_is (3, length table.changeable) memory h in
+    let is : (3, length table.changeable) ≡ memory = same_Some (3, length table.changeable) memory h in
     subst (Reads table shown number) is λ to. mapped_some reading (numbered table.changeable number) (numbered_some table.changeable number from to)
 held_read table shown (suc (suc zero)) memory number h from =
-    let is : (4, length table.volatile) ≡ memory = some_is (4, length table.volatile) memory h in
+    let is : (4, length table.volatile) ≡ memory = same_Some (4, length table.volatile) memory h in
     subst (Reads table shown number) is λ to. mapped_some reading (numbered table.volatile number) (numbered_some table.volatile number from to)
 held_read table shown (suc (suc (suc zero))) memory number h from =
-    let is : (5, 1) ≡ memory = some_is (5, 1) memory h in
+    let is : (5, 1) ≡ memory = same_Some (5, 1) memory h in
     subst (Reads table shown number) is λ to.
     let one : 1 ≡ number = omega (arith, from, to) in
     subst (λ n. IsSome (message_at table shown (record { memory = 5; number = n }))) one refl
 held_read table shown (suc (suc (suc (suc zero)))) memory number h from =
-    let is : (7, 255) ≡ memory = some_is (7, 255) memory h in
+    let is : (7, 255) ≡ memory = same_Some (7, 255) memory h in
     subst (Reads table shown number) is λ to. mapped_some blank_reading (blank_at number) (blank_some number from to)
 held_read table shown (suc (suc (suc (suc (suc k))))) memory number h from = absurd (cc)
 
@@ -242,18 +243,18 @@ counted_as n row memory kind last holds is few to =
 counted_at : (table : TableModel) (n : Counts) (row : RowId) → HasCounts table n → (k : ℕ) (memory : ℕ × ℕ)
     → slice_get (memories table) k ≡ Some memory → Holds memory row → Counted n row
 counted_at table n row has zero memory h holds =
-    counted_as n row memory 2 (length table.permanent) holds (some_is (2, length table.permanent) memory h) (omega arith)
+    counted_as n row memory 2 (length table.permanent) holds (same_Some (2, length table.permanent) memory h) (omega arith)
     (omega (arith, has.permanent))
 counted_at table n row has (suc zero) memory h holds =
-    counted_as n row memory 3 (length table.changeable) holds (some_is (3, length table.changeable) memory h) (omega arith)
+    counted_as n row memory 3 (length table.changeable) holds (same_Some (3, length table.changeable) memory h) (omega arith)
     (omega (arith, has.changeable))
 counted_at table n row has (suc (suc zero)) memory h holds =
-    counted_as n row memory 4 (length table.volatile) holds (some_is (4, length table.volatile) memory h) (omega arith)
+    counted_as n row memory 4 (length table.volatile) holds (same_Some (4, length table.volatile) memory h) (omega arith)
     (omega (arith, has.volatile))
 counted_at table n row has (suc (suc (suc zero))) memory h holds =
-    counted_as n row memory 5 1 holds (some_is (5, 1) memory h) (omega arith) (omega arith)
+    counted_as n row memory 5 1 holds (same_Some (5, 1) memory h) (omega arith) (omega arith)
 counted_at table n row has (suc (suc (suc (suc zero)))) memory h holds =
-    counted_as n row memory 7 255 holds (some_is (7, 255) memory h) (omega arith) (omega arith)
+    counted_as n row memory 7 255 holds (same_Some (7, 255) memory h) (omega arith) (omega arith)
 counted_at table n row has (suc (suc (suc (suc (suc k))))) memory h holds = absurd (cc)
 
 -- a row that has an instance is counted

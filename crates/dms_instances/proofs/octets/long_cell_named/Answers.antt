@@ -1,9 +1,9 @@
 use Rattle.std.proofs.Common.{◌≡◌, ◌+◌, Some, ap, sym, ◌∙◌}
+use Rattle.std.proofs.lemmas.Option.{same_Some}
 use Rattle.dms_objects.specs.declared.instance.Instance.TheVariants.{Cell}
 use Rattle.dms_instances.specs.NameReading.{column_at}
 use Rattle.dms_instances.proofs.CellOctets.{long_named}
 use Rattle.dms_instances.proofs.Inverses.{column_back}
-use Rattle.dms_instances.proofs.Members.{some_is}
 use Rattle.dms_instances.proofs.octets.long_cell_named.Goals as goal
 
 pub returns-in_ok-column-clause-named : goal.returns-in_ok-column-clause-named
@@ -14,5 +14,5 @@ returns-in_ok-column-clause-named c =
 pub returns-in_ok-column-clause-found : goal.returns-in_ok-column-clause-found
 returns-in_ok-column-clause-found c = λ column is few_memory few_low.
     let same : c.in_ok-column.column ≡ column =
-    some_is c.in_ok-column.column column (c.in_ok-column.ensures.found ∙ ap column_at (sym is) ∙ column_back column) in
+    same_Some c.in_ok-column.column column (c.in_ok-column.ensures.found ∙ ap column_at (sym is) ∙ column_back column) in
     rw c.from-number.ensures (ap (λ x. Some (Cell x (record { memory = c.args.memory; number = 128 + c.args.low }))) same)

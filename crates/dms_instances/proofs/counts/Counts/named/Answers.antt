@@ -1,11 +1,11 @@
 use Rattle.std.proofs.Common.{◌≡◌, Some, None, ap, sym, subst, ◌∙◌, List, ℕ}
 use Rattle.std.specs.Cmp.Lexicographic.{bytes_decides}
 use Rattle.std.proofs.lemmas.Bool.{both_ways}
+use Rattle.std.proofs.lemmas.Option.{same_Some}
 use Rattle.dms_objects.specs.Names.{name_of}
 use Rattle.dms_instances.specs.Objects.{instance_named, IsInstance}
 use Rattle.dms_instances.specs.NameReading.{IsFoundBy}
 use Rattle.dms_instances.proofs.InOrder.{named_back}
-use Rattle.dms_instances.proofs.Members.{some_is}
 use Rattle.dms_instances.proofs.NamesFound.{there_found, none_named}
 use Rattle.dms_instances.proofs.WhichInstances.{AreOctets}
 use Rattle.dms_instances.proofs.counts.Counts.named.Goals as goal
@@ -30,7 +30,7 @@ returns-else-has c = λ table has.
     let found = subst (λ (octets : List ℕ). IsFoundBy octets (Some c.in_ok-instance.instance)) c.content.ensures c.in_ok-instance.ensures.found in
     none_named table c.args.name.now λ i there e.
     let same =
-    some_is c.in_ok-instance.instance i
+    same_Some c.in_ok-instance.instance i
     (there_found table c.args.self.now c.args.name.now (Some c.in_ok-instance.instance) has few found i there e)
     in
     both_ways c.has.result c.if-has.false (c.has.ensures.each table has (subst (IsInstance table) (sym same) there))
