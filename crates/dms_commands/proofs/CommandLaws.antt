@@ -15,8 +15,9 @@ use Rattle.dms_codes.specs.declared.codes.Order.{Order}
 use Rattle.dms_codes.specs.declared.codes.Order.TheVariants.{High, Swapped}
 use Rattle.dms_codes.specs.declared.codes.Activation.{Activation}
 use Rattle.dms_codes.specs.Codes.{two_octets, octets_of_checksum, in_order, number_at, octets_of_activation, activation_of, IsActivation}
-use Rattle.dms_codes.proofs.Places.{all_four}
 use Rattle.dms_codes.specs.declared.row_id.RowId.{RowId}
+use Rattle.dms_codes.proofs.Activations.{activation_back}
+use Rattle.dms_codes.proofs.Options.{mapped_some}
 use Rattle.dms_requests.specs.declared.publication.Attributes.{Attributes}
 use Rattle.dms_requests.specs.declared.publication.Terms.{Terms}
 use Rattle.dms_requests.specs.Job.{PublicationModel}
@@ -24,7 +25,7 @@ use Rattle.dms_requests.specs.Commands.{CommandModel, Publish, Blank, Activate}
 use Rattle.dms_description.specs.Fields.{SpellsEach, SpellsOctet, SpellsTwoOctets, SpellsOne}
 use Rattle.dms_description.specs.FieldsReading.{if_last}
 use Rattle.dms_description.proofs.WordReading.{last_found}
-use Rattle.dms_description.proofs.FieldLaws.{same_rest, next_octets_found, next_octets_only, made_of}
+use Rattle.dms_description.proofs.FieldLaws.{same_rest, next_octets_found, next_octets_only}
 use Rattle.dms_commands.specs.CommandFields.{SpellsAddressPart, SpellsAddress, SpellsCode}
 use Rattle.dms_commands.specs.CommandLine.{SpellsPublication, SpellsBlank, SpellsCommand}
 use Rattle.dms_commands.specs.CommandReading.{address_at, address_of, code_from, last_code_at, row_at, attributes_at, last_terms_at, publish_at, blank_at, command_word, command_after, command_of}
@@ -60,10 +61,6 @@ octets_spelled order octets twelve bytes =
     ∙ ap (λ row. ((at 0 ∷ at 1 ∷ []) ++ at 2 ∷ ((at 3 ∷ row) ++ number)) ++ address) (high_and_low octets 4 bytes)
     ∙ ap (λ crc. ((at 0 ∷ at 1 ∷ []) ++ at 2 ∷ ((at 3 ∷ at 4 ∷ at 5 ∷ []) ++ crc)) ++ address) (checksum_spelled order octets 6 bytes)
     ∙ sym all
-
-spelled_back : (order : Order) (code : Activation) → IsActivation code → activation_of order (octets_of_activation order code) ≡ code
-spelled_back High code is = let address = all_four code.address is.size in search (rules, address)
-spelled_back Swapped code is = let address = all_four code.address is.size in search (rules, address)
 
 in_order_small : (order : Order) (octets : List ℕ) (i : ℕ) → IsBytes octets → in_order order (number_at octets i) < 65536
 in_order_small High octets i bytes = omega (arith, bytes i, bytes (i + 1))
@@ -108,7 +105,7 @@ code_only order word code spelled =
     let twelve = twelve_octets order code spelled.is_code.size in
     let digits = (decode_of-ok word octets spelled.digits).2 in (
       ap (code_from order) spelled.digits ∙ ap (λ b. cond b (Some (activation_of order octets)) None) (eq-eqb _ _ twelve)
-          ∙ ap Some (spelled_back order code spelled.is_code),
+          ∙ ap Some (activation_back order code spelled.is_code),
       omega (arith, twelve, digits),
     )
 
@@ -429,7 +426,7 @@ pub command_after_found : (order : Order) (keyword : CommandWord) (words : List 
 command_after_found order key.Publish words asked e = publish_found order words asked e
 command_after_found order key.Blank words asked e = blank_found order words asked e
 command_after_found order key.Activate words asked e =
-    let made = made_of _ _ _ e in subst (λ asked. SpellsCommand order asked (codes "activate" ∷ words)) made.2 (last_code_found order (codes "activate") words made.0 made.1)
+    let made = mapped_some _ _ _ e in subst (λ asked. SpellsCommand order asked (codes "activate" ∷ words)) made.2 (last_code_found order (codes "activate") words made.0 made.1)
 
 -- a command's words are a keyword, and words of which the command is read
 pub record IsRead (order : Order) (asked : CommandModel) (words : List (List ℕ)) : Type 0 where

@@ -1,5 +1,5 @@
 -- The last of some fonts.
-use Rattle.std.proofs.Common.{◌≡◌, List, [], ◌∷◌, ◌++◌, length, Some, None, refl, arith}
+use Rattle.std.proofs.Common.{◌≡◌, List, [], ◌∷◌, ◌++◌, Some, refl}
 use Rattle.dms_font.specs.Font.{FontModel}
 use Rattle.dms_description.specs.Causes.{last_font}
 
@@ -7,7 +7,3 @@ pub last_is : (fonts : List FontModel) (font : FontModel) → last_font (fonts +
 last_is [] font = refl
 last_is (one ∷ []) font = refl
 last_is (one ∷ other ∷ fonts) font = last_is (other ∷ fonts) font
-
-pub none_is : (fonts : List FontModel) → length fonts ≡ 0 → last_font fonts ≡ None
-none_is [] e = refl
-none_is (font ∷ fonts) e = absurd (omega (arith, e))

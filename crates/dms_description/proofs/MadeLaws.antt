@@ -8,7 +8,6 @@ use Rattle.std.proofs.lemmas.List.Folds.{list_all-map}
 use Rattle.std.proofs.lemmas.List.{length-map, length-replicate}
 use Rattle.std.proofs.lemmas.Iterator.Adapters.{position_from-zero}
 use Rattle.dms_face.specs.Face.{FaceModel, is_face, is_matrix, are_fonts, fit, checked}
-use Rattle.dms_face.specs.declared.fault.FaceFault.{FaceFault}
 use Rattle.dms_face.specs.declared.fault.FaceFault.TheVariants as face_faults
 use Rattle.dms_table.specs.declared.stock.Permanent.{Permanent}
 use Rattle.dms_table.specs.declared.stock.Stock.{Stock}
@@ -22,6 +21,7 @@ use Rattle.dms_sign.specs.Communities.{has_community_size, are_communities}
 use Rattle.dms_sign.specs.Configuration.{config_of, config_fault, IsFirstConfigFault}
 use Rattle.dms_sign.specs.Construction.{may_stand, CanBeMade}
 use Rattle.dms_font.specs.Font.{FontModel}
+use Rattle.dms_codes.proofs.Options.{mapped_none}
 use Rattle.dms_description.specs.declared.head.Head.{Head}
 use Rattle.dms_description.specs.declared.rows.OwnedRow.{OwnedRow}
 use Rattle.dms_description.specs.Views.{is_memory, described_with, head_seen, row_seen}
@@ -47,10 +47,6 @@ none_fails test i (x ∷ xs) e =
 none_after : {A : Type 0} (b : Bool) (o : Option A) (x : A) → cond b o (Some x) ≡ None → (b ≡ true) × (o ≡ None)
 none_after true o x e = (refl, e)
 none_after false o x e = absurd (let wrong : Some x ≡ None = e in cc)
-
-none_mapped : {A B : Type 0} (f : A → B) (o : Option A) → option_map f o ≡ None → o ≡ None
-none_mapped f None e = refl
-none_mapped f (Some x) e = absurd (let wrong : Some (f x) ≡ None = e in cc)
 
 record HasCounts (stock : Stock) : Type 0 where
   permanent : length stock.permanent.now ≤ 16
@@ -97,10 +93,10 @@ faultless_can_be_made config is_made e =
     let tests = none_after (are_communities reader writer) _ _ e in
     let both = and_parts (has_community_size reader && has_community_size writer) (not (pointwise nat_eq reader writer)) tests.0 in
     let sizes = and_parts (has_community_size reader) (has_community_size writer) both.0 in
-    let faultless = none_mapped config_faults.Table (stock_fault config.face stock) tests.1 in
+    let faultless = mapped_none config_faults.Table (stock_fault config.face stock) tests.1 in
     let parts = none_after (are_counts stock) _ _ faultless in
     let counts = counts_found stock parts.0 in
-    let standing = none_mapped permanent_fault (position (may_not_stand (services_of stock) config.face) stock.permanent.now) parts.1 in
+    let standing = mapped_none permanent_fault (position (may_not_stand (services_of stock) config.face) stock.permanent.now) parts.1 in
     record {
       face = is_made;
       permanent = omega (arith, length-map stock.permanent.now permanent_row, counts.permanent);
@@ -142,14 +138,6 @@ checked_is_face it face e =
     let defaults = if_not (fit it.fonts it.defaults) face_faults.Default (Ok it) face fonts.1 in
     (and_from _ _ (and_from _ _ size.0 fonts.0) defaults.0, let same : Ok it ≡ Ok face = defaults.1 in cc)
 
-pub face_is_checked : (it : FaceModel) → is_face it ≡ true → checked it ≡ Ok it
-face_is_checked it e =
-    let both = and_parts (is_matrix it.width it.height && are_fonts it.fonts) (fit it.fonts it.defaults) e in
-    let first = and_parts (is_matrix it.width it.height) (are_fonts it.fonts) both.0 in
-    ap (λ b. cond (not b) (Err face_faults.Size) (cond (not (are_fonts it.fonts)) (Err face_faults.Fonts) (cond (not (fit it.fonts it.defaults)) (Err face_faults.Default) (Ok it)))) first.0
-    ∙ ap (λ b. cond (not b) (Err face_faults.Fonts) (cond (not (fit it.fonts it.defaults)) (Err face_faults.Default) (Ok it))) first.1
-    ∙ ap (λ b. cond (not b) (Err face_faults.Default) (Ok it)) both.1
-
 -- where nothing is wrong, memory ran out
 first_fault_is_memory : (o : Option ConfigFault) (fault : ConfigFault) → o ≡ None → IsFirstConfigFault o fault → is_memory fault ≡ true
 first_fault_is_memory None fault none is = ap is_memory is
@@ -162,10 +150,6 @@ refused_is_none config fault other is can =
     let memory = first_fault_is_memory (config_fault config) fault (can_be_made_is_faultless config can) is in
     let wrong : false ≡ true = sym other ∙ memory in
     absurd (cc)
-
--- a face was refused
-pub refused_face_is_none : (it : FaceModel) (fault : FaceFault) → Err fault ≡ checked it → is_face it ≡ true → ⊥
-refused_face_is_none it fault e is = absurd (let wrong : Err fault ≡ Ok it = e ∙ face_is_checked it is in cc)
 
 -- the parts of a description, and what a sign is made of
 pub described_alike : (head : Head) (permanent : List Permanent) (rows : List OwnedRow) (fonts : List FontModel) (face : FaceModel)

@@ -45,7 +45,7 @@ is_none lines fault (inr none) = inr (none_begins lines none)
 abbrev pub from_start : List ℕ → TextLeft
 from_start text = record { number = 1; text = text }
 
-kept : (text : List ℕ) → octets_left (from_start text) ≡ kept_lines text
+pub kept : (text : List ℕ) → octets_left (from_start text) ≡ kept_lines text
 kept text = octets-numbered 1 (lines text)
 
 pub whole_begins : (text : List ℕ) (it : Description) → SpellsSign (kept_lines text) it → BeginsWith (octets_left (from_start text)) [] it

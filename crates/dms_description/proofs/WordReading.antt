@@ -4,19 +4,16 @@ use Rattle.std.specs.Prelude.{codes}
 use Rattle.std.proofs.lemmas.Bool.{eqb-true, eqb-false, eq-eqb, cases_Bool}
 use Rattle.std.proofs.lemmas.Option.{cond_some, same_Some}
 use Rattle.dms_text.specs.Numbers.{SpellsNumber, SpellsDecimal}
-use Rattle.dms_text.specs.Reading.{keyword_at, decimal_at, same_octets, is_end, ◌>>=◌}
+use Rattle.dms_text.specs.Reading.{keyword_at, decimal_at, same_octets, ◌>>=◌}
 use Rattle.dms_text.proofs.WordLaws.{begun, goes_on, same_found, keyword_found, keyword_only, decimal_found, decimal_only, numeral_found, numeral_only}
 use Rattle.dms_codes.specs.declared.codes.Order.{Order}
 use Rattle.dms_codes.specs.declared.codes.Order.TheVariants.{High, Swapped}
+use Rattle.dms_font.proofs.FontLaws.{ended}
 use Rattle.dms_description.specs.Fields.{SpellsFlag, SpellsOrder, SpellsFourOctets}
 use Rattle.dms_description.specs.DescriptionReading.{order_named}
 use Rattle.dms_description.specs.FieldsReading.{if_last}
 
 -- ---- the end of a line
-
-ended : (words : List (List ℕ)) → is_end words ≡ true → words ≡ []
-ended [] e = refl
-ended (word ∷ words) e = absurd (let never : false ≡ true = e in cc)
 
 pub last_found : {A : Type 0} (value : A) (words : List (List ℕ)) (found : A) → if_last value words ≡ Some found → (words ≡ []) × (value ≡ found)
 last_found value words found e = let tests = cond_some _ _ _ e in (ended words tests.0, tests.1)

@@ -7,7 +7,7 @@ use Rattle.dms_text.specs.Lines.{TextLeft, lines_left, kept_lines}
 use Rattle.dms_text.specs.Words.{words_of}
 use Rattle.dms_text.specs.Views.{numbered_line}
 use Rattle.dms_text.specs.declared.lines.Line.{Line}
-use Rattle.dms_text.proofs.LineFilter.{octets_of_lines, octets-numbered}
+use Rattle.dms_text.proofs.LineFilter.{octets_of_lines}
 use Rattle.dms_codes.specs.declared.codes.Order.{Order}
 use Rattle.dms_sign.specs.State.{SignState, start}
 use Rattle.dms_centre.specs.State as centre
@@ -26,6 +26,8 @@ use Rattle.dms_description.specs.declared.reading_fault.ReplayFault.{ReplayFault
 use Rattle.dms_replay.specs.declared.script_event.ScriptEvent.{ScriptEvent}
 use Rattle.dms_replay.specs.EventView.{script_event_model, script_events_model}
 use Rattle.dms_description.specs.declared.reading_fault.ReplayFault.TheVariants.{Memory, Line as LineFault}
+use Rattle.dms_description.proofs.FieldLaws.{same_rest}
+use Rattle.dms_description.proofs.SetupLaws.{kept}
 use Rattle.dms_replay.specs.Report.{report_of}
 use Rattle.dms_replay.specs.Replayed.{IsReport, IsLawful, RunsLawfully, HasNoRoom, NoScript}
 use Rattle.dms_streams.specs.Room.{HasRoom, IsWrittenWithinRoom}
@@ -36,15 +38,8 @@ abbrev head_or : List ℕ → List (List ℕ) → List ℕ
 head_or otherwise [] = otherwise
 head_or otherwise (line ∷ lines) = line
 
-abbrev tail_of : List (List ℕ) → List (List ℕ)
-tail_of [] = []
-tail_of (line ∷ lines) = lines
-
 same_head : (line other : List ℕ) (lines others : List (List ℕ)) → line ∷ lines ≡ other ∷ others → line ≡ other
 same_head line other lines others e = ap (head_or []) e
-
-same_tail : (line other : List ℕ) (lines others : List (List ℕ)) → line ∷ lines ≡ other ∷ others → lines ≡ others
-same_tail line other lines others e = ap tail_of e
 
 -- a description does not begin with the word `bench`
 no_bench : (prefix rest others : List (List ℕ)) (it : Description) → SpellsSign prefix it → prefix ++ rest ≡ codes "bench" ∷ others → ⊥
@@ -60,7 +55,7 @@ one_name lines rest others it that this other = names_are lines rest others this
     names_are : (lines rest others prefix another : List (List ℕ)) (it that : Description) → lines ≡ prefix ++ rest → lines ≡ another ++ others → NamesSign prefix it → NamesSign another that
         → (it ≡ that) × (rest ≡ others)
     names_are lines rest others prefix another it that e h (the_bench sign spelled) (the_bench other says) =
-        (one_sign _ _ _ spelled says, same_tail _ _ _ _ (sym e ∙ h))
+        (one_sign _ _ _ spelled says, same_rest _ _ _ _ (sym e ∙ h))
     names_are lines rest others prefix another it that e h (the_bench sign spelled) (described prefix_lines other says) = absurd (no_bench _ _ _ _ says (sym h ∙ e))
     names_are lines rest others prefix another it that e h (described prefix_lines sign spelled) (the_bench other says) = absurd (no_bench _ _ _ _ spelled (sym e ∙ h))
     names_are lines rest others prefix another it that e h (described prefix_lines sign spelled) (described other_lines other says) =
@@ -86,9 +81,6 @@ one_script octets it that events others this other =
 
 abbrev from_start : List ℕ → TextLeft
 from_start octets = record { number = 1; text = octets }
-
-kept : (octets : List ℕ) → octets_left (from_start octets) ≡ kept_lines octets
-kept octets = octets-numbered 1 (lines octets)
 
 pub bench_first : (octets : List ℕ) (start left : TextLeft) (line : Line) → start ≡ from_start octets → lines_left start ≡ numbered_line line ∷ lines_left left → line.octets.now ≡ codes "bench"
     → kept_lines octets ≡ codes "bench" ∷ octets_left left

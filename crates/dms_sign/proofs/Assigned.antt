@@ -1,14 +1,14 @@
 -- The state in which the values of a SET are assigned, and what a command makes of it.
 use Rattle.std.proofs.Common.{◌≡◌, ℕ, Bool, true, false, cond, List, [], ◌∷◌, ◌++◌, find, Option, Some, None, Result, Ok, Err, is_some, IsSome, IsTrue, refl, sym, ap, subst, ◌∙◌, true≢false}
-use Rattle.std.specs.Prelude.{option_map, option_and_then, slice_get}
+use Rattle.std.specs.Prelude.{option_and_then, slice_get}
 use Rattle.std.specs.Option.{IfSome}
 use Rattle.std.specs.Result.{OnOk, OnErr}
 use Rattle.std.specs.List.{cons_option}
-use Rattle.dms_wire.specs.declared.error_status.ErrorStatus.TheVariants.{NoError}
 use Rattle.dms_wire.specs.Message.{VarBind}
 use Rattle.dms_wire.specs.Limits.{AreBindingsInLimits}
 use Rattle.dms_face.specs.declared.defaults.Defaults.{Defaults}
 use Rattle.dms_face.specs.Face.{fit}
+use Rattle.dms_face.proofs.Lists.{if_found}
 use Rattle.dms_codes.specs.declared.codes.Order.{Order}
 use Rattle.dms_codes.specs.declared.codes.Activation.{Activation}
 use Rattle.dms_codes.specs.declared.row_id.RowId.{RowId}
@@ -41,7 +41,6 @@ use Rattle.dms_sign.specs.SetView.{AreSettings}
 use Rattle.dms_sign.specs.SetView.{IsCommandInRange}
 use Rattle.dms_table.proofs.Decisions.{accepted_decision, accepted_elsewhere}
 use Rattle.dms_access.specs.declared.settings.Fallbacks.{Fallbacks}
-use Rattle.dms_sign.proofs.InRangeLists.{if_found}
 use Rattle.dms_sign.proofs.InRangeShown.{showing_in_range, telling_in_range, with_table_in_range, activation_is, IsDecisionInRange, decided_in_range}
 use Rattle.dms_sign.proofs.InRangeSets.{IsWriteInRange, writes_in_range, assigned_in_range, asked_in_range, accepted_reports}
 use Rattle.dms_sign.proofs.StepDefaults.{writes_fit, assigned_fit}
@@ -139,15 +138,6 @@ pub ask_refused : (s : SignState) (ws : List Write) (bindings : List VarBind) (i
     → commanded s (assigned s ws) bindings index (AskRow id ask) ≡ as_asked s (assigned s ws) bindings index None
 ask_refused s ws bindings index id ask e =
     ap (as_asked s (assigned s ws) bindings index) (asked_none (asked (assigned s ws).table id ask) (sym (takes_after s ws id ask) ∙ e))
-
-pub ask_granted : (s new : SignState) (bindings : List VarBind) (index : ℕ) (o : Option TableModel) (result : SignState)
-    → Some result ≡ option_map (λ (table : TableModel). record new { table = table }) o
-    → (result ≡ (as_asked s new bindings index o).after) × ((as_asked s new bindings index o).status ≡ NoError)
-    × ((as_asked s new bindings index o).index ≡ 0) × ((as_asked s new bindings index o).accepted ≡ None)
-ask_granted s new bindings index None result e = absurd (cc)
-ask_granted s new bindings index (Some table) result e =
-    let same : result ≡ record new { table = table } = cc in
-    (same, refl, refl, refl)
 
 -- ---- activations
 

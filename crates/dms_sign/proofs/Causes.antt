@@ -4,6 +4,7 @@ use Rattle.std.specs.Prelude.{option_map, unwrap_or, slice_get}
 use Rattle.std.specs.List.{list_any, cons_option, position_from}
 use Rattle.std.proofs.Math.Seq.{take-append_seam}
 use Rattle.std.proofs.lemmas.List.{append_assoc, append-nil, length-append}
+use Rattle.std.proofs.lemmas.Bool.{or_parts}
 use Rattle.dms_wire.specs.Message.{VarBind}
 use Rattle.dms_wire.specs.declared.error_status.ErrorStatus.{ErrorStatus}
 use Rattle.dms_access.specs.declared.settings.Fallbacks.{Fallbacks}
@@ -68,14 +69,10 @@ position_push p i (y ∷ xs) x none =
     pick_by (p y) (p x) (i + length (y ∷ xs)) i (position_from p (i + 1) xs) (position_from p (i + 1) (xs ++ x ∷ [])) none
     (λ h. position_push p (i + 1) xs x h ∙ ap (λ n. cond (p x) (Some n) (position_from p (i + 1) xs)) place)
 
-either_false : (b c : Bool) → (b || c) ≡ false → (b ≡ false) × (c ≡ false)
-either_false true c e = absurd (true≢false e)
-either_false false c e = (refl, e)
-
 none_position : {X : Type 0} (p : X → Bool) (i : ℕ) (xs : List X) → list_any p xs ≡ false → position_from p i xs ≡ None
 none_position p i [] e = refl
 none_position p i (x ∷ xs) e =
-    let parts = either_false (p x) (list_any p xs) e in
+    let parts = or_parts (p x) (list_any p xs) e in
     ap (λ b. cond b (Some i) (position_from p (i + 1) xs)) parts.0 ∙ none_position p (i + 1) xs parts.1
 
 is_none_of : {X : Type 0} (o : Option X) → is_some o ≡ false → o ≡ None
@@ -234,7 +231,7 @@ no_field table (SetRemaining minutes) e = refl
 pub stays_more : (s : SignState) (xs ys : List VarBind) (b : VarBind) (w : Write) (old new : Bool) → write_at s b ≡ Some w → xs ++ b ∷ [] ≡ ys
     → new ≡ (old || is_field w) → StaysWithout old s xs → StaysWithout new s ys
 stays_more s xs ys b w old new writes e n stays = λ h.
-    let parts = either_false old (is_field w) (sym n ∙ h) in
+    let parts = or_parts old (is_field w) (sym n ∙ h) in
     let all : writes_of s ys ≡ writes_of s xs ++ w ∷ [] =
     ap (writes_of s) (sym e) ∙ writes_append s xs (b ∷ []) ∙ ap (λ o. writes_of s xs ++ cons_option o []) writes
     in

@@ -1,18 +1,15 @@
 -- What holds of each element of a list, or of the value that there may be.
-use Rattle.std.proofs.Common.{ℕ, zero, suc, ◌+◌, ◌<◌, Bool, true, false, cond, List, [], ◌∷◌, ◌++◌, length, map, flat_map, find, Option, Some, None, slice_get, arith}
-use Rattle.std.specs.Prelude.{option_map, option_and_then, unwrap_or, filter_map}
+use Rattle.std.proofs.Common.{ℕ, zero, suc, ◌+◌, ◌<◌, Bool, true, false, cond, List, [], ◌∷◌, length, map, flat_map, Option, Some, None, slice_get, arith}
+use Rattle.std.specs.Prelude.{option_map, option_and_then, filter_map}
 use Rattle.std.specs.Option.{IfSome}
 use Rattle.std.specs.List.{AllByRecursion, position_from, cons_option}
+use Rattle.dms_face.proofs.Lists.{all_append}
 
 -- ---- choices and options
 
 pub either : {X : Type 0} (P : X → Type 0) (b : Bool) (x y : X) → P x → P y → P (cond b x y)
 either P true x y first second = first
 either P false x y first second = second
-
-pub if_either : {X : Type 0} (P : X → Type 0) (b : Bool) (o p : Option X) → IfSome o P → IfSome p P → IfSome (cond b o p) P
-if_either P true o p first second = first
-if_either P false o p first second = second
 
 pub if_mapped : {X Y : Type 0} (P : X → Type 0) (Q : Y → Type 0) (f : X → Y) (o : Option X) → ((x : X) → P x → Q (f x)) → IfSome o P
     → IfSome (option_map f o) Q
@@ -24,15 +21,7 @@ pub if_then : {X Y : Type 0} (P : X → Type 0) (Q : Y → Type 0) (f : X → Op
 if_then P Q f None each some = tt
 if_then P Q f (Some x) each some = each x some
 
-pub if_or : {X : Type 0} (P : X → Type 0) (o : Option X) (x : X) → IfSome o P → P x → P (unwrap_or o x)
-if_or P None x some other = other
-if_or P (Some y) x some other = some
-
 -- ---- lists
-
-pub all_append : {X : Type 0} (P : X → Type 0) (xs ys : List X) → AllByRecursion P xs → AllByRecursion P ys → AllByRecursion P (xs ++ ys)
-all_append P [] ys first second = second
-all_append P (x ∷ xs) ys first second = (first.0, all_append P xs ys first.1 second)
 
 pub all_mapped : {X Y : Type 0} (P : X → Type 0) (Q : Y → Type 0) (f : X → Y) (xs : List X) → ((x : X) → P x → Q (f x)) → AllByRecursion P xs
     → AllByRecursion Q (map f xs)
@@ -58,10 +47,6 @@ all_filtered P Q f (x ∷ xs) each all = all_option Q (f x) (filter_map f xs) (e
 pub all_any : {X : Type 0} (P : X → Type 0) (xs : List X) → ((x : X) → P x) → AllByRecursion P xs
 all_any P [] each = tt
 all_any P (x ∷ xs) each = (each x, all_any P xs each)
-
-pub if_found : {X : Type 0} (P : X → Type 0) (test : X → Bool) (xs : List X) → AllByRecursion P xs → IfSome (find test xs) P
-if_found P test [] all = tt
-if_found P test (x ∷ xs) all = if_either P (test x) (Some x) (find test xs) all.0 (if_found P test xs all.1)
 
 pub if_at : {X : Type 0} (P : X → Type 0) (xs : List X) (i : ℕ) → AllByRecursion P xs → IfSome (slice_get xs i) P
 if_at P [] i all = tt

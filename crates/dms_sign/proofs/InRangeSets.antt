@@ -14,6 +14,7 @@ use Rattle.dms_wire.specs.Limits.{IsValueInLimits, AreBindingsInLimits}
 use Rattle.dms_wire.proofs.LimitsLaws.{spelled_in_limits}
 use Rattle.dms_wire.proofs.MessageOfLaws.{read_is_spelled}
 use Rattle.dms_face.specs.Face.{FaceModel, has_font}
+use Rattle.dms_face.proofs.Lists.{if_either, if_or, if_found}
 use Rattle.dms_table.specs.declared.activation.Cause.{Cause}
 use Rattle.dms_objects.specs.declared.column.Column.{Column}
 use Rattle.dms_objects.specs.declared.column.Column.TheVariants as columns_of
@@ -42,7 +43,7 @@ use Rattle.dms_sign.specs.Requests.{found_unless, has_no_value, is_last, as_deci
 use Rattle.dms_sign.specs.Reply.{is_heard, dropped, heard, on_message, on_message_if, received}
 use Rattle.dms_sign.specs.InRange.{AreOctets, AreOctetsUpTo, IsRowInRange, IsTableInRange, AreReportsInRange, IsSignInRange, IsBindingInLimits}
 use Rattle.dms_sign.proofs.NumbersRead.{number_passes}
-use Rattle.dms_sign.proofs.InRangeLists.{either, if_either, if_mapped, if_then, if_or, if_found, if_at, all_filtered}
+use Rattle.dms_sign.proofs.InRangeLists.{either, if_mapped, if_then, if_at, all_filtered}
 use Rattle.dms_sign.proofs.InRangeShown.{IsDecisionInRange, showing_in_range, telling_in_range, with_table_in_range, activation_is, decided_in_range, seconds_in_range, refused_code_in_range, with_time, code_in_range}
 use Rattle.dms_sign.proofs.InRangeEvents.{with_status_in_range, unused_in_range, with_silence}
 

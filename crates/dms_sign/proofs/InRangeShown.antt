@@ -8,6 +8,7 @@ use Rattle.dms_face.specs.declared.multi_fault.MultiFault.{MultiFault}
 use Rattle.dms_face.specs.Face.{FaceModel}
 use Rattle.dms_face.specs.Layout.{under}
 use Rattle.dms_face.specs.Fit.{fault_of}
+use Rattle.dms_face.proofs.Lists.{if_either, all_append}
 use Rattle.dms_codes.specs.declared.codes.Order.{Order}
 use Rattle.dms_codes.specs.declared.codes.Order.TheVariants.{High, Swapped}
 use Rattle.dms_codes.specs.declared.codes.MessageId.{MessageId}
@@ -30,7 +31,7 @@ use Rattle.dms_sign.specs.OwnCodes.{showing, with_refused_code, own_activation, 
 use Rattle.dms_access.specs.Reports.{IsCauseInRange}
 use Rattle.dms_access.specs.Ranges.{AreDefaultsInRange}
 use Rattle.dms_sign.specs.InRange.{AreOctets, IsTableInRange, IsTimeInRange, IsShownInRange, AreReportsInRange, IsSignInRange}
-use Rattle.dms_sign.proofs.InRangeLists.{either, if_either, if_mapped, all_append}
+use Rattle.dms_sign.proofs.InRangeLists.{either, if_mapped}
 use Rattle.dms_sign.proofs.InRangeValues.{IsReadingInRange, in_order_small, id_below, message_in_range}
 use Rattle.dms_sign.proofs.InRangeFaults.{code_small, fault_placed}
 

@@ -35,12 +35,13 @@ use Rattle.dms_objects.specs.declared.objects.Instances.{Instances}
 use Rattle.dms_objects.specs.declared.objects.Instances.TheVariants.{One, EachRow}
 use Rattle.dms_objects.specs.Objects.{every_object}
 use Rattle.dms_instances.specs.Objects.{numbers_to, memories, rows_in, row_ids, instances_of, instances, instance_named, next_instance, IsInstance}
+use Rattle.dms_face.proofs.Lists.{if_either, all_append, if_found}
 use Rattle.dms_sign.specs.State.{SignState}
 use Rattle.dms_access.specs.Cells.{number_value, cell_value}
 use Rattle.dms_table.specs.Activation.{minutes_left}
 use Rattle.dms_sign.specs.Values.{scalar_value, value_at, value_of, bound, binding_at, value_after}
 use Rattle.dms_sign.specs.InRange.{IsRowInRange, IsTableInRange, IsTimeInRange, IsShownInRange, IsSignInRange, IsBindingInLimits}
-use Rattle.dms_sign.proofs.InRangeLists.{either, if_either, if_mapped, if_then, all_append, all_mapped, all_flat, all_any, if_found, if_at}
+use Rattle.dms_sign.proofs.InRangeLists.{either, if_mapped, if_then, all_mapped, all_flat, all_any, if_at}
 
 -- ---- checksums
 

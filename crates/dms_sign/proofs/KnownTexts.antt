@@ -3,7 +3,7 @@ use Rattle.std.proofs.Common.{◌≡◌, ℕ, zero, suc, ◌+◌, ◌-◌, ◌<�
 use Rattle.std.specs.Prelude.{option_map}
 use Rattle.std.proofs.lemmas.Bool.{eqb-true, eqb-false}
 use Rattle.std.proofs.lemmas.List.{get_or-set_same, get_or-set_other}
-use Rattle.std.proofs.lemmas.Option.{slice_get_within, get_or_from_slice_get}
+use Rattle.std.proofs.lemmas.Option.{slice_get_within, get_or_from_slice_get, same_Some}
 use Rattle.dms_face.specs.declared.defaults.Defaults.{Defaults}
 use Rattle.dms_face.specs.Face.{FaceModel}
 use Rattle.dms_face.specs.Layout.{under}
@@ -19,7 +19,7 @@ use Rattle.dms_table.specs.Validation.{verdict_of, passes, settled_row, settled,
 use Rattle.dms_table.specs.PlaceView.{writable, of_type, IsOnly, IsOnlyOfAll, IsPlaced}
 use Rattle.dms_table.specs.Stock.{PermanentRowsAreGood}
 use Rattle.dms_table.proofs.OneRow.{count, unsettled, any_validating}
-use Rattle.dms_table.proofs.Places.{only_of_type, none_of_other, only_settled, only_is}
+use Rattle.dms_table.proofs.Places.{only_of_type, none_of_other, only_settled, only_is, set_there}
 use Rattle.dms_table.proofs.Memories.{rows_of_type, other_rows}
 use Rattle.dms_sign.specs.declared.known_texts.KnownTexts.{KnownTexts}
 use Rattle.dms_sign.specs.InRange.{IsStocked}
@@ -32,14 +32,6 @@ pub known_kept : (known : KnownTexts) (face : FaceModel) (old new : TableModel) 
 known_kept known face old new keeps good = λ memory number row there valid. good memory number row (keeps.rows memory number row there valid) valid
 
 -- ---- a row is settled
-
-same_row : (row other : RowModel) → Some row ≡ Some other → row ≡ other
-same_row row other e = cc
-
-set_there : (rows : List RowModel) (place : ℕ) (old new : RowModel) → slice_get rows place ≡ Some old → slice_get (set rows place new) place ≡ Some new
-set_there [] place old new e = absurd (cc)
-set_there (row ∷ rows) zero old new e = refl
-set_there (row ∷ rows) (suc place) old new e = set_there rows place old new e
 
 set_elsewhere : (rows : List RowModel) (place k : ℕ) (new : RowModel) → (k ≡ place → ⊥) → slice_get (set rows place new) k ≡ slice_get rows k
 set_elsewhere [] place k new other = refl
@@ -65,7 +57,7 @@ place_settled true services face first defaults entries start rows place k old r
     let at : k ≡ place = eqb-true k place is in
     let got : slice_get (map (settled_row services face') rows) place ≡ Some row = subst (λ k. slice_get (map (settled_row services face') rows) k ≡ Some row) at e in
     let new : settled_row services face' old ≡ row =
-    same_row _ row (sym (set_there rows place old (settled_row services face' old) there)
+    same_Some _ row (sym (set_there rows place old (settled_row services face' old) there)
     ∙ ap (λ (rows : List RowModel). slice_get rows place) (only_settled services face' rows place old only there) ∙ got) in
     let entry : get_or (set entries (start + place) defaults) (start + k) first ≡ defaults =
     ap (λ k. get_or (set entries (start + place) defaults) (start + k) first) at ∙ get_or-set_same entries (start + place) defaults first room in

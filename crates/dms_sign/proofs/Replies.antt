@@ -20,6 +20,7 @@ use Rattle.dms_table.specs.declared.activation.Cause.{Cause}
 use Rattle.dms_table.specs.Rows.{TableModel, asked}
 use Rattle.dms_codes.specs.Codes.{activation_of}
 use Rattle.dms_table.specs.Activation.{ShownModel, decided}
+use Rattle.dms_face.proofs.Lists.{all_append}
 use Rattle.dms_sign.specs.State.{SignState}
 use Rattle.dms_access.specs.Access.{Write, SetNumber, SetCode, SetField, AskRow, Activate, SetRemaining, is_command}
 use Rattle.dms_sign.specs.SetRequest.{SetCause, is_command_at, tests_at, cause_if, causes_at, causes_after, causes, assigned}
@@ -115,10 +116,6 @@ position_within : {A : Type 0} (p : A → Bool) (i : ℕ) (xs : List A) → unwr
 position_within p i [] = omega arith
 position_within p i (x ∷ xs) = position_if i (length xs) (p x) (position_from p (i + 1 + 1) xs) (position_within p (i + 1) xs)
 
-both : {A : Type 0} (P : A → Type 0) (xs ys : List A) → AllByRecursion P xs → AllByRecursion P ys → AllByRecursion P (xs ++ ys)
-both P [] ys front back = back
-both P (x ∷ xs) ys front back = (front.0, both P xs ys front.1 back)
-
 -- tests have statuses of errors
 abbrev IsTest : Bool × ErrorStatus → Type 0
 IsTest test = (test.1 ≡ NoError → ⊥) × (error_status_number test.1 ≤ 5)
@@ -144,7 +141,7 @@ are_causes_after : (s : SignState) (writing : Bool) (before bindings : List VarB
     → AllByRecursion (IsCause most) (causes_after s writing before bindings)
 are_causes_after s writing before [] most within = tt
 are_causes_after s writing before (binding ∷ more) most within =
-    both
+    all_append
     (IsCause most)
     (causes_at s writing before binding)
     (causes_after s writing (before ++ binding ∷ []) more)

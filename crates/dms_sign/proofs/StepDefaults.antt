@@ -10,6 +10,7 @@ use Rattle.dms_wire.specs.Message.{ObjectValue, VarBind, SnmpMessage}
 use Rattle.dms_wire.specs.MessageOf.{message_of}
 use Rattle.dms_face.specs.declared.defaults.Defaults.{Defaults}
 use Rattle.dms_face.specs.Face.{FaceModel, has_font, is_within, fit}
+use Rattle.dms_face.proofs.Lists.{if_or}
 use Rattle.dms_table.specs.declared.activation.Cause.{Cause}
 use Rattle.dms_objects.specs.declared.column.Column.{Column}
 use Rattle.dms_objects.specs.declared.column.Column.TheVariants as columns
@@ -33,7 +34,7 @@ use Rattle.dms_sign.specs.Reply.{is_heard, heard, dropped, on_message_if, receiv
 use Rattle.dms_sign.specs.Events.{after_settling, counted_down, after_duration, longest_silence, quieter, after_silence, after_tick, recovery_code, restored, after_power_loss, after_power_return}
 use Rattle.dms_sign.specs.Transitions.{HasFitDefaults}
 use Rattle.dms_sign.proofs.NumbersRead.{passes_if, number_passes}
-use Rattle.dms_sign.proofs.InRangeLists.{if_or, all_filtered, all_any}
+use Rattle.dms_sign.proofs.InRangeLists.{all_filtered, all_any}
 use Rattle.dms_sign.proofs.StepShown.{KeepsRest, code_puts_up}
 
 -- ---- what a binding writes

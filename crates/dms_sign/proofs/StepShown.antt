@@ -1,7 +1,7 @@
 -- What a code puts up: the message of its row, a blank one, or what is shown already.
 use Rattle.std.proofs.Common.{◌≡◌, ℕ, ◌==◌, ◌&&◌, ◌||◌, Bool, true, false, not, cond, List, Option, Some, None, Result, Ok, Err, refl, ap, sym, subst, ◌∙◌}
 use Rattle.std.specs.Prelude.{option_map, nat_lt, nat_le}
-use Rattle.std.proofs.lemmas.Bool.{eqb-true}
+use Rattle.std.proofs.lemmas.Bool.{eqb-true, not-false}
 use Rattle.dms_face.specs.declared.defaults.Defaults.{Defaults}
 use Rattle.dms_face.specs.declared.multi_fault.MultiFault.{MultiFault}
 use Rattle.dms_face.specs.Face.{FaceModel}
@@ -13,7 +13,6 @@ use Rattle.dms_table.specs.declared.activation.Cause.TheVariants as causes
 use Rattle.dms_codes.specs.declared.codes.MessageId.{MessageId}
 use Rattle.dms_codes.specs.declared.codes.Activation.{Activation}
 use Rattle.dms_codes.specs.declared.status.Status.{Status}
-use Rattle.dms_codes.specs.declared.status.Status.TheVariants.{NotUsed, Modifying, Validating, Valid, Error}
 use Rattle.dms_codes.specs.Status.{is_valid}
 use Rattle.dms_codes.specs.Checksum.{message_checksum}
 use Rattle.dms_codes.specs.Codes.{id_of}
@@ -21,6 +20,7 @@ use Rattle.dms_table.specs.Rows.{RowModel, TableModel, RowReading, blank, rows_o
 use Rattle.dms_codes.specs.Memory.{current_buffer, blank_memory}
 use Rattle.dms_table.specs.declared.shown.Mode.TheVariants.{Central}
 use Rattle.dms_table.specs.Activation.{ShownModel, shown_reading, is_memory, named, seconds_of, mode_number, unless_refused, decided}
+use Rattle.dms_table.proofs.KnownTexts.{valid_status}
 use Rattle.dms_sign.specs.State.{SignState}
 use Rattle.dms_sign.specs.OwnCodes.{own_activation, put_up_as_decided, staying, put_up_code}
 use Rattle.dms_sign.specs.Transitions.{IsSameMessage, IsBlankedUnder, IsRowOf}
@@ -119,17 +119,6 @@ passed : {A : Type 0} (b : Bool) (x : A) (o : Option A) → cond b (Some x) o �
 passed true x o e = absurd (cc)
 passed false x o e = (refl, e)
 
-not_false : (b : Bool) → not b ≡ false → b ≡ true
-not_false true e = refl
-not_false false e = absurd (cc)
-
-valid_status : (status : Status) → is_valid status ≡ true → status ≡ Valid
-valid_status NotUsed e = absurd (cc)
-valid_status Modifying e = absurd (cc)
-valid_status Validating e = absurd (cc)
-valid_status Valid e = refl
-valid_status Error e = absurd (cc)
-
 no_fault : (o : Option MultiFault) → option_map causes.Syntax o ≡ None → o ≡ None
 no_fault None e = refl
 no_fault (Some fault) e = absurd (cc)
@@ -169,7 +158,7 @@ row_displays face defaults table shown code new (Some row) there e =
     let status = passed (not (is_valid row.status)) causes.Status _ both.0 in
     let checksum = passed (not (false || code.id.crc == message.checksum)) causes.Checksum _ status.1 in
     let priority = passed (nat_lt code.priority shown.priority) causes.Priority (option_map causes.Syntax (fault_of (under face defaults) row.text)) checksum.1 in
-    let is_valid_row : is_valid row.status ≡ true = not_false (is_valid row.status) status.0 in
+    let is_valid_row : is_valid row.status ≡ true = not-false (is_valid row.status) status.0 in
     let is : IsRowOf face defaults table (put_up_if false defaults shown code message) = record {
       row = row;
       there = there;
@@ -180,7 +169,7 @@ row_displays face defaults table shown code new (Some row) there e =
       pixel = refl;
       priority = refl;
       good = (faultless_law (under face defaults) row.text).0 (no_fault (fault_of (under face defaults) row.text) priority.1);
-      checksum = crc_of code row (is_valid row.status) is_valid_row (not_false _ checksum.0);
+      checksum = crc_of code row (is_valid row.status) is_valid_row (not-false _ checksum.0);
       copied = refl;
     } in
     subst (Displays face defaults table shown code.id) both.1 (of_row refl is)

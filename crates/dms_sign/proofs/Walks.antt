@@ -1,8 +1,8 @@
 -- A walk over the bindings of a request that writes what it finds, and stops where nothing is found.
-use Rattle.std.proofs.Common.{◌≡◌, ℕ, ◌+◌, Bool, true, false, cond, List, [], ◌∷◌, ◌++◌, map, length, Option, Some, None, refl, sym, ap, ◌∙◌, arith}
+use Rattle.std.proofs.Common.{◌≡◌, ℕ, ◌+◌, Bool, false, cond, List, [], ◌∷◌, ◌++◌, map, length, Option, Some, refl, sym, ap, ◌∙◌, arith}
 use Rattle.std.specs.Prelude.{is_none, unwrap_or}
 use Rattle.std.specs.List.{position_from}
-use Rattle.std.proofs.lemmas.List.{append_assoc, append-nil}
+use Rattle.std.proofs.lemmas.List.{append_assoc}
 use Rattle.dms_wire.specs.Message.{ObjectValue, VarBind}
 use Rattle.dms_objects.specs.declared.instance.Instance.{Instance}
 use Rattle.dms_objects.specs.Names.{name_of}
@@ -23,16 +23,6 @@ pub record HasFound (test : VarBind → Bool) (choose : VarBind → VarBind) (al
   pub none : position_from test (index + 1) rest ≡ position_from test 1 all
   pub count : index + length rest ≡ length all
 
-pub found_starts : (test : VarBind → Bool) (choose : VarBind → VarBind) (all rest : List VarBind) (octets : Option (List ℕ)) → rest ≡ all
-    → octets ≡ octets_of_bindings [] → HasFound test choose all octets 0 rest
-found_starts test choose all rest octets same e = record {
-  done = [];
-  whole = same;
-  written = e;
-  none = ap (position_from test 1) same;
-  count = let e : length rest ≡ length all = ap length same in omega arith;
-}
-
 passed : (test : VarBind → Bool) (i : ℕ) (b : VarBind) (rest : List VarBind) (t : Bool) → test b ≡ t → t ≡ false
     → position_from test i (b ∷ rest) ≡ position_from test (i + 1) rest
 passed test i b rest t e f = ap (λ t. cond t (Some i) (position_from test (i + 1) rest)) (e ∙ f)
@@ -52,17 +42,6 @@ found_more test choose all rest more octets new index b chosen has e passes is p
       none = sym (passed test (index + 1) b more (test b) refl passes) ∙ ap (position_from test (index + 1)) (sym e) ∙ has.none;
       count = omega arith;
     }
-
-pub found_refused : (test : VarBind → Bool) (choose : VarBind → VarBind) (all rest more : List VarBind) (octets : Option (List ℕ)) (index : ℕ) (b : VarBind)
-    → HasFound test choose all octets index rest → rest ≡ b ∷ more → test b ≡ true → position_from test 1 all ≡ Some (index + 1)
-found_refused test choose all rest more octets index b has e fails =
-    sym has.none ∙ ap (position_from test (index + 1)) e ∙ ap (λ t. cond t (Some (index + 1)) (position_from test (index + 1 + 1) more)) fails
-
-pub found_all : (test : VarBind → Bool) (choose : VarBind → VarBind) (all rest : List VarBind) (octets : Option (List ℕ)) (index : ℕ)
-    → HasFound test choose all octets index rest → rest ≡ [] → (octets ≡ octets_of_bindings (map choose all)) × (position_from test 1 all ≡ None)
-found_all test choose all rest octets index has e =
-    let done : has.done ≡ all = sym (append-nil has.done) ∙ ap (λ r. has.done ++ r) (sym e) ∙ has.whole in
-    (has.written ∙ ap (λ d. octets_of_bindings (map choose d)) done, sym has.none ∙ ap (position_from test (index + 1)) e)
 
 -- ---- what is found for a name
 

@@ -27,19 +27,18 @@ use Rattle.dms_table.specs.Activation.{ShownModel, shown_by, refusal, unless_ref
 use Rattle.dms_access.specs.declared.reports.Reports.{Reports}
 use Rattle.dms_sign.specs.declared.sign.Sign.TheInside.{Inside}
 use Rattle.dms_sign.specs.Communities.{are_communities}
-use Rattle.dms_table.specs.declared.shown.Mode.{Mode}
 use Rattle.dms_table.specs.Activation.{blank_id, blank_shown, mode_number}
 use Rattle.dms_table.specs.Activation.{blank_code}
 use Rattle.dms_sign.specs.State.{ConfigModel, SignState, start, power_recovery_mode}
 use Rattle.dms_sign.specs.Kept.{IsKept}
 use Rattle.dms_access.specs.declared.settings.Settings.{Settings}
 use Rattle.dms_access.specs.Settings.{first_settings}
-use Rattle.dms_access.specs.Reports.{first_reports, refused_reports}
+use Rattle.dms_access.specs.Reports.{first_reports}
 use Rattle.dms_sign.specs.OwnCodes.{showing, with_refused_code, own_activation, put_up_as_decided, staying, put_up_code}
 use Rattle.dms_access.specs.Reports.{settled_reports}
 use Rattle.dms_access.specs.Reports.{IsCauseInRange}
 use Rattle.dms_access.specs.Ranges.{AreDefaultsInRange}
-use Rattle.dms_sign.specs.InRange.{IsStocked, AreOctets, IsTableInRange, IsShownInRange, IsTimeInRange, AreReportsInRange, IsSignInRange, most_minutes}
+use Rattle.dms_sign.specs.InRange.{IsStocked, IsTableInRange, IsShownInRange, IsTimeInRange, AreReportsInRange, IsSignInRange, most_minutes}
 use Rattle.dms_sign.specs.declared.known_texts.KnownTexts.{KnownTexts}
 use Rattle.dms_sign.specs.KnownTexts.{first_entry, HasRoom, noted, AreKnown}
 use Rattle.dms_sign.specs.SignView.{state_of, IsWhole}
@@ -47,7 +46,7 @@ use Rattle.dms_table.proofs.Decisions.{accepted_decision, refused_decision}
 use Rattle.dms_table.proofs.Places.{placed_settling}
 use Rattle.dms_table.proofs.Settlement.{nothing_settled, no_verdict}
 use Rattle.dms_sign.specs.Events.{after_settling}
-use Rattle.dms_sign.proofs.InRangeShown.{showing_in_range, telling_in_range, with_table_in_range, mode_in_range, with_mode, with_time, own_is, id_is, IsDecisionInRange, decided_in_range, refused_in_range}
+use Rattle.dms_sign.proofs.InRangeShown.{showing_in_range, telling_in_range, with_table_in_range, with_mode, with_time, own_is, id_is, IsDecisionInRange, decided_in_range}
 use Rattle.dms_sign.proofs.KnownTexts.{HasEntries, only_within, known_kept, known_settled}
 use Rattle.dms_sign.proofs.StepRows.{after_power_keeps}
 use Rattle.dms_sign.proofs.InRangeStart.{start_in_range, stocked_in_range}
@@ -58,20 +57,6 @@ pub shown_whole : (old : Inside) (shown : ShownModel) (source : List ℕ) → Is
 shown_whole old shown source is range octets = record {
   kept = record { in_range = showing_in_range (state_of old) shown is.kept.in_range range; fit = is.kept.fit; communities = is.kept.communities };
   source = octets;
-  known = is.known;
-}
-
-pub staying_whole : (old : Inside) (mode : Mode) → IsWhole old
-    → IsWhole (record old { shown = record old.shown { mode = mode_number mode; remaining = None } })
-staying_whole old mode is = record {
-  kept = record {
-    in_range = showing_in_range (state_of old) (record old.shown { mode = mode_number mode; remaining = None }) is.kept.in_range
-        (with_time (record old.shown { mode = mode_number mode }) None
-        (with_mode old.shown (mode_number mode) is.kept.in_range.shown (mode_in_range mode)) tt);
-    fit = is.kept.fit;
-    communities = is.kept.communities;
-  };
-  source = is.source;
   known = is.known;
 }
 
@@ -87,20 +72,6 @@ remaining_whole old remaining is time = record {
   source = is.source;
   known = is.known;
 }
-
-pub reports_whole : (old : Inside) (reports : Reports) → IsWhole old → AreReportsInRange reports
-    → IsWhole (record old { reports = reports })
-reports_whole old reports is range = record {
-  kept = record { in_range = telling_in_range (state_of old) reports is.kept.in_range range; fit = is.kept.fit; communities = is.kept.communities };
-  source = is.source;
-  known = is.known;
-}
-
-pub refused_whole : (old : Inside) (cause : Cause) (code : List ℕ) (reports : Reports) → IsWhole old → IsCauseInRange cause → AreOctets 12 code
-    → reports ≡ refused_reports old.reports cause code → IsWhole (record old { reports = reports })
-refused_whole old cause code reports is small octets e =
-    reports_whole old reports is
-    (subst AreReportsInRange (sym e) (refused_in_range old.reports cause code is.kept.in_range.reports small octets))
 
 pub kept_whole : (old : Inside) → IsWhole old → IsWhole (record old { shown_at_power_loss = old.shown })
 kept_whole old is = record {

@@ -5,6 +5,7 @@ use Rattle.std.specs.Option.{IfSome}
 use Rattle.std.specs.List.{list_any}
 use Rattle.dms_face.specs.declared.defaults.Defaults.{Defaults}
 use Rattle.dms_face.specs.Face.{FaceModel}
+use Rattle.dms_face.proofs.Lists.{if_either}
 use Rattle.dms_codes.specs.declared.status.Status.{Status}
 use Rattle.dms_codes.specs.declared.status.Status.TheVariants.{NotUsed, Modifying, Validating, Valid, Error}
 use Rattle.dms_codes.specs.declared.status.Ask.{Ask}
@@ -18,7 +19,7 @@ use Rattle.dms_table.specs.Rows.{RowModel, TableModel, FieldModel, Text, Owner, 
 use Rattle.dms_table.specs.Activation.{ShownModel, is_memory, row_id, shown_reading, put_up, unless_refused, decided_on, decided}
 use Rattle.dms_access.specs.Access.{Write, SetNumber, SetCode, SetField, AskRow, Activate, SetRemaining}
 use Rattle.dms_sign.specs.SetRequest.{with_write, with_writes}
-use Rattle.dms_sign.proofs.InRangeLists.{if_either, if_mapped}
+use Rattle.dms_sign.proofs.InRangeLists.{if_mapped}
 
 -- ---- rows
 

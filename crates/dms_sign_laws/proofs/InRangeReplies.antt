@@ -3,6 +3,7 @@ use Rattle.std.proofs.Common.{◌≡◌, ℕ, ◌+◌, ◌*◌, ◌^◌, ◌<◌
 use Rattle.std.specs.Prelude.{nat_le}
 use Rattle.std.specs.Option.{IfSome}
 use Rattle.std.specs.List.{AllByRecursion, position_from}
+use Rattle.dms_face.proofs.Lists.{if_or, all_append}
 use Rattle.dms_wire.specs.declared.message.Kind.{Kind}
 use Rattle.dms_wire.specs.declared.message.Kind.TheVariants.{Get, GetNext, Response, Set}
 use Rattle.dms_wire.specs.declared.error_status.ErrorStatus.{ErrorStatus}
@@ -31,7 +32,7 @@ use Rattle.dms_sign.specs.Reply.{too_big}
 use Rattle.dms_sign.specs.Requests.{Answer, refused, granted, found_unless, has_no_value, with_value, get, is_last, next_after, get_next, as_decided, as_asked, with_remaining, commanded, commanded_if, writes_of, command_index, set_unless, may_write, answer_by, answer_of_any_size}
 use Rattle.dms_sign.specs.Reply.{response_of, most_octets, reply_to, is_heard, dropped, heard, on_message_if, received}
 use Rattle.dms_sign.specs.InRange.{IsSignInRange, IsBindingInLimits, response_sent, IsSpelledReply}
-use Rattle.dms_sign.proofs.InRangeLists.{if_or, if_position, all_append, all_filtered}
+use Rattle.dms_sign.proofs.InRangeLists.{if_position, all_filtered}
 use Rattle.dms_sign.proofs.InRangeValues.{value_of_within, value_after_within}
 
 -- an answer to these bindings that can be said in a message
