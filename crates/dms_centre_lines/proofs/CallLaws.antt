@@ -7,11 +7,10 @@ use Rattle.dms_text.specs.Octets.{SpellsOctets}
 use Rattle.dms_text.specs.Reading.{word_at}
 use Rattle.dms_text.proofs.WordLaws.{begun, word_found}
 use Rattle.dms_codes.specs.declared.codes.Order.{Order}
-use Rattle.dms_codes.proofs.Options.{mapped_some}
 use Rattle.dms_requests.specs.Commands.{CommandModel, Publish, Blank, Activate}
 use Rattle.dms_description.specs.Fields.{SpellsOne}
 use Rattle.dms_description.specs.FieldsReading.{last_octets_at}
-use Rattle.dms_description.proofs.FieldLaws.{last_octets_found, last_octets_only}
+use Rattle.dms_description.proofs.FieldLaws.{made_of, last_octets_found, last_octets_only}
 use Rattle.dms_commands.specs.CommandLine.{SpellsCommand}
 use Rattle.dms_commands.specs.CommandReading.{command_of}
 use Rattle.dms_commands.proofs.CommandLaws.{command_found, command_only}
@@ -25,7 +24,7 @@ use Rattle.dms_centre_lines.specs.SpelledCalls.{SpellsCallWords, SpellsCentreCal
 datagram_found : (order : Order) (word : List ℕ) (call : CentreCall) (words : List (List ℕ)) → word ≡ codes "datagram"
     → option_map datagram (last_octets_at words) ≡ Some call → SpellsCallWords order call (word ∷ words)
 datagram_found order word call words is e =
-    let made = mapped_some datagram _ call e in
+    let made = made_of datagram _ call e in
     subst (λ call. SpellsCallWords order call (word ∷ words)) made.2
     (subst (λ w. SpellsOne (codes "datagram") (SpellsOctets made.0) (w ∷ words)) (sym is) (last_octets_found (codes "datagram") words made.0 made.1))
 

@@ -17,7 +17,6 @@ use Rattle.dms_codes.specs.declared.codes.Activation.{Activation}
 use Rattle.dms_codes.specs.Codes.{two_octets, octets_of_checksum, in_order, number_at, octets_of_activation, activation_of, IsActivation}
 use Rattle.dms_codes.specs.declared.row_id.RowId.{RowId}
 use Rattle.dms_codes.proofs.Activations.{activation_back}
-use Rattle.dms_codes.proofs.Options.{mapped_some}
 use Rattle.dms_requests.specs.declared.publication.Attributes.{Attributes}
 use Rattle.dms_requests.specs.declared.publication.Terms.{Terms}
 use Rattle.dms_requests.specs.Job.{PublicationModel}
@@ -25,7 +24,7 @@ use Rattle.dms_requests.specs.Commands.{CommandModel, Publish, Blank, Activate}
 use Rattle.dms_description.specs.Fields.{SpellsEach, SpellsOctet, SpellsTwoOctets, SpellsOne}
 use Rattle.dms_description.specs.FieldsReading.{if_last}
 use Rattle.dms_description.proofs.WordReading.{last_found}
-use Rattle.dms_description.proofs.FieldLaws.{same_rest, next_octets_found, next_octets_only}
+use Rattle.dms_description.proofs.FieldLaws.{same_rest, next_octets_found, next_octets_only, made_of}
 use Rattle.dms_commands.specs.CommandFields.{SpellsAddressPart, SpellsAddress, SpellsCode}
 use Rattle.dms_commands.specs.CommandLine.{SpellsPublication, SpellsBlank, SpellsCommand}
 use Rattle.dms_commands.specs.CommandReading.{address_at, address_of, code_from, last_code_at, row_at, attributes_at, last_terms_at, publish_at, blank_at, command_word, command_after, command_of}
@@ -426,7 +425,7 @@ pub command_after_found : (order : Order) (keyword : CommandWord) (words : List 
 command_after_found order key.Publish words asked e = publish_found order words asked e
 command_after_found order key.Blank words asked e = blank_found order words asked e
 command_after_found order key.Activate words asked e =
-    let made = mapped_some _ _ _ e in subst (λ asked. SpellsCommand order asked (codes "activate" ∷ words)) made.2 (last_code_found order (codes "activate") words made.0 made.1)
+    let made = made_of _ _ _ e in subst (λ asked. SpellsCommand order asked (codes "activate" ∷ words)) made.2 (last_code_found order (codes "activate") words made.0 made.1)
 
 -- a command's words are a keyword, and words of which the command is read
 pub record IsRead (order : Order) (asked : CommandModel) (words : List (List ℕ)) : Type 0 where

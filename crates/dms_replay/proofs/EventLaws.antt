@@ -7,12 +7,11 @@ use Rattle.dms_text.specs.Words.{words_of}
 use Rattle.dms_text.specs.Reading.{same_octets, word_at}
 use Rattle.dms_text.proofs.WordLaws.{begun, goes_on, same_found, word_found, word_only}
 use Rattle.dms_codes.specs.declared.codes.Order.{Order}
-use Rattle.dms_codes.proofs.Options.{mapped_some}
 use Rattle.dms_world.specs.Event.{EventModel, command, sign_tick, centre_tick, to_sign, to_centre, power_lost, power_back, centre_restart, forge_sign, forge_centre}
 use Rattle.dms_description.specs.Fields.{SpellsEach}
 use Rattle.dms_description.specs.FieldsReading.{if_last}
 use Rattle.dms_description.proofs.WordReading.{last_found}
-use Rattle.dms_description.proofs.FieldLaws.{last_number_found, last_number_only, last_octets_found, last_octets_only}
+use Rattle.dms_description.proofs.FieldLaws.{last_number_found, last_number_only, last_octets_found, last_octets_only, made_of}
 use Rattle.dms_commands.specs.CommandReading.{command_word}
 use Rattle.dms_commands.specs.declared.command_word.CommandWord.{CommandWord}
 use Rattle.dms_commands.specs.declared.command_word.CommandWord.TheVariants as word_of
@@ -128,21 +127,21 @@ bare_found order keyword bare event words e spelled =
 after_found : (order : Order) (keyword : Keyword) (words : List (List ℕ)) (event : EventModel) → event_after order keyword words ≡ Some event
     → SpellsEventWords order event (keyword_text keyword ∷ words)
 after_found order (key.Command asked) words event e =
-    let made = mapped_some _ _ _ e in subst (λ event. SpellsEventWords order event (command_text asked ∷ words)) made.2 (command_after_found order asked words made.0 made.1)
+    let made = made_of _ _ _ e in subst (λ event. SpellsEventWords order event (command_text asked ∷ words)) made.2 (command_after_found order asked words made.0 made.1)
 after_found order key.SignTick words event e = bare_found order (codes "sign-tick") sign_tick event words e refl
 after_found order key.CentreTick words event e = bare_found order (codes "centre-tick") centre_tick event words e refl
 after_found order key.ToSign words event e =
-    let made = mapped_some _ _ _ e in subst (λ event. SpellsEventWords order event (codes "to-sign" ∷ words)) made.2 (last_number_found (codes "to-sign") words made.0 made.1)
+    let made = made_of _ _ _ e in subst (λ event. SpellsEventWords order event (codes "to-sign" ∷ words)) made.2 (last_number_found (codes "to-sign") words made.0 made.1)
 after_found order key.ToCentre words event e =
-    let made = mapped_some _ _ _ e in subst (λ event. SpellsEventWords order event (codes "to-centre" ∷ words)) made.2 (last_number_found (codes "to-centre") words made.0 made.1)
+    let made = made_of _ _ _ e in subst (λ event. SpellsEventWords order event (codes "to-centre" ∷ words)) made.2 (last_number_found (codes "to-centre") words made.0 made.1)
 after_found order key.PowerLost words event e = bare_found order (codes "power-lost") power_lost event words e refl
 after_found order key.PowerBack words event e =
-    let made = mapped_some _ _ _ e in subst (λ event. SpellsEventWords order event (codes "power-back" ∷ words)) made.2 (last_number_found (codes "power-back") words made.0 made.1)
+    let made = made_of _ _ _ e in subst (λ event. SpellsEventWords order event (codes "power-back" ∷ words)) made.2 (last_number_found (codes "power-back") words made.0 made.1)
 after_found order key.CentreRestart words event e = bare_found order (codes "centre-restart") centre_restart event words e refl
 after_found order key.ForgeSign words event e =
-    let made = mapped_some _ _ _ e in subst (λ event. SpellsEventWords order event (codes "forge-sign" ∷ words)) made.2 (last_octets_found (codes "forge-sign") words made.0 made.1)
+    let made = made_of _ _ _ e in subst (λ event. SpellsEventWords order event (codes "forge-sign" ∷ words)) made.2 (last_octets_found (codes "forge-sign") words made.0 made.1)
 after_found order key.ForgeCentre words event e =
-    let made = mapped_some _ _ _ e in subst (λ event. SpellsEventWords order event (codes "forge-centre" ∷ words)) made.2 (last_octets_found (codes "forge-centre") words made.0 made.1)
+    let made = made_of _ _ _ e in subst (λ event. SpellsEventWords order event (codes "forge-centre" ∷ words)) made.2 (last_octets_found (codes "forge-centre") words made.0 made.1)
 
 pub event_found : (order : Order) (line : List ℕ) (event : EventModel) → event_of order line ≡ Some event → SpellsEvent order event line
 unfolding event_of

@@ -1,7 +1,6 @@
 -- A text spells at most one script, and what is read of it is that script.
 use Rattle.std.proofs.Common.{◌≡◌, ℕ, ◌+◌, ◌≤◌, List, [], ◌∷◌, ◌++◌, length, Option, Some, None, Result, Ok, Err, IsOk, sym, ap, subst, ◌∙◌, arith, inl, inr}
 use Rattle.std.specs.Prelude.{codes, ◌⊎◌, IfSome}
-use Rattle.std.specs.Str.Lines.{lines}
 use Rattle.std.proofs.lemmas.List.{length-map}
 use Rattle.dms_text.specs.Lines.{TextLeft, lines_left, kept_lines}
 use Rattle.dms_text.specs.Words.{words_of}

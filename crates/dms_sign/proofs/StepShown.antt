@@ -12,7 +12,6 @@ use Rattle.dms_table.specs.declared.activation.Cause.{Cause}
 use Rattle.dms_table.specs.declared.activation.Cause.TheVariants as causes
 use Rattle.dms_codes.specs.declared.codes.MessageId.{MessageId}
 use Rattle.dms_codes.specs.declared.codes.Activation.{Activation}
-use Rattle.dms_codes.specs.declared.status.Status.{Status}
 use Rattle.dms_codes.specs.Status.{is_valid}
 use Rattle.dms_codes.specs.Checksum.{message_checksum}
 use Rattle.dms_codes.specs.Codes.{id_of}

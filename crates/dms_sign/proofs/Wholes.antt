@@ -27,7 +27,7 @@ use Rattle.dms_table.specs.Activation.{ShownModel, shown_by, refusal, unless_ref
 use Rattle.dms_access.specs.declared.reports.Reports.{Reports}
 use Rattle.dms_sign.specs.declared.sign.Sign.TheInside.{Inside}
 use Rattle.dms_sign.specs.Communities.{are_communities}
-use Rattle.dms_table.specs.Activation.{blank_id, blank_shown, mode_number}
+use Rattle.dms_table.specs.Activation.{blank_id, blank_shown}
 use Rattle.dms_table.specs.Activation.{blank_code}
 use Rattle.dms_sign.specs.State.{ConfigModel, SignState, start, power_recovery_mode}
 use Rattle.dms_sign.specs.Kept.{IsKept}

@@ -6,10 +6,9 @@ use Rattle.dms_text.specs.Words.{words_of}
 use Rattle.dms_text.specs.Reading.{same_octets, word_at}
 use Rattle.dms_text.proofs.WordLaws.{begun, goes_on, word_found, word_only}
 use Rattle.dms_sign.specs.State.{SignState}
-use Rattle.dms_description.proofs.FieldLaws.{last_number_found, last_number_only, last_octets_found, last_octets_only}
+use Rattle.dms_description.proofs.FieldLaws.{last_number_found, last_number_only, last_octets_found, last_octets_only, made_of}
 use Rattle.dms_lines.specs.AnswerLines.{bad_line}
 use Rattle.dms_lines.proofs.CallReading.{hit_or, bare_found, nothing_found}
-use Rattle.dms_codes.proofs.Options.{mapped_some}
 use Rattle.dms_sign_lines.specs.SignCall.{SignCall, datagram, tick, ticks, heard, power_lost, power_back, show, state}
 use Rattle.dms_sign_lines.specs.SignLine.{SpellsCallWords, SpellsSignCall, SpellsNoSignCall}
 use Rattle.dms_sign_lines.specs.SignReading.{asking_keyword, keyword_of, call_after, call_of}
@@ -95,14 +94,14 @@ keyword_found word keyword e =
 after_found : (keyword : Keyword) (words : List (List ℕ)) (call : SignCall) → call_after keyword words ≡ Some call
     → SpellsCallWords call (keyword_text keyword ∷ words)
 after_found key.Datagram words call e =
-    let made = mapped_some _ _ _ e in subst (λ call. SpellsCallWords call (codes "datagram" ∷ words)) made.2 (last_octets_found (codes "datagram") words made.0 made.1)
+    let made = made_of _ _ _ e in subst (λ call. SpellsCallWords call (codes "datagram" ∷ words)) made.2 (last_octets_found (codes "datagram") words made.0 made.1)
 after_found key.Tick words call e = bare_found SpellsCallWords (codes "tick") (codes "tick") tick call words refl e refl
 after_found key.Ticks words call e =
-    let made = mapped_some _ _ _ e in subst (λ call. SpellsCallWords call (codes "ticks" ∷ words)) made.2 (last_number_found (codes "ticks") words made.0 made.1)
+    let made = made_of _ _ _ e in subst (λ call. SpellsCallWords call (codes "ticks" ∷ words)) made.2 (last_number_found (codes "ticks") words made.0 made.1)
 after_found key.Heard words call e = bare_found SpellsCallWords (codes "heard") (codes "heard") heard call words refl e refl
 after_found key.PowerLost words call e = bare_found SpellsCallWords (codes "power-lost") (codes "power-lost") power_lost call words refl e refl
 after_found key.PowerBack words call e =
-    let made = mapped_some _ _ _ e in subst (λ call. SpellsCallWords call (codes "power-back" ∷ words)) made.2 (last_number_found (codes "power-back") words made.0 made.1)
+    let made = made_of _ _ _ e in subst (λ call. SpellsCallWords call (codes "power-back" ∷ words)) made.2 (last_number_found (codes "power-back") words made.0 made.1)
 after_found key.Show words call e = bare_found SpellsCallWords (codes "show") (codes "show") show call words refl e refl
 after_found key.State words call e = bare_found SpellsCallWords (codes "state") (codes "state") state call words refl e refl
 
