@@ -57,7 +57,8 @@ class Build:
         for at, name in enumerate(ready):
             idle = self.processors - sum(check.processors for check in self.running)
             crate, all_wait = self.plan.crates[name], self.plan.chain(name) == longest
-            if (idle < 1 and not all_wait) or (self.running and crate.memory > room):
+            # one more than there are processors for: a check reads and writes for a good part of its time
+            if (idle <= 0 and not all_wait) or (self.running and crate.memory > room):
                 return
             # what all else waits for takes each processor, and others run in the time that it leaves
             wanted = self.processors if all_wait else int(idle) // (len(ready) - at)

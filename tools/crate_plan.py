@@ -10,6 +10,8 @@ from dataclasses import dataclass
 TOP = pathlib.Path(__file__).resolve().parent.parent
 PARTS = ("src", "specs", "proofs")
 OWN_WORK = 400  # what a check takes beside its lines, in lines
+OF_BELOW = 60  # what each crate that it stands on adds: its statements are read before the first proof
+OF_LIBRARY = {"clap": 4000}  # and what is much larger than those
 OWN_MEMORY, OF_CODE, OF_SPECS = 1_500_000_000, 1_000_000, 200_000  # octets: a check, a line of .rt, a line of .antt
 OF_JOB = 0.6  # what each further job of a check takes of its memory
 
@@ -34,6 +36,7 @@ class Plan:
         halves = [line.partition(":") for line in text.splitlines() if line.strip()]
         uses = {head.split()[0]: used.split() for head, _, used in halves}
         self.uses = {name: tuple(used for used in using if used in uses) for name, using in uses.items()}
+        self.libraries = {name: sum(OF_LIBRARY.get(used, 0) for used in using) for name, using in uses.items()}
         self.program = next(name for name in uses if (TOP / "crates" / name / "src/main.rt").is_file())
         self.crates = {name: self.measured(name) for name in {self.program, *self.below(self.program)}}
 
@@ -42,7 +45,8 @@ class Plan:
         for path in (path for part in PARTS for path in (TOP / "crates" / name / part).rglob("*.*t")):
             lines[path.suffix] = lines.get(path.suffix, 0) + path.read_bytes().count(b"\n")
         code, specs = lines[".rt"], lines[".antt"]
-        return Crate(name, self.uses[name], OWN_WORK + code + specs, OWN_MEMORY + OF_CODE * code + OF_SPECS * specs)
+        read = OWN_WORK + OF_BELOW * len(self.below(name)) + self.libraries[name]
+        return Crate(name, self.uses[name], read + code + specs, OWN_MEMORY + OF_CODE * code + OF_SPECS * specs)
 
     @functools.cache
     def below(self, name: str) -> frozenset[str]:
