@@ -44,4 +44,4 @@ BARS = (
 )
 
 # Bars that do not hold yet: they are looked at with --all, or by name.
-NOT_YET: tuple[Bar, ...] = ()
+NOT_YET: tuple[Bar, ...] = (Bar("sizes of crates", crates.large),)

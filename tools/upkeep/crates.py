@@ -8,6 +8,7 @@ LIST = "crates.txt"
 PAGES = ("docs/ARCHITECTURE.md", "docs/MAP.md", "docs/PROVED.md")
 REASONS = "docs/DECISIONS.md"
 FEWEST = 10
+MOST_FUNCTIONS, MOST_LINES = 99, 1500
 FUNCTION = re.compile(r"(?m)^\s*(?:pub(?:\(\w+\))? )?(?:const )?(?:extern \"C\" )?fn \w+")
 PUBLIC = re.compile(r"(?m)(?P<above>(?:^[ \t]*(?:///|#\[)[^\n]*\n)*)^[ \t]*pub (?:const )?(?:extern \"C\" )?fn (?P<name>\w+)")
 
@@ -75,9 +76,26 @@ def is_tests(crate: str) -> bool:
     return crate.endswith("_tests")
 
 
+def functions(tree: Tree, crate: str) -> int:
+    """How many functions a crate has."""
+    return sum(len(FUNCTION.findall(tree.text(name))) for name in sources(tree, crate))
+
+
+def large(tree: Tree) -> list[str]:
+    """Crates of a hundred functions or more, and those whose code has more than 1,500 lines."""
+    found = []
+    for crate in names(tree):
+        count, lines = functions(tree, crate), sum(tree.text(name).count("\n") for name in sources(tree, crate))
+        if count > MOST_FUNCTIONS:
+            found.append(f"{crate}: {count} functions, {MOST_FUNCTIONS} at most")
+        if lines > MOST_LINES:
+            found.append(f"{crate}: {lines:,} lines of code, {MOST_LINES:,} at most")
+    return found
+
+
 def few(tree: Tree) -> list[str]:
     """Crates of under ten functions, but for those of tests, for which no reason is given."""
-    counts = {crate: sum(len(FUNCTION.findall(tree.text(name))) for name in sources(tree, crate)) for crate in names(tree)}
+    counts = {crate: functions(tree, crate) for crate in names(tree)}
     return [
         f"{crate}: {count} functions, and {REASONS} has no reason for it"
         for crate, count in counts.items()
