@@ -4,20 +4,23 @@ use Rattle.std.specs.Prelude.{ℕ, List, Option, Some, None, ⊤, ◌≤◌, rep
 use Rattle.dms_face.specs.declared.multi_fault.MultiFault.{MultiFault}
 use Rattle.dms_face.specs.FaultCode.{number_of_code}
 use Rattle.dms_codes.specs.Limits.{longest_text}
+use Rattle.dms_codes.specs.declared.validation_error.ValidationError.TheVariants as errors
+use Rattle.dms_codes.specs.ValidationError.{validation_number}
 use Rattle.dms_table.specs.declared.activation.Cause.{Cause}
 use Rattle.dms_table.specs.declared.activation.Cause.TheVariants as causes
 use Rattle.dms_table.specs.declared.validation.Verdict.{Verdict}
 use Rattle.dms_table.specs.Activation.{cause_number}
 use Rattle.dms_access.specs.declared.reports.Reports.{Reports}
 
--- the error of nothing that is wrong: none, in each of the three objects of errors
+-- the error of nothing that is wrong: none, of an activation and of a text (NTCIP 1203, dmsActivateMsgError and
+-- dmsMultiSyntaxError)
 abbrev pub no_error : ℕ
 no_error = 2
 
 -- nothing was judged, no code came: the errors are none, the codes zeros
 abbrev pub first_reports : Reports
 first_reports = record {
-  validate_error = no_error;
+  validate_error = validation_number errors.None;
   activate_error = no_error;
   syntax_error = no_error;
   syntax_error_position = 0;

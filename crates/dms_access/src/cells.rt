@@ -24,15 +24,15 @@ pub fn cell_value<'a>(order: Order, column: Column, id: RowId, message: &RowView
     ensures { object_value result ≡ cell_value order column id (reading_of message.now) }
 {
     match column {
-        Column::MemoryType => small(id.memory),
+        Column::MemoryType => small_value(id.memory),
         Column::Number => number_value(id.number),
         Column::MultiString => Value::Octets(message.text),
         Column::Owner => Value::Octets(message.owner),
         Column::Crc => number_value(in_order(order, message.checksum)),
-        Column::Beacon => small(message.beacon),
-        Column::PixelService => small(message.pixel),
-        Column::RunTimePriority => small(message.priority),
-        Column::Status => small(message.status.number()),
+        Column::Beacon => small_value(message.beacon),
+        Column::PixelService => small_value(message.pixel),
+        Column::RunTimePriority => small_value(message.priority),
+        Column::Status => small_value(message.status.number()),
     }
 }
 
@@ -41,19 +41,20 @@ pub fn shown_value<'a>(order: Order, column: Column, id: RowId, shown: &'a Shown
     ensures { object_value result ≡ cell_value order column id (shown_reading shown.now) }
 {
     match column {
-        Column::MemoryType => small(id.memory),
+        Column::MemoryType => small_value(id.memory),
         Column::Number => number_value(id.number),
         Column::MultiString => Value::Octets(shown.text.as_slice()),
         Column::Owner => Value::Octets(shown.owner.as_slice()),
         Column::Crc => number_value(in_order(order, shown.checksum())),
-        Column::Beacon => small(shown.beacon),
-        Column::PixelService => small(shown.pixel),
-        Column::RunTimePriority => small(shown.priority),
-        Column::Status => small(Status::Valid.number()),
+        Column::Beacon => small_value(shown.beacon),
+        Column::PixelService => small_value(shown.pixel),
+        Column::RunTimePriority => small_value(shown.priority),
+        Column::Status => small_value(Status::Valid.number()),
     }
 }
 
-fn small<'a>(number: u8) -> Value<'a>
+/// A number of an octet as the value of an object.
+pub fn small_value<'a>(number: u8) -> Value<'a>
     ensures { object_value result ≡ number_value number }
 {
     number_value(u16::from(number))

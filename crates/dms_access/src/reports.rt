@@ -5,10 +5,11 @@ ghost use Rattle.dms_codes.specs.Limits.{longest_text};
 ghost use Rattle.dms_access.specs.Reports.{first_reports, with_fault, with_cause, text_reports};
 ghost use Rattle.dms_access.specs.Reports.{settled_reports, refused_reports, accepted_reports, IsCauseInRange};
 
+use dms_codes::ValidationError;
 use dms_face::MultiFault;
 use dms_table::{Cause, Verdict};
 
-/// The error of nothing that is wrong.
+/// None, as the error of an activation and that of a text: `Cause` and `FaultCode` have what is wrong alone.
 const NO_ERROR: u8 = 2;
 
 /// Errors by the numbers of their objects; codes are the twelve octets that came (MessageActivationCode).
@@ -34,7 +35,7 @@ impl Reports {
         ensures { result ≡ first_reports }
     {
         Reports {
-            validate_error: NO_ERROR,
+            validate_error: ValidationError::None.number(),
             activate_error: NO_ERROR,
             syntax_error: NO_ERROR,
             syntax_error_position: 0,

@@ -1,5 +1,5 @@
 -- What a value that was made of another, where there is one, tells of the other.
-use Rattle.std.proofs.Common.{◌≡◌, Option, Some, None, option_map, refl}
+use Rattle.std.proofs.Common.{◌≡◌, Option, Some, None, option_map, is_some, refl}
 
 pub mapped_none : {A B : Type 0} (f : A → B) (o : Option A) → option_map f o ≡ None → o ≡ None
 mapped_none f None e = refl
@@ -8,3 +8,7 @@ mapped_none f (Some x) e = cc
 pub mapped_some : {A B : Type 0} (f : A → B) (o : Option A) (y : B) → option_map f o ≡ Some y → (x : A) × (o ≡ Some x) × (f x ≡ y)
 mapped_some f None y e = absurd cc
 mapped_some f (Some x) y e = (x, refl, cc)
+
+pub is_some_mapped : {A B : Type 0} (f : A → B) (o : Option A) → is_some (option_map f o) ≡ is_some o
+is_some_mapped f None = refl
+is_some_mapped f (Some x) = refl

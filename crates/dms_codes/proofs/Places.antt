@@ -1,5 +1,5 @@
 -- The octets of a code, place by place.
-use Rattle.std.proofs.Common.{◌≡◌, ℕ, suc, ◌/◌, ◌%◌, List, [], ◌∷◌, ◌++◌, length, get_or, take, drop, refl, ap, sym, ◌∙◌, rules}
+use Rattle.std.proofs.Common.{◌≡◌, ℕ, suc, ◌/◌, ◌%◌, List, [], ◌∷◌, ◌++◌, length, get_or, refl, ap, sym, ◌∙◌, rules}
 use Rattle.std.proofs.lemmas.Slice.Eq.{text_from_reads}
 use Rattle.dms_codes.specs.declared.codes.Order.{Order}
 use Rattle.dms_codes.specs.declared.codes.Order.TheVariants.{High, Swapped}
@@ -34,16 +34,3 @@ written order a minutes id four p q =
     ap (λ octets. get_or octets 0 0 ∷ get_or octets 1 0 ∷ a.priority ∷ (first_five id ++ first_four a.address)) p
     ∙ ap (λ octets. a.minutes / 256 ∷ a.minutes % 256 ∷ a.priority ∷ (octets ++ first_four a.address)) (sym (all_five id five) ∙ q)
     ∙ ap (λ octets. a.minutes / 256 ∷ a.minutes % 256 ∷ a.priority ∷ (octets_of_id order a.id ++ octets)) (sym (all_four a.address four))
-
--- an activation read place by place
-pub read_back : (order : Order) (minutes : ℕ) (id : MessageId) (octets : List ℕ) → length octets ≡ 12
-    → minutes / 256 ≡ get_or octets 0 0 → minutes % 256 ≡ get_or octets 1 0 → octets_of_id order id ≡ take 5 (drop 3 octets)
-    → minutes / 256 ∷ minutes % 256 ∷ get_or octets 2 0 ∷ (octets_of_id order id ++ get_or octets 8 0 ∷ get_or octets 9 0 ∷ get_or octets 10 0 ∷ get_or octets 11 0 ∷ []) ≡ octets
-read_back order minutes id octets twelve high low p =
-    let place = λ (i : ℕ). get_or octets i 0 in
-    let address = place 8 ∷ place 9 ∷ place 10 ∷ place 11 ∷ [] in
-    let all : octets ≡ place 0 ∷ place 1 ∷ place 2 ∷ place 3 ∷ place 4 ∷ place 5 ∷ place 6 ∷ place 7 ∷ address = text_from_reads octets _ twelve (search rules) in
-    ap (λ n. n ∷ minutes % 256 ∷ place 2 ∷ (octets_of_id order id ++ address)) high
-    ∙ ap (λ n. place 0 ∷ n ∷ place 2 ∷ (octets_of_id order id ++ address)) low
-    ∙ ap (λ five. place 0 ∷ place 1 ∷ place 2 ∷ (five ++ address)) (p ∙ ap (λ octets. take 5 (drop 3 octets)) all)
-    ∙ sym all

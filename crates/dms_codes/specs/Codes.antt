@@ -5,6 +5,11 @@ use Rattle.dms_codes.specs.declared.codes.Order.{Order}
 use Rattle.dms_codes.specs.declared.codes.Order.TheVariants.{High, Swapped}
 use Rattle.dms_codes.specs.declared.codes.MessageId.{MessageId}
 use Rattle.dms_codes.specs.declared.codes.Activation.{Activation}
+use Rattle.dms_codes.specs.declared.row_id.RowId.{RowId}
+
+-- the row that a code names
+abbrev pub row_id : MessageId → RowId
+row_id id = record { memory = id.memory; number = id.number }
 
 -- a number of sixteen bits, the high octet first
 abbrev pub two_octets : ℕ → List ℕ

@@ -5,6 +5,7 @@ ghost use Rattle.dms_codes.specs.declared.codes.MessageId.{MessageId};
 ghost use Rattle.dms_codes.specs.declared.codes.Activation.{Activation};
 
 use crate::memory::Memory;
+use crate::row_id::RowId;
 
 /// Which octet of a checksum comes first, in codes and in dmsMessageCRC: makers of signs differ (this profile).
 #[derive(Clone, Copy, Debug, PartialEq, Eq)]
@@ -68,7 +69,7 @@ impl Order {
 
 impl MessageId {
     ghost use Rattle.std.specs.Prelude.{◌≡◌, ◌↔◌, length, IsSome, IfSome};
-    ghost use Rattle.dms_codes.specs.Codes.{octets_of_id, id_of, IsMessageId};
+    ghost use Rattle.dms_codes.specs.Codes.{row_id, octets_of_id, id_of, IsMessageId};
     ghost use Rattle.dms_codes.specs.Memory.{memory_of};
 
     /// The type of the memory that holds the message; none where its number is no type of memory.
@@ -76,6 +77,16 @@ impl MessageId {
         ensures { result ≡ memory_of self.now.memory }
     {
         Memory::of(self.memory)
+    }
+
+    /// The row that it names.
+    pub fn row(&self) -> RowId
+        ensures { result ≡ row_id self.now }
+    {
+        RowId {
+            memory: self.memory,
+            number: self.number,
+        }
     }
 
     /// Its octets: type of memory, number and checksum, numbers high octet first.
@@ -87,6 +98,19 @@ impl MessageId {
         [self.memory, number_high, number_low, crc_first, crc_second]
     }
 
+    /// The message that these five octets name.
+    pub fn of_octets(order: Order, octets: &[u8; 5]) -> Self
+        ensures spelled { octets_of_id order result ≡ octets.now }
+        ensures value { result ≡ id_of order octets.now }
+    {
+        let [memory, number_high, number_low, crc_first, crc_second] = *octets;
+        MessageId {
+            memory,
+            number: u16::from_be_bytes([number_high, number_low]),
+            crc: order.checksum([crc_first, crc_second]),
+        }
+    }
+
     /// The message that five octets name; none for any other number of octets.
     pub fn from_bytes(order: Order, octets: &[u8]) -> Option<Self>
         ensures five { IsSome result ↔ (length octets.now ≡ 5) }
@@ -94,13 +118,9 @@ impl MessageId {
         ensures value { IfSome result (λ id. id ≡ id_of order octets.now) }
         ensures back { (id : MessageId) → IsMessageId id → octets.now ≡ octets_of_id order id → result ≡ Some id }
     {
-        match octets {
-            &[memory, number_high, number_low, crc_first, crc_second] => Some(MessageId {
-                memory,
-                number: u16::from_be_bytes([number_high, number_low]),
-                crc: order.checksum([crc_first, crc_second]),
-            }),
-            _ => None,
+        match <&[u8; 5]>::try_from(octets) {
+            Ok(five) => Some(MessageId::of_octets(order, five)),
+            Err(_) => None,
         }
     }
 }
@@ -132,6 +152,36 @@ impl Activation {
         ]
     }
 
+    /// The activation that these twelve octets spell.
+    pub fn of_octets(order: Order, octets: &[u8; 12]) -> Self
+        ensures spelled { octets_of_activation order result ≡ octets.now }
+        ensures value { result ≡ activation_of order octets.now }
+    {
+        let [
+            minutes_high,
+            minutes_low,
+            priority,
+            memory,
+            number_high,
+            number_low,
+            crc_first,
+            crc_second,
+            a,
+            b,
+            c,
+            d,
+        ] = *octets;
+        Activation {
+            minutes: u16::from_be_bytes([minutes_high, minutes_low]),
+            priority,
+            id: MessageId::of_octets(
+                order,
+                &[memory, number_high, number_low, crc_first, crc_second],
+            ),
+            address: [a, b, c, d],
+        }
+    }
+
     /// The activation that twelve octets spell; none for any other number of octets.
     pub fn from_bytes(order: Order, octets: &[u8]) -> Option<Self>
         ensures twelve { IsSome result ↔ (length octets.now ≡ 12) }
@@ -139,14 +189,9 @@ impl Activation {
         ensures value { IfSome result (λ a. a ≡ activation_of order octets.now) }
         ensures back { (a : Activation) → IsActivation a → octets.now ≡ octets_of_activation order a → result ≡ Some a }
     {
-        match octets {
-            &[minutes_high, minutes_low, priority, ref id @ .., a, b, c, d] => Some(Activation {
-                minutes: u16::from_be_bytes([minutes_high, minutes_low]),
-                priority,
-                id: MessageId::from_bytes(order, id)?,
-                address: [a, b, c, d],
-            }),
-            _ => None,
+        match <&[u8; 12]>::try_from(octets) {
+            Ok(twelve) => Some(Activation::of_octets(order, twelve)),
+            Err(_) => None,
         }
     }
 }

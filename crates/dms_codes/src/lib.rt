@@ -1,5 +1,5 @@
-//! The codes that name a message and activate one, the checksum of a message, and what names a row of the message
-//! table.
+//! The codes that name a message and activate one, the checksum of a message, what names a row of the message table,
+//! and what the MIB numbers: types of memory, statuses, what puts a message up, what a validation finds.
 //!
 //! ```
 //! let id = MessageId { memory: memory::CHANGEABLE, number: 1, crc: crc(b"A", 0, 0) };
@@ -13,12 +13,16 @@ pub mod codes;
 pub mod laws;
 pub mod limits;
 pub mod memory;
+pub mod mode;
 pub mod row_id;
 pub mod status;
+pub mod validation_error;
 
 pub use checksum::crc;
 pub use codes::{Activation, MessageId, Order};
 pub use limits::{MAX_OWNER, MAX_TEXT};
 pub use memory::Memory;
+pub use mode::Mode;
 pub use row_id::RowId;
 pub use status::{Ask, Status};
+pub use validation_error::ValidationError;

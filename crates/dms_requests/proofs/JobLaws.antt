@@ -1,6 +1,7 @@
 -- What a job is to put up has the values of its command.
 use Rattle.std.proofs.Common.{◌≡◌, Bool, true, false, ap, arith}
 use Rattle.dms_codes.specs.declared.codes.Activation.{Activation}
+use Rattle.dms_codes.specs.Codes.{row_id}
 use Rattle.dms_requests.specs.declared.job.RowFields.{RowFields}
 use Rattle.dms_requests.specs.Job.{Work}
 use Rattle.dms_requests.specs.Steps.{row_of}
@@ -22,6 +23,6 @@ is_job c (OfActivate code is) good = OfShowing code is
 
 -- the row of the stored work
 pub row_named : (publishes : Bool) (code : Activation) (fields : RowFields) (work : Work) → work_model publishes code fields ≡ work
-    → record { memory = code.id.memory; number = code.id.number } ≡ row_of work
+    → row_id code.id ≡ row_of work
 row_named true code fields work view = ap row_of view
 row_named false code fields work view = ap row_of view

@@ -11,7 +11,7 @@ use Rattle.dms_objects.specs.declared.column.Column.TheVariants.{MultiString, Ow
 use Rattle.dms_objects.specs.declared.column.Column.TheVariants.{RunTimePriority, Status}
 use Rattle.dms_codes.specs.declared.row_id.RowId.{RowId}
 use Rattle.dms_codes.specs.Checksum.{message_checksum}
-use Rattle.dms_codes.specs.Codes.{octets_of_activation}
+use Rattle.dms_codes.specs.Codes.{row_id, octets_of_activation}
 use Rattle.dms_objects.specs.Names.{activate_message, activate_message_error, cell_name}
 use Rattle.dms_requests.specs.declared.step.Step.{Step}
 use Rattle.dms_requests.specs.declared.step.Step.TheVariants.{Opening, Opened, Filling, Validating, Polling, Comparing}
@@ -46,7 +46,7 @@ code_of (Showing code) = code
 
 -- the row that the code names
 abbrev pub row_of : Work → RowId
-row_of work = record { memory = (code_of work).id.memory; number = (code_of work).id.number }
+row_of work = row_id (code_of work).id
 
 -- ---- what is asked
 

@@ -131,10 +131,7 @@ impl Work {
     pub fn row(&self) -> RowId
         ensures { result ≡ row_of self.now }
     {
-        RowId {
-            memory: self.code.id.memory,
-            number: self.code.id.number,
-        }
+        self.code.id.row()
     }
 
     /// It becomes what a command is to activate.

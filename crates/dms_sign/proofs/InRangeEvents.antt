@@ -9,7 +9,7 @@ use Rattle.dms_face.specs.Layout.{under}
 use Rattle.dms_face.specs.Fit.{fault_of}
 use Rattle.dms_table.specs.declared.row.Services.{Services}
 use Rattle.dms_codes.specs.declared.status.Status.{Status}
-use Rattle.dms_table.specs.declared.validation.ValidationError.TheVariants as errors
+use Rattle.dms_codes.specs.declared.validation_error.ValidationError.TheVariants as errors
 use Rattle.dms_table.specs.declared.validation.Verdict.{Verdict}
 use Rattle.dms_table.specs.Rows.{RowModel, TableModel, row_is_validating, interrupted, released, unused, after_power}
 use Rattle.dms_codes.specs.Limits.{longest_text}

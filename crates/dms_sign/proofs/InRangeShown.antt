@@ -20,10 +20,12 @@ use Rattle.dms_table.specs.Rows.{TableModel, RowReading}
 use Rattle.dms_codes.specs.Memory.{current_buffer}
 use Rattle.dms_codes.specs.Limits.{longest_text}
 use Rattle.dms_codes.specs.Codes.{number_at, id_of, activation_of, octets_of_id, octets_of_activation, IsMessageId}
-use Rattle.dms_table.specs.Activation.{ShownModel, is_memory, named, row_id, has_checksum, text_error, activation_error, cause_number, seconds_of, put_up, unless_refused, decided_on, decided}
-use Rattle.dms_table.specs.declared.shown.Mode.{Mode}
-use Rattle.dms_table.specs.declared.shown.Mode.TheVariants.{Central, PowerRecovery, CommunicationsLoss, PowerLoss, EndDuration}
-use Rattle.dms_table.specs.Activation.{no_address, blank_shown, mode_number}
+use Rattle.dms_codes.specs.Codes.{row_id}
+use Rattle.dms_table.specs.Activation.{ShownModel, is_memory, named, has_checksum, text_error, activation_error, cause_number, seconds_of, put_up, unless_refused, decided_on, decided}
+use Rattle.dms_codes.specs.declared.mode.Mode.{Mode}
+use Rattle.dms_codes.specs.declared.mode.Mode.TheVariants.{Central, PowerRecovery, CommunicationsLoss, PowerLoss, EndDuration}
+use Rattle.dms_codes.specs.Mode.{mode_number}
+use Rattle.dms_table.specs.Activation.{no_address, blank_shown}
 use Rattle.dms_access.specs.declared.reports.Reports.{Reports}
 use Rattle.dms_sign.specs.State.{SignState}
 use Rattle.dms_access.specs.Reports.{with_fault, with_cause, refused_reports}

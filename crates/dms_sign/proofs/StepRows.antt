@@ -16,7 +16,7 @@ use Rattle.dms_table.specs.declared.validation.Verdict.{Verdict}
 use Rattle.dms_codes.specs.Status.{next_status, is_modifying}
 use Rattle.dms_table.specs.Rows.{RowModel, TableModel, FieldModel, Text, Owner, Beacon, Pixel, Priority, unused, rows_of, numbered, blank_at, changed_in, with_changeable, with_volatile, changed, with_status, asked_row, may_ask, asked, is_in_range, with_field, written_row, written, row_is_validating, interrupted, released, after_power}
 use Rattle.dms_codes.specs.Memory.{permanent_memory, changeable_memory, volatile_memory, blank_memory}
-use Rattle.dms_table.specs.declared.validation.ValidationError.TheVariants as errors
+use Rattle.dms_codes.specs.declared.validation_error.ValidationError.TheVariants as errors
 use Rattle.dms_table.specs.Validation.{verdict_without_fault, text_verdict, verdict_of, passes, settled, CameToBeValid, was_valid, ValidRowsAreGood}
 use Rattle.dms_table.proofs.GoodRows.{settled_rows_are_good}
 use Rattle.dms_access.specs.Access.{Write, SetNumber, SetCode, SetField, AskRow, Activate, SetRemaining}

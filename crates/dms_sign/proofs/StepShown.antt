@@ -17,8 +17,9 @@ use Rattle.dms_codes.specs.Checksum.{message_checksum}
 use Rattle.dms_codes.specs.Codes.{id_of}
 use Rattle.dms_table.specs.Rows.{RowModel, TableModel, RowReading, blank, rows_of, numbered, blank_at, reading, blank_reading, row_checksum}
 use Rattle.dms_codes.specs.Memory.{current_buffer, blank_memory}
-use Rattle.dms_table.specs.declared.shown.Mode.TheVariants.{Central}
-use Rattle.dms_table.specs.Activation.{ShownModel, shown_reading, is_memory, named, seconds_of, mode_number, unless_refused, decided}
+use Rattle.dms_codes.specs.declared.mode.Mode.TheVariants.{Central}
+use Rattle.dms_codes.specs.Mode.{mode_number}
+use Rattle.dms_table.specs.Activation.{ShownModel, shown_reading, is_memory, named, seconds_of, unless_refused, decided}
 use Rattle.dms_table.proofs.KnownTexts.{valid_status}
 use Rattle.dms_sign.specs.State.{SignState}
 use Rattle.dms_sign.specs.OwnCodes.{own_activation, put_up_as_decided, staying, put_up_code}

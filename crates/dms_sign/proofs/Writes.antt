@@ -16,7 +16,9 @@ use Rattle.dms_codes.specs.Memory.{permanent_memory, changeable_memory, volatile
 use Rattle.dms_table.specs.declared.activation.Cause.{Cause}
 use Rattle.dms_table.specs.declared.activation.Cause.TheVariants as causes
 use Rattle.dms_table.specs.Rows.{RowModel, TableModel, FieldModel, Text, Owner, Beacon, Pixel, Priority, RowReading, reading, blank_reading, blank_at, numbered, rows_of, row_read, changed_in, with_changeable, with_volatile, changed, with_status, asked_row, asked, may_ask, is_settling, row_is_validating, is_in_range, with_field, written_row, written}
-use Rattle.dms_table.specs.Activation.{ShownModel, is_memory, row_id, shown_reading, put_up, unless_refused, decided_on, decided}
+use Rattle.dms_codes.specs.Codes.{row_id}
+use Rattle.dms_codes.proofs.Options.{is_some_mapped}
+use Rattle.dms_table.specs.Activation.{ShownModel, is_memory, shown_reading, put_up, unless_refused, decided_on, decided}
 use Rattle.dms_access.specs.Access.{Write, SetNumber, SetCode, SetField, AskRow, Activate, SetRemaining}
 use Rattle.dms_sign.specs.SetRequest.{with_write, with_writes}
 use Rattle.dms_sign.proofs.InRangeLists.{if_mapped}
@@ -167,16 +169,12 @@ any_like (r ∷ rs) (q ∷ qs) are =
     ap (λ (s : Status). is_validating s || list_any row_is_validating rs) (like_status r q are.0)
     ∙ ap (λ b. row_is_validating q || b) (any_like rs qs are.1)
 
-mapped_some : {X Y : Type 0} (f : X → Y) (o : Option X) → is_some (option_map f o) ≡ is_some o
-mapped_some f None = refl
-mapped_some f (Some x) = refl
-
 asked_some : (rows : List RowModel) (k : ℕ) (ask : Ask) (o : Option RowModel)
     → is_some (option_and_then (λ row. option_map (slice_set rows k) (asked_row ask row)) o)
     ≡ is_some (option_and_then (λ (row : RowModel). next_status row.status ask) o)
 asked_some rows k ask None = refl
 asked_some rows k ask (Some row) =
-    mapped_some (slice_set rows k) (asked_row ask row) ∙ mapped_some (with_status row) (next_status row.status ask)
+    is_some_mapped (slice_set rows k) (asked_row ask row) ∙ is_some_mapped (with_status row) (next_status row.status ask)
 
 both_asked : (ask : Ask) (o p : Option RowModel) → BothLike o p
     → option_and_then (λ (row : RowModel). next_status row.status ask) o ≡ option_and_then (λ (row : RowModel). next_status row.status ask) p
@@ -195,8 +193,8 @@ asked_in old new number ask are =
 changed_some : (b c : Bool) (old new : TableModel) (o p q r : Option (List RowModel)) → is_some o ≡ is_some q → is_some p ≡ is_some r
     → is_some (cond b (option_map (with_changeable old) o) (cond c (option_map (with_volatile old) p) None))
     ≡ is_some (cond b (option_map (with_changeable new) q) (cond c (option_map (with_volatile new) r) None))
-changed_some true c old new o p q r e f = mapped_some (with_changeable old) o ∙ e ∙ sym (mapped_some (with_changeable new) q)
-changed_some false true old new o p q r e f = mapped_some (with_volatile old) p ∙ f ∙ sym (mapped_some (with_volatile new) r)
+changed_some true c old new o p q r e f = is_some_mapped (with_changeable old) o ∙ e ∙ sym (is_some_mapped (with_changeable new) q)
+changed_some false true old new o p q r e f = is_some_mapped (with_volatile old) p ∙ f ∙ sym (is_some_mapped (with_volatile new) r)
 changed_some false false old new o p q r e f = refl
 
 if_some : (b : Bool) (o p : Option TableModel) → is_some o ≡ is_some p → is_some (cond b o None) ≡ is_some (cond b p None)

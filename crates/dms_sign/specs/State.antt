@@ -3,8 +3,9 @@ use Rattle.std.specs.Prelude.{ℕ, Bool, true, List}
 use Rattle.dms_face.specs.declared.defaults.Defaults.{Defaults}
 use Rattle.dms_face.specs.Face.{FaceModel}
 use Rattle.dms_table.specs.Rows.{TableModel}
-use Rattle.dms_table.specs.declared.shown.Mode.TheVariants.{PowerRecovery, CommunicationsLoss, PowerLoss, EndDuration}
-use Rattle.dms_table.specs.Activation.{ShownModel, blank_shown, mode_number}
+use Rattle.dms_codes.specs.declared.mode.Mode.TheVariants.{PowerRecovery, CommunicationsLoss, PowerLoss, EndDuration}
+use Rattle.dms_codes.specs.Mode.{mode_number}
+use Rattle.dms_table.specs.Activation.{ShownModel, blank_shown}
 use Rattle.dms_access.specs.declared.reports.Reports.{Reports}
 use Rattle.dms_access.specs.declared.settings.Fallbacks.{Fallbacks}
 use Rattle.dms_access.specs.Settings.{first_fallbacks}

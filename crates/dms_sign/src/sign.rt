@@ -1,6 +1,6 @@
 //! The controller of a dynamic message sign.
 
-ghost use Rattle.std.specs.Prelude.{◌≡◌, ◌≤◌, ◌*◌, None, length, All, IsTrue, IfOk, IfErr, IfSome, OnOk};
+ghost use Rattle.std.specs.Prelude.{◌≡◌, ◌≤◌, ◌*◌, None, All, IsTrue, IfOk, IfErr, OnOk};
 ghost use Rattle.std.specs.Int.Digits.{AllBelowBase};
 ghost use Rattle.dms_codes.specs.Codes.{octets_of_id};
 ghost use Rattle.dms_table.specs.Stock.{table_of, PermanentRowsAreGood, HasOctets};
@@ -13,7 +13,8 @@ ghost use Rattle.dms_sign.specs.InRange.{IsSignInRange, AreFallbacksInRange, mos
 ghost use Rattle.dms_sign.specs.Transitions.{HasFitDefaults};
 ghost use Rattle.dms_sign.specs.KnownTexts.{AreKnown};
 ghost use Rattle.dms_face.specs.Face.{fit};
-ghost use Rattle.dms_table.specs.Activation.{mode_number, refusal, shown_by, unless_refused};
+ghost use Rattle.dms_codes.specs.Mode.{mode_number};
+ghost use Rattle.dms_table.specs.Activation.{refusal, shown_by, unless_refused};
 ghost use Rattle.dms_sign.specs.OwnCodes.{showing, staying, with_refused_code};
 ghost use Rattle.dms_sign.specs.Events.{after_settling, restored};
 
@@ -23,6 +24,7 @@ use arrayvec::ArrayVec;
 use dms_access::{Fallbacks, Reports, Settings};
 use dms_codes::{Activation, Order};
 use dms_face::{Defaults, Face};
+use dms_table::row::copy_of;
 use dms_table::{Cause, Mode, Shown, Table};
 use std::alloc::Global;
 use std::marker::Model;
@@ -86,8 +88,8 @@ impl Sign {
         }
         match Table::new(alloc, config.stock, &config.face) {
             Ok(table) => {
-                let reader = community(config.reader);
-                let writer = community(config.writer);
+                let reader = copy_of(config.reader);
+                let writer = copy_of(config.writer);
                 Ok(Sign::of(config.face, reader, writer, table))
             }
             Err(fault) => Err(ConfigFault::Table(fault)),
@@ -272,17 +274,6 @@ impl Sign {
         self.powered = true;
         self.silent_seconds = 0;
     }
-}
-
-/// A copy of a community.
-fn community(octets: &[u8]) -> ArrayVec<u8, MAX_COMMUNITY>
-    requires { length octets.now ≤ 32 }
-    ensures copied { result.items ≡ octets.now }
-    ensures octets { AllBelowBase 256 octets.now }
-{
-    let mut copy = ArrayVec::new();
-    let _ = copy.try_extend_from_slice(octets);
-    copy
 }
 
 /// Refuses a code under these defaults for the first cause that there is; a text that is known to be good under them is

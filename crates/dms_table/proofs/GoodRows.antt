@@ -8,7 +8,7 @@ use Rattle.dms_codes.specs.declared.codes.Order.{Order}
 use Rattle.dms_codes.specs.declared.status.Status.{Status}
 use Rattle.dms_codes.specs.declared.status.Status.TheVariants.{NotUsed, Modifying, Validating, Valid, Error}
 use Rattle.dms_table.specs.declared.row.Services.{Services}
-use Rattle.dms_table.specs.declared.validation.ValidationError.TheVariants as errors
+use Rattle.dms_codes.specs.declared.validation_error.ValidationError.TheVariants as errors
 use Rattle.dms_table.specs.declared.validation.Verdict.{Verdict}
 use Rattle.dms_codes.specs.Status.{is_validating}
 use Rattle.dms_table.specs.Rows.{RowModel, TableModel, row_is_validating, numbered, blank_at}

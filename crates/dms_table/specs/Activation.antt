@@ -9,11 +9,11 @@ use Rattle.dms_codes.specs.declared.status.Status.TheVariants.{Valid}
 use Rattle.dms_codes.specs.declared.codes.MessageId.{MessageId}
 use Rattle.dms_codes.specs.declared.codes.Activation.{Activation}
 use Rattle.dms_codes.specs.declared.row_id.RowId.{RowId}
+use Rattle.dms_codes.specs.declared.mode.Mode.TheVariants.{Central}
+use Rattle.dms_codes.specs.Codes.{row_id}
+use Rattle.dms_codes.specs.Mode.{mode_number}
 use Rattle.dms_table.specs.declared.activation.Cause.{Cause}
 use Rattle.dms_table.specs.declared.activation.Cause.TheVariants as causes
-use Rattle.dms_table.specs.declared.shown.Mode.{Mode}
-use Rattle.dms_table.specs.declared.shown.Mode.TheVariants.{Central, PowerRecovery, CommunicationsLoss, PowerLoss}
-use Rattle.dms_table.specs.declared.shown.Mode.TheVariants.{EndDuration}
 use Rattle.dms_codes.specs.Status.{is_valid}
 use Rattle.dms_table.specs.Rows.{RowModel, TableModel, RowReading, row_read, row_checksum}
 use Rattle.dms_codes.specs.Memory.{permanent_memory, changeable_memory, volatile_memory, current_buffer, blank_memory}
@@ -31,14 +31,6 @@ pub record ShownModel : Type 0 where
   pub address : List ℕ
   pub remaining : Option ℕ
   pub defaults : Defaults
-
--- what put a message up (NTCIP 1203, dmsMsgSourceMode)
-abbrev pub mode_number : Mode → ℕ
-mode_number Central = 8
-mode_number PowerRecovery = 10
-mode_number CommunicationsLoss = 12
-mode_number PowerLoss = 13
-mode_number EndDuration = 14
 
 -- ---- the blank message
 
@@ -93,9 +85,6 @@ abbrev pub is_memory : ℕ → Bool
 is_memory memory =
     memory == permanent_memory || memory == changeable_memory || memory == volatile_memory
     || memory == current_buffer || memory == blank_memory
-
-abbrev pub row_id : MessageId → RowId
-row_id id = record { memory = id.memory; number = id.number }
 
 -- what is read of a row; the only number of the current buffer is 1
 abbrev pub message_at : TableModel → ShownModel → RowId → Option RowReading

@@ -6,18 +6,12 @@ use Rattle.dms_face.specs.Face.{FaceModel}
 use Rattle.dms_face.specs.Fit.{IsGood, fault_of}
 use Rattle.dms_codes.specs.declared.status.Status.TheVariants.{Valid, Validating, Error}
 use Rattle.dms_codes.specs.declared.row_id.RowId.{RowId}
+use Rattle.dms_codes.specs.declared.validation_error.ValidationError.{ValidationError}
+use Rattle.dms_codes.specs.declared.validation_error.ValidationError.TheVariants as errors
+use Rattle.dms_codes.specs.ValidationError.{validation_number}
 use Rattle.dms_table.specs.declared.row.Services.{Services}
-use Rattle.dms_table.specs.declared.validation.ValidationError.{ValidationError}
-use Rattle.dms_table.specs.declared.validation.ValidationError.TheVariants as errors
 use Rattle.dms_table.specs.declared.validation.Verdict.{Verdict}
 use Rattle.dms_table.specs.Rows.{RowModel, TableModel, row_is_validating, row_at, rows_of, numbered}
-
--- what is wrong with a message (NTCIP 1203, dmsValidateMessageError)
-abbrev pub validation_number : ValidationError → ℕ
-validation_number errors.None = 2
-validation_number errors.Beacons = 3
-validation_number errors.PixelService = 4
-validation_number errors.SyntaxMulti = 5
 
 abbrev pub verdict_without_fault : ValidationError → Verdict
 verdict_without_fault error = record { error = validation_number error; fault = None }

@@ -14,7 +14,7 @@ ghost use Rattle.dms_table.specs.Activation.{unless_refused, decided};
 use crate::row::RowView;
 use crate::shown::Shown;
 use crate::table::Table;
-use dms_codes::{Activation, Memory, MessageId, RowId, Status, memory};
+use dms_codes::{Activation, Memory, MessageId, Status, memory};
 use dms_face::{Defaults, Face, MultiFault, check_with};
 use std::error::Error;
 use std::fmt;
@@ -126,11 +126,7 @@ impl Table {
         ensures { shown.new ≡ shown_by defaults.now self.now shown.old code.now }
     {
         if code.id.memory != memory::CURRENT_BUFFER {
-            let id = RowId {
-                memory: code.id.memory,
-                number: code.id.number,
-            };
-            if let Some(row) = self.row(id) {
+            if let Some(row) = self.row(code.id.row()) {
                 shown.take(code, &row, defaults);
             }
         } else if code.id.number == 1 {
@@ -144,10 +140,7 @@ impl Table {
         ensures short { IfSome result (λ view. IsShort view) }
     {
         if id.memory != memory::CURRENT_BUFFER {
-            return self.row(RowId {
-                memory: id.memory,
-                number: id.number,
-            });
+            return self.row(id.row());
         }
         if id.number == 1 {
             Some(shown.view())

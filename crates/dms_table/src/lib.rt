@@ -22,12 +22,12 @@ pub mod writable;
 
 pub use activation::Cause;
 pub use dms_codes::{
-    Activation, Ask, MAX_OWNER, MAX_TEXT, Memory, MessageId, Order, RowId, Status, checksum, codes,
-    crc, memory,
+    Activation, Ask, MAX_OWNER, MAX_TEXT, Memory, MessageId, Mode, Order, RowId, Status,
+    ValidationError, checksum, codes, crc, memory,
 };
 pub use row::{Field, Refused, RowView, Services};
-pub use shown::{Mode, Shown};
+pub use shown::{Shown, seconds_of};
 pub use stock::{Permanent, Stock, TableFault};
 pub use table::Table;
-pub use validation::{ValidationError, Verdict};
+pub use validation::Verdict;
 pub use writable::{Place, Writable};

@@ -317,7 +317,7 @@ impl<'a> Field<'a> {
 }
 
 /// A copy of these octets.
-pub(crate) fn copy_of<const N: usize>(octets: &[u8]) -> ArrayVec<u8, N>
+pub fn copy_of<const N: usize>(octets: &[u8]) -> ArrayVec<u8, N>
     requires { length octets.now ≤ N }
     ensures copied { result.items ≡ octets.now }
     ensures octets { AllBelowBase 256 octets.now }

@@ -2,46 +2,17 @@
 
 ghost use Rattle.std.specs.Prelude.{◌≡◌, ◌==◌, None, false};
 ghost use Rattle.dms_codes.specs.Memory.{current_buffer};
+ghost use Rattle.dms_codes.specs.Mode.{mode_number};
 ghost use Rattle.dms_table.specs.RowsView.{reading_of, IsShort};
-ghost use Rattle.dms_table.specs.Activation.{blank_shown, shown_reading, seconds_of, minutes_left, mode_number, put_up};
+ghost use Rattle.dms_table.specs.Activation.{blank_shown, shown_reading, seconds_of, minutes_left, put_up};
 ghost use Rattle.dms_table.specs.ShownView.{shown_checksum, HasItWhereValid};
-ghost use Rattle.dms_table.specs.declared.shown.Mode.TheVariants.{Central};
+ghost use Rattle.dms_codes.specs.declared.mode.Mode.TheVariants.{Central};
 
 use crate::row::{RowView, copy_of, replace};
 use arrayvec::ArrayVec;
-use dms_codes::{Activation, MAX_OWNER, MAX_TEXT, MessageId, Status, crc, memory};
+use dms_codes::{Activation, MAX_OWNER, MAX_TEXT, MessageId, Mode, Status, crc, memory};
 use dms_face::Defaults;
 use std::marker::Model;
-
-/// What put a message up: the values of dmsMsgSourceMode.
-#[derive(Clone, Copy, Debug, PartialEq, Eq)]
-pub enum Mode {
-    /// A code that came by a SET.
-    Central,
-    /// The return of the power.
-    PowerRecovery,
-    /// A loss of communications.
-    CommunicationsLoss,
-    /// A loss of power.
-    PowerLoss,
-    /// The end of the duration of the message before it.
-    EndDuration,
-}
-
-impl Mode {
-    /// The mode's number in dmsMsgSourceMode.
-    pub fn number(self) -> u8
-        ensures { result ≡ mode_number self }
-    {
-        match self {
-            Mode::Central => 8,
-            Mode::PowerRecovery => 10,
-            Mode::CommunicationsLoss => 12,
-            Mode::PowerLoss => 13,
-            Mode::EndDuration => 14,
-        }
-    }
-}
 
 /// What is shown: a copy of a row, so that later changes of the row do not show.
 #[derive(Debug, Drop)]
@@ -200,7 +171,7 @@ impl Shown {
     {
         self.mode = Mode::Central.number();
         self.address = code.address;
-        self.remaining = seconds(code.minutes);
+        self.remaining = seconds_of(code.minutes);
     }
 
     /// This row is up in its place, by a code that names it.
@@ -238,7 +209,7 @@ fn checksum_of(kind: u8, row: &RowView<'_>) -> u16
 }
 
 /// The seconds of a number of minutes; 65535 minutes have no end.
-fn seconds(minutes: u16) -> Option<u32>
+pub fn seconds_of(minutes: u16) -> Option<u32>
     ensures { result ≡ seconds_of minutes }
 {
     if minutes == u16::MAX {

@@ -3,31 +3,27 @@
 ghost use Rattle.std.specs.Prelude.{◌≡◌, ◌⊎◌, ◌<◌, ◌+◌, IfNone, map, find, All, IsTrue, IfOk, IfErr, OnOk, OnErr};
 ghost use Rattle.std.specs.Prelude.{Some, None, IfSome, option_map, is_some};
 ghost use Rattle.std.specs.Option.{option_copied};
-ghost use Rattle.std.specs.List.{list_any};
 ghost use Rattle.dms_table.specs.Rows.{row_is_validating, rows_of, numbered, row_read, valid_count, unused_count};
 ghost use Rattle.dms_table.specs.Rows.{row_count, is_settling, may_ask, changed_in, asked_row, asked, written_row};
-ghost use Rattle.dms_table.specs.Rows.{written, interrupted, released, after_power, IsTable, TableModel, FieldModel};
+ghost use Rattle.dms_table.specs.Rows.{written, interrupted, released, after_power, IsTable};
 ghost use Rattle.dms_table.specs.RowsView.{field_of, reading_of, IsShort};
 ghost use Rattle.dms_codes.specs.declared.row_id.RowId.{RowId};
 ghost use Rattle.dms_codes.specs.declared.status.Ask.{Ask};
 ghost use Rattle.dms_codes.specs.Status.{is_validate};
-ghost use Rattle.dms_face.specs.Face.{FaceModel, fit};
+ghost use Rattle.dms_face.specs.Face.{fit};
 ghost use Rattle.dms_face.specs.Layout.{under};
 ghost use Rattle.dms_table.specs.Validation.{settled, verdict, ValidRowsAreGood};
 ghost use Rattle.dms_table.specs.PlaceView.{IsOnly, IsPlaced, validating_after};
 ghost use Rattle.dms_table.specs.ValidatorView.{settled_by, verdict_by, IsJudged};
 ghost use Rattle.dms_table.specs.Stock.{permanent_row, has_ranges, stock_fault, table_of, IsFirstFault};
-ghost use Rattle.dms_table.specs.Stock.{PermanentRowsAreGood, KeepsPermanentRows, HasOctets};
-ghost use Rattle.dms_table.specs.Activation.{is_memory, named, activation_error, unless_refused, decided};
+ghost use Rattle.dms_table.specs.Stock.{PermanentRowsAreGood, HasOctets};
 
-use crate::activation::Cause;
 use crate::row::{Field, Refused, Row, RowView, Services};
-use crate::shown::Shown;
 use crate::stock::{Stock, TableFault, permanent_rows, unused_rows};
 use crate::validation::{Validator, Verdict};
 use crate::writable::{Place, Writable, WritableRows};
-use dms_codes::{Activation, Ask, Memory, MessageId, Order, RowId, Status, memory};
-use dms_face::{Defaults, Face, check_with};
+use dms_codes::{Ask, Memory, Order, RowId, memory};
+use dms_face::{Defaults, Face};
 use std::alloc::{AllocError, Global};
 use std::marker::Model;
 

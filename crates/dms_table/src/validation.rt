@@ -7,37 +7,8 @@ ghost use Rattle.dms_table.specs.Validation.{verdict_without_fault, verdict_on, 
 ghost use Rattle.dms_table.specs.ValidatorView.{face_of};
 
 use crate::row::Services;
+use dms_codes::ValidationError;
 use dms_face::{Defaults, Face, MultiFault, check_with};
-
-/// What is wrong with a message that is validated: the values of dmsValidateMessageError (NTCIP 1203).
-#[derive(Clone, Copy, Debug, PartialEq, Eq)]
-pub enum ValidationError {
-    /// Nothing.
-    None,
-    /// It has a beacon on, and the sign has none.
-    Beacons,
-    /// It has a pixel service on, and the sign has none.
-    PixelService,
-    /// Its text does not fit.
-    SyntaxMulti,
-}
-
-impl ValidationError {
-    ghost use Rattle.std.specs.Prelude.{◌≡◌};
-    ghost use Rattle.dms_table.specs.Validation.{validation_number};
-
-    /// The error's number in dmsValidateMessageError.
-    pub fn number(self) -> u8
-        ensures { result ≡ validation_number self }
-    {
-        match self {
-            ValidationError::None => 2,
-            ValidationError::Beacons => 3,
-            ValidationError::PixelService => 4,
-            ValidationError::SyntaxMulti => 5,
-        }
-    }
-}
 
 /// The verdict on a row (NTCIP 1203, dmsValidateMessageError).
 #[derive(Clone, Copy, Debug, PartialEq, Eq)]

@@ -15,8 +15,8 @@ use Rattle.dms_codes.specs.declared.codes.Activation.{Activation}
 use Rattle.dms_codes.specs.Status.{is_valid}
 use Rattle.dms_table.specs.Rows.{RowModel, TableModel, RowReading, row_checksum, reading, blank_reading, blank_at, rows_of, numbered, row_read}
 use Rattle.dms_codes.specs.Memory.{current_buffer, blank_memory}
-use Rattle.dms_codes.specs.Codes.{activation_of}
-use Rattle.dms_table.specs.Activation.{ShownModel, shown_reading, row_id, named, is_memory, has_checksum, activation_error, put_up, unless_refused, decided_on, decided}
+use Rattle.dms_codes.specs.Codes.{row_id, activation_of}
+use Rattle.dms_table.specs.Activation.{ShownModel, shown_reading, named, is_memory, has_checksum, activation_error, put_up, unless_refused, decided_on, decided}
 use Rattle.dms_sign.specs.State.{SignState}
 use Rattle.dms_access.specs.Access.{Write, SetNumber, SetCode, SetField, AskRow, Activate, SetRemaining, is_command}
 use Rattle.dms_sign.specs.SetRequest.{SetCause, causes, assigned}

@@ -2,22 +2,20 @@
 
 ghost use Rattle.std.specs.Prelude.{◌≡◌, ◌≤◌, length, option_map, IsSome, IfSome, Some, is_some, false};
 ghost use Rattle.dms_wire.specs.Limits.{AreBindingsInLimits, most_bindings};
-ghost use Rattle.dms_codes.specs.Codes.{activation_of};
 ghost use Rattle.dms_table.specs.Rows.{asked};
-ghost use Rattle.dms_table.specs.Activation.{seconds_of, shown_by};
-ghost use Rattle.dms_sign.specs.InRange.{AreOctets, IsShownInRange, IsTimeInRange};
+ghost use Rattle.dms_table.specs.Activation.{shown_by};
+ghost use Rattle.dms_sign.specs.InRange.{AreOctets, IsShownInRange};
 ghost use Rattle.dms_access.specs.Access.{AskRow, Activate};
 ghost use Rattle.dms_access.specs.ChangeView.{write_by};
 ghost use Rattle.dms_sign.specs.SetView.{AreSettings, IsCommandInRange, Says, StaysWithout};
 ghost use Rattle.dms_sign.specs.SetRequest.{assigned};
 ghost use Rattle.dms_sign.specs.Requests.{activated, with_remaining, writes_of, commanded, commanded_if, set};
 
-use crate::sign::own_codes::{BLANK, own_activation};
 use crate::sign::set_request::{Judged, Refusal, write_fields};
 use crate::sign::{Sign, judge};
 use dms_access::{Change, Settings};
-use dms_codes::{Activation, Ask, Order, RowId};
-use dms_table::Mode;
+use dms_codes::{Activation, Ask, RowId};
+use dms_table::{Mode, seconds_of};
 use dms_wire::{Binds, ErrorStatus};
 
 impl Sign {
@@ -112,7 +110,7 @@ impl Sign {
         ensures says { Says result (commanded self.old (assigned self.old (writes_of self.old binds.now)) binds.now
             judged.now.index (Activate octets)) }
     {
-        let code = activation_of(self.table.order(), &octets);
+        let code = Activation::of_octets(self.table.order(), &octets);
         let defaults = &judged.settings.defaults;
         match judge(
             &self.known,
@@ -208,24 +206,5 @@ impl Sign {
         } else {
             self.remain(seconds_of(minutes));
         }
-    }
-}
-
-/// The activation of these octets.
-fn activation_of(order: Order, octets: &[u8; 12]) -> Activation
-    ensures { result ≡ activation_of order octets.now }
-{
-    Activation::from_bytes(order, octets).unwrap_or(own_activation(BLANK))
-}
-
-/// The seconds of a number of minutes; 65535 minutes have no end.
-fn seconds_of(minutes: u16) -> Option<u32>
-    ensures value { result ≡ seconds_of minutes }
-    ensures range { IsTimeInRange result }
-{
-    if minutes == u16::MAX {
-        None
-    } else {
-        Some(u32::from(minutes) * 60)
     }
 }

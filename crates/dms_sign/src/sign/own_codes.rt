@@ -2,20 +2,12 @@
 
 ghost use Rattle.std.specs.Prelude.{◌≡◌};
 ghost use Rattle.std.specs.Int.Digits.{AllBelowBase};
-ghost use Rattle.dms_codes.specs.Codes.{id_of};
-ghost use Rattle.dms_table.specs.Activation.{mode_number};
+ghost use Rattle.dms_codes.specs.Mode.{mode_number};
 ghost use Rattle.dms_sign.specs.OwnCodes.{own_activation, put_up_code};
 
 use crate::sign::{Sign, judge};
-use dms_codes::{Activation, MessageId, Order, memory};
+use dms_codes::{Activation, MessageId, memory};
 use dms_table::{Mode, Shown};
-
-/// Blank message 1.
-pub(super) const BLANK: MessageId = MessageId {
-    memory: memory::BLANK,
-    number: 1,
-    crc: 0,
-};
 
 impl Sign {
     /// Activates the message that these five octets name: what is shown stays for a code of the current buffer; any
@@ -25,7 +17,7 @@ impl Sign {
         requires { AllBelowBase 256 octets }
         ensures { self.new ≡ put_up_code self.old octets (mode_number mode) }
     {
-        let id = id_of(self.table.order(), &octets);
+        let id = MessageId::of_octets(self.table.order(), &octets);
         if id.memory == memory::CURRENT_BUFFER {
             return self.stay(mode);
         }
@@ -49,15 +41,8 @@ impl Sign {
     }
 }
 
-/// The code of a message with these octets.
-fn id_of(order: Order, octets: &[u8; 5]) -> MessageId
-    ensures { result ≡ id_of order octets.now }
-{
-    MessageId::from_bytes(order, octets).unwrap_or(BLANK)
-}
-
 /// The activation by which the sign itself puts a message up: without an end, with the highest priority, for nobody.
-pub(super) fn own_activation(id: MessageId) -> Activation
+fn own_activation(id: MessageId) -> Activation
     ensures { result ≡ own_activation id }
 {
     Activation {

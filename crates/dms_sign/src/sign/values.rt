@@ -1,7 +1,6 @@
 //! What the objects of a sign read.
 
 ghost use Rattle.std.specs.Prelude.{◌≡◌, ◌<◌, ◌*◌, option_map};
-ghost use Rattle.dms_table.specs.RowsView.{reading_of};
 ghost use Rattle.dms_table.specs.Activation.{message_at};
 ghost use Rattle.dms_table.specs.Rows.{valid_count, row_count};
 ghost use Rattle.dms_wire.specs.View.{object_value};
@@ -11,7 +10,7 @@ ghost use Rattle.dms_access.specs.Cells.{number_value, cell_value};
 ghost use Rattle.dms_sign.specs.Values.{free_octets, scalar_value, value_at, value_of};
 
 use crate::sign::Sign;
-use dms_access::{cell_value, number_value, shown_value};
+use dms_access::{cell_value, number_value, shown_value, small_value};
 use dms_codes::{MAX_TEXT, RowId, memory};
 use dms_instances::Counts;
 use dms_objects::{Column, Instance, Scalar};
@@ -86,16 +85,16 @@ impl Sign {
         match object {
             Scalar::SignHeightPixels => number_value(self.face.height()),
             Scalar::SignWidthPixels => number_value(self.face.width()),
-            Scalar::DefaultBackgroundColor => small(defaults.background),
-            Scalar::DefaultForegroundColor => small(defaults.foreground),
-            Scalar::DefaultFlashOn => small(defaults.flash_on),
-            Scalar::DefaultFlashOff => small(defaults.flash_off),
-            Scalar::DefaultFont => small(defaults.font),
-            Scalar::DefaultJustificationLine => small(defaults.line),
-            Scalar::DefaultJustificationPage => small(defaults.page),
-            Scalar::DefaultPageOnTime => small(defaults.on),
-            Scalar::DefaultPageOffTime => small(defaults.off),
-            Scalar::ColorScheme => small(3),
+            Scalar::DefaultBackgroundColor => small_value(defaults.background),
+            Scalar::DefaultForegroundColor => small_value(defaults.foreground),
+            Scalar::DefaultFlashOn => small_value(defaults.flash_on),
+            Scalar::DefaultFlashOff => small_value(defaults.flash_off),
+            Scalar::DefaultFont => small_value(defaults.font),
+            Scalar::DefaultJustificationLine => small_value(defaults.line),
+            Scalar::DefaultJustificationPage => small_value(defaults.page),
+            Scalar::DefaultPageOnTime => small_value(defaults.on),
+            Scalar::DefaultPageOffTime => small_value(defaults.off),
+            Scalar::ColorScheme => small_value(3),
             Scalar::NumPermanentMsg => count(self.table.row_count(memory::PERMANENT)),
             Scalar::NumChangeableMsg => count(self.table.valid_count(memory::CHANGEABLE)),
             Scalar::MaxChangeableMsg => count(self.table.row_count(memory::CHANGEABLE)),
@@ -103,12 +102,12 @@ impl Sign {
             Scalar::NumVolatileMsg => count(self.table.valid_count(memory::VOLATILE)),
             Scalar::MaxVolatileMsg => count(self.table.row_count(memory::VOLATILE)),
             Scalar::FreeVolatileMemory => count(self.free_octets(memory::VOLATILE)),
-            Scalar::ValidateMessageError => small(reports.validate_error),
+            Scalar::ValidateMessageError => small_value(reports.validate_error),
             Scalar::ActivateMessage => Value::Octets(&reports.accepted_code),
             Scalar::MessageTimeRemaining => minutes(self.shown.minutes_left()),
             Scalar::MsgTableSource => Value::Octets(&self.source),
             Scalar::MsgRequesterId => Value::Address(self.shown.address),
-            Scalar::MsgSourceMode => small(self.shown.mode),
+            Scalar::MsgSourceMode => small_value(self.shown.mode),
             Scalar::ShortPowerRecoveryMessage => Value::Octets(&fallbacks.short_power_recovery),
             Scalar::LongPowerRecoveryMessage => Value::Octets(&fallbacks.long_power_recovery),
             Scalar::ShortPowerLossTime => number_value(self.settings.short_power_loss_time),
@@ -116,18 +115,12 @@ impl Sign {
             Scalar::TimeCommLoss => number_value(self.settings.time_comm_loss),
             Scalar::PowerLossMessage => Value::Octets(&fallbacks.power_loss),
             Scalar::EndDurationMessage => Value::Octets(&fallbacks.end_duration),
-            Scalar::ActivateMsgError => small(reports.activate_error),
-            Scalar::MultiSyntaxError => small(reports.syntax_error),
+            Scalar::ActivateMsgError => small_value(reports.activate_error),
+            Scalar::MultiSyntaxError => small_value(reports.syntax_error),
             Scalar::MultiSyntaxErrorPosition => number_value(reports.syntax_error_position),
             Scalar::ActivateErrorMsgCode => Value::Octets(&reports.failed_code),
         }
     }
-}
-
-fn small<'a>(value: u8) -> Value<'a>
-    ensures { object_value result ≡ number_value value }
-{
-    number_value(u16::from(value))
 }
 
 fn count<'a>(value: usize) -> Value<'a>

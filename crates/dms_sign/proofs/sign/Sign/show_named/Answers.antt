@@ -1,7 +1,8 @@
 use Rattle.std.proofs.Common.{sym, ap, subst, ◌∙◌}
 use Rattle.dms_codes.specs.declared.codes.Order.{Order}
 use Rattle.dms_codes.specs.Codes.{octets_of_id}
-use Rattle.dms_table.specs.Activation.{ShownModel, mode_number, shown_by}
+use Rattle.dms_codes.specs.Mode.{mode_number}
+use Rattle.dms_table.specs.Activation.{ShownModel, shown_by}
 use Rattle.dms_sign.specs.InRange.{IsShownInRange}
 use Rattle.dms_sign.specs.State.{SignState}
 use Rattle.dms_sign.proofs.Wholes.{shown_whole}
