@@ -1,11 +1,9 @@
 -- Loops that write each element of a list.
-use Rattle.std.proofs.Common.{◌≡◌, ℕ, zero, suc, ◌+◌, ◌<◌, ◌≤◌, Bool, true, false, cond, if◌then◌else◌, List, [], ◌∷◌, map, length, get_or, set, take, Option, Some, None, find, All, refl, ap, subst, ◌∙◌, sym, arith, add-one}
-use Rattle.std.specs.Prelude.{option_map, position}
-use Rattle.std.specs.Prelude.{nat_lt}
+use Rattle.std.proofs.Common.{◌≡◌, ℕ, zero, suc, ◌+◌, ◌<◌, ◌≤◌, Bool, true, false, cond, List, [], ◌∷◌, map, length, get_or, set, take, Some, None, All, refl, ap, subst, ◌∙◌, sym, arith, add-one}
+use Rattle.std.specs.Prelude.{position, nat_lt}
 use Rattle.std.specs.List.{position_from, position_or_len}
 use Rattle.std.proofs.lemmas.List.Sums.{position_or_len_is}
 use Rattle.std.proofs.lemmas.Bool.{lt-ltb}
-use Rattle.std.specs.Option.{option_or}
 use Rattle.std.proofs.lemmas.List.{take_more, get_or-take, length-take-le}
 use Rattle.std.proofs.lemmas.List.Elements.{All-cons, All-append}
 use Rattle.std.proofs.lemmas.Iterator.Adapters.{position_from-zero}
@@ -28,9 +26,6 @@ get_or-mapped_up_to f zero xs d = refl
 get_or-mapped_up_to f (suc n) [] d = refl
 get_or-mapped_up_to f (suc n) (x ∷ xs) d = get_or-mapped_up_to f n xs d
 
-pub next_is : {A : Type 0} (f : A → A) (n : ℕ) (xs ys : List A) (d : A) → ys ≡ mapped_up_to f n xs → get_or ys n d ≡ get_or xs n d
-next_is f n xs ys d so_far = ap (λ zs. get_or zs n d) so_far ∙ get_or-mapped_up_to f n xs d
-
 set-mapped_up_to : {A : Type 0} (f : A → A) (n : ℕ) (xs : List A) (d : A) → set (mapped_up_to f n xs) n (f (get_or xs n d)) ≡ mapped_up_to f (suc n) xs
 set-mapped_up_to f zero [] d = refl
 set-mapped_up_to f zero (x ∷ xs) d = refl
@@ -44,34 +39,6 @@ mapped_more f n xs ys d y so_far becomes =
     let step : set (mapped_up_to f n xs) n (f (get_or xs n d)) ≡ mapped_up_to f (suc n) xs = set-mapped_up_to f n xs d in
     let next : n + 1 ≡ suc n = add-one n in
     cc
-
--- ---- what was found so far
-
-found_first : {A B : Type 0} (f : A → B) (b : Bool) (x : A) → option_or (option_map f None) (if b then Some (f x) else None) ≡ option_map f (cond b (Some x) None)
-found_first f true x = refl
-found_first f false x = refl
-
-found_after : {A B : Type 0} (f : A → B) (b : Bool) (x : A) (one more : Option A) (next : Option B) → option_or (option_map f one) next ≡ option_map f more
-    → option_or (option_map f (cond b (Some x) one)) next ≡ option_map f (cond b (Some x) more)
-found_after f true x one more next h = refl
-found_after f false x one more next h = h
-
-found_next : {A B : Type 0} (p : A → Bool) (f : A → B) (n : ℕ) (xs : List A) (d : A) → n < length xs
-    → option_or (option_map f (find p (take n xs))) (if p (get_or xs n d) then Some (f (get_or xs n d)) else None) ≡ option_map f (find p (take (suc n) xs))
-found_next p f n [] d h = absurd (omega arith)
-found_next p f zero (x ∷ xs) d h = found_first f (p x) x
-found_next p f (suc n) (x ∷ xs) d h =
-    found_after f (p x) x (find p (take n xs)) (find p (take (suc n) xs)) (if p (get_or xs n d) then Some (f (get_or xs n d)) else None) (found_next p f n xs d (omega arith))
-
--- what is found in one element more, of a list that is written meanwhile
-pub found_more : {A B : Type 0} (g : A → A) (p : A → Bool) (f : A → B) (n : ℕ) (xs ys : List A) (d : A) (found next : Option B)
-    → ys ≡ mapped_up_to g n xs → n < length xs → found ≡ option_map f (find p (take n xs)) → next ≡ (if p (get_or ys n d) then Some (f (get_or ys n d)) else None)
-    → option_or found next ≡ option_map f (find p (take (n + 1) xs))
-found_more g p f n xs ys d found next so_far within was is =
-    let read : get_or ys n d ≡ get_or xs n d = next_is g n xs ys d so_far in
-    let step : option_or (option_map f (find p (take n xs))) (if p (get_or xs n d) then Some (f (get_or xs n d)) else None) ≡ option_map f (find p (take (suc n) xs)) = found_next p f n xs d within in
-    let said = rw read at is in
-    rw (was, said, add-one) step
 
 -- ---- what holds of each
 

@@ -79,10 +79,6 @@ is_none_of : {X : Type 0} (o : Option X) → is_some o ≡ false → o ≡ None
 is_none_of None e = refl
 is_none_of (Some x) e = absurd (true≢false e)
 
-pub mapped_some : {X Y : Type 0} (f : X → Y) (o : Option X) → is_some (option_map f o) ≡ is_some o
-mapped_some f None = refl
-mapped_some f (Some x) = refl
-
 -- ---- the walk
 
 pub record HasJudged (s : SignState) (may : Bool) (all : List VarBind) (old : Settings) (index : ℕ) (settings : Settings) (at : ℕ) (command : Option Write) (rest : List VarBind) : Type 0 where
@@ -111,11 +107,6 @@ pub before_is : (s : SignState) (may : Bool) (all : List VarBind) (old : Setting
     → (is : HasJudged s may all old index settings at command rest) → take index all ≡ is.done
 before_is s may all old index settings at command rest is =
     ap (λ n. take n all) (sym is.count) ∙ ap (take (length is.done)) (sym is.whole) ∙ take-append_seam is.done rest
-
-pub commanded_is : (s : SignState) (may : Bool) (all : List VarBind) (old : Settings) (index : ℕ) (settings : Settings) (at : ℕ) (command : Option Write) (rest : List VarBind)
-    → HasJudged s may all old index settings at command rest → is_some command ≡ list_any (is_command_at s) (take index all)
-commanded_is s may all old index settings at command rest is =
-    is.any ∙ ap (list_any (is_command_at s)) (sym (before_is s may all old index settings at command rest is))
 
 some_if : (c b : Bool) (w : Write) (o : Option Write) → is_some o ≡ b → is_some (cond c (Some w) o) ≡ (b || c)
 some_if true true w o e = refl

@@ -1,5 +1,5 @@
 -- What a change of some fields leaves whole.
-use Rattle.std.proofs.Common.{◌≡◌, ℕ, ◌+◌, ◌<◌, ◌≤◌, ◌==◌, Bool, true, false, cond, List, Option, Some, None, Result, Ok, Err, length, refl, sym, subst, ap, ◌∙◌, ◌*◌, arith}
+use Rattle.std.proofs.Common.{◌≡◌, ℕ, ◌+◌, ◌<◌, ◌≤◌, ◌==◌, Bool, true, false, cond, List, Option, Some, None, Result, Ok, Err, length, refl, sym, subst, ap, ◌∙◌, arith}
 use Rattle.std.proofs.lemmas.Bool.{eqb-true}
 use Rattle.std.specs.Option.{IfSome}
 use Rattle.std.specs.Prelude.{All, IsTrue}
@@ -38,7 +38,7 @@ use Rattle.dms_sign.specs.OwnCodes.{showing, with_refused_code, own_activation, 
 use Rattle.dms_access.specs.Reports.{settled_reports}
 use Rattle.dms_access.specs.Reports.{IsCauseInRange}
 use Rattle.dms_access.specs.Ranges.{AreDefaultsInRange}
-use Rattle.dms_sign.specs.InRange.{IsStocked, IsTableInRange, IsShownInRange, IsTimeInRange, AreReportsInRange, IsSignInRange, most_minutes}
+use Rattle.dms_sign.specs.InRange.{IsStocked, IsTableInRange, IsShownInRange, AreReportsInRange, IsSignInRange}
 use Rattle.dms_sign.specs.declared.known_texts.KnownTexts.{KnownTexts}
 use Rattle.dms_sign.specs.KnownTexts.{first_entry, HasRoom, noted, AreKnown}
 use Rattle.dms_sign.specs.SignView.{state_of, IsWhole}
@@ -46,59 +46,17 @@ use Rattle.dms_table.proofs.Decisions.{accepted_decision, refused_decision}
 use Rattle.dms_table.proofs.Places.{placed_settling}
 use Rattle.dms_table.proofs.Settlement.{nothing_settled, no_verdict}
 use Rattle.dms_sign.specs.Events.{after_settling}
-use Rattle.dms_sign.proofs.InRangeShown.{showing_in_range, telling_in_range, with_table_in_range, with_mode, with_time, own_is, id_is, IsDecisionInRange, decided_in_range}
+use Rattle.dms_sign.proofs.InRangeShown.{showing_in_range, telling_in_range, with_table_in_range, with_mode, own_is, id_is, IsDecisionInRange, decided_in_range}
 use Rattle.dms_sign.proofs.KnownTexts.{HasEntries, only_within, known_kept, known_settled}
 use Rattle.dms_sign.proofs.StepRows.{after_power_keeps}
 use Rattle.dms_sign.proofs.InRangeStart.{start_in_range, stocked_in_range}
-use Rattle.dms_sign.proofs.InRangeEvents.{IsVerdictInRange, settled_in_range, settled_verdict, verdict_reported, with_silence, restored_in_range}
+use Rattle.dms_sign.proofs.InRangeEvents.{IsVerdictInRange, settled_in_range, settled_verdict, verdict_reported, restored_in_range}
 
 pub shown_whole : (old : Inside) (shown : ShownModel) (source : List ℕ) → IsWhole old → IsShownInRange shown
     → source ≡ octets_of_id old.table.order shown.source → IsWhole (record old { shown = shown; source = source })
 shown_whole old shown source is range octets = record {
   kept = record { in_range = showing_in_range (state_of old) shown is.kept.in_range range; fit = is.kept.fit; communities = is.kept.communities };
   source = octets;
-  known = is.known;
-}
-
-pub remaining_whole : (old : Inside) (remaining : Option ℕ) → IsWhole old → IsTimeInRange remaining
-    → IsWhole (record old { shown = record old.shown { remaining = remaining } })
-remaining_whole old remaining is time = record {
-  kept = record {
-    in_range = showing_in_range (state_of old) (record old.shown { remaining = remaining }) is.kept.in_range
-        (with_time old.shown remaining is.kept.in_range.shown time);
-    fit = is.kept.fit;
-    communities = is.kept.communities;
-  };
-  source = is.source;
-  known = is.known;
-}
-
-pub kept_whole : (old : Inside) → IsWhole old → IsWhole (record old { shown_at_power_loss = old.shown })
-kept_whole old is = record {
-  kept = record {
-    in_range = record {
-      config = is.kept.in_range.config;
-      table = is.kept.in_range.table;
-      fallbacks = is.kept.in_range.fallbacks;
-      short_power_loss_time = is.kept.in_range.short_power_loss_time;
-      time_comm_loss = is.kept.in_range.time_comm_loss;
-      silent_seconds = is.kept.in_range.silent_seconds;
-      defaults = is.kept.in_range.defaults;
-      shown = is.kept.in_range.shown;
-      shown_at_power_loss = is.kept.in_range.shown;
-      reports = is.kept.in_range.reports;
-    };
-    fit = is.kept.fit;
-    communities = is.kept.communities;
-  };
-  source = is.source;
-  known = is.known;
-}
-
-pub silent_whole : (old : Inside) (silent_seconds : ℕ) → IsWhole old → silent_seconds ≤ 60 * most_minutes → IsWhole (record old { silent_seconds = silent_seconds })
-silent_whole old silent_seconds is few = record {
-  kept = record { in_range = with_silence (state_of old) silent_seconds is.kept.in_range few; fit = is.kept.fit; communities = is.kept.communities };
-  source = is.source;
   known = is.known;
 }
 

@@ -3,7 +3,8 @@ use Rattle.std.specs.Prelude.{option_map}
 use Rattle.dms_wire.specs.View.{var_bind}
 use Rattle.dms_access.specs.Access.{is_command}
 use Rattle.dms_access.specs.ChangeView.{write_by}
-use Rattle.dms_sign.proofs.Causes.{judged_starts, judged_more, judged_refused, judged_all, mapped_some, all_taken, stays_more}
+use Rattle.dms_codes.proofs.Options.{is_some_mapped}
+use Rattle.dms_sign.proofs.Causes.{judged_starts, judged_more, judged_refused, judged_all, all_taken, stays_more}
 use Rattle.dms_sign.specs.SetView.{StaysWithout}
 use Rattle.dms_access.specs.Slots.{AreTaken}
 use Rattle.dms_sign.proofs.Causes.{one_more}
@@ -21,7 +22,7 @@ loop-binding-preserved c =
     let b = var_bind c.in-Some.binding in
     let w = write_by c.in-Ok.change in
     let alone : is_command w ≡ true → is_some (option_map write_by c.loop-binding.judged.command) ≡ false =
-    λ h. mapped_some write_by c.loop-binding.judged.command ∙ sym c.is_some-commanded.ensures ∙ c.in-Ok.ensures.alone h
+    λ h. is_some_mapped write_by c.loop-binding.judged.command ∙ sym c.is_some-commanded.ensures ∙ c.in-Ok.ensures.alone h
     in
     let index = c.loop-binding.index in
     let command = option_map write_by c.loop-binding.judged.command in
