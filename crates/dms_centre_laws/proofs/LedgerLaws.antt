@@ -21,12 +21,12 @@ use Rattle.dms_centre_laws.proofs.NumberLaws.{settings_are}
 
 -- ---- what is kept up
 
-pub record IsKept (history : History) : Type 0 where
+pub record HistoryIsKept (history : History) : Type 0 where
   pub numbered : HistoryIsNumbered history
   pub ledger : LedgerIsSent history.state.settings history.state.next history.state.ledger history.sent
   pub open_entry : IsOpen history.state.phase history.state.ledger
 
-ready : (history : History) → IsKept history → Ready history.state
+ready : (history : History) → HistoryIsKept history → Ready history.state
 ready history kept = record { settings = kept.numbered.settings_fine; below = kept.ledger.below; open_entry = kept.open_entry }
 
 -- ---- numbers
@@ -35,7 +35,8 @@ pub puts_up_number : (settings : SettingsModel) (number : ℕ) (code : Activatio
 unfolding request_of
 puts_up_number settings number code octets e = record { message = request_of settings number (Showing code) Activating; spelled = e; is = refl }
 
-next_grows : (settings : SettingsModel) (next : ℕ) (sent : List (List ℕ)) (move : Move) → Sends settings next sent move → next ≤ move.state.next
+-- the next number never falls
+pub next_grows : (settings : SettingsModel) (next : ℕ) (sent : List (List ℕ)) (move : Move) → Sends settings next sent move → next ≤ move.state.next
 next_grows settings next sent move (Nothing none same) = omega (arith, same)
 next_grows settings next sent move (Again octets k out there same) = omega (arith, same)
 next_grows settings next sent move (New octets out is more) = omega (arith, more)
@@ -111,8 +112,8 @@ sent_after settings next before sent input move both moves k later e =
       | inr new ↦ newly_sent settings next sent move later new.1
     ]
 
-kept_move : (history : History) (input : Input) (move : Move) → IsKept history → Keeps history.state.settings history.state.next history.sent move
-    → LedgerKept history.state.settings history.state.next history.state.ledger input move → IsKept (with_move history move)
+kept_move : (history : History) (input : Input) (move : Move) → HistoryIsKept history → Keeps history.state.settings history.state.next history.sent move
+    → LedgerKept history.state.settings history.state.next history.state.ledger input move → HistoryIsKept (with_move history move)
 kept_move history input move kept keeps moved =
     let settings = history.state.settings in
     let both : Both settings history.state.next history.state.ledger history.sent move =
@@ -128,17 +129,17 @@ kept_move history input move kept keeps moved =
       open_entry = moved.open_entry;
     }
 
-pub ledger_move : (history : History) (input : Input) → IsKept history → IsInput input
+pub ledger_move : (history : History) (input : Input) → HistoryIsKept history → IsInput input
     → LedgerKept history.state.settings history.state.next history.state.ledger input (move_at history.state input)
 ledger_move history input kept is = kept_input history.state input (ready history kept) kept.numbered.work is
 
-pub is_kept_input : (history : History) (input : Input) → IsKept history → IsInput input → IsKept (after_input history input)
+pub is_kept_input : (history : History) (input : Input) → HistoryIsKept history → IsInput input → HistoryIsKept (after_input history input)
 is_kept_input history input kept is =
     kept_move history input (move_at history.state input) kept (keeps_input history input kept.numbered is) (ledger_move history input kept is)
 
 -- ---- one input after another
 
-pub is_kept_made : (settings : SettingsModel) (first : ℕ) → AreSettings settings → IsKept (made settings first)
+pub is_kept_made : (settings : SettingsModel) (first : ℕ) → AreSettings settings → HistoryIsKept (made settings first)
 is_kept_made settings first fine = record {
   numbered = numbered_made settings first fine;
   ledger = record {
@@ -149,11 +150,11 @@ is_kept_made settings first fine = record {
   open_entry = tt;
 }
 
-kept_after : (inputs : List Input) (history : History) → IsKept history → AllByRecursion IsInput inputs → IsKept (after_inputs history inputs)
+kept_after : (inputs : List Input) (history : History) → HistoryIsKept history → AllByRecursion IsInput inputs → HistoryIsKept (after_inputs history inputs)
 kept_after [] history kept are = kept
 kept_after (input ∷ inputs) history kept are = kept_after inputs (after_input history input) (is_kept_input history input kept are.0) are.1
 
-kept : (settings : SettingsModel) (first : ℕ) (inputs : List Input) → AreSettings settings → AllByRecursion IsInput inputs → IsKept (after_inputs (made settings first) inputs)
+kept : (settings : SettingsModel) (first : ℕ) (inputs : List Input) → AreSettings settings → AllByRecursion IsInput inputs → HistoryIsKept (after_inputs (made settings first) inputs)
 kept settings first inputs fine are = kept_after inputs (made settings first) (is_kept_made settings first fine) are
 
 pub ledger_moves : (settings : SettingsModel) (first : ℕ) (inputs : List Input) (input : Input) → AreSettings settings → AllByRecursion IsInput inputs → IsInput input

@@ -8,7 +8,7 @@ use Rattle.dms_centre.specs.Commands.{refusal_of}
 use Rattle.dms_requests.specs.Requests.{AreSettings}
 use Rattle.dms_centre.specs.History.{Input, Commands, Hears, Ticks, Restarts, IsInput, History, made, after_input, after_inputs}
 use Rattle.dms_centre_laws.specs.Ledger.{IsOrdered, CodesAreOrdered}
-use Rattle.dms_centre_laws.proofs.LedgerLaws.{IsKept, is_kept_input, is_kept_made}
+use Rattle.dms_centre_laws.proofs.LedgerLaws.{HistoryIsKept, is_kept_input, is_kept_made}
 use Rattle.dms_centre_laws.proofs.Working.{OfTaken, AreOf, are_of_input}
 
 after_more : (history : History) (inputs more : List Input) → after_inputs history (inputs ++ more) ≡ after_inputs (after_inputs history inputs) more
@@ -44,7 +44,7 @@ of_taken settings first all front rest Ticks e = tt
 of_taken settings first all front rest Restarts e = tt
 
 record IsSoFar (settings : SettingsModel) (first : ℕ) (all : List Input) (history : History) : Type 0 where
-  kept : IsKept history
+  kept : HistoryIsKept history
   are : AreOf (IsOrdered settings first all) history.state
 
 walk : (settings : SettingsModel) (first : ℕ) (all rest front : List Input) → all ≡ front ++ rest → AllByRecursion IsInput rest

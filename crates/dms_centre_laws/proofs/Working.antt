@@ -21,7 +21,7 @@ use Rattle.dms_centre.specs.Resending.{gives_up, older, sends_again}
 use Rattle.dms_centre.specs.Inputs.{on_message, on_datagram, received, on_tick, ticked, forgets, restarted}
 use Rattle.dms_centre.specs.History.{Input, Commands, Hears, Ticks, Restarts, History, move_at, IsInput}
 use Rattle.dms_centre_laws.proofs.Lists.{either_way}
-use Rattle.dms_centre_laws.proofs.LedgerLaws.{IsKept, ledger_move}
+use Rattle.dms_centre_laws.proofs.LedgerLaws.{HistoryIsKept, ledger_move}
 
 -- the job of a phase puts up what P holds of
 abbrev pub OfJob : (Work → Type 0) → Phase → Type 0
@@ -148,7 +148,7 @@ module _ (P : Work → Type 0) where
     pub job : OfJob P state.phase
     pub entries : (k : ℕ) (entry : Entry) → slice_get state.ledger k ≡ Some entry → (work : Work) × P work × (entry.code ≡ code_of work)
 
-  pub are_of_input : (history : History) (input : Input) → IsKept history → IsInput input → AreOf history.state → OfTaken history.state input
+  pub are_of_input : (history : History) (input : Input) → HistoryIsKept history → IsInput input → AreOf history.state → OfTaken history.state input
       → AreOf (move_at history.state input).state
   are_of_input history input kept is are p =
       let job = of_input history.state input are.job p in

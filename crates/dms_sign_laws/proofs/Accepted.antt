@@ -151,7 +151,7 @@ decided_accepts : (old new : SignState) (bindings : List VarBind) (index : ℕ) 
 decided_accepts old new bindings index octets (Ok shown) a e = (refl, record { octets = octets; write_is = refl; is = cc })
 decided_accepts old new bindings index octets (Err cause) a e = absurd (cc)
 
-asked_accepts : (old new : SignState) (bindings : List VarBind) (index : ℕ) (o : Option TableModel) (a : Activation)
+pub asked_accepts : (old new : SignState) (bindings : List VarBind) (index : ℕ) (o : Option TableModel) (a : Activation)
     → (as_asked old new bindings index o).accepted ≡ Some a → ⊥
 asked_accepts old new bindings index None a e = cc
 asked_accepts old new bindings index (Some table) a e = cc
@@ -219,7 +219,7 @@ asks_for s m a by =
     let set = activates_at s from.binding octets (from.writes ∙ ap Some by.accepting.write_is) in
     record { octets = octets; size = set.1; binding = subst (Contains m.bindings) set.0 from.there; is = by.accepting.is }
 
-found_accepts : (s : SignState) (bindings found : List VarBind) (o : Option ℕ) (a : Activation)
+pub found_accepts : (s : SignState) (bindings found : List VarBind) (o : Option ℕ) (a : Activation)
     → (found_unless s bindings found o).accepted ≡ Some a → ⊥
 found_accepts s bindings found None a e = cc
 found_accepts s bindings found (Some index) a e = cc

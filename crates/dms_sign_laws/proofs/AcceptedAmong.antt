@@ -2,6 +2,7 @@
 use Rattle.std.proofs.Common.{◌≡◌, ℕ, zero, suc, ◌+◌, ◌&&◌, ◌||◌, not, Bool, true, false, cond, List, [], ◌∷◌, ◌++◌, length, Option, Some, None, refl, sym, ap, subst, ◌∙◌, arith}
 use Rattle.std.specs.Prelude.{option_map, is_none, unwrap_or, filter_map, find}
 use Rattle.std.specs.List.{cons_option, list_any, AllByRecursion, Contains}
+use Rattle.std.proofs.lemmas.Bool.{false_from_ne_true, or_left, or_right}
 use Rattle.dms_wire.specs.declared.message.Kind.{Kind}
 use Rattle.dms_wire.specs.declared.message.Kind.TheVariants.{Get, GetNext, Response, Set}
 use Rattle.dms_wire.specs.declared.error_status.ErrorStatus.{ErrorStatus}
@@ -19,10 +20,6 @@ use Rattle.dms_sign_laws.proofs.Accepted.{what_is_written, if_succeeds}
 
 -- ---- tests
 
-not_true : (b : Bool) → (b ≡ true → ⊥) → b ≡ false
-not_true true fails = absurd (fails refl)
-not_true false fails = refl
-
 not_both : (a b : Bool) → (a && b) ≡ false → b ≡ true → a ≡ false
 not_both true b e passed = absurd (cc)
 not_both false b e passed = refl
@@ -31,21 +28,13 @@ or_later : (a b c : Bool) → (a || b) ≡ true → (b ≡ true → c ≡ true) 
 or_later true b c e more = refl
 or_later false b c e more = more e
 
-or_second : (a b : Bool) → b ≡ true → (a || b) ≡ true
-or_second true b e = refl
-or_second false b e = e
-
-or_first : (a b : Bool) → a ≡ true → (a || b) ≡ true
-or_first true b e = refl
-or_first false b e = absurd (cc)
-
 still_any : (p : VarBind → Bool) (xs : List VarBind) (x : VarBind) → list_any p xs ≡ true → list_any p (xs ++ x ∷ []) ≡ true
 still_any p [] x e = absurd (cc)
 still_any p (y ∷ xs) x e = or_later (p y) (list_any p xs) (list_any p (xs ++ x ∷ [])) e (λ h. still_any p xs x h)
 
 last_any : (p : VarBind → Bool) (xs : List VarBind) (x : VarBind) → p x ≡ true → list_any p (xs ++ x ∷ []) ≡ true
-last_any p [] x e = or_first (p x) false e
-last_any p (y ∷ xs) x e = or_second (p y) (list_any p (xs ++ x ∷ [])) (last_any p xs x e)
+last_any p [] x e = or_left (p x) false e
+last_any p (y ∷ xs) x e = or_right (p y) (list_any p (xs ++ x ∷ [])) (last_any p xs x e)
 
 -- the tests of a binding, none of which fails
 all_pass : (a b c d e : Bool) (k l m n o : ErrorStatus) (index : ℕ) (more : List SetCause)
@@ -119,7 +108,7 @@ found s may before (first ∷ more) octets none (suc place, within, same) =
     let writes = writes_it s octets (all_write s may (before ++ first ∷ []) more (activates octets) later there) in
     let commands : is_command_at s (activates octets) ≡ true = ap (λ o. unwrap_or (option_map is_command o) false) writes in
     let fails : is_command_at s first ≡ false =
-    not_true (is_command_at s first) (λ passed.
+    false_from_ne_true (is_command_at s first) (λ passed.
     let other : is_command_at s (activates octets) ≡ false =
     none_after s may (before ++ first ∷ []) more (activates octets) later (last_any (is_command_at s) before first passed) there in
     let wrong : true ≡ false = sym commands ∙ other in

@@ -1,22 +1,21 @@
 -- Two ends as their constructors give them are a fresh world.
-use Rattle.std.proofs.Common.{◌≡◌, ◌≢◌, ℕ, ◌&&◌, Bool, true, false, cond, not, List, [], ◌∷◌, Option, Some, None, option_map, refl, sym, ap, ◌∙◌, subst, arith}
-use Rattle.std.proofs.lemmas.Bool.Decides.{nat_tests}
+use Rattle.std.proofs.Common.{◌≡◌, ℕ, ◌&&◌, Bool, true, false, cond, not, List, [], ◌∷◌, Option, Some, None, option_map, refl, ap, ◌∙◌, subst}
 use Rattle.std.specs.Prelude.{nat_eq}
 use Rattle.std.specs.List.{AllByRecursion, list_all, position}
-use Rattle.std.specs.Cmp.Lexicographic.{pointwise}
+use Rattle.std.specs.Cmp.Lexicographic.{pointwise, bytes_decides}
 use Rattle.std.specs.Int.Digits.{AllBelowBase}
-use Rattle.std.proofs.lemmas.Bool.{and_parts}
+use Rattle.std.proofs.lemmas.Bool.{and_parts, not-true, not-false, iff_false}
 use Rattle.std.proofs.lemmas.List.Elements.{All-from_recursion}
 use Rattle.std.proofs.lemmas.List.Sums.{list_all-from_AllPass}
 use Rattle.std.proofs.lemmas.List.Folds.{list_all-map}
 use Rattle.dms_codes.proofs.Loops.{none_passes}
+use Rattle.dms_codes.proofs.Options.{mapped_none}
 use Rattle.dms_face.specs.Face.{FaceModel, IsFace}
 use Rattle.dms_table.specs.Rows.{RowModel, TableModel}
 use Rattle.dms_table.specs.declared.stock.Permanent.{Permanent}
 use Rattle.dms_table.specs.declared.stock.Stock.{Stock}
 use Rattle.dms_table.specs.Stock.{permanent_row, permanent_fault, services_of, are_counts, stock_fault, table_of, may_not_stand, may_stand as message_may_stand}
 use Rattle.dms_sign.specs.declared.config.Config.{Config}
-use Rattle.dms_sign.specs.declared.config.ConfigFault.{ConfigFault}
 use Rattle.dms_sign.specs.declared.config.ConfigFault.TheVariants as faults
 use Rattle.dms_sign.specs.Communities.{has_community_size, are_communities}
 use Rattle.dms_sign.specs.Configuration.{config_of, config_fault}
@@ -33,48 +32,26 @@ use Rattle.dms_world.specs.Construction.{IsNewSign, IsNewCentre}
 -- ---- what a configuration without a fault says
 
 -- no first fault, and none after it
-record IsFaultless (test : Bool) (others : Option ConfigFault) : Type 0 where
+record IsFaultless {A : Type 0} (test : Bool) (others : Option A) : Type 0 where
   passes : test ≡ true
   none : others ≡ None
 
-faultless : (test : Bool) (others : Option ConfigFault) (fault : ConfigFault) → cond test others (Some fault) ≡ None → IsFaultless test others
+faultless : {A : Type 0} (test : Bool) (others : Option A) (fault : A) → cond test others (Some fault) ≡ None → IsFaultless test others
 faultless true others fault e = record { passes = refl; none = e }
 faultless false others fault e = absurd (cc)
 
-none_mapped : {A B : Type 0} (f : A → B) (o : Option A) → option_map f o ≡ None → o ≡ None
-none_mapped f None e = refl
-none_mapped f (Some x) e = absurd (cc)
-
-none_after : {A : Type 0} (test : Bool) (o : Option A) (x : A) → cond test o (Some x) ≡ None → o ≡ None
-none_after true o x e = e
-none_after false o x e = absurd (cc)
-
-same_octets : (xs : List ℕ) → pointwise nat_eq xs xs ≡ true
-same_octets [] = refl
-same_octets (x ∷ xs) = grind (arith, nat_tests, same_octets xs)
-
-differ : (reader writer : List ℕ) → not (pointwise nat_eq reader writer) ≡ true → reader ≢ writer
-differ reader writer e = λ same.
-    let one : pointwise nat_eq reader writer ≡ true = subst (λ xs. pointwise nat_eq reader xs ≡ true) same (same_octets reader) in
-    let wrong : false ≡ true = sym (ap not one) ∙ e in
-    absurd (cc)
-
 -- ---- permanent rows
-
-stands : (b : Bool) → not b ≡ false → b ≡ true
-stands true e = refl
-stands false e = absurd (cc)
 
 rows_stand : (face : FaceModel) (stock : Stock) → stock_fault face stock ≡ None
     → list_all (may_stand (services_of stock) face) (table_of stock).permanent ≡ true
 rows_stand face stock e =
     let messages : List Permanent = stock.permanent.now in
     let first : Option ℕ = position (may_not_stand (services_of stock) face) messages in
-    let none : first ≡ None = none_mapped permanent_fault first (none_after (are_counts stock) (option_map permanent_fault first) _ e) in
+    let none : first ≡ None = mapped_none permanent_fault first (faultless (are_counts stock) (option_map permanent_fault first) _ e).none in
     let each = none_passes (may_not_stand (services_of stock) face) messages none in
     list_all-map (may_stand (services_of stock) face) permanent_row messages
     ∙ list_all-from_AllPass (message_may_stand (services_of stock) face) messages
-    (λ k d within. stands _ (each k d within))
+    (λ k d within. not-false _ (each k d within))
 
 -- ---- signs
 
@@ -83,7 +60,7 @@ can_be_made config e face =
     let reader : List ℕ = config.reader.now in
     let writer : List ℕ = config.writer.now in
     let is = faultless (are_communities reader writer) (option_map faults.Table (stock_fault config.face config.stock)) faults.Community e in
-    let no_fault : stock_fault config.face config.stock ≡ None = none_mapped faults.Table (stock_fault config.face config.stock) is.none in
+    let no_fault : stock_fault config.face config.stock ≡ None = mapped_none faults.Table (stock_fault config.face config.stock) is.none in
     let stocked = faultless_is_stocked config.face config.stock no_fault in
     let parts = and_parts (has_community_size reader && has_community_size writer) (not (pointwise nat_eq reader writer)) is.passes in
     let sizes = and_parts (has_community_size reader) (has_community_size writer) parts.0 in
@@ -97,7 +74,7 @@ can_be_made config e face =
       volatile_unused = stocked.volatile;
       reader = sizes.0;
       writer = sizes.1;
-      differ = differ reader writer parts.1;
+      differ = iff_false (bytes_decides reader writer) (not-true _ parts.1);
     }
 
 texts : (rows : List RowModel) → AllByRecursion IsRowInRange rows → AllByRecursion (λ (row : RowModel). AllBelowBase 256 row.text) rows

@@ -12,7 +12,7 @@ use Rattle.dms_centre_laws.specs.RequestNumbers.{HasNumber, Sends, Nothing, Agai
 use Rattle.dms_centre_laws.proofs.Lists.{on_left, in_push}
 use Rattle.dms_centre_laws.proofs.Numbers.{one_number, request_number}
 use Rattle.dms_centre_laws.proofs.Keeping.{keeps_input}
-use Rattle.dms_centre_laws.proofs.LedgerLaws.{IsKept}
+use Rattle.dms_centre_laws.proofs.LedgerLaws.{HistoryIsKept, next_grows}
 use Rattle.dms_world.specs.Event.{EventModel, command, sign_tick, centre_tick, to_sign, to_centre, power_lost, power_back, centre_restart, forge_sign, forge_centre}
 use Rattle.dms_world.specs.World.{WorldModel, noted, by_sign, by_centre, at_sign, at_centre, happens, happens_if, world_at, IsFresh}
 use Rattle.dms_world.specs.Backed.{Has}
@@ -104,16 +104,10 @@ grows_until world events count (suc later) le =
 
 -- ---- numbers that were taken
 
--- the next number never falls
-next_by : (settings : SettingsModel) (next : ℕ) (sent : List (List ℕ)) (move : Move) → Sends settings next sent move → next ≤ move.state.next
-next_by settings next sent move (Nothing none same) = omega (arith, same)
-next_by settings next sent move (Again octets k out there same) = omega (arith, same)
-next_by settings next sent move (New octets out is more) = omega (arith, more)
-
-next_if : (history : History) (o : Option Input) → IsKept history → IsInputIf o → history.state.next ≤ (after_if history o).state.next
+next_if : (history : History) (o : Option Input) → HistoryIsKept history → IsInputIf o → history.state.next ≤ (after_if history o).state.next
 next_if history None kept is = omega arith
 next_if history (Some input) kept is =
-    next_by history.state.settings history.state.next history.sent (move_at history.state input) (keeps_input history input kept.numbered is).sends
+    next_grows history.state.settings history.state.next history.sent (move_at history.state input) (keeps_input history input kept.numbered is).sends
 
 pub next_step : (world : WorldModel) (events : List EventModel) → IsFresh world → AreEvents events → (count : ℕ)
     → (world_at world events count).centre.next ≤ (world_at world events (suc count)).centre.next
@@ -153,7 +147,7 @@ there_by settings next sent move number (New octets out is more) less place data
           absurd (omega (arith, same, less)))
     ]
 
-there_if : (history : History) (o : Option Input) (number : ℕ) → IsKept history → IsInputIf o → number < history.state.next
+there_if : (history : History) (o : Option Input) (number : ℕ) → HistoryIsKept history → IsInputIf o → number < history.state.next
     → (place : ℕ) (datagram : List ℕ) → slice_get (after_if history o).sent place ≡ Some datagram → HasNumber number datagram → Has history.sent datagram
 there_if history None number kept is less place datagram e has = (place, e)
 there_if history (Some input) number kept is less place datagram e has =

@@ -20,7 +20,8 @@ use Rattle.dms_table.specs.Activation.{ShownModel, shown_reading, named, is_memo
 use Rattle.dms_sign.specs.State.{SignState}
 use Rattle.dms_access.specs.Access.{Write, SetNumber, SetCode, SetField, AskRow, Activate, SetRemaining, is_command}
 use Rattle.dms_sign.specs.SetRequest.{SetCause, causes, assigned}
-use Rattle.dms_sign.specs.Requests.{found_unless, as_decided, as_asked, commanded, commanded_if, writes_of, set_unless, may_write, answer_by, answer_of_any_size}
+use Rattle.dms_sign.specs.Requests.{as_decided, commanded, commanded_if, writes_of, set_unless, may_write, answer_by, answer_of_any_size}
+use Rattle.dms_sign_laws.proofs.Accepted.{asked_accepts, found_accepts}
 use Rattle.dms_centre_laws.proofs.Lists.{by_test}
 use Rattle.dms_world.specs.Honest.{shown_checksum}
 
@@ -106,14 +107,9 @@ up_by old new bindings index octets (Ok shown) a each e =
     subst (λ c. HasItsChecksum c shown) same (each shown refl)
 up_by old new bindings index octets (Err cause) a each e = absurd (cc)
 
-asked_up : (old new : SignState) (bindings : List VarBind) (index : ℕ) (o : Option TableModel) (a : Activation)
-    → (as_asked old new bindings index o).accepted ≡ Some a → ⊥
-asked_up old new bindings index None a e = cc
-asked_up old new bindings index (Some table) a e = cc
-
 commanded_up : (old new : SignState) (bindings : List VarBind) (index : ℕ) (write : Write) (a : Activation)
     → (commanded old new bindings index write).accepted ≡ Some a → HasItsChecksum a (commanded old new bindings index write).after.shown
-commanded_up old new bindings index (AskRow id ask) a e = absurd (asked_up old new bindings index _ a e)
+commanded_up old new bindings index (AskRow id ask) a e = absurd (asked_accepts old new bindings index _ a e)
 commanded_up old new bindings index (Activate octets) a e =
     up_by old new bindings index octets (decided new.config.face new.defaults new.table new.shown (activation_of old.table.order octets)) a
     (λ up is. decided_up new.config.face new.defaults new.table new.shown up (activation_of old.table.order octets) is) e
@@ -132,14 +128,10 @@ set_up : (s : SignState) (bindings : List VarBind) (found : List SetCause) (a : 
 set_up s bindings [] a e = if_up s (assigned s (writes_of s bindings)) bindings _ (find is_command (writes_of s bindings)) a e
 set_up s bindings (cause ∷ more) a e = absurd (cc)
 
-found_up : (s : SignState) (bindings found : List VarBind) (o : Option ℕ) (a : Activation) → (found_unless s bindings found o).accepted ≡ Some a → ⊥
-found_up s bindings found None a e = cc
-found_up s bindings found (Some index) a e = cc
-
 answer_up : (s : SignState) (m : SnmpMessage) (kind : Kind) (a : Activation) → (answer_by s m kind).accepted ≡ Some a
     → HasItsChecksum a (answer_by s m kind).after.shown
-answer_up s m Get a e = absurd (found_up s m.bindings _ _ a e)
-answer_up s m GetNext a e = absurd (found_up s m.bindings _ _ a e)
+answer_up s m Get a e = absurd (found_accepts s m.bindings _ _ a e)
+answer_up s m GetNext a e = absurd (found_accepts s m.bindings _ _ a e)
 answer_up s m Response a e = absurd (cc)
 answer_up s m Set a e = set_up s m.bindings (causes s (may_write s m) m.bindings) a e
 

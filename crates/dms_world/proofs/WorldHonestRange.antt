@@ -17,7 +17,7 @@ use Rattle.dms_sign.proofs.InRangeEvents.{tick_in_range, power_loss_in_range, po
 use Rattle.dms_sign.specs.Construction.{CanBeMade, may_stand}
 use Rattle.dms_world.specs.Event.{EventModel}
 use Rattle.dms_world.specs.World.{WorldModel, world_at, IsFresh}
-use Rattle.dms_world.proofs.WorldSign.{IsKept, kept_after}
+use Rattle.dms_world.proofs.WorldSign.{EachEventKeeps, kept_after}
 
 have_ranges : (services : Services) (face : FaceModel) (rows : List RowModel) → list_all (may_stand services face) rows ≡ true
     → AllByRecursion (λ (row : RowModel). IsTrue (has_ranges row)) rows
@@ -38,7 +38,7 @@ stocked config table can = record {
   volatile_count = can.volatile;
 }
 
-range_is_kept : IsKept IsSignInRange
+range_is_kept : EachEventKeeps IsSignInRange
 range_is_kept = record { datagram = received_in_range; tick = tick_in_range; power_loss = power_loss_in_range; power_return = power_return_in_range }
 
 pub in_range_at : (world : WorldModel) (events : List EventModel) → IsFresh world → (count : ℕ) → IsSignInRange (world_at world events count).sign

@@ -7,7 +7,7 @@ use Rattle.dms_centre_laws.specs.RequestNumbers.{AreRequests, EqualNumbersMeanEq
 use Rattle.dms_centre_laws.specs.Numbered.{IsOut, IsAwaited}
 use Rattle.dms_centre_laws.specs.Ledger.{LedgerIsSent, NumbersPutUpTheirCodes}
 use Rattle.dms_centre_laws.proofs.Keeping.{keeps_input}
-use Rattle.dms_centre_laws.proofs.LedgerLaws.{IsKept, is_kept_made, is_kept_input, put_up_by}
+use Rattle.dms_centre_laws.proofs.LedgerLaws.{HistoryIsKept, is_kept_made, is_kept_input, put_up_by}
 use Rattle.dms_world.specs.Event.{EventModel}
 use Rattle.dms_world.specs.World.{WorldModel, world_at, IsFresh}
 use Rattle.dms_world.specs.Headline.{AreEvents}
@@ -18,7 +18,7 @@ use Rattle.dms_world.proofs.WorldInputs.{history_of, after_if, input_after, move
 
 -- the centre keeps up what it does, under the settings that it was made with
 pub record IsKeptUnder (settings : SettingsModel) (history : History) : Type 0 where
-  pub kept : IsKept history
+  pub kept : HistoryIsKept history
   pub settings_are : history.state.settings ≡ settings
 
 kept_if : (settings : SettingsModel) (history : History) (o : Option Input) → IsKeptUnder settings history → IsInputIf o → IsKeptUnder settings (after_if history o)
@@ -30,7 +30,7 @@ kept_if settings history (Some input) under is = record {
 
 kept_fresh : (world : WorldModel) → IsFresh world → IsKeptUnder world.centre.settings (history_of world)
 kept_fresh world fresh = record {
-  kept = subst IsKept (sym (fresh_history world fresh)) (is_kept_made fresh.settings fresh.first (fresh_settings world fresh));
+  kept = subst HistoryIsKept (sym (fresh_history world fresh)) (is_kept_made fresh.settings fresh.first (fresh_settings world fresh));
   settings_are = refl;
 }
 

@@ -8,7 +8,7 @@ use Rattle.dms_requests.specs.Commands.{CommandModel, job_of}
 use Rattle.dms_centre.specs.Commands.{refusal_of}
 use Rattle.dms_centre.specs.History.{Input, Hears, IsInput, History, move_at, after_input}
 use Rattle.dms_centre_laws.specs.Ledger.{LedgerMoves}
-use Rattle.dms_centre_laws.proofs.LedgerLaws.{IsKept, ledger_move}
+use Rattle.dms_centre_laws.proofs.LedgerLaws.{HistoryIsKept, ledger_move}
 use Rattle.dms_centre_laws.proofs.Working.{OfTaken, AreOf, are_of_input}
 use Rattle.dms_world.specs.Event.{EventModel, command, sign_tick, centre_tick, to_sign, to_centre, power_lost, power_back, centre_restart, forge_sign, forge_centre}
 use Rattle.dms_world.specs.World.{WorldModel, world_at, IsFresh}
@@ -113,7 +113,7 @@ taken_if world events count (Some centre_restart) e = tt
 taken_if world events count (Some (forge_sign datagram)) e = tt
 taken_if world events count (Some (forge_centre datagram)) e = tt
 
-are_if : (P : Work → Type 0) (history : History) (o : Option Input) → IsKept history → IsInputIf o → AreOf P history.state → OfTakenIf P history.state o
+are_if : (P : Work → Type 0) (history : History) (o : Option Input) → HistoryIsKept history → IsInputIf o → AreOf P history.state → OfTakenIf P history.state o
     → AreOf P (after_if history o).state
 are_if P history None kept is are taken = are
 are_if P history (Some input) kept is are taken = are_of_input P history input kept is are taken

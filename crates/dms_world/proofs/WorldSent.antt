@@ -1,23 +1,14 @@
--- When a request was first sent, and what the request of an entry carries.
-use Rattle.std.proofs.Common.{◌≡◌, ℕ, zero, suc, ◌<◌, ◌≤◌, inl, inr, List, Some, slice_get, refl, sym, ◌∙◌, subst, arith}
+-- When a request was first sent.
+use Rattle.std.proofs.Common.{ℕ, zero, suc, ◌<◌, ◌≤◌, inl, inr, List, arith}
 use Rattle.std.proofs.lemmas.Bool.{cases_lt}
-use Rattle.std.proofs.lemmas.Option.{same_Some}
-use Rattle.dms_codes.specs.declared.codes.Activation.{Activation}
-use Rattle.dms_codes.specs.Codes.{octets_of_activation}
-use Rattle.dms_requests.specs.declared.step.Step.TheVariants.{Activating}
-use Rattle.dms_requests.specs.Job.{SettingsModel, Showing}
-use Rattle.dms_centre.specs.State.{Entry}
-use Rattle.dms_requests.specs.Steps.{request_of}
 use Rattle.dms_centre_laws.specs.RequestNumbers.{HasNumber}
-use Rattle.dms_centre_laws.specs.Ledger.{PutsUp}
 use Rattle.dms_centre_laws.proofs.Numbers.{below_next}
-use Rattle.dms_centre_laws.proofs.LedgerLaws.{puts_up_number}
 use Rattle.dms_world.specs.Event.{EventModel}
 use Rattle.dms_world.specs.World.{WorldModel, world_at, IsFresh}
 use Rattle.dms_world.specs.Backed.{Has}
 use Rattle.dms_world.specs.Headline.{AreEvents}
-use Rattle.dms_world.specs.Honest.{WasSent, IsSentAt, Carries}
-use Rattle.dms_world.proofs.WorldNumbers.{requests_at, entries_at, codes_at}
+use Rattle.dms_world.specs.Honest.{WasSent, IsSentAt}
+use Rattle.dms_world.proofs.WorldNumbers.{requests_at}
 use Rattle.dms_world.proofs.WorldGrows.{grows_until, there_before}
 
 -- ---- the first moment
@@ -69,36 +60,3 @@ first_sent world events fresh are number (suc count) sent =
       | inr none ↦
           (suc count, omega arith, record { sent = sent; least = λ fewer other. not_sent_before world events fresh are number count fewer none other })
     ]
-
--- ---- the request of an entry
-
--- it was sent
-pub entry_was_sent : (world : WorldModel) (events : List EventModel) → IsFresh world → AreEvents events → (count place : ℕ) (entry : Entry)
-    → slice_get (world_at world events count).centre.ledger place ≡ Some entry → WasSent world events entry.number count
-entry_was_sent world events fresh are count place entry e =
-    let was = (entries_at world events fresh are count).was_sent place entry e in
-    was_sent world events entry.number count was.octets (was.place, was.there)
-    (puts_up_number world.centre.settings entry.number entry.code was.octets was.puts_up)
-
--- whatever is sent with its number is its request
-pub entry_request : (world : WorldModel) (events : List EventModel) → IsFresh world → AreEvents events → (count : ℕ) (entry : Entry) (datagram : List ℕ)
-    → Has (world_at world events count).centre.ledger entry → Has (world_at world events count).to_sign datagram
-    → (has : HasNumber entry.number datagram) → has.message ≡ request_of world.centre.settings entry.number (Showing entry.code) Activating
-entry_request world events fresh are count entry datagram listed there has =
-    let puts : PutsUp world.centre.settings entry.number entry.code datagram =
-    codes_at world events fresh are count listed.0 there.0 entry datagram listed.1 there.1 has in
-    same_Some has.message (request_of world.centre.settings entry.number (Showing entry.code) Activating) (sym has.spelled ∙ puts)
-
-request_carries : (settings : SettingsModel) (number : ℕ) (code : Activation)
-    → Carries (request_of settings number (Showing code) Activating) (octets_of_activation settings.order code)
-unfolding request_of
-request_carries settings number code = refl
-
--- and carries its code
-pub entry_carries : (world : WorldModel) (events : List EventModel) → IsFresh world → AreEvents events → (count : ℕ) (entry : Entry) (datagram : List ℕ)
-    → Has (world_at world events count).centre.ledger entry → Has (world_at world events count).to_sign datagram
-    → (has : HasNumber entry.number datagram) → Carries has.message (octets_of_activation world.centre.settings.order entry.code)
-entry_carries world events fresh are count entry datagram listed there has =
-    subst (λ m. Carries m (octets_of_activation world.centre.settings.order entry.code))
-    (sym (entry_request world events fresh are count entry datagram listed there has))
-    (request_carries world.centre.settings entry.number entry.code)

@@ -7,13 +7,13 @@ use Rattle.dms_world.specs.Event.{EventModel, command, sign_tick, centre_tick, t
 use Rattle.dms_world.specs.World.{WorldModel, at_sign, at_centre, happens, happens_if, world_at}
 
 -- each thing that can come to a sign keeps it
-pub record IsKept (P : SignState → Type 0) : Type 0 where
+pub record EachEventKeeps (P : SignState → Type 0) : Type 0 where
   pub datagram : (s : SignState) (octets : List ℕ) → P s → P (received s octets).after
   pub tick : (s : SignState) → P s → P (after_tick s)
   pub power_loss : (s : SignState) → P s → P (after_power_loss s)
   pub power_return : (s : SignState) (seconds : ℕ) → P s → P (after_power_return s seconds)
 
-kept_at_sign : (P : SignState → Type 0) → IsKept P → (number : ℕ) (world : WorldModel) (o : Option (List ℕ)) → P world.sign → P (at_sign number world o).sign
+kept_at_sign : (P : SignState → Type 0) → EachEventKeeps P → (number : ℕ) (world : WorldModel) (o : Option (List ℕ)) → P world.sign → P (at_sign number world o).sign
 kept_at_sign P kept number world None is = is
 kept_at_sign P kept number world (Some datagram) is = kept.datagram world.sign datagram is
 
@@ -21,7 +21,7 @@ kept_at_centre : (P : SignState → Type 0) (world : WorldModel) (o : Option (Li
 kept_at_centre P world None is = is
 kept_at_centre P world (Some datagram) is = is
 
-kept_event : (P : SignState → Type 0) → IsKept P → (number : ℕ) (world : WorldModel) (event : EventModel) → P world.sign → P (happens number world event).sign
+kept_event : (P : SignState → Type 0) → EachEventKeeps P → (number : ℕ) (world : WorldModel) (event : EventModel) → P world.sign → P (happens number world event).sign
 kept_event P kept number world (command asked) is = is
 kept_event P kept number world sign_tick is = kept.tick world.sign is
 kept_event P kept number world centre_tick is = is
@@ -33,11 +33,11 @@ kept_event P kept number world centre_restart is = is
 kept_event P kept number world (forge_sign datagram) is = kept_at_sign P kept number world (Some datagram) is
 kept_event P kept number world (forge_centre datagram) is = kept_at_centre P world (Some datagram) is
 
-kept_if : (P : SignState → Type 0) → IsKept P → (number : ℕ) (world : WorldModel) (o : Option EventModel) → P world.sign → P (happens_if number world o).sign
+kept_if : (P : SignState → Type 0) → EachEventKeeps P → (number : ℕ) (world : WorldModel) (o : Option EventModel) → P world.sign → P (happens_if number world o).sign
 kept_if P kept number world None is = is
 kept_if P kept number world (Some event) is = kept_event P kept number world event is
 
-pub kept_after : (P : SignState → Type 0) → IsKept P → (world : WorldModel) (events : List EventModel) → P world.sign → (count : ℕ) → P (world_at world events count).sign
+pub kept_after : (P : SignState → Type 0) → EachEventKeeps P → (world : WorldModel) (events : List EventModel) → P world.sign → (count : ℕ) → P (world_at world events count).sign
 kept_after P kept world events is zero = is
 kept_after P kept world events is (suc count) =
     kept_if P kept (suc count) (world_at world events count) (slice_get events count) (kept_after P kept world events is count)

@@ -9,10 +9,10 @@ use Rattle.dms_sign.proofs.StepDefaults.{received_fits, tick_fits, power_loss_fi
 use Rattle.dms_world.specs.Event.{EventModel}
 use Rattle.dms_world.specs.World.{WorldModel, IsFresh, world_at}
 use Rattle.dms_world.specs.GoodRows.{DefaultsFit}
-use Rattle.dms_world.proofs.WorldSign.{IsKept, kept_after}
+use Rattle.dms_world.proofs.WorldSign.{EachEventKeeps, kept_after}
 use Rattle.dms_world.proofs.WorldSignSound.{sound_at, copies_were_defaults}
 
-fit_is_kept : IsKept HasFitDefaults
+fit_is_kept : EachEventKeeps HasFitDefaults
 fit_is_kept = record { datagram = received_fits; tick = tick_fits; power_loss = power_loss_fits; power_return = power_return_fits }
 
 face_fits : (face : FaceModel) → is_face face ≡ true → IsTrue (fit face.fonts face.defaults)

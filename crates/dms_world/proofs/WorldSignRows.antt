@@ -7,13 +7,13 @@ use Rattle.dms_sign_laws.proofs.OneValidating.{one_received, one_after_tick, one
 use Rattle.dms_world.specs.Event.{EventModel}
 use Rattle.dms_world.specs.World.{WorldModel, IsFresh}
 use Rattle.dms_world.specs.GoodRows.{OneRowIsValidating}
-use Rattle.dms_world.proofs.WorldSign.{IsKept, kept_after}
+use Rattle.dms_world.proofs.WorldSign.{EachEventKeeps, kept_after}
 
 -- of a sign
 abbrev IsOne : SignState → Type 0
 IsOne s = IsTable s.table
 
-one_is_kept : IsKept IsOne
+one_is_kept : EachEventKeeps IsOne
 one_is_kept = record { datagram = one_received; tick = one_after_tick; power_loss = one_after_power_loss; power_return = one_after_power_return }
 
 -- rows that are not used are not being validated

@@ -1,24 +1,20 @@
 -- Each event of a world makes one step of its sign, and lists what was accepted.
-use Rattle.std.proofs.Common.{◌≡◌, ℕ, zero, suc, List, [], ◌∷◌, ◌++◌, Option, Some, None, slice_get, refl, sym, subst}
+use Rattle.std.proofs.Common.{◌≡◌, ℕ, suc, List, [], ◌∷◌, ◌++◌, Option, Some, None, slice_get, refl, sym, subst}
 use Rattle.dms_codes.specs.declared.codes.Activation.{Activation}
 use Rattle.dms_sign.specs.State.{SignState}
 use Rattle.dms_sign.specs.Reply.{received}
 use Rattle.dms_sign.specs.Events.{after_tick, after_power_loss, after_power_return}
 use Rattle.dms_sign.specs.Transitions.{IsSignStep}
 use Rattle.dms_sign_laws.proofs.StepEvents.{step_none, step_received, step_tick, step_power_loss, step_power_return}
+use Rattle.dms_centre_laws.proofs.Lists.{on_left}
 use Rattle.dms_world.specs.Event.{EventModel, command, sign_tick, centre_tick, to_sign, to_centre, power_lost, power_back, centre_restart, forge_sign, forge_centre}
 use Rattle.dms_world.specs.World.{WorldModel, noted, with_sign, at_sign, at_centre, happens, happens_if, world_at}
 use Rattle.dms_world.specs.Backed.{Has}
 
 -- ---- lists that grow
 
-place_on_left : {X : Type 0} (xs ys : List X) (x : X) (place : ℕ) → slice_get xs place ≡ Some x → slice_get (xs ++ ys) place ≡ Some x
-place_on_left [] ys x place e = absurd (cc)
-place_on_left (y ∷ xs) ys x zero e = e
-place_on_left (y ∷ xs) ys x (suc place) e = place_on_left xs ys x place e
-
 has_on_left : {X : Type 0} (xs ys : List X) (x : X) → Has xs x → Has (xs ++ ys) x
-has_on_left xs ys x has = (has.0, place_on_left xs ys x has.0 has.1)
+has_on_left xs ys x has = (has.0, on_left xs ys has.0 x has.1)
 
 has_at_end : {X : Type 0} (xs : List X) (x : X) → Has (xs ++ x ∷ []) x
 has_at_end [] x = (0, refl)
