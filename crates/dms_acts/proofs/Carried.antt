@@ -10,7 +10,7 @@ use Rattle.dms_text.proofs.Splits.{first_part, only_part}
 use Rattle.dms_text.proofs.LineLaws.{line_first, line_only}
 use Rattle.dms_streams.specs.DescriptionText.{TakesDescription, lines_through_end, is_end}
 use Rattle.dms_description.specs.Before.{NotDescribed}
-use Rattle.dms_description.specs.Description.{Description, SpellsDescription, SpellsSign, longest_input}
+use Rattle.dms_description.specs.Description.{Description, SpellsSign, longest_input}
 use Rattle.dms_description.specs.declared.reading_fault.ReplayFault.{ReplayFault}
 use Rattle.dms_description.specs.declared.reading_fault.ReplayFault.TheVariants as faults
 use Rattle.dms_description.specs.declared.setup.Setup.{Setup}
@@ -19,15 +19,6 @@ use Rattle.dms_acts.specs.declared.refusal.Refusal.{Refusal}
 use Rattle.dms_acts.specs.Refused.{names_line, says_empty}
 
 -- ---- an input that is read to its end: `slice` is lent of the octets that were read, which are all
-
-pub not_described : (slice octets : List ℕ) (all : Option (List ℕ)) → slice ≡ octets → length octets ≤ longest_input → IfSome all (λ whole. octets ≡ whole)
-    → ((it : Description) → SpellsSign (kept_lines slice) it → ⊥)
-    → IfSome all (λ whole. (length whole ≤ longest_input) × ((it : Description) → SpellsDescription whole it → ⊥))
-not_described slice octets None lent short same none = tt
-not_described slice octets (Some whole) lent short same none = (
-  subst (λ xs. length xs ≤ longest_input) same short,
-  λ it spelled. none it (subst (λ xs. SpellsSign (kept_lines xs) it) (sym (lent ∙ same)) spelled.lines),
-)
 
 pub same_line : (made fault : ReplayFault) (number : ℕ) → made ≡ fault
     → ◌≡◌ {A = Result Unit ReplayFault} (Err made) (Err (faults.Line number)) → ◌≡◌ {A = Result Unit ReplayFault} (Err fault) (Err (faults.Line number))

@@ -1,20 +1,22 @@
 -- The call that is read of a line is the one that the line spells.
-use Rattle.std.proofs.Common.{◌≡◌, ℕ, List, ◌∷◌, Option, Some, None, option_map, refl, sym, ap, subst, ◌∙◌, inl, inr}
+use Rattle.std.proofs.Common.{◌≡◌, ℕ, List, ◌∷◌, Option, Some, None, option_map, refl, sym, ap, subst, ◌∙◌}
 use Rattle.std.specs.Prelude.{codes}
-use Rattle.std.proofs.lemmas.Option.{same_Some}
+use Rattle.std.proofs.lemmas.Option.{same_Some, none-some}
 use Rattle.dms_text.specs.Words.{words_of}
 use Rattle.dms_text.specs.Octets.{SpellsOctets}
 use Rattle.dms_text.specs.Reading.{word_at}
 use Rattle.dms_text.proofs.WordLaws.{begun, word_found}
 use Rattle.dms_codes.specs.declared.codes.Order.{Order}
+use Rattle.dms_codes.proofs.Options.{mapped_some}
 use Rattle.dms_requests.specs.Commands.{CommandModel, Publish, Blank, Activate}
 use Rattle.dms_description.specs.Fields.{SpellsOne}
 use Rattle.dms_description.specs.FieldsReading.{last_octets_at}
-use Rattle.dms_description.proofs.FieldLaws.{made_of, last_octets_found, last_octets_only}
+use Rattle.dms_description.proofs.WordReading.{by_keyword}
+use Rattle.dms_description.proofs.FieldLaws.{last_octets_found, last_octets_only}
 use Rattle.dms_commands.specs.CommandLine.{SpellsCommand}
 use Rattle.dms_commands.specs.CommandReading.{command_of}
 use Rattle.dms_commands.proofs.CommandLaws.{command_found, command_only}
-use Rattle.dms_lines.proofs.CallReading.{hit_or, bare_found, nothing_found}
+use Rattle.dms_lines.proofs.CallReading.{bare_found, nothing_found}
 use Rattle.dms_centre_lines.specs.Calls.{CentreCall, command, datagram, tick, restart, status}
 use Rattle.dms_centre_lines.specs.CallReading.{call_after, plain_call_at, or_command, call_of}
 use Rattle.dms_centre_lines.specs.SpelledCalls.{SpellsCallWords, SpellsCentreCall, SpellsNoCall}
@@ -24,29 +26,18 @@ use Rattle.dms_centre_lines.specs.SpelledCalls.{SpellsCallWords, SpellsCentreCal
 datagram_found : (order : Order) (word : List ℕ) (call : CentreCall) (words : List (List ℕ)) → word ≡ codes "datagram"
     → option_map datagram (last_octets_at words) ≡ Some call → SpellsCallWords order call (word ∷ words)
 datagram_found order word call words is e =
-    let made = made_of datagram _ call e in
+    let made = mapped_some datagram _ call e in
     subst (λ call. SpellsCallWords order call (word ∷ words)) made.2
     (subst (λ w. SpellsOne (codes "datagram") (SpellsOctets made.0) (w ∷ words)) (sym is) (last_octets_found (codes "datagram") words made.0 made.1))
 
 after_found : (order : Order) (word : List ℕ) (words : List (List ℕ)) (call : CentreCall) → call_after word words ≡ Some call
     → SpellsCallWords order call (word ∷ words)
 after_found order word words call e =
-    elim (hit_or word (codes "datagram") _ _ call e) [
-      | inl hit ↦ datagram_found order word call words hit.0 hit.1
-      | inr e ↦
-          elim (hit_or word (codes "tick") _ _ call e) [
-            | inl hit ↦ bare_found (SpellsCallWords order) (codes "tick") word tick call words hit.0 hit.1 refl
-            | inr e ↦
-                elim (hit_or word (codes "restart") _ _ call e) [
-                  | inl hit ↦ bare_found (SpellsCallWords order) (codes "restart") word restart call words hit.0 hit.1 refl
-                  | inr e ↦
-                      elim (hit_or word (codes "status") _ _ call e) [
-                        | inl hit ↦ bare_found (SpellsCallWords order) (codes "status") word status call words hit.0 hit.1 refl
-                        | inr e ↦ absurd (let none : None ≡ Some call = e in cc)
-                      ]
-                ]
-          ]
-    ]
+    by_keyword word (codes "datagram") _ _ call e (datagram_found order word call words) λ e.
+    by_keyword word (codes "tick") _ _ call e (λ is read. bare_found (SpellsCallWords order) (codes "tick") word tick call words is read refl) λ e.
+    by_keyword word (codes "restart") _ _ call e (λ is read. bare_found (SpellsCallWords order) (codes "restart") word restart call words is read refl) λ e.
+    by_keyword word (codes "status") _ _ call e (λ is read. bare_found (SpellsCallWords order) (codes "status") word status call words is read refl) λ e.
+    absurd (none-some call e)
 
 plain_found : (order : Order) (words : List (List ℕ)) (call : CentreCall) → plain_call_at words ≡ Some call → SpellsCallWords order call words
 unfolding plain_call_at

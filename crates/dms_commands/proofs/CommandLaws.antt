@@ -1,30 +1,31 @@
 -- The command that is read of a line is the one that the line spells.
-use Rattle.std.proofs.Common.{◌≡◌, ℕ, ◌<◌, cond, List, [], ◌∷◌, ◌++◌, length, Option, Some, None, option_map, Result, Ok, Err, refl, sym, ap, subst, ◌∙◌, arith, rules, inl, inr}
-use Rattle.std.specs.Prelude.{codes, ◌+◌, ◌*◌, ◌/◌, ◌%◌, ◌⊎◌, All, suc, slice_index}
+use Rattle.std.proofs.Common.{◌≡◌, ℕ, ◌<◌, cond, List, [], ◌∷◌, ◌++◌, length, Some, None, option_map, Result, Ok, Err, refl, sym, ap, subst, ◌∙◌, arith, rules}
+use Rattle.std.specs.Prelude.{codes, ◌+◌, ◌*◌, ◌/◌, ◌%◌, All, suc, slice_index}
 use Rattle.std.proofs.lemmas.Slice.Eq.{text_from_reads}
 use Rattle.std.proofs.lemmas.List.Elements.{All-nil, All-cons}
-use Rattle.std.proofs.lemmas.Bool.{eqb-true, eq-eqb, cases_Bool}
-use Rattle.std.proofs.lemmas.Option.{cond_some, same_Some}
+use Rattle.std.proofs.lemmas.Bool.{eqb-true, eq-eqb}
+use Rattle.std.proofs.lemmas.Option.{cond_some, same_Some, none-some}
 use Rattle.hex.specs.Hex.{decode_of, IsBytes}
 use Rattle.hex.specs.declared.error.FromHexError.{FromHexError}
 use Rattle.hex.proofs.HexLemmas.{decode_of-ok}
 use Rattle.dms_text.specs.Words.{words_of, parts_of}
-use Rattle.dms_text.specs.Reading.{same_octets, word_at, decimal_at}
-use Rattle.dms_text.proofs.WordLaws.{begun, goes_on, same_found, word_found, word_only, decimal_found, decimal_only, numeral_found, numeral_only}
+use Rattle.dms_text.specs.Reading.{word_at, decimal_at}
+use Rattle.dms_text.proofs.WordLaws.{begun, goes_on, word_found, word_only, decimal_found, decimal_only, numeral_found, numeral_only}
 use Rattle.dms_codes.specs.declared.codes.Order.{Order}
 use Rattle.dms_codes.specs.declared.codes.Order.TheVariants.{High, Swapped}
 use Rattle.dms_codes.specs.declared.codes.Activation.{Activation}
 use Rattle.dms_codes.specs.Codes.{two_octets, octets_of_checksum, in_order, number_at, octets_of_activation, activation_of, IsActivation}
 use Rattle.dms_codes.specs.declared.row_id.RowId.{RowId}
 use Rattle.dms_codes.proofs.Activations.{activation_back}
+use Rattle.dms_codes.proofs.Options.{mapped_some}
 use Rattle.dms_requests.specs.declared.publication.Attributes.{Attributes}
 use Rattle.dms_requests.specs.declared.publication.Terms.{Terms}
 use Rattle.dms_requests.specs.Job.{PublicationModel}
 use Rattle.dms_requests.specs.Commands.{CommandModel, Publish, Blank, Activate}
 use Rattle.dms_description.specs.Fields.{SpellsEach, SpellsOctet, SpellsTwoOctets, SpellsOne}
 use Rattle.dms_description.specs.FieldsReading.{if_last}
-use Rattle.dms_description.proofs.WordReading.{last_found}
-use Rattle.dms_description.proofs.FieldLaws.{same_rest, next_octets_found, next_octets_only, made_of}
+use Rattle.dms_description.proofs.WordReading.{last_found, by_text}
+use Rattle.dms_description.proofs.FieldLaws.{same_rest, next_octets_found, next_octets_only}
 use Rattle.dms_commands.specs.CommandFields.{SpellsAddressPart, SpellsAddress, SpellsCode}
 use Rattle.dms_commands.specs.CommandLine.{SpellsPublication, SpellsBlank, SpellsCommand}
 use Rattle.dms_commands.specs.CommandReading.{address_at, address_of, code_from, last_code_at, row_at, attributes_at, last_terms_at, publish_at, blank_at, command_word, command_after, command_of}
@@ -386,38 +387,19 @@ command_text key.Blank = codes "blank"
 command_text key.Activate = codes "activate"
 
 pub command_some : (keyword : CommandWord) → 0 < length (command_text keyword)
-command_some key.Publish = omega arith
-command_some key.Blank = omega arith
-command_some key.Activate = omega arith
+command_some keyword = grind arith
 
 command_word_only : (keyword : CommandWord) → command_word (command_text keyword) ≡ Some keyword
 unfolding command_word
-command_word_only key.Publish = refl
-command_word_only key.Blank = refl
-command_word_only key.Activate = refl
-
--- the word is this keyword's, or another one is found
-hit_or : (word : List ℕ) (keyword found : CommandWord) (others : Option CommandWord)
-    → cond (same_octets word (command_text keyword)) (Some keyword) others ≡ Some found → (word ≡ command_text found) ⊎ (others ≡ Some found)
-hit_or word keyword found others e =
-    elim (cases_Bool (same_octets word (command_text keyword))) [
-      | inl same ↦
-          let this : Some keyword ≡ Some found = ap (λ b. cond b (Some keyword) others) (sym same) ∙ e in
-          inl (same_found _ _ same ∙ ap command_text (same_Some _ _ this))
-      | inr other ↦ inr (ap (λ b. cond b (Some keyword) others) (sym other) ∙ e)
-    ]
+command_word_only keyword = grind arith
 
 pub command_word_found : (word : List ℕ) (keyword : CommandWord) → command_word word ≡ Some keyword → word ≡ command_text keyword
 unfolding command_word
 command_word_found word keyword e =
-    elim (hit_or word key.Publish keyword _ e) [
-      | inl hit ↦ hit
-      | inr e ↦
-          elim (hit_or word key.Blank keyword _ e) [
-            | inl hit ↦ hit
-            | inr e ↦ elim (hit_or word key.Activate keyword _ e) [ inl hit ↦ hit | inr e ↦ absurd (let none : None ≡ Some keyword = e in cc) ]
-          ]
-    ]
+    by_text command_text word key.Publish keyword _ e λ e.
+    by_text command_text word key.Blank keyword _ e λ e.
+    by_text command_text word key.Activate keyword _ e λ e.
+    absurd (none-some keyword e)
 
 -- what is read after a keyword is what the words from the keyword on spell
 pub command_after_found : (order : Order) (keyword : CommandWord) (words : List (List ℕ)) (asked : CommandModel) → command_after order keyword words ≡ Some asked
@@ -425,7 +407,7 @@ pub command_after_found : (order : Order) (keyword : CommandWord) (words : List 
 command_after_found order key.Publish words asked e = publish_found order words asked e
 command_after_found order key.Blank words asked e = blank_found order words asked e
 command_after_found order key.Activate words asked e =
-    let made = made_of _ _ _ e in subst (λ asked. SpellsCommand order asked (codes "activate" ∷ words)) made.2 (last_code_found order (codes "activate") words made.0 made.1)
+    let made = mapped_some _ _ _ e in subst (λ asked. SpellsCommand order asked (codes "activate" ∷ words)) made.2 (last_code_found order (codes "activate") words made.0 made.1)
 
 -- a command's words are a keyword, and words of which the command is read
 pub record IsRead (order : Order) (asked : CommandModel) (words : List (List ℕ)) : Type 0 where

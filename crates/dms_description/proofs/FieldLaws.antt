@@ -1,5 +1,5 @@
 -- The fields that are read of a line are those that its words spell.
-use Rattle.std.proofs.Common.{◌≡◌, ℕ, List, [], ◌∷◌, Option, Some, None, option_map, refl, ap, subst, ◌∙◌, arith}
+use Rattle.std.proofs.Common.{◌≡◌, ℕ, List, [], ◌∷◌, Some, ap, subst, ◌∙◌, arith}
 use Rattle.std.proofs.lemmas.Option.{same_Some}
 use Rattle.dms_text.specs.Numbers.{SpellsNumber}
 use Rattle.dms_text.specs.Octets.{SpellsOctets}
@@ -77,8 +77,3 @@ last_octets_found keyword words octets e =
 pub last_octets_only : (octets word : List ℕ) → SpellsOctets octets word → last_octets_at (word ∷ []) ≡ Some octets
 unfolding last_octets_at
 last_octets_only octets word spelled = goes_on _ _ _ (next_octets_only octets word [] spelled)
-
--- what a value was made from
-pub made_of : {A B : Type 0} (f : A → B) (from : Option A) (made : B) → option_map f from ≡ Some made → (x : A) × (from ≡ Some x) × (f x ≡ made)
-made_of f None made e = absurd (let none : None ≡ Some made = e in cc)
-made_of f (Some x) made e = (x, refl, same_Some _ _ e)

@@ -12,5 +12,5 @@ pub mod SetupLaws
 pub mod BenchRead
 mod LastFont
 pub mod FieldLaws
-mod TextsDescribed
+pub mod TextsDescribed
 pub mod ShownParts

@@ -3,7 +3,7 @@ use Rattle.std.proofs.Common.{◌≡◌, ◌≢◌, ℕ, ◌+◌, ◌≤◌, ◌
 use Rattle.std.specs.Prelude.{nat_eq, nat_le, option_map, position, replicate}
 use Rattle.std.specs.List.{position_from, list_all}
 use Rattle.std.specs.Cmp.Lexicographic.{pointwise, bytes_decides}
-use Rattle.std.proofs.lemmas.Bool.{and_parts, and_from, cases_Bool, leb-true, le-leb, false_from_ne_true}
+use Rattle.std.proofs.lemmas.Bool.{and_parts, and_from, cases_Bool, leb-true, le-leb, false_from_ne_true, not-true, iff_false}
 use Rattle.std.proofs.lemmas.List.Folds.{list_all-map}
 use Rattle.std.proofs.lemmas.List.{length-map, length-replicate}
 use Rattle.std.proofs.lemmas.Iterator.Adapters.{position_from-zero}
@@ -76,11 +76,6 @@ rows_only face stock e =
 
 -- ---- a configuration
 
-differ_found : (reader writer : List ℕ) → not (pointwise nat_eq reader writer) ≡ true → reader ≢ writer
-differ_found reader writer e same =
-    let wrong : false ≡ true = sym (ap not ((bytes_decides reader writer).1 same)) ∙ e in
-    absurd (cc)
-
 differ_only : (reader writer : List ℕ) → reader ≢ writer → not (pointwise nat_eq reader writer) ≡ true
 differ_only reader writer differ = ap not (false_from_ne_true (pointwise nat_eq reader writer) (λ e. differ ((bytes_decides reader writer).0 e)))
 
@@ -107,7 +102,7 @@ faultless_can_be_made config is_made e =
       volatile_unused = ap (λ n. replicate n unused) (sym (length-replicate stock.volatile unused));
       reader = sizes.0;
       writer = sizes.1;
-      differ = differ_found reader writer both.1;
+      differ = iff_false (bytes_decides reader writer) (not-true _ both.1);
     }
 
 -- what can be made has no fault

@@ -1,8 +1,8 @@
 -- What single words and whole lines of words spell is what is read of them.
-use Rattle.std.proofs.Common.{◌≡◌, ℕ, ◌<◌, ◌≤◌, ◌==◌, Bool, true, false, cond, List, [], ◌∷◌, length, Option, Some, None, refl, sym, ap, subst, ◌∙◌, arith, inl, inr}
+use Rattle.std.proofs.Common.{◌≡◌, ℕ, ◌<◌, ◌≤◌, ◌==◌, Bool, true, false, cond, List, [], ◌∷◌, length, Option, Some, refl, sym, ap, subst, ◌∙◌, arith, inl, inr}
 use Rattle.std.specs.Prelude.{codes}
 use Rattle.std.proofs.lemmas.Bool.{eqb-true, eqb-false, eq-eqb, cases_Bool}
-use Rattle.std.proofs.lemmas.Option.{cond_some, same_Some}
+use Rattle.std.proofs.lemmas.Option.{cond_some, same_Some, none-some}
 use Rattle.dms_text.specs.Numbers.{SpellsNumber, SpellsDecimal}
 use Rattle.dms_text.specs.Reading.{keyword_at, decimal_at, same_octets, ◌>>=◌}
 use Rattle.dms_text.proofs.WordLaws.{begun, goes_on, same_found, keyword_found, keyword_only, decimal_found, decimal_only, numeral_found, numeral_only}
@@ -17,6 +17,23 @@ use Rattle.dms_description.specs.FieldsReading.{if_last}
 
 pub last_found : {A : Type 0} (value : A) (words : List (List ℕ)) (found : A) → if_last value words ≡ Some found → (words ≡ []) × (value ≡ found)
 last_found value words found e = let tests = cond_some _ _ _ e in (ended words tests.0, tests.1)
+
+-- ---- words that are told apart by keywords
+
+-- the word is this keyword, or what is read is read of another one
+pub by_keyword : {A P : Type 0} (word keyword : List ℕ) (this others : Option A) (found : A) → cond (same_octets word keyword) this others ≡ Some found
+    → (word ≡ keyword → this ≡ Some found → P) → (others ≡ Some found → P) → P
+by_keyword word keyword this others found e here there =
+    elim (cases_Bool (same_octets word keyword)) [
+      | inl same ↦ here (same_found _ _ same) (ap (λ b. cond b this others) (sym same) ∙ e)
+      | inr other ↦ there (ap (λ b. cond b this others) (sym other) ∙ e)
+    ]
+
+-- of a type whose values have a keyword each
+pub by_text : {A : Type 0} (text_of : A → List ℕ) (word : List ℕ) (this found : A) (others : Option A)
+    → cond (same_octets word (text_of this)) (Some this) others ≡ Some found → (others ≡ Some found → word ≡ text_of found) → word ≡ text_of found
+by_text text_of word this found others e =
+    by_keyword word (text_of this) (Some this) others found e (λ is same. is ∙ ap text_of (same_Some this found same))
 
 -- ---- two numbers after a keyword
 
@@ -96,15 +113,10 @@ flag_is false = refl
 -- ---- orders
 
 pub order_found : (order : Order) (word : List ℕ) → order_named word ≡ Some order → SpellsOrder order word
-order_found order word e = by_tests order word (same_octets word (codes "high")) (same_octets word (codes "swapped")) refl refl e
-  where
-    by_tests : (order : Order) (word : List ℕ) (high swapped : Bool) → same_octets word (codes "high") ≡ high → same_octets word (codes "swapped") ≡ swapped
-        → cond high (Some High) (cond swapped (Some Swapped) None) ≡ Some order → SpellsOrder order word
-    by_tests High word true swapped h s e = same_found word (codes "high") h
-    by_tests Swapped word true swapped h s e = absurd (let wrong : High ≡ Swapped = same_Some _ _ e in cc)
-    by_tests High word false true h s e = absurd (let wrong : Swapped ≡ High = same_Some _ _ e in cc)
-    by_tests Swapped word false true h s e = same_found word (codes "swapped") s
-    by_tests order word false false h s e = absurd (let wrong : None ≡ Some order = e in cc)
+order_found order word e =
+    by_keyword word (codes "high") _ _ order e (λ is same. subst (λ o. SpellsOrder o word) (same_Some High order same) is) λ e.
+    by_keyword word (codes "swapped") _ _ order e (λ is same. subst (λ o. SpellsOrder o word) (same_Some Swapped order same) is) λ e.
+    absurd (none-some order e)
 
 pub order_only : (order : Order) (word : List ℕ) → SpellsOrder order word → order_named word ≡ Some order
 order_only High word spelled = ap order_named spelled

@@ -1,17 +1,17 @@
 -- The event of a line is the one that the line spells.
-use Rattle.std.proofs.Common.{◌≡◌, ℕ, ◌<◌, cond, List, [], ◌∷◌, length, Option, Some, None, option_map, Result, Ok, Err, refl, sym, ap, subst, ◌∙◌, arith, inl, inr}
-use Rattle.std.specs.Prelude.{codes, IfOk, IfSome, IfNone, ◌⊎◌}
-use Rattle.std.proofs.lemmas.Bool.{cases_Bool}
-use Rattle.std.proofs.lemmas.Option.{same_Some}
+use Rattle.std.proofs.Common.{◌≡◌, ℕ, ◌<◌, List, [], ◌∷◌, length, Option, Some, None, option_map, Result, Ok, Err, refl, sym, ap, subst, ◌∙◌, arith}
+use Rattle.std.specs.Prelude.{codes, IfOk, IfSome, IfNone}
+use Rattle.std.proofs.lemmas.Option.{same_Some, none-some}
 use Rattle.dms_text.specs.Words.{words_of}
-use Rattle.dms_text.specs.Reading.{same_octets, word_at}
-use Rattle.dms_text.proofs.WordLaws.{begun, goes_on, same_found, word_found, word_only}
+use Rattle.dms_text.specs.Reading.{word_at}
+use Rattle.dms_text.proofs.WordLaws.{begun, goes_on, word_found, word_only}
 use Rattle.dms_codes.specs.declared.codes.Order.{Order}
+use Rattle.dms_codes.proofs.Options.{mapped_some}
 use Rattle.dms_world.specs.Event.{EventModel, command, sign_tick, centre_tick, to_sign, to_centre, power_lost, power_back, centre_restart, forge_sign, forge_centre}
 use Rattle.dms_description.specs.Fields.{SpellsEach}
 use Rattle.dms_description.specs.FieldsReading.{if_last}
-use Rattle.dms_description.proofs.WordReading.{last_found}
-use Rattle.dms_description.proofs.FieldLaws.{last_number_found, last_number_only, last_octets_found, last_octets_only, made_of}
+use Rattle.dms_description.proofs.WordReading.{last_found, by_text}
+use Rattle.dms_description.proofs.FieldLaws.{last_number_found, last_number_only, last_octets_found, last_octets_only}
 use Rattle.dms_commands.specs.CommandReading.{command_word}
 use Rattle.dms_commands.specs.declared.command_word.CommandWord.{CommandWord}
 use Rattle.dms_commands.specs.declared.command_word.CommandWord.TheVariants as word_of
@@ -39,76 +39,28 @@ keyword_text key.ForgeCentre = codes "forge-centre"
 
 keyword_some : (keyword : Keyword) → 0 < length (keyword_text keyword)
 keyword_some (key.Command asked) = command_some asked
-keyword_some key.SignTick = omega arith
-keyword_some key.CentreTick = omega arith
-keyword_some key.ToSign = omega arith
-keyword_some key.ToCentre = omega arith
-keyword_some key.PowerLost = omega arith
-keyword_some key.PowerBack = omega arith
-keyword_some key.CentreRestart = omega arith
-keyword_some key.ForgeSign = omega arith
-keyword_some key.ForgeCentre = omega arith
+keyword_some _ = omega arith
 
 keyword_only : (keyword : Keyword) → keyword_of (keyword_text keyword) ≡ Some keyword
 unfolding keyword_of command_word
-keyword_only (key.Command word_of.Publish) = refl
-keyword_only (key.Command word_of.Blank) = refl
-keyword_only (key.Command word_of.Activate) = refl
-keyword_only key.SignTick = refl
-keyword_only key.CentreTick = refl
-keyword_only key.ToSign = refl
-keyword_only key.ToCentre = refl
-keyword_only key.PowerLost = refl
-keyword_only key.PowerBack = refl
-keyword_only key.CentreRestart = refl
-keyword_only key.ForgeSign = refl
-keyword_only key.ForgeCentre = refl
-
--- the word is this keyword's, or another one is found
-hit_or : (word : List ℕ) (keyword found : Keyword) (others : Option Keyword)
-    → cond (same_octets word (keyword_text keyword)) (Some keyword) others ≡ Some found → (word ≡ keyword_text found) ⊎ (others ≡ Some found)
-hit_or word keyword found others e =
-    elim (cases_Bool (same_octets word (keyword_text keyword))) [
-      | inl same ↦
-          let this : Some keyword ≡ Some found = ap (λ b. cond b (Some keyword) others) (sym same) ∙ e in
-          inl (same_found _ _ same ∙ ap keyword_text (same_Some _ _ this))
-      | inr other ↦ inr (ap (λ b. cond b (Some keyword) others) (sym other) ∙ e)
-    ]
+keyword_only keyword = grind arith
 
 later_found : (word : List ℕ) (keyword : Keyword) → later_keyword word ≡ Some keyword → word ≡ keyword_text keyword
 later_found word keyword e =
-    elim (hit_or word key.PowerLost keyword _ e) [
-      | inl hit ↦ hit
-      | inr e ↦
-          elim (hit_or word key.PowerBack keyword _ e) [
-            | inl hit ↦ hit
-            | inr e ↦
-                elim (hit_or word key.CentreRestart keyword _ e) [
-                  | inl hit ↦ hit
-                  | inr e ↦
-                      elim (hit_or word key.ForgeSign keyword _ e) [
-                        | inl hit ↦ hit
-                        | inr e ↦
-                            elim (hit_or word key.ForgeCentre keyword _ e) [ inl hit ↦ hit | inr e ↦ absurd (let none : None ≡ Some keyword = e in cc) ]
-                      ]
-                ]
-          ]
-    ]
+    by_text keyword_text word key.PowerLost keyword _ e λ e.
+    by_text keyword_text word key.PowerBack keyword _ e λ e.
+    by_text keyword_text word key.CentreRestart keyword _ e λ e.
+    by_text keyword_text word key.ForgeSign keyword _ e λ e.
+    by_text keyword_text word key.ForgeCentre keyword _ e λ e.
+    absurd (none-some keyword e)
 
 own_found : (word : List ℕ) (keyword : Keyword) → own_keyword word ≡ Some keyword → word ≡ keyword_text keyword
 own_found word keyword e =
-    elim (hit_or word key.SignTick keyword _ e) [
-      | inl hit ↦ hit
-      | inr e ↦
-          elim (hit_or word key.CentreTick keyword _ e) [
-            | inl hit ↦ hit
-            | inr e ↦
-                elim (hit_or word key.ToSign keyword _ e) [
-                  | inl hit ↦ hit
-                  | inr e ↦ elim (hit_or word key.ToCentre keyword _ e) [ inl hit ↦ hit | inr e ↦ later_found word keyword e ]
-                ]
-          ]
-    ]
+    by_text keyword_text word key.SignTick keyword _ e λ e.
+    by_text keyword_text word key.CentreTick keyword _ e λ e.
+    by_text keyword_text word key.ToSign keyword _ e λ e.
+    by_text keyword_text word key.ToCentre keyword _ e λ e.
+    later_found word keyword e
 
 keyword_found : (word : List ℕ) (keyword : Keyword) → keyword_of word ≡ Some keyword → word ≡ keyword_text keyword
 unfolding keyword_of
@@ -127,21 +79,21 @@ bare_found order keyword bare event words e spelled =
 after_found : (order : Order) (keyword : Keyword) (words : List (List ℕ)) (event : EventModel) → event_after order keyword words ≡ Some event
     → SpellsEventWords order event (keyword_text keyword ∷ words)
 after_found order (key.Command asked) words event e =
-    let made = made_of _ _ _ e in subst (λ event. SpellsEventWords order event (command_text asked ∷ words)) made.2 (command_after_found order asked words made.0 made.1)
+    let made = mapped_some _ _ _ e in subst (λ event. SpellsEventWords order event (command_text asked ∷ words)) made.2 (command_after_found order asked words made.0 made.1)
 after_found order key.SignTick words event e = bare_found order (codes "sign-tick") sign_tick event words e refl
 after_found order key.CentreTick words event e = bare_found order (codes "centre-tick") centre_tick event words e refl
 after_found order key.ToSign words event e =
-    let made = made_of _ _ _ e in subst (λ event. SpellsEventWords order event (codes "to-sign" ∷ words)) made.2 (last_number_found (codes "to-sign") words made.0 made.1)
+    let made = mapped_some _ _ _ e in subst (λ event. SpellsEventWords order event (codes "to-sign" ∷ words)) made.2 (last_number_found (codes "to-sign") words made.0 made.1)
 after_found order key.ToCentre words event e =
-    let made = made_of _ _ _ e in subst (λ event. SpellsEventWords order event (codes "to-centre" ∷ words)) made.2 (last_number_found (codes "to-centre") words made.0 made.1)
+    let made = mapped_some _ _ _ e in subst (λ event. SpellsEventWords order event (codes "to-centre" ∷ words)) made.2 (last_number_found (codes "to-centre") words made.0 made.1)
 after_found order key.PowerLost words event e = bare_found order (codes "power-lost") power_lost event words e refl
 after_found order key.PowerBack words event e =
-    let made = made_of _ _ _ e in subst (λ event. SpellsEventWords order event (codes "power-back" ∷ words)) made.2 (last_number_found (codes "power-back") words made.0 made.1)
+    let made = mapped_some _ _ _ e in subst (λ event. SpellsEventWords order event (codes "power-back" ∷ words)) made.2 (last_number_found (codes "power-back") words made.0 made.1)
 after_found order key.CentreRestart words event e = bare_found order (codes "centre-restart") centre_restart event words e refl
 after_found order key.ForgeSign words event e =
-    let made = made_of _ _ _ e in subst (λ event. SpellsEventWords order event (codes "forge-sign" ∷ words)) made.2 (last_octets_found (codes "forge-sign") words made.0 made.1)
+    let made = mapped_some _ _ _ e in subst (λ event. SpellsEventWords order event (codes "forge-sign" ∷ words)) made.2 (last_octets_found (codes "forge-sign") words made.0 made.1)
 after_found order key.ForgeCentre words event e =
-    let made = made_of _ _ _ e in subst (λ event. SpellsEventWords order event (codes "forge-centre" ∷ words)) made.2 (last_octets_found (codes "forge-centre") words made.0 made.1)
+    let made = mapped_some _ _ _ e in subst (λ event. SpellsEventWords order event (codes "forge-centre" ∷ words)) made.2 (last_octets_found (codes "forge-centre") words made.0 made.1)
 
 pub event_found : (order : Order) (line : List ℕ) (event : EventModel) → event_of order line ≡ Some event → SpellsEvent order event line
 unfolding event_of

@@ -1,17 +1,19 @@
 -- The call of a line is the one that the line spells, and the answer is the one of the call.
-use Rattle.std.proofs.Common.{◌≡◌, ℕ, ◌<◌, cond, List, [], ◌∷◌, length, Option, Some, None, option_map, refl, sym, ap, subst, ◌∙◌, arith, inl, inr}
-use Rattle.std.specs.Prelude.{codes, ◌⊎◌}
-use Rattle.std.proofs.lemmas.Option.{same_Some}
+use Rattle.std.proofs.Common.{◌≡◌, ℕ, ◌<◌, List, [], ◌∷◌, length, Some, None, option_map, refl, sym, ap, subst, ◌∙◌, arith}
+use Rattle.std.specs.Prelude.{codes}
+use Rattle.std.proofs.lemmas.Option.{same_Some, none-some}
 use Rattle.dms_text.specs.Words.{words_of}
-use Rattle.dms_text.specs.Reading.{same_octets, word_at}
+use Rattle.dms_text.specs.Reading.{word_at}
 use Rattle.dms_text.proofs.WordLaws.{begun, goes_on, word_found, word_only}
+use Rattle.dms_codes.proofs.Options.{mapped_some}
 use Rattle.dms_sign.specs.State.{SignState}
-use Rattle.dms_description.proofs.FieldLaws.{last_number_found, last_number_only, last_octets_found, last_octets_only, made_of}
+use Rattle.dms_description.proofs.WordReading.{by_text}
+use Rattle.dms_description.proofs.FieldLaws.{last_number_found, last_number_only, last_octets_found, last_octets_only}
 use Rattle.dms_lines.specs.AnswerLines.{bad_line}
-use Rattle.dms_lines.proofs.CallReading.{hit_or, bare_found, nothing_found}
+use Rattle.dms_lines.proofs.CallReading.{bare_found, nothing_found}
 use Rattle.dms_sign_lines.specs.SignCall.{SignCall, datagram, tick, ticks, heard, power_lost, power_back, show, state}
 use Rattle.dms_sign_lines.specs.SignLine.{SpellsCallWords, SpellsSignCall, SpellsNoSignCall}
-use Rattle.dms_sign_lines.specs.SignReading.{asking_keyword, keyword_of, call_after, call_of}
+use Rattle.dms_sign_lines.specs.SignReading.{keyword_of, call_after, call_of}
 use Rattle.dms_sign_lines.specs.Answer.{answer_text, after_line, call_text, after_call, text_if, after_if}
 use Rattle.dms_sign_lines.specs.declared.keyword.Keyword.{Keyword}
 use Rattle.dms_sign_lines.specs.declared.keyword.Keyword.TheVariants as key
@@ -29,79 +31,38 @@ keyword_text key.Show = codes "show"
 keyword_text key.State = codes "state"
 
 keyword_some : (keyword : Keyword) → 0 < length (keyword_text keyword)
-keyword_some key.Datagram = omega arith
-keyword_some key.Tick = omega arith
-keyword_some key.Ticks = omega arith
-keyword_some key.Heard = omega arith
-keyword_some key.PowerLost = omega arith
-keyword_some key.PowerBack = omega arith
-keyword_some key.Show = omega arith
-keyword_some key.State = omega arith
+keyword_some keyword = grind arith
 
 keyword_only : (keyword : Keyword) → keyword_of (keyword_text keyword) ≡ Some keyword
 unfolding keyword_of
-keyword_only key.Datagram = refl
-keyword_only key.Tick = refl
-keyword_only key.Ticks = refl
-keyword_only key.Heard = refl
-keyword_only key.PowerLost = refl
-keyword_only key.PowerBack = refl
-keyword_only key.Show = refl
-keyword_only key.State = refl
-
--- the word is this keyword's, or another one is found
-is_word_or : (word : List ℕ) (keyword found : Keyword) (others : Option Keyword)
-    → cond (same_octets word (keyword_text keyword)) (Some keyword) others ≡ Some found → (word ≡ keyword_text found) ⊎ (others ≡ Some found)
-is_word_or word keyword found others e =
-    elim (hit_or word (keyword_text keyword) (Some keyword) others found e) [
-      | inl hit ↦ inl (hit.0 ∙ ap keyword_text (same_Some _ _ hit.1))
-      | inr e ↦ inr e
-    ]
-
-asking_found : (word : List ℕ) (keyword : Keyword) → asking_keyword word ≡ Some keyword → word ≡ keyword_text keyword
-asking_found word keyword e =
-    elim (is_word_or word key.Show keyword _ e) [
-      | inl hit ↦ hit
-      | inr e ↦ elim (is_word_or word key.State keyword _ e) [ inl hit ↦ hit | inr e ↦ absurd (let none : None ≡ Some keyword = e in cc) ]
-    ]
+keyword_only keyword = grind arith
 
 keyword_found : (word : List ℕ) (keyword : Keyword) → keyword_of word ≡ Some keyword → word ≡ keyword_text keyword
 unfolding keyword_of
 keyword_found word keyword e =
-    elim (is_word_or word key.Datagram keyword _ e) [
-      | inl hit ↦ hit
-      | inr e ↦
-          elim (is_word_or word key.Tick keyword _ e) [
-            | inl hit ↦ hit
-            | inr e ↦
-                elim (is_word_or word key.Ticks keyword _ e) [
-                  | inl hit ↦ hit
-                  | inr e ↦
-                      elim (is_word_or word key.Heard keyword _ e) [
-                        | inl hit ↦ hit
-                        | inr e ↦
-                            elim (is_word_or word key.PowerLost keyword _ e) [
-                              | inl hit ↦ hit
-                              | inr e ↦ elim (is_word_or word key.PowerBack keyword _ e) [ inl hit ↦ hit | inr e ↦ asking_found word keyword e ]
-                            ]
-                      ]
-                ]
-          ]
-    ]
+    by_text keyword_text word key.Datagram keyword _ e λ e.
+    by_text keyword_text word key.Tick keyword _ e λ e.
+    by_text keyword_text word key.Ticks keyword _ e λ e.
+    by_text keyword_text word key.Heard keyword _ e λ e.
+    by_text keyword_text word key.PowerLost keyword _ e λ e.
+    by_text keyword_text word key.PowerBack keyword _ e λ e.
+    by_text keyword_text word key.Show keyword _ e λ e.
+    by_text keyword_text word key.State keyword _ e λ e.
+    absurd (none-some keyword e)
 
 -- ---- calls
 
 after_found : (keyword : Keyword) (words : List (List ℕ)) (call : SignCall) → call_after keyword words ≡ Some call
     → SpellsCallWords call (keyword_text keyword ∷ words)
 after_found key.Datagram words call e =
-    let made = made_of _ _ _ e in subst (λ call. SpellsCallWords call (codes "datagram" ∷ words)) made.2 (last_octets_found (codes "datagram") words made.0 made.1)
+    let made = mapped_some _ _ _ e in subst (λ call. SpellsCallWords call (codes "datagram" ∷ words)) made.2 (last_octets_found (codes "datagram") words made.0 made.1)
 after_found key.Tick words call e = bare_found SpellsCallWords (codes "tick") (codes "tick") tick call words refl e refl
 after_found key.Ticks words call e =
-    let made = made_of _ _ _ e in subst (λ call. SpellsCallWords call (codes "ticks" ∷ words)) made.2 (last_number_found (codes "ticks") words made.0 made.1)
+    let made = mapped_some _ _ _ e in subst (λ call. SpellsCallWords call (codes "ticks" ∷ words)) made.2 (last_number_found (codes "ticks") words made.0 made.1)
 after_found key.Heard words call e = bare_found SpellsCallWords (codes "heard") (codes "heard") heard call words refl e refl
 after_found key.PowerLost words call e = bare_found SpellsCallWords (codes "power-lost") (codes "power-lost") power_lost call words refl e refl
 after_found key.PowerBack words call e =
-    let made = made_of _ _ _ e in subst (λ call. SpellsCallWords call (codes "power-back" ∷ words)) made.2 (last_number_found (codes "power-back") words made.0 made.1)
+    let made = mapped_some _ _ _ e in subst (λ call. SpellsCallWords call (codes "power-back" ∷ words)) made.2 (last_number_found (codes "power-back") words made.0 made.1)
 after_found key.Show words call e = bare_found SpellsCallWords (codes "show") (codes "show") show call words refl e refl
 after_found key.State words call e = bare_found SpellsCallWords (codes "state") (codes "state") state call words refl e refl
 

@@ -1,4 +1,4 @@
-use Rattle.dms_acts.proofs.Carried.{not_described}
+use Rattle.dms_description.proofs.TextsDescribed.{not_described}
 use Rattle.dms_acts.proofs.inputs.described_whole.Goals as goal
 
 pub returns-in-Ok-clause-line : goal.returns-in-Ok-clause-line
