@@ -1,6 +1,5 @@
 -- The line of what is shown, which is put in parts.
-use Rattle.std.proofs.Common.{◌≡◌, ℕ, List, ◌++◌, Result, Ok, Err, ap, ◌∙◌, append_assoc}
-use Rattle.std.specs.Prelude.{OnOk}
+use Rattle.std.proofs.Common.{◌≡◌, ℕ, List, ◌++◌, ap, ◌∙◌, append_assoc}
 
 regroup : (old source mode_word mode priority_word priority left_word left text_word text end : List ℕ)
     → (((old ++ source) ++ (mode_word ++ mode ++ priority_word ++ priority)) ++ (left_word ++ left)) ++ (text_word ++ text ++ end)
@@ -18,8 +17,3 @@ four_parts old first second third last source mode_word mode priority_word prior
     ∙ ap (λ xs. xs ++ (left_word ++ left)) (two
     ∙ ap (λ xs. xs ++ (mode_word ++ mode ++ priority_word ++ priority)) one))
     ∙ regroup old source mode_word mode priority_word priority left_word left text_word text end
-
--- what follows from a fact of an answer that is no fault
-pub on_ok : {A E : Type 0} (answer : Result A E) (Fact Other : Type 0) → (Fact → Other) → OnOk answer Fact → OnOk answer Other
-on_ok (Ok value) Fact Other follows fact = follows fact
-on_ok (Err fault) Fact Other follows fact = tt

@@ -3,6 +3,5 @@ pub mod EventLaws
 mod EventsRead
 mod Lent
 mod ScriptRead
-mod ReportLines
 mod ScriptRanges
 mod SpelledOctets

@@ -1,9 +1,10 @@
 use Rattle.std.proofs.Common.{◌++◌, codes, decimal}
+use Rattle.std.proofs.lemmas.Result.{on_ok_weaker}
 use Rattle.hex.specs.Hex.{encode_lower}
 use Rattle.dms_codes.specs.Codes.{two_octets}
 use Rattle.dms_table.specs.Activation.{minutes_left}
 use Rattle.dms_description.specs.ShownLine.{octets_text}
-use Rattle.dms_description.proofs.ShownParts.{four_parts, on_ok}
+use Rattle.dms_description.proofs.ShownParts.{four_parts}
 use Rattle.dms_description.proofs.shown_text.put_shown.Goals as goal
 
 pub returns : goal.returns
@@ -13,4 +14,4 @@ returns c =
     let whole = four_parts _ _ _ _ c.put_text.new.report.items source (codes " mode ") (decimal shown.mode) (codes " priority ") (decimal shown.priority)
     (codes " remaining ") (decimal (minutes_left shown.remaining)) (codes " text ") (octets_text shown.text) (codes "\n") c.in_ok-put_source.ensures
     c.in_ok-put_manner.ensures c.in_ok-put_remaining.ensures in
-    on_ok c.put_text.result _ _ whole c.put_text.ensures
+    on_ok_weaker c.put_text.result whole c.put_text.ensures
