@@ -43,7 +43,7 @@ const LONGEST_RECEIPT: usize = 8 + 2 * 12 + 2 * MAX_DATAGRAM + 3;
 /// ```
 ///
 /// Any other line is answered `bad line`, and changes nothing. Octets are pairs of hexadecimal digits, or `-` for none.
-/// Out of memory nothing changes either: what an answer needs is had before the sign is called.
+/// Out of memory nothing changes either: what an answer needs is reserved before the sign is called.
 pub fn answer(alloc: Global, sign: &mut Sign, line: &[u8]) -> Result<Vec<u8>, AllocError>
     ensures text { IfOk result (λ text. text.items ≡ answer_text sign.old line.now) }
     ensures after { OnOk result (sign.new ≡ after_line sign.old line.now) }
@@ -102,7 +102,7 @@ fn pass(sign: &mut Sign, seconds: u32)
     }
 }
 
-/// The sign receives a datagram. The memory of the longest answer is had before.
+/// The sign receives a datagram. The memory of the longest answer is reserved before that.
 fn receive(alloc: Global, sign: &mut Sign, datagram: &[u8]) -> Result<Vec<u8>, AllocError>
     ensures text { IfOk result
         (λ text. text.items ≡ received_line sign.old.table.order (received sign.old datagram.now)) }

@@ -59,8 +59,8 @@ impl World {
         }
     }
 
-    /// The event of this number happens. Where memory is wanting, nothing changes: what its lists need is had before
-    /// either end is called.
+    /// The event of this number happens. Where memory is wanting, nothing changes: what its lists need is reserved
+    /// before either end is called.
     pub(crate) fn happen(&mut self, number: usize, event: &Event<'_>) -> Result<(), AllocError>
         ensures world { OnOk result (seen self.new ≡ happens number (seen self.old) (event_model event.now)) }
         ensures unchanged { OnErr result (seen self.new ≡ seen self.old) }
