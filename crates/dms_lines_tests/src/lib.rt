@@ -1,13 +1,9 @@
-//! Tests of readers and writers, of descriptions of signs, and of both ends line by line.
+//! Tests of descriptions of signs, and of both ends line by line.
 #![tactic(auto)]
 
 #[cfg(test)]
 mod centre_lines;
 #[cfg(test)]
-mod conversations;
-#[cfg(test)]
 mod descriptions;
 #[cfg(test)]
 mod sign_lines;
-#[cfg(test)]
-mod streams;

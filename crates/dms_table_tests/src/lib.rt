@@ -1,4 +1,4 @@
-//! Tests of the checksum, of codes and of the message table through their public calls.
+//! Tests of the checksum, of codes, of the names of objects and of the message table through their public calls.
 #![tactic(auto)]
 
 #[cfg(test)]
@@ -7,5 +7,7 @@ mod checksum;
 mod codes;
 #[cfg(test)]
 mod message_codes;
+#[cfg(test)]
+mod objects;
 #[cfg(test)]
 mod tables;

@@ -1,9 +1,13 @@
-//! Tests of text, MULTI and fonts through their public calls.
+//! Tests of text, readers and writers, conversations, MULTI and fonts through their public calls.
 #![tactic(auto)]
 
+#[cfg(test)]
+mod conversations;
 #[cfg(test)]
 mod fonts;
 #[cfg(test)]
 mod multi;
+#[cfg(test)]
+mod streams;
 #[cfg(test)]
 mod text;

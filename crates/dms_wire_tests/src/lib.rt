@@ -1,9 +1,7 @@
-//! Tests of object identifiers, objects and messages through their public calls.
+//! Tests of object identifiers and messages through their public calls.
 #![tactic(auto)]
 
 #[cfg(test)]
 mod messages;
 #[cfg(test)]
 mod object_identifiers;
-#[cfg(test)]
-mod objects;
