@@ -11,19 +11,15 @@ with words before each row: what the message is, or in which of its elements the
 import json
 import sys
 
-KINDS = ["", "Truncated", "BadTag", "BadLength", "LengthPast", "BadInteger", "BadName", "BadVersion",
-         "TrailingBytes", "TooLong"]
+KINDS = ["", "TRUNCATED", "BAD_TAG", "BAD_LENGTH", "LENGTH_PAST", "BAD_INTEGER", "BAD_NAME", "BAD_VERSION",
+         "TRAILING_BYTES", "TOO_LONG"]
 LONGEST = 160
 MOST_SPELLED = 80
 CHUNK = 20
 HEAD = """\
 //! Datagrams with the answers of an independent model, made by tools/wire_cases.py: those that
-//! spell no message, with the kind and the place of their fault, and those that do, with the
-//! message's shortest spelling.
-use dms_wire::FaultKind;
-use dms_wire::FaultKind::{
-    BadInteger, BadLength, BadName, BadTag, BadVersion, LengthPast, TrailingBytes, Truncated,
-};"""
+//! spell no message, with the place of their fault, by its kind; those that spell one, with the
+//! message's shortest spelling; and those that are the shortest spelling of theirs."""
 # the width up to which rt fmt keeps a tuple on one line
 ROW_WIDTH = 60
 
@@ -78,12 +74,16 @@ def fault_words(case):
     return f"a {kind} with a fault in {found if found.startswith('binding') else 'the ' + found}"
 
 
+def is_shortest(case):
+    return case["canonical"] == case["octets"]
+
+
 def message_words(case):
     octets = bytes.fromhex(case["octets"])
-    count, is_shortest = bindings_of(octets), case["canonical"] == case["octets"]
+    count = bindings_of(octets)
     kind, _ = around(octets, 0)
     bound = f"{count} binding{'s' if count != 1 else ''}"
-    return f"a {kind} of {bound}, {'in' if is_shortest else 'not in'} its shortest spelling"
+    return f"a {kind} of {bound}, {'in' if is_shortest(case) else 'not in'} its shortest spelling"
 
 
 def literal(digits):
@@ -92,6 +92,9 @@ def literal(digits):
 
 def print_row(words, *row):
     print(f"    // {words}")
+    if len(row) == 1:
+        print(f"    {row[0]},")
+        return
     line = ", ".join(row)
     if len(line) <= ROW_WIDTH:
         print(f"    ({line}),")
@@ -118,14 +121,17 @@ def main():
     kept = [case for case in cases if len(case["octets"]) <= 2 * LONGEST]
     faulty = [case for case in kept if "fault" in case]
     # those whose canonical octets differ come first
-    spelled = sorted((case for case in kept if "canonical" in case),
-                     key=lambda case: case["canonical"] == case["octets"])[:MOST_SPELLED]
+    spelled = sorted((case for case in kept if "canonical" in case), key=is_shortest)[:MOST_SPELLED]
+    longer = [case for case in spelled if not is_shortest(case)]
+    shortest = [case for case in spelled if is_shortest(case)]
     print(HEAD)
-    tables("FAULTY", "(&[u8], FaultKind, usize)",
-           [(fault_words(case), literal(case["octets"]), KINDS[int(case["fault"])], str(case["place"]))
-            for case in faulty])
+    for fault, kind in enumerate(KINDS):
+        tables(kind, "(&[u8], usize)",
+               [(fault_words(case), literal(case["octets"]), str(case["place"]))
+                for case in faulty if int(case["fault"]) == fault])
     tables("SPELLED", "(&[u8], &[u8])",
-           [(message_words(case), literal(case["octets"]), literal(case["canonical"])) for case in spelled])
+           [(message_words(case), literal(case["octets"]), literal(case["canonical"])) for case in longer])
+    tables("SHORTEST", "&[u8]", [(message_words(case), literal(case["octets"])) for case in shortest])
 
 
 main()

@@ -24,9 +24,10 @@ fn check_fault(rt: &impl Abort, octets: &[u8], kind: FaultKind, place: usize) {
     );
 }
 
-fn check_faulty(rt: &impl Abort, cases: &[(&[u8], FaultKind, usize)]) {
-    for (octets, kind, place) in cases {
-        check_fault(rt, octets, *kind, *place);
+/// Asserts that each of these has a fault of this kind, at its place.
+fn check_faulty(rt: &impl Abort, kind: FaultKind, cases: &[(&[u8], usize)]) {
+    for (octets, place) in cases {
+        check_fault(rt, octets, kind, *place);
     }
 }
 
@@ -71,6 +72,14 @@ fn check_spelled(rt: &impl Abort, alloc: Global, cases: &[(&[u8], &[u8])]) -> Re
     Ok(())
 }
 
+/// Asserts that each of these is the shortest spelling of its message.
+fn check_shortest(rt: &impl Abort, alloc: Global, cases: &[&[u8]]) -> Result<(), Fail> {
+    for octets in cases {
+        check_message(rt, alloc, octets, octets)?;
+    }
+    Ok(())
+}
+
 /// A datagram of these parts, one after the other.
 fn datagram_of(rt: &impl Abort, parts: &[&[u8]]) -> Out {
     let mut datagram = Out::new();
@@ -82,12 +91,16 @@ fn datagram_of(rt: &impl Abort, parts: &[&[u8]]) -> Out {
 
 #[test]
 fn faulty(rt: HostRuntime) {
-    check_faulty(&rt, &cases::FAULTY_1);
-    check_faulty(&rt, &cases::FAULTY_2);
-    check_faulty(&rt, &cases::FAULTY_3);
-    check_faulty(&rt, &cases::FAULTY_4);
-    check_faulty(&rt, &cases::FAULTY_5);
-    check_faulty(&rt, &cases::FAULTY_6);
+    check_faulty(&rt, FaultKind::Truncated, &cases::TRUNCATED_1);
+    check_faulty(&rt, FaultKind::BadTag, &cases::BAD_TAG_1);
+    check_faulty(&rt, FaultKind::BadTag, &cases::BAD_TAG_2);
+    check_faulty(&rt, FaultKind::BadLength, &cases::BAD_LENGTH_1);
+    check_faulty(&rt, FaultKind::LengthPast, &cases::LENGTH_PAST_1);
+    check_faulty(&rt, FaultKind::BadInteger, &cases::BAD_INTEGER_1);
+    check_faulty(&rt, FaultKind::BadInteger, &cases::BAD_INTEGER_2);
+    check_faulty(&rt, FaultKind::BadName, &cases::BAD_NAME_1);
+    check_faulty(&rt, FaultKind::BadVersion, &cases::BAD_VERSION_1);
+    check_faulty(&rt, FaultKind::TrailingBytes, &cases::TRAILING_BYTES_1);
 }
 
 #[test]
@@ -95,7 +108,8 @@ fn spelled(rt: HostRuntime) -> Result<(), Fail> {
     check_spelled(&rt, rt.alloc(), &cases::SPELLED_1)?;
     check_spelled(&rt, rt.alloc(), &cases::SPELLED_2)?;
     check_spelled(&rt, rt.alloc(), &cases::SPELLED_3)?;
-    check_spelled(&rt, rt.alloc(), &cases::SPELLED_4)?;
+    check_shortest(&rt, rt.alloc(), &cases::SHORTEST_1)?;
+    check_shortest(&rt, rt.alloc(), &cases::SHORTEST_2)?;
     let longer = datagram_of(&rt, &[b"\x30\x82\x00\x2e", &GET[2..]]);
     check_spelled(&rt, rt.alloc(), &[(&longer, &GET)])
 }
@@ -119,7 +133,9 @@ fn hostile(rt: HostRuntime) {
         (b"\x30\x03\x02\x05\x00", FaultKind::LengthPast, 3),
         (&[0x30; 1473], FaultKind::TooLong, 1472),
     ];
-    check_faulty(&rt, &cases);
+    for (octets, kind, place) in cases {
+        check_fault(&rt, octets, kind, place);
+    }
     let longer = datagram_of(&rt, &[&GET, &[0]]);
     check_fault(&rt, &longer, FaultKind::TrailingBytes, 48);
 }
@@ -224,7 +240,7 @@ fn long_names(rt: HostRuntime) -> Result<(), Fail> {
             b"\x05\x00",
         ],
     );
-    check_spelled(&rt, rt.alloc(), &[(&longest, &longest)])?;
+    check_shortest(&rt, rt.alloc(), &[&longest])?;
     let longer = datagram_of(
         &rt,
         &[
@@ -249,7 +265,7 @@ fn kinds(rt: HostRuntime) -> Result<(), Fail> {
     ] {
         octets[13] = tag;
         assert_eq!(rt; read(&octets)?.kind, kind);
-        check_spelled(&rt, rt.alloc(), &[(&octets, &octets)])?;
+        check_shortest(&rt, rt.alloc(), &[&octets])?;
     }
     Ok(())
 }
