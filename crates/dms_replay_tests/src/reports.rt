@@ -122,10 +122,11 @@ fn reports(rt: HostRuntime) -> Result<(), Fail> {
         cases::LOSSES.as_slice(),
         cases::DEFAULTS.as_slice(),
     ] {
-        for (lines, report) in cases {
+        for case in cases {
+            let (lines, report) = case.split_once("report\n").ok_or("no report")?;
             let script = script_of(rt.alloc(), lines)?;
             let found = report_of(rt.alloc(), script.as_str())?;
-            assert_eq!(rt; str::from_utf8(found.bytes()), Ok(*report), "of {lines:?}");
+            assert_eq!(rt; str::from_utf8(found.bytes()), Ok(report), "of {lines:?}");
         }
     }
     Ok(())
