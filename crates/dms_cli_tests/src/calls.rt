@@ -60,17 +60,19 @@ fn answers(rt: HostRuntime) {
 }
 
 #[test]
-fn calls(rt: HostRuntime) {
-    for cases in [
-        cases::TEXTS.as_slice(),
-        cases::CODES.as_slice(),
-        cases::ACTIVATIONS.as_slice(),
-    ] {
+fn calls(rt: HostRuntime) -> Result<(), Fail> {
+    for cases in [cases::TEXTS.as_slice(), cases::ACTIVATIONS.as_slice()] {
         for (line, printed, status) in cases {
             let found = called(rt.alloc(), line, "", printed);
             assert_eq!(rt; found, Some((*status, true)), "for {line}");
         }
     }
+    for (line, crc, code) in cases::CODES {
+        let printed = format!(in rt.alloc(); "crc {crc}\ncode {code}\n")?;
+        let found = called(rt.alloc(), line, "", printed.as_str());
+        assert_eq!(rt; found, Some((0, true)), "for {line}");
+    }
+    Ok(())
 }
 
 #[test]

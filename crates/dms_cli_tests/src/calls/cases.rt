@@ -66,6 +66,18 @@ pub static PRINTING: [&str; 6] = [
     "activation 7 1 0000",
 ];
 
+/// The page of `A` on the described sign.
+const PAGE: &str = "\
+page 1 on 10 off 0 back 0
+.111.
+1...1
+1...1
+11111
+1...1
+1...1
+1...1
+";
+
 /// All pages, cell by cell.
 const CELLS: Drawing = Drawing {
     svg: false,
@@ -191,21 +203,7 @@ pub const ALLOCATING: [(Call<'static>, &str, &str, u8); 8] = [
     // a text is checked
     (CHECKED, SMALL_SIGN, "ok pages 1\n", 0),
     // its page is drawn
-    (
-        DRAWN,
-        SMALL_SIGN,
-        "\
-page 1 on 10 off 0 back 0
-.111.
-1...1
-1...1
-11111
-1...1
-1...1
-1...1
-",
-        0,
-    ),
+    (DRAWN, SMALL_SIGN, PAGE, 0),
     // the second page is drawn
     (
         Call::Pages {
@@ -360,7 +358,7 @@ pub static ANSWERS: [(&str, &str, u8); 19] = [
 ];
 
 /// Calls on texts: the words after `signtool`, what is printed, and the status.
-pub static TEXTS: [(&str, &str, u8); 7] = [
+pub static TEXTS: [(&str, &str, u8); 11] = [
     // four characters in one line
     ("check AAAA", "ok pages 1\n", 0),
     // no text
@@ -373,6 +371,14 @@ pub static TEXTS: [(&str, &str, u8); 7] = [
     ("check [tr1,1,5,5]", "fault 3 at 0\n", 1),
     // line justifications that go back
     ("pages [jl3]A[jl2]A", "fault 11 at 6\n", 1),
+    // a code with an address of three numbers
+    ("code 3 1 A --address 1.2.3", "bad address\n", 2),
+    // of five
+    ("code 3 1 A --address 1.2.3.4.5", "bad address\n", 2),
+    // a number over 255
+    ("code 3 1 A --address 256.0.0.0", "bad address\n", 2),
+    // a number of four digits
+    ("code 3 1 A --address 0001.0.0.0", "bad address\n", 2),
     // the page of a letter
     (
         "pages A",
@@ -397,61 +403,34 @@ page 1 on 30 off 0 back 0
     ),
 ];
 
-/// Calls that print the code of a text.
-pub static CODES: [(&str, &str, u8); 9] = [
+/// Calls that print the code of a text, the checksum that they print, and the code.
+pub static CODES: [(&str, &str, &str); 5] = [
     // the code of `A` in changeable 1
     (
         "code 3 1 A --address 192.0.2.1",
-        "\
-crc 9a66
-code ffffff0300019a66c0000201
-",
-        0,
+        "9a66",
+        "ffffff0300019a66c0000201",
     ),
     // the same, with the octets of the checksum in the other order
     (
         "code 3 1 A --address 192.0.2.1 --swapped",
-        "\
-crc 9a66
-code ffffff030001669ac0000201
-",
-        0,
+        "9a66",
+        "ffffff030001669ac0000201",
     ),
     // the code of the permanent row
-    (
-        "code 2 1 B",
-        "\
-crc 7502
-code ffffff020001750200000000
-",
-        0,
-    ),
+    ("code 2 1 B", "7502", "ffffff020001750200000000"),
     // the code of a volatile row with a beacon, for five minutes with priority 10
     (
         "code 4 65535 A --beacon --duration 5 --priority 10",
-        "\
-crc 83be
-code 00050a04ffff83be00000000
-",
-        0,
+        "83be",
+        "00050a04ffff83be00000000",
     ),
     // an address with digits that it does not need
     (
         "code 3 1 '' --address 001.2.3.255",
-        "\
-crc 0f47
-code ffffff0300010f47010203ff
-",
-        0,
+        "0f47",
+        "ffffff0300010f47010203ff",
     ),
-    // an address of three numbers
-    ("code 3 1 A --address 1.2.3", "bad address\n", 2),
-    // of five
-    ("code 3 1 A --address 1.2.3.4.5", "bad address\n", 2),
-    // a number over 255
-    ("code 3 1 A --address 256.0.0.0", "bad address\n", 2),
-    // a number of four digits
-    ("code 3 1 A --address 0001.0.0.0", "bad address\n", 2),
 ];
 
 /// Calls that print the code of a checksum.
@@ -511,21 +490,7 @@ pub static DESCRIBED: [(&str, &str, &str, u8); 7] = [
     // a text that is too wide
     ("check --sign AA", SMALL_SIGN, "fault 5 at 1\n", 1),
     // its page
-    (
-        "pages --sign A",
-        SMALL_SIGN,
-        "\
-page 1 on 10 off 0 back 0
-.111.
-1...1
-1...1
-11111
-1...1
-1...1
-1...1
-",
-        0,
-    ),
+    ("pages --sign A", SMALL_SIGN, PAGE, 0),
     // a colon among the octets
     (
         "answer --sign 302b02010004067075626c6963a01e0201010201000201003013301106:0d2b0601040189360402030202000500",
