@@ -1,4 +1,6 @@
--- what a reader must believe: why a sign can not be made, and how that is said
+-- what a reader must believe: what the words of a description are to be, why a sign can not be made, and how that is
+-- said
+pub mod Forms
 pub mod RowCauses
 pub mod SignCauses
 pub mod Texts

@@ -7,11 +7,13 @@
 #![tactic(auto)]
 
 pub mod cause;
+pub mod forms;
 pub mod row_causes;
 pub mod sign_causes;
 pub mod whole;
 
 pub use cause::Cause;
+pub use forms::Form;
 pub use row_causes::{RowCause, row_cause};
 pub use sign_causes::SignCause;
 pub use whole::{communities_cause, counts_cause, face_cause, rows_cause};

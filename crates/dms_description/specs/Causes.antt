@@ -12,15 +12,15 @@ use Rattle.dms_font.specs.declared.fault.FontFaultKind.TheVariants.{Header, Glyp
 use Rattle.dms_face.specs.Face.{FaceModel, checked}
 use Rattle.dms_face.specs.declared.fault.FaceFault.{FaceFault}
 use Rattle.dms_table.specs.Rows.{RowModel}
+use Rattle.dms_causes.specs.Forms.{form_words}
+use Rattle.dms_causes.specs.declared.forms.Form.{Form}
+use Rattle.dms_causes.specs.declared.forms.Form.TheVariants as forms
 use Rattle.dms_causes.specs.SignCauses.{face_cause, communities_cause, counts_cause, rows_cause}
 use Rattle.dms_causes.specs.declared.sign_causes.SignCause.{SignCause}
 use Rattle.dms_causes.specs.declared.cause.Cause.{Cause}
 use Rattle.dms_causes.specs.declared.cause.Cause.TheVariants as causes
 use Rattle.dms_description.specs.declared.body_word.BodyWord.{BodyWord}
 use Rattle.dms_description.specs.declared.body_word.BodyWord.TheVariants as body
-use Rattle.dms_description.specs.declared.forms.Form.{Form}
-use Rattle.dms_description.specs.declared.forms.Form.TheVariants as forms
-use Rattle.dms_description.specs.Forms.{form_words, head_forms}
 use Rattle.dms_description.specs.Description.{Description}
 use Rattle.dms_description.specs.DescriptionReading.{HeadModel, head_at, rows_from, fonts_at, described}
 
@@ -29,6 +29,10 @@ use Rattle.dms_description.specs.DescriptionReading.{HeadModel, head_at, rows_fr
 -- the first word of a line that is not of its form
 abbrev pub form_cause : Form → List ℕ → Option Cause
 form_cause form line = option_map causes.Word (word_fault (form_words form) (words_of line))
+
+-- the lines with which a description begins
+abbrev pub head_forms : List Form
+head_forms = forms.Size ∷ forms.Communities ∷ forms.Rows ∷ forms.Order ∷ forms.Has ∷ forms.Defaults ∷ forms.First ∷ []
 
 -- the first of these lines that has not its form
 abbrev pub head_cause : List Form → List (List ℕ) → Option Cause

@@ -4,7 +4,6 @@ pub mod Description
 pub mod BenchSign
 pub mod Setups
 pub mod FaultTexts
-pub mod Forms
 pub mod Causes
 pub mod Before
 pub mod ShownLine

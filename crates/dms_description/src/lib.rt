@@ -20,7 +20,6 @@ pub mod describing;
 pub mod fault;
 pub mod fields;
 mod fonts;
-mod forms;
 mod head;
 pub mod laws;
 mod making;

@@ -4,7 +4,7 @@ use dms_forms::{Keyword, Name, Wanted};
 
 /// A line of a description.
 #[derive(Clone, Copy)]
-pub(crate) enum Form {
+pub enum Form {
     /// The columns and rows of the matrix.
     Size,
     /// The two communities.
@@ -31,10 +31,10 @@ pub(crate) enum Form {
 
 impl Form {
     ghost use Rattle.std.specs.Prelude.{◌≡◌};
-    ghost use Rattle.dms_description.specs.Forms.{form_words};
+    ghost use Rattle.dms_causes.specs.Forms.{form_words};
 
     /// What its words are to be.
-    pub(crate) fn words(self) -> &'static [Wanted]
+    pub fn words(self) -> &'static [Wanted]
         ensures { result.now ≡ form_words self }
     {
         match self {

@@ -4,8 +4,8 @@ use Rattle.dms_forms.specs.declared.vocabulary.Keyword.TheVariants as keywords
 use Rattle.dms_forms.specs.declared.vocabulary.Name.TheVariants as names
 use Rattle.dms_forms.specs.declared.wanted.Wanted.{Wanted}
 use Rattle.dms_forms.specs.declared.wanted.Wanted.TheVariants as wanted
-use Rattle.dms_description.specs.declared.forms.Form.{Form}
-use Rattle.dms_description.specs.declared.forms.Form.TheVariants as forms
+use Rattle.dms_causes.specs.declared.forms.Form.{Form}
+use Rattle.dms_causes.specs.declared.forms.Form.TheVariants as forms
 
 abbrev pub form_words : Form → List Wanted
 form_words forms.Size = wanted.Keyword keywords.Size ∷ wanted.Number 0 65535 ∷ wanted.Number 0 65535 ∷ []
@@ -26,7 +26,3 @@ form_words forms.Font = wanted.Keyword keywords.Font ∷ wanted.Number 1 255 ∷
 form_words forms.Glyph =
     wanted.Keyword keywords.Glyph ∷ wanted.Number 1 65535 ∷ wanted.Number 1 32 ∷ wanted.Octets names.Picture ∷ []
 form_words forms.End = wanted.Keyword keywords.End ∷ []
-
--- the lines with which a description begins
-abbrev pub head_forms : List Form
-head_forms = forms.Size ∷ forms.Communities ∷ forms.Rows ∷ forms.Order ∷ forms.Has ∷ forms.Defaults ∷ forms.First ∷ []
