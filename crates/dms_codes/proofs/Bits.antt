@@ -1,34 +1,25 @@
 -- Numbers as lists of bits, and sums of such lists.
-use Rattle.std.proofs.Common.{◌≡◌, ℕ, zero, suc, ◌+◌, ◌*◌, ◌/◌, ◌%◌, ◌^◌, ◌<◌, ◌≤◌, ◌⊎◌, ◌==◌, Bool, true, false, not, if◌then◌else◌, List, [], ◌∷◌, ◌++◌, length, map, take, drop, replicate, bit_xor, refl, ap, sym, ◌∙◌, inl, inr, arith, add-one}
+use Rattle.std.proofs.Common.{◌≡◌, ℕ, zero, suc, ◌+◌, ◌*◌, ◌/◌, ◌%◌, ◌^◌, ◌<◌, ◌≤◌, ◌⊎◌, ◌==◌, Bool, true, false, not, if◌then◌else◌, List, [], ◌∷◌, ◌++◌, length, map, take, drop, replicate, bit_xor, refl, ap, sym, ◌∙◌, arith, add-one}
 use Rattle.std.proofs.Math.Nat.{pow-suc}
 use Rattle.std.proofs.Math.Seq.{drop-nil}
 use Rattle.std.proofs.lemmas.Nat.{xor_shr, xor_mod, mod-pow-add}
 use Rattle.dms_codes.specs.Checksum.{low_bits, number, sum_of_bits, add}
 
 sum-false : (b : Bool) → sum_of_bits b false ≡ b
-sum-false true = refl
-sum-false false = refl
+sum-false b = grind arith
 
 sum_assoc : (a b c : Bool) → sum_of_bits a (sum_of_bits b c) ≡ sum_of_bits (sum_of_bits a b) c
-sum_assoc true true true = refl
-sum_assoc true true false = refl
-sum_assoc true false c = refl
-sum_assoc false b c = refl
+sum_assoc a b c = grind arith
 
 below_two : (n : ℕ) → n < 2 → (n ≡ 0) ⊎ (n ≡ 1)
-below_two zero h = inl refl
-below_two (suc zero) h = inr refl
-below_two (suc (suc n)) h = absurd (omega arith)
+below_two n h = grind arith
 
 lowest : (n : ℕ) → (n % 2 ≡ 0) ⊎ (n % 2 ≡ 1)
 lowest n = below_two (n % 2) (omega arith)
 
 -- of two bits, as numbers
 digit-xor : (x y : ℕ) → (x ≡ 0) ⊎ (x ≡ 1) → (y ≡ 0) ⊎ (y ≡ 1) → (bit_xor x y == 1) ≡ sum_of_bits (x == 1) (y == 1)
-digit-xor x y (inl p) (inl q) = rw (p, q) refl
-digit-xor x y (inl p) (inr q) = rw (p, q) refl
-digit-xor x y (inr p) (inl q) = rw (p, q) refl
-digit-xor x y (inr p) (inr q) = rw (p, q) refl
+digit-xor x y p q = grind arith
 
 -- the lowest bits of two numbers are added
 low_of_xor : (a b : ℕ) → (bit_xor a b % 2 == 1) ≡ sum_of_bits (a % 2 == 1) (b % 2 == 1)
@@ -55,21 +46,12 @@ low_bits-mod (suc count) n =
 -- the bits of a list's number
 pub low_bits-number : (bits : List Bool) → low_bits (length bits) (number bits) ≡ bits
 low_bits-number [] = refl
-low_bits-number (true ∷ bits) =
-    let low : (1 + number bits * 2) % 2 ≡ 1 = omega arith in
-    let half : (1 + number bits * 2) / 2 ≡ number bits = omega arith in
-    ap (λ m. (m == 1) ∷ low_bits (length bits) ((1 + number bits * 2) / 2)) low
-    ∙ ap (λ rest. true ∷ rest) (ap (low_bits (length bits)) half ∙ low_bits-number bits)
-low_bits-number (false ∷ bits) =
-    let low : (0 + number bits * 2) % 2 ≡ 0 = omega arith in
-    let half : (0 + number bits * 2) / 2 ≡ number bits = omega arith in
-    ap (λ m. (m == 1) ∷ low_bits (length bits) ((0 + number bits * 2) / 2)) low
-    ∙ ap (λ rest. false ∷ rest) (ap (low_bits (length bits)) half ∙ low_bits-number bits)
+low_bits-number (true ∷ bits) = grind (arith, low_bits-number bits)
+low_bits-number (false ∷ bits) = grind (arith, low_bits-number bits)
 
 -- one bit more, after those of which it is known
 inverted_step : (count n x : ℕ) → (n % 2 ≡ 0) ⊎ (n % 2 ≡ 1) → x + n / 2 + 1 ≡ 2 ^ count → (if not (n % 2 == 1) then 1 else 0) + x * 2 + n + 1 ≡ 2 ^ suc count
-inverted_step count n x (inl e) h = rw e (omega (arith, pow-suc 2 count))
-inverted_step count n x (inr e) h = rw e (omega (arith, pow-suc 2 count))
+inverted_step count n x p h = grind arith
 
 -- a number and its bits inverted make all ones
 pub number-map-not : (count n : ℕ) → n < 2 ^ count → number (map not (low_bits count n)) + n + 1 ≡ 2 ^ count
@@ -92,9 +74,7 @@ add_zeros (suc count) (b ∷ bits) = ap (λ rest. b ∷ rest) (add_zeros count b
 
 pub add-zeros : (count n : ℕ) → add (low_bits count n) (low_bits count 0) ≡ low_bits count n
 add-zeros zero n = refl
-add-zeros (suc count) n =
-    ap (λ bit. bit ∷ add (low_bits count (n / 2)) (low_bits count 0)) (sum-false (n % 2 == 1))
-    ∙ ap (λ rest. (n % 2 == 1) ∷ rest) (add-zeros count (n / 2))
+add-zeros (suc count) n = grind (arith, sum-false, add-zeros count (n / 2))
 
 pub add_assoc_bits : (a b c : List Bool) → length a ≤ length b → add a (add b c) ≡ add (add a b) c
 add_assoc_bits [] b c h = refl

@@ -1,5 +1,5 @@
 -- How a division goes over the octets of a message.
-use Rattle.std.proofs.Common.{◌≡◌, ℕ, zero, suc, ◌+◌, ◌-◌, ◌^◌, ◌<◌, ◌≤◌, Bool, true, false, not, List, [], ◌∷◌, ◌++◌, length, map, take, drop, flat_map, get_or, refl, ap, sym, subst, ◌∙◌, arith, append_assoc, length-append, length-drop, zero-add}
+use Rattle.std.proofs.Common.{◌≡◌, ℕ, zero, suc, ◌+◌, ◌-◌, ◌^◌, ◌<◌, ◌≤◌, Bool, true, false, not, List, [], ◌∷◌, ◌++◌, length, map, take, drop, flat_map, get_or, ap, sym, subst, ◌∙◌, arith, append_assoc, length-append, length-drop, zero-add}
 use Rattle.std.proofs.Math.Nat.{suc-add}
 use Rattle.std.proofs.lemmas.List.{drop_all, take_more, flat_map_more}
 use Rattle.std.proofs.lemmas.Grind.{flat_map-append}
@@ -14,8 +14,7 @@ length-divided (suc count) (true ∷ bits) = omega (arith, length-divided count 
 length-divided (suc count) (false ∷ bits) = omega (arith, length-divided count bits)
 
 divided-nil : (count : ℕ) → divided count [] ≡ []
-divided-nil zero = refl
-divided-nil (suc count) = refl
+divided-nil count = grind arith
 
 -- a division in two parts
 divided-add : (m n : ℕ) (bits : List Bool) → divided (m + n) bits ≡ divided n (divided m bits)
@@ -44,14 +43,7 @@ divided_front (suc count) (true ∷ front) rest h =
 
 -- bits, and then more of them
 pub takes_both : (bits more : List Bool) (before between after : ℕ) → TakesIn bits before between → TakesIn more between after → TakesIn (bits ++ more) before after
-takes_both bits more before between after first second = record {
-  leaves = λ rest.
-      ap (λ count. divided count (add (low_bits 16 before) ((bits ++ more) ++ rest))) (length-append bits more)
-      ∙ divided-add (length bits) (length more) (add (low_bits 16 before) ((bits ++ more) ++ rest))
-      ∙ ap (λ all. divided (length more) (divided (length bits) (add (low_bits 16 before) all))) (append_assoc bits more rest)
-      ∙ ap (divided (length more)) (first.leaves (more ++ rest))
-      ∙ second.leaves rest;
-}
+takes_both bits more before between after first second = grind (arith, length-append, divided-add, append_assoc)
 
 -- one more octet
 pub takes_more : (octets : List ℕ) (i before between after : ℕ)

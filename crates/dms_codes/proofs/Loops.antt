@@ -1,7 +1,7 @@
 -- Loops that write each element of a list.
 use Rattle.std.proofs.Common.{◌≡◌, ℕ, zero, suc, ◌+◌, ◌<◌, ◌≤◌, Bool, true, false, cond, List, [], ◌∷◌, map, length, get_or, set, take, Some, None, All, refl, ap, subst, ◌∙◌, sym, arith, add-one}
-use Rattle.std.specs.Prelude.{position, nat_lt}
-use Rattle.std.specs.List.{position_from, position_or_len}
+use Rattle.std.specs.Prelude.{position}
+use Rattle.std.specs.List.{position_from}
 use Rattle.std.proofs.lemmas.List.Sums.{position_or_len_is}
 use Rattle.std.proofs.lemmas.Bool.{lt-ltb}
 use Rattle.std.proofs.lemmas.List.{take_more, get_or-take, length-take-le}
@@ -34,11 +34,7 @@ set-mapped_up_to f (suc n) (x ∷ xs) d = ap (λ ys. f x ∷ ys) (set-mapped_up_
 
 -- one element more
 pub mapped_more : {A : Type 0} (f : A → A) (n : ℕ) (xs ys : List A) (d y : A) → ys ≡ mapped_up_to f n xs → y ≡ f (get_or ys n d) → set ys n y ≡ mapped_up_to f (n + 1) xs
-mapped_more f n xs ys d y so_far becomes =
-    let read : get_or (mapped_up_to f n xs) n d ≡ get_or xs n d = get_or-mapped_up_to f n xs d in
-    let step : set (mapped_up_to f n xs) n (f (get_or xs n d)) ≡ mapped_up_to f (suc n) xs = set-mapped_up_to f n xs d in
-    let next : n + 1 ≡ suc n = add-one n in
-    cc
+mapped_more f n xs ys d y so_far becomes = grind (arith, get_or, get_or-mapped_up_to, set-mapped_up_to, add-one)
 
 -- ---- what holds of each
 
@@ -48,8 +44,7 @@ all_more P n xs d within before here =
 
 none_after : {A : Type 0} (p : A → Bool) (b : Bool) (i : ℕ) (x : A) (xs : List A) → p x ≡ b → (position_from p (i + 1) xs ≡ None → All (λ x. p x ≡ false) xs)
     → cond b (Some i) (position_from p (i + 1) xs) ≡ None → All (λ x. p x ≡ false) (x ∷ xs)
-none_after p true i x xs is more h = cc
-none_after p false i x xs is more h = All-cons (λ x. p x ≡ false) x xs is (more h)
+none_after p b i x xs is more h = grind arith
 
 none_from : {A : Type 0} (p : A → Bool) (i : ℕ) (xs : List A) → position_from p i xs ≡ None → All (λ x. p x ≡ false) xs
 none_from p i [] h = λ k d within. absurd (omega arith)
@@ -61,12 +56,7 @@ none_passes p xs h = none_from p 0 xs (sym (position_from-zero p xs) ∙ h)
 
 -- the place of the first element that passes
 pub found_at : {A : Type 0} (p : A → Bool) (xs : List A) (i : ℕ) (d : A) → i < length xs → All (λ x. p x ≡ false) (take i xs) → p (get_or xs i d) ≡ true → position p xs ≡ Some i
-found_at p xs i d within before here =
-    let failed : (k : ℕ) → k < i → p (get_or xs k d) ≡ false = λ k h. subst (λ x. p x ≡ false) (get_or-take i xs k d h) (before k d (omega (arith, length-take-le i xs (omega arith)))) in
-    let place : position_or_len p xs ≡ i = position_or_len_is p xs i d (omega arith) failed (λ _. here) in
-    let found : position p xs ≡ cond (nat_lt i (length xs)) (Some i) None = ap (λ n. cond (nat_lt n (length xs)) (Some n) None) place in
-    let less : nat_lt i (length xs) ≡ true = lt-ltb i (length xs) within in
-    found ∙ ap (λ b. cond b (Some i) None) less
+found_at p xs i d within before here = grind (arith, get_or, get_or-take, length-take-le, position_or_len_is, lt-ltb)
 
 nowhere_from : {A : Type 0} (p : A → Bool) (i : ℕ) (xs : List A) → All (λ x. p x ≡ false) xs → position_from p i xs ≡ None
 nowhere_from p i [] each = refl

@@ -5,9 +5,7 @@ use Rattle.dms_codes.proofs.Division.{takes_more, message_checksum_is}
 use Rattle.dms_codes.proofs.checksum.crc.Goals as goal
 
 pub loop-octet-preserved : goal.loop-octet-preserved
-loop-octet-preserved c =
-    takes_more c.args.text.now c.loop-octet.octet-index 65535 c.loop-octet.register c.register_after-register.result
-    c.loop-octet-test.true c.loop-octet.invariant c.register_after-register.ensures
+loop-octet-preserved c = grind (arith, takes_more)
 
 pub returns : goal.returns
 returns c =

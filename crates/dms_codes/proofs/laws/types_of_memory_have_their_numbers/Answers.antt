@@ -1,4 +1,4 @@
-use Rattle.std.proofs.Common.{◌≡◌, ℕ, ◌==◌, Bool, true, false, cond, Option, Some, None, refl, ap, sym, ◌∙◌}
+use Rattle.std.proofs.Common.{◌≡◌, ℕ, ◌==◌, Bool, true, false, cond, Option, Some, None, refl, ap, sym, ◌∙◌, arith}
 use Rattle.std.proofs.lemmas.Bool.{eqb-true}
 use Rattle.dms_codes.specs.declared.memory.Memory.{Memory}
 use Rattle.dms_codes.specs.declared.memory.Memory.TheVariants.{Permanent, Changeable, Volatile, CurrentBuffer, Blank}
@@ -21,11 +21,7 @@ found number memory e =
     (first (number == 7) number Blank memory None refl (λ none. absurd (cc)))))) e
 
 back : (memory : Memory) → memory_of (memory_number memory) ≡ Some memory
-back Permanent = refl
-back Changeable = refl
-back Volatile = refl
-back CurrentBuffer = refl
-back Blank = refl
+back memory = grind arith
 
 pub returns : goal.returns
 returns c = λ number memory. (found number memory, λ e. ap memory_of (sym e) ∙ back memory)
