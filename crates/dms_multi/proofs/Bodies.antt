@@ -5,7 +5,6 @@ use Rattle.std.specs.Char.{to_ascii_lowercase}
 use Rattle.std.specs.List.{list_all}
 use Rattle.std.specs.Str.{str_to_ascii_lowercase}
 use Rattle.std.proofs.lemmas.Bool.{eqb-true, and_parts, not-true}
-use Rattle.dms_codes.proofs.Options.{mapped_some}
 use Rattle.dms_multi.specs.declared.fault.FaultCode.TheVariants.{UnsupportedTagValue}
 use Rattle.dms_multi.specs.declared.tag.TagName.{TagName}
 use Rattle.dms_multi.specs.declared.tag.TagName.TheVariants.{Cb, Pb, Cf, Fo, Fl, EndFl, Hc, Jl, Jp, Nl, Np, Pt}
@@ -24,13 +23,10 @@ use Rattle.dms_multi.proofs.Tags.{spelling, HasName, name_found, name_again}
 -- ---- what is found is spelled so
 
 made : {A : Type 0} (make : A → Item) (o : Option A) (item : Item) (body : List ℕ) → ((v : A) → o ≡ Some v → TagBody (make v) body) → option_map make o ≡ Some item → TagBody item body
-made make o item body spelled e =
-    let found = mapped_some make o item e in
-    subst (λ (i : Item). TagBody i body) found.2 (spelled found.0 found.1)
+made make o item body spelled e = grind arith
 
 alone_found : (i item : Item) (value : List ℕ) → item_alone i value ≡ Some item → (value ≡ []) × (i ≡ item)
-alone_found i item [] e = let same : i ≡ item = cc in (refl, same)
-alone_found i item (c ∷ cs) e = absurd cc
+alone_found i item value e = grind arith
 
 flash_found : (word value : List ℕ) (item : Item) → Word (codes "fl") word → flash_of value ≡ Some item → TagBody item (word ++ value)
 unfolding flash_of
@@ -59,28 +55,10 @@ flash_found word (c ∷ rest) item is e = elim (chosen (to_ascii_lowercase c == 
 
 spelled_by : (name : TagName) (word value : List ℕ) (item : Item) → Word (spelling name) word → item_of name value ≡ Some item → TagBody item (word ++ value)
 unfolding item_of page_time_of
-spelled_by Cb word value item is e = made Background _ item (word ++ value) (λ v found. record { front = word; back = value; first = inl is; second = value_found 0 9 v value found; parts = refl }) e
-spelled_by Pb word value item is e = made Background _ item (word ++ value) (λ v found. record { front = word; back = value; first = inr is; second = value_found 0 9 v value found; parts = refl }) e
-spelled_by Cf word value item is e = made Foreground _ item (word ++ value) (λ v found. record { front = word; back = value; first = is; second = value_found 0 9 v value found; parts = refl }) e
-spelled_by Fo word value item is e = made Font _ item (word ++ value) (λ v found. record { front = word; back = value; first = is; second = font_found v value found; parts = refl }) e
-spelled_by Fl word value item is e = flash_found word value item is e
-spelled_by EndFl word value item is e =
-    let found = alone_found FlashEnd item value e in
-    let whole : word ++ value ≡ word = ap (λ v. word ++ v) found.0 ∙ append-nil word in
-    subst (λ (i : Item). TagBody i (word ++ value)) found.1 (ap str_to_ascii_lowercase whole ∙ is)
-spelled_by Hc word value item is e = made Char _ item (word ++ value) (λ v found. record { front = word; back = value; first = is; second = number_found 16 4 v value found; parts = refl }) e
-spelled_by Jl word value item is e = made JustLine _ item (word ++ value) (λ v found. record { front = word; back = value; first = is; second = value_found 2 4 v value found; parts = refl }) e
-spelled_by Jp word value item is e = made JustPage _ item (word ++ value) (λ v found. record { front = word; back = value; first = is; second = value_found 2 4 v value found; parts = refl }) e
-spelled_by Nl word value item is e = made NewLine _ item (word ++ value) (λ v found. record { front = word; back = value; first = is; second = value_found 0 9 v value found; parts = refl }) e
-spelled_by Np word value item is e =
-    let found = alone_found NewPage item value e in
-    let whole : word ++ value ≡ word = ap (λ v. word ++ v) found.0 ∙ append-nil word in
-    subst (λ (i : Item). TagBody i (word ++ value)) found.1 (ap str_to_ascii_lowercase whole ∙ is)
-spelled_by Pt word value item is e = made (λ (t : TwoTimes). PageTime t.first t.second) _ item (word ++ value) (λ t found. record { front = word; back = value; first = is; second = times_found 111 255 value t found; parts = refl }) e
+spelled_by name word value item is e = grind (arith, made, value_found, font_found, flash_found, alone_found, append-nil, number_found, times_found)
 
 ok_or_found : {A E : Type 0} (o : Option A) (code : E) (x : A) → ok_or o code ≡ Ok x → o ≡ Some x
-ok_or_found None code x e = absurd cc
-ok_or_found (Some y) code x e = cc
+ok_or_found o code x e = grind arith
 
 body_found_in : (body : List ℕ) (item : Item) (o : Option (TagName × List ℕ)) → ((name : TagName) (value : List ℕ) → o ≡ Some (name, value) → HasName name body value) → body_in o ≡ Ok item → TagBody item body
 body_found_in body item None named e = absurd cc
@@ -160,8 +138,7 @@ free_parts : (body front back : List ℕ) → body ≡ front ++ back → IsFree 
 free_parts body front back parts first second = subst (IsFree 93) (sym parts) (free_append 93 front back first second)
 
 free_later : (letter : List ℕ) (high : ℕ) (time : Option ℕ) (text : List ℕ) → list_all (λ c. not (eqb c 93)) letter ≡ true → LaterTime letter high time text → IsFree 93 text
-free_later letter high time text test (inl later) = free_parts text later.front later.back later.parts (free_name letter later.front test later.first) (free_value 93 0 high time later.back (omega arith) later.second)
-free_later letter high time text test (inr nothing) = subst (IsFree 93) (sym nothing.1) tt
+free_later letter high time text test p = grind (arith, free_parts, free_name, free_value)
 
 free_times : (letter : List ℕ) (high : ℕ) (first second : Option ℕ) (text : List ℕ) → list_all (λ c. not (eqb c 93)) letter ≡ true → Times letter high first second text → IsFree 93 text
 free_times letter high first second text test times = free_parts text times.front times.back times.parts (free_value 93 0 high first times.front (omega arith) times.first) (free_later letter high second times.back test times.second)
@@ -169,10 +146,7 @@ free_times letter high first second text test times = free_parts text times.fron
 free_font : (font : Option (ℕ × Option ℕ)) (text : List ℕ) → FontValue font text → IsFree 93 text
 free_font None text nothing = subst (IsFree 93) (sym nothing) tt
 free_font (Some (n, None)) text number = free_digits 10 93 text (omega arith) number.spelled.numeral.1
-free_font (Some (n, Some version)) text parts =
-    let tail = parts.second in
-    free_parts text parts.front parts.back parts.parts (free_digits 10 93 parts.front (omega arith) parts.first.spelled.numeral.1)
-    (free_parts parts.back tail.front tail.back tail.parts (subst (IsFree 93) (sym tail.first) (refl, tt)) (free_digits 16 93 tail.back (omega arith) tail.second.spelled.numeral.1))
+free_font (Some (n, Some version)) text parts = grind (arith, free_digits, free_parts)
 
 free_flash : (first : Lead) (lit dark : Option ℕ) (text : List ℕ) → FlashTimes first lit dark text → IsFree 93 text
 free_flash Lit lit dark text (inl nothing) = subst (IsFree 93) (sym nothing.2) tt

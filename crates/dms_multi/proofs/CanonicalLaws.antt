@@ -5,7 +5,6 @@ use Rattle.std.specs.Char.{digit_value}
 use Rattle.std.specs.Fmt.{digits, digit_glyph}
 use Rattle.std.specs.Str.{str_to_ascii_lowercase}
 use Rattle.std.specs.Str.Parse.{digits_value}
-use Rattle.std.proofs.lemmas.Bool.Decides.{nat_tests}
 use Rattle.std.proofs.lemmas.Fmt.{decimal_is_IsNumeral, length-decimal-le, digits_is_IsNumeral}
 use Rattle.std.proofs.lemmas.List.{length-drop}
 use Rattle.std.proofs.lemmas.List.Folds.{length-flat_map-take}
@@ -44,8 +43,7 @@ times_spelled letter high first second small fits one two = record { front = val
 -- ---- hexadecimal digits
 
 glyph_value : (upper : Bool) (d : ℕ) → d < 16 → digit_value (digit_glyph upper d) ≡ d
-glyph_value true d small = grind (arith, nat_tests)
-glyph_value false d small = grind (arith, nat_tests)
+glyph_value upper d small = grind arith
 
 four_spelled : (n : ℕ) → n < 2 ^ 16 → SpellsVersion n (hexadecimal_text false n)
 four_spelled n small =
@@ -113,17 +111,10 @@ body_spelled NewPage within = refl
 body_spelled (PageTime lit dark) within = record { front = codes "pt"; back = value_text lit ++ later_time_text (codes "o") dark; first = refl; second = times_spelled (codes "o") 255 lit dark refl (omega arith) within.0 within.1; parts = refl }
 
 tag_spelled : (item : Item) → IsInRange item → ItemSpells item (tag_text item)
-tag_spelled item within = inr (record {
-  front = codes "[";
-  back = body_text item ++ codes "]";
-  first = refl;
-  second = record { front = body_text item; back = codes "]"; first = body_spelled item within; second = refl; parts = refl };
-  parts = refl;
-})
+tag_spelled item within = grind (arith, body_spelled)
 
 either_spelled : (item : Item) (t : Bool) (one other : List ℕ) → ItemSpells item one → ItemSpells item other → ItemSpells item (cond t one other)
-either_spelled item true one other first second = first
-either_spelled item false one other first second = second
+either_spelled item t one other first second = grind arith
 
 item_spelled : (item : Item) → IsInRange item → ItemSpells item (item_text item)
 unfolding item_text

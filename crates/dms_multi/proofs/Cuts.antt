@@ -3,7 +3,7 @@ use Rattle.std.proofs.Common.{◌≡◌, ℕ, suc, ◌+◌, ◌==◌, Bool, true
 use mathlib.Core.Path.{fun_ext}
 use Rattle.std.specs.Char.{to_ascii_lowercase, is_ascii_alphabetic}
 use Rattle.std.specs.List.{prefix_len, position}
-use Rattle.std.proofs.lemmas.Bool.{eqb-true, eq-eqb, lt-ltb, le-ltb, ltb-true, ltb-false}
+use Rattle.std.proofs.lemmas.Bool.{eqb-true, eq-eqb, lt-ltb}
 use Rattle.std.proofs.lemmas.Bool.Decides.{nat_tests}
 use Rattle.dms_text.specs.Words.{index_of}
 use Rattle.dms_multi.specs.Reading.{is_letter, cut}
@@ -35,15 +35,7 @@ pieces_here : (c : ℕ) (cs : List ℕ) → pieces 0 (c ∷ cs) ≡ Some ([], cs
 pieces_here c cs = let some : ltb 0 (suc (length cs)) ≡ true = lt-ltb _ _ (omega arith) in rw some refl
 
 pieces_later : (b : Bool) (n c : ℕ) (cs : List ℕ) → ltb n (length cs) ≡ b → pieces (1 + n) (c ∷ cs) ≡ option_map (with_front c) (pieces n cs)
-pieces_later true n c cs e =
-    let one : 1 + n ≡ suc n = omega arith in
-    let within : ltb (suc n) (suc (length cs)) ≡ true = lt-ltb _ _ (omega (arith, ltb-true _ _ e)) in
-    let more : suc n + 1 ≡ suc (n + 1) = omega arith in
-    rw (one, within, e, more) refl
-pieces_later false n c cs e =
-    let one : 1 + n ≡ suc n = omega arith in
-    let past : ltb (suc n) (suc (length cs)) ≡ false = le-ltb _ _ (omega (arith, ltb-false _ _ e)) in
-    rw (one, past, e) refl
+pieces_later b n c cs e = grind arith
 
 cut_here : (letter c : ℕ) (cs : List ℕ) → is_letter letter c ≡ true → cut letter (c ∷ cs) ≡ Some ([], cs)
 cut_here letter c cs e = cut_is letter (c ∷ cs) ∙ (rw e (pieces_here c cs))
@@ -88,14 +80,7 @@ found_later letter x xs front back (Some (f, b)) ih e =
     }
 
 found_first : (b : Bool) (letter x : ℕ) (xs front back : List ℕ) → is_letter letter x ≡ b → ((f b : List ℕ) → cut letter xs ≡ Some (f, b) → IsCut letter xs f b) → cut letter (x ∷ xs) ≡ Some (front, back) → IsCut letter (x ∷ xs) front back
-found_first true letter x xs front back here ih e =
-    let pair : ([], xs) ≡ (front, back) = let both : Some ([], xs) ≡ Some (front, back) = sym (cut_here letter x xs here) ∙ e in cc in
-    record {
-      octet = x;
-      is = eqb-true _ _ here;
-      parts = ap (λ t. x ∷ t) (ap (λ (p : List ℕ × List ℕ). p.1) pair) ∙ ap (λ t. t ++ x ∷ back) (ap (λ (p : List ℕ × List ℕ). p.0) pair);
-    }
-found_first false letter x xs front back later ih e = found_later letter x xs front back (cut letter xs) ih (sym (cut_later letter x xs later) ∙ e)
+found_first b letter x xs front back here ih e = grind (arith, cut_here, eqb-true, found_later, cut_later)
 
 pub cut_found : (letter : ℕ) (text front back : List ℕ) → cut letter text ≡ Some (front, back) → IsCut letter text front back
 cut_found letter [] front back e = absurd (let never : None ≡ Some (front, back) = sym (cut_is letter []) ∙ e in cc)

@@ -1,35 +1,23 @@
 -- The hexadecimal digits of a number of 16 bits.
-use Rattle.std.proofs.Common.{◌≡◌, ℕ, suc, ◌/◌, ◌%◌, ◌<◌, ◌≤◌, ◌^◌, Bool, true, false, eqb, List, [], ◌∷◌, drop, refl, sym, ap, ◌∙◌, inl, inr, arith}
+use Rattle.std.proofs.Common.{◌≡◌, ℕ, suc, ◌/◌, ◌%◌, ◌<◌, ◌≤◌, ◌^◌, Bool, true, List, [], ◌∷◌, drop, refl, sym, ap, ◌∙◌, arith}
 use Rattle.std.specs.Fmt.{digits, digits_onto, digit_glyph}
-use Rattle.std.proofs.lemmas.Bool.{ne_eqb, eq-eqb, lt-ltb, le-ltb, cases_lt}
+use Rattle.std.proofs.lemmas.Bool.{lt-ltb, le-ltb, cases_lt}
 use Rattle.dms_multi.specs.Canonical.{hexadecimal_text, leading_zeros}
 
 -- one more digit, and the first one
 onto_more : (k n : ℕ) (upper : Bool) (more : List ℕ) → 16 ≤ n → digits_onto (suc k) 16 upper n more ≡ digits_onto k 16 upper (n / 16) (digit_glyph upper (n % 16) ∷ more)
-onto_more k n upper more large =
-    let some : eqb (n / 16) 0 ≡ false = ne_eqb _ _ (λ e. omega arith) in
-    rw some refl
+onto_more k n upper more large = grind arith
 
 onto_last : (k n : ℕ) (upper : Bool) (more : List ℕ) → n < 16 → digits_onto (suc k) 16 upper n more ≡ digit_glyph upper n ∷ more
-onto_last k n upper more small =
-    let none : eqb (n / 16) 0 ≡ true = eq-eqb _ _ (omega arith) in
-    let same : n % 16 ≡ n = omega arith in
-    rw (none, same) refl
+onto_last k n upper more small = grind arith
 
 one_digit : (n : ℕ) → n < 16 → digits 16 true n ≡ drop (leading_zeros n) (hexadecimal_text true n)
 unfolding digits
-one_digit n small =
-    let first : leading_zeros n ≡ 3 = rw (lt-ltb n 16 small) refl in
-    let low : n ≡ n % 16 = omega arith in
-    onto_last 63 n true [] small ∙ ap (λ k. digit_glyph true k ∷ []) low ∙ ap (λ k. drop k (hexadecimal_text true n)) (sym first)
+one_digit n small = grind arith
 
 two_digits : (n : ℕ) → 16 ≤ n → n < 256 → digits 16 true n ≡ drop (leading_zeros n) (hexadecimal_text true n)
 unfolding digits
-two_digits n large small =
-    let first : leading_zeros n ≡ 2 = rw (le-ltb n 16 large, lt-ltb n 256 small) refl in
-    let top : n / 16 < 16 = omega arith in
-    let high : n / 16 ≡ n / 16 % 16 = omega arith in
-    onto_more 63 n true [] large ∙ onto_last 62 (n / 16) true _ top ∙ ap (λ k. digit_glyph true k ∷ digit_glyph true (n % 16) ∷ []) high ∙ ap (λ k. drop k (hexadecimal_text true n)) (sym first)
+two_digits n large small = grind arith
 
 three_digits : (n : ℕ) → 256 ≤ n → n < 4096 → digits 16 true n ≡ drop (leading_zeros n) (hexadecimal_text true n)
 unfolding digits
@@ -57,13 +45,4 @@ all_digits n large small =
 
 -- a number's digits are its four without the leading zeros
 pub digits_dropped : (n : ℕ) → n < 2 ^ 16 → digits 16 true n ≡ drop (leading_zeros n) (hexadecimal_text true n)
-digits_dropped n small = elim (cases_lt n 16) [
-  | inl one ↦ one_digit n one
-  | inr more ↦ elim (cases_lt n 256) [
-    | inl two ↦ two_digits n more two
-    | inr still ↦ elim (cases_lt n 4096) [
-      | inl three ↦ three_digits n still three
-      | inr four ↦ all_digits n four small
-    ]
-  ]
-]
+digits_dropped n small = grind (arith, cases_lt, one_digit, two_digits, three_digits, all_digits)

@@ -1,5 +1,5 @@
 -- The item at the front of a text: what is read is spelled so, what is spelled so is read, and no spelling begins another.
-use Rattle.std.proofs.Common.{◌≡◌, ℕ, ◌<◌, Bool, true, false, ◌==◌, eqb, List, [], ◌∷◌, ◌++◌, Option, Some, None, Result, Ok, Err, refl, sym, ap, ◌∙◌, inl, inr, arith, subst, append-nil, append_assoc}
+use Rattle.std.proofs.Common.{◌≡◌, ℕ, ◌<◌, Bool, false, ◌==◌, eqb, List, [], ◌∷◌, ◌++◌, Option, Some, None, Result, Ok, Err, refl, sym, ap, ◌∙◌, inl, inr, arith, subst, append-nil, append_assoc}
 use Rattle.std.proofs.lemmas.Bool.{eqb-true}
 use Rattle.dms_multi.specs.declared.fault.FaultCode.{FaultCode}
 use Rattle.dms_multi.specs.declared.fault.FaultCode.TheVariants.{UnsupportedTag}
@@ -25,10 +25,7 @@ front_is : (text : List ℕ) (x y : Item × List ℕ) → IsFront text x → x �
 front_is text x y front e = subst (IsFront text) e front
 
 before_found : (rest : List ℕ) (r : Result Item FaultCode) (x : Item × List ℕ) → with_rest rest r ≡ Ok x → (r ≡ Ok x.0) × (rest ≡ x.1)
-before_found rest (Err code) x e = absurd cc
-before_found rest (Ok item) x e =
-    let pair : (item, rest) ≡ x = cc in
-    (ap (λ (p : Item × List ℕ). Ok p.0) pair, ap (λ (p : Item × List ℕ). p.1) pair)
+before_found rest r x e = grind arith
 
 tag_found_in : (text : List ℕ) (o : Option (List ℕ × List ℕ)) (x : Item × List ℕ) → ((body rest : List ℕ) → o ≡ Some (body, rest) → IsCut 93 text body rest) → tag_in o ≡ Ok x → IsFront (91 ∷ text) x
 tag_found_in text None x pieces e = absurd cc
@@ -93,15 +90,10 @@ item_found (c ∷ cs) x e = elim (chosen (c == 91) e) [
 
 plain_again : (t u : Bool) (c : ℕ) (rest : List ℕ) → eqb c 91 ≡ t → eqb c 93 ≡ u → item_at (plain c ++ rest) ≡ Ok (Char c, rest)
 unfolding item_at item_after_opening item_after_closing
-plain_again true u c rest opening closing = subst (λ (k : ℕ). item_at (plain k ++ rest) ≡ Ok (Char k, rest)) (sym (eqb-true c 91 opening)) refl
-plain_again false true c rest opening closing = subst (λ (k : ℕ). item_at (plain k ++ rest) ≡ Ok (Char k, rest)) (sym (eqb-true c 93 closing)) refl
-plain_again false false c rest opening closing =
-    let other : item_at (c ∷ rest) ≡ Ok (Char c, rest) = rw (opening, closing) refl in
-    ap (λ t. item_at (t ++ rest)) (plain_other c opening closing) ∙ other
+plain_again t u c rest opening closing = grind arith
 
 plain_item_again : (item : Item) (piece rest : List ℕ) → IsPlain item piece → item_at (piece ++ rest) ≡ Ok (item, rest)
-plain_item_again (Char c) piece rest is = ap (λ t. item_at (t ++ rest)) is ∙ plain_again (eqb c 91) (eqb c 93) c rest refl refl
-plain_item_again _ piece rest never = absurd never
+plain_item_again item piece rest is = grind (arith, plain_again)
 
 pub opened_tag : (c d : ℕ) (cs body more : List ℕ) → body ≡ c ∷ d ∷ cs → eqb c 91 ≡ false → item_at (91 ∷ (body ++ more)) ≡ tag_at (body ++ more)
 unfolding item_at item_after_opening
@@ -124,9 +116,7 @@ item_again item piece rest (inr tag) =
 -- ---- no spelling begins another
 
 pub same_item : (i j : Item) (x y : List ℕ) (r : Result (Item × List ℕ) FaultCode) → r ≡ Ok (i, x) → r ≡ Ok (j, y) → (i ≡ j) × (x ≡ y)
-same_item i j x y r first second =
-    let pair : (i, x) ≡ (j, y) = let both : Ok (i, x) ≡ Ok (j, y) = sym first ∙ second in cc in
-    (ap (λ (p : Item × List ℕ). p.0) pair, ap (λ (p : Item × List ℕ). p.1) pair)
+same_item i j x y r first second = grind arith
 
 pub begins_none : (i j : Item) (a x : List ℕ) → ItemSpells i a → ItemSpells j (a ++ x) → (i ≡ j) × (x ≡ [])
 begins_none i j a x first second =

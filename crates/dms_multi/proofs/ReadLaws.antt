@@ -1,5 +1,5 @@
 -- The items and the fault that are read of a text, against the grammar.
-use Rattle.std.proofs.Common.{◌≡◌, ℕ, ◌<◌, ◌≤◌, ◌^◌, Bool, true, false, cond, List, [], ◌∷◌, ◌++◌, length, take, map, Option, Some, None, refl, sym, ap, ◌∙◌, inl, inr, arith, subst}
+use Rattle.std.proofs.Common.{◌≡◌, ℕ, ◌<◌, ◌≤◌, ◌^◌, List, [], ◌∷◌, ◌++◌, take, map, Option, Some, None, refl, sym, ap, ◌∙◌, arith, subst}
 use Rattle.std.specs.Prelude.{All, codes}
 use Rattle.std.proofs.Math.Nat.{pow-le-pow_right}
 use Rattle.std.proofs.lemmas.Int.Digits.{digits_value-lt}
@@ -8,7 +8,6 @@ use Rattle.dms_multi.specs.declared.fault.SyntaxFault.{SyntaxFault}
 use Rattle.dms_multi.specs.declared.item.Item.{Item}
 use Rattle.dms_multi.specs.declared.item.Item.TheVariants.{Char, Background, Foreground, Font, FlashOn, FlashEnd, JustLine, JustPage, NewLine, NewPage, PageTime}
 use Rattle.dms_multi.specs.declared.item.Lead.{Lead}
-use Rattle.dms_multi.specs.declared.item.Lead.TheVariants.{Lit, Dark}
 use Rattle.dms_multi.specs.declared.spots.Spot.{Spot}
 use Rattle.dms_multi.specs.Range.{IsWithin}
 use Rattle.dms_multi.specs.Item.{IsFontInRange, IsInRange}
@@ -39,8 +38,7 @@ fault_is : (text : List ℕ) (r : IsReading text (outcomes_of text)) → syntax_
 fault_is text r = ap fault_in r.parts ∙ fault_in_outcomes r.spots r.fault
 
 spelled_read : (items : List Item) (text : List ℕ) (spots : List Spot) (f : Option SyntaxFault) → TextSpells items text → ReadsAs text spots f → (map (λ (s : Spot). s.item) spots ≡ items) × (f ≡ None)
-spelled_read items text spots None spelled reads = (one_list _ items text (text_of_spots 0 spots text reads) spelled, refl)
-spelled_read items text spots (Some f) spelled reads = absurd (reads.1.none items spelled)
+spelled_read items text spots f spelled reads = grind (arith, one_list, text_of_spots)
 
 pub items_read : (items : List Item) (text : List ℕ) → TextSpells items text → (items_of text ≡ items) × (syntax_fault text ≡ None)
 items_read items text spelled =
@@ -49,8 +47,7 @@ items_read items text spelled =
     (items_are text r ∙ both.0, fault_is text r ∙ both.1)
 
 no_fault : (text : List ℕ) (spots : List Spot) (f : Option SyntaxFault) → f ≡ None → ReadsAs text spots f → TextSpells (map (λ (s : Spot). s.item) spots) text
-no_fault text spots None none reads = text_of_spots 0 spots text reads
-no_fault text spots (Some f) none reads = absurd cc
+no_fault text spots f s reads = grind (arith, text_of_spots)
 
 pub items_spelled : (text : List ℕ) → syntax_fault text ≡ None → TextSpells (items_of text) text
 items_spelled text none =
@@ -58,10 +55,7 @@ items_spelled text none =
     subst (λ (items : List Item). TextSpells items text) (sym (items_are text r)) (no_fault text r.spots r.fault (sym (fault_is text r) ∙ none) r.reads)
 
 one_fault : (text : List ℕ) (spots : List Spot) (f : Option SyntaxFault) (fault : SyntaxFault) → f ≡ Some fault → ReadsAs text spots f → IsSyntaxFault text fault × TextSpells (map (λ (s : Spot). s.item) spots) (take fault.place text)
-one_fault text spots None fault same reads = absurd cc
-one_fault text spots (Some f) fault same reads =
-    let equal : f ≡ fault = cc in
-    subst (λ (g : SyntaxFault). IsSyntaxFault text g × TextSpells (map (λ (s : Spot). s.item) spots) (take g.place text)) equal (reads.1, text_of_spots 0 spots (take f.place text) reads.0)
+one_fault text spots f fault same reads = grind (arith, text_of_spots)
 
 pub fault_read : (text : List ℕ) (fault : SyntaxFault) → syntax_fault text ≡ Some fault → IsSyntaxFault text fault × TextSpells (items_of text) (take fault.place text)
 fault_read text fault same =
@@ -76,14 +70,10 @@ value_within low high None text nothing = tt
 value_within low high (Some n) text number = (number.least, number.greatest)
 
 later_within : (letter : List ℕ) (high : ℕ) (time : Option ℕ) (text : List ℕ) → LaterTime letter high time text → IsWithin 0 high time
-later_within letter high time text (inl later) = value_within 0 high time later.back later.second
-later_within letter high time text (inr nothing) = subst (IsWithin 0 high) (sym nothing.0) tt
+later_within letter high time text p = grind (arith, value_within)
 
 digits_within : (n : ℕ) (text : List ℕ) → SpellsNumber 16 4 n text → n ≤ 65535
-digits_within n text digits =
-    let some : 0 < 16 = omega arith in
-    let most : 16 ^ length text ≤ 16 ^ 4 = pow-le-pow_right {n = 16} some {i = length text} {j = 4} digits.few in
-    omega (arith, digits_value-lt 16 text digits.numeral.1, most, digits.value)
+digits_within n text digits = grind (arith, pow-le-pow_right, digits_value-lt)
 
 font_within : (font : Option (ℕ × Option ℕ)) (text : List ℕ) → FontValue font text → IsFontInRange font
 font_within None text nothing = tt
@@ -94,9 +84,7 @@ font_within (Some (n, Some version)) text parts =
     (parts.first.least, parts.first.greatest, (none, small))
 
 flash_within : (first : Lead) (lit dark : Option ℕ) (text : List ℕ) → FlashTimes first lit dark text → IsWithin 0 99 lit × IsWithin 0 99 dark
-flash_within Lit lit dark text (inl nothing) = (subst (IsWithin 0 99) (sym nothing.0) tt, subst (IsWithin 0 99) (sym nothing.1) tt)
-flash_within Lit lit dark text (inr times) = (value_within 0 99 lit _ times.second.first, later_within (codes "o") 99 dark _ times.second.second)
-flash_within Dark lit dark text times = (later_within (codes "t") 99 lit _ times.second.second, value_within 0 99 dark _ times.second.first)
+flash_within first lit dark text times = grind (arith, value_within, later_within)
 
 body_within : (item : Item) (body : List ℕ) → TagBody item body → IsInRange item
 body_within (Char c) body b = digits_within c b.back b.second
@@ -121,17 +109,11 @@ octets_apart (x ∷ xs) ys all =
     let rest = octets_apart xs ys (All-tail IsOctet x (xs ++ ys) all) in
     (All-cons IsOctet x xs (All-head IsOctet x (xs ++ ys) all) rest.0, rest.1)
 
-plain_within : (t : Bool) (c : ℕ) → All (λ k. k < 256) (cond t (c ∷ c ∷ []) (c ∷ [])) → c ≤ 65535
-plain_within true c all = let small : c < 256 = All-head IsOctet c (c ∷ []) all in omega arith
-plain_within false c all = let small : c < 256 = All-head IsOctet c [] all in omega arith
-
 plain_item_within : (item : Item) (piece : List ℕ) → All (λ c. c < 256) piece → IsPlain item piece → IsInRange item
-plain_item_within (Char c) piece all is = plain_within _ c (subst (All IsOctet) is all)
-plain_item_within _ piece all never = absurd never
+plain_item_within item piece all is = grind arith
 
 item_within : (item : Item) (piece : List ℕ) → All (λ c. c < 256) piece → ItemSpells item piece → IsInRange item
-item_within item piece all (inl is) = plain_item_within item piece all is
-item_within item piece all (inr tag) = body_within item tag.second.front tag.second.first
+item_within item piece all p = grind (arith, plain_item_within, body_within)
 
 pub items_within : (items : List Item) (text : List ℕ) → All (λ c. c < 256) text → TextSpells items text → All IsInRange items
 items_within [] text all spelled = λ k d inside. absurd (omega arith)

@@ -6,7 +6,7 @@ use Rattle.std.proofs.Math.Seq.{take-append_seam, drop-append_seam}
 use Rattle.std.proofs.lemmas.List.{take-append-drop, length-take-le}
 use Rattle.std.proofs.lemmas.Bool.{eqb-true, cases_Bool}
 use Rattle.dms_multi.specs.declared.fault.FaultCode.{FaultCode}
-use Rattle.dms_multi.specs.declared.fault.FaultCode.TheVariants.{UnsupportedTag, UnsupportedTagValue}
+use Rattle.dms_multi.specs.declared.fault.FaultCode.TheVariants.{UnsupportedTagValue}
 use Rattle.dms_multi.specs.declared.item.Item.{Item}
 use Rattle.dms_multi.specs.declared.item.Item.TheVariants.{Char}
 use Rattle.dms_multi.specs.declared.spots.Spot.{Spot}
@@ -20,13 +20,12 @@ use Rattle.dms_multi.proofs.Cuts.{IsFree, free_append, IsCut, cut_found, cut_aga
 use Rattle.dms_multi.proofs.Values.{chosen, lower_other}
 use Rattle.dms_multi.proofs.Tags.{spelling, HasName, name_found, name_again, body_first}
 use Rattle.dms_multi.proofs.Bodies.{free_name}
-use Rattle.dms_multi.proofs.ItemLaws.{item_found, item_again, nothing_read, opened_tag, text_first, same_item}
+use Rattle.dms_multi.proofs.ItemLaws.{item_found, opened_tag, text_first, same_item}
 
 -- ---- an item takes an octet or more
 
 some_spelled : (item : Item) (piece : List ℕ) → ItemSpells item piece → 0 < length piece
-some_spelled item [] spelled = absurd (nothing_read (item, []) (item_again item [] [] spelled))
-some_spelled item (c ∷ cs) spelled = omega arith
+some_spelled item piece spelled = grind arith
 
 -- ---- spots and fault of what is read
 
@@ -70,8 +69,7 @@ shorter text x e =
     omega arith
 
 divided_with : (end : ℕ) (text : List ℕ) (more : List ℕ → List Outcome) (r : Result (Item × List ℕ) FaultCode) → 0 < length text → length text ≤ end → item_at text ≡ r → ((x : Item × List ℕ) → r ≡ Ok x → IsDivided end x.1 (more x.1)) → IsDivided end text (with_outcome end text r more)
-divided_with end text more (Ok x) some within e divides = one_more end text x (more x.1) e within (divides x refl)
-divided_with end text more (Err code) some within e divides = at_fault end text code some e
+divided_with end text more r some within e divides = grind (arith, one_more, at_fault)
 
 divided : (k end : ℕ) (text : List ℕ) → length text ≤ k → length text ≤ end → IsDivided end text (outcomes_within k end text)
 unfolding outcomes_within
@@ -134,36 +132,13 @@ name_of_word word (inr (inr (inr (inr (inr (inr (inr (inr (inr (inr (inl w))))))
 name_of_word word (inr (inr (inr (inr (inr (inr (inr (inr (inr (inr (inr w))))))))))) = (Pt, w)
 
 word_of_name : (name : TagName) (word : List ℕ) → Word (spelling name) word → Name word
-word_of_name Cb word w = inl w
-word_of_name Pb word w = inr (inl w)
-word_of_name Cf word w = inr (inr (inl w))
-word_of_name Fo word w = inr (inr (inr (inl w)))
-word_of_name Fl word w = inr (inr (inr (inr (inl w))))
-word_of_name EndFl word w = inr (inr (inr (inr (inr (inl w)))))
-word_of_name Hc word w = inr (inr (inr (inr (inr (inr (inl w))))))
-word_of_name Jl word w = inr (inr (inr (inr (inr (inr (inr (inl w)))))))
-word_of_name Jp word w = inr (inr (inr (inr (inr (inr (inr (inr (inl w))))))))
-word_of_name Nl word w = inr (inr (inr (inr (inr (inr (inr (inr (inr (inl w)))))))))
-word_of_name Np word w = inr (inr (inr (inr (inr (inr (inr (inr (inr (inr (inl w))))))))))
-word_of_name Pt word w = inr (inr (inr (inr (inr (inr (inr (inr (inr (inr (inr w))))))))))
+word_of_name name word w = grind arith
 
 free_spelling : (name : TagName) → list_all (λ c. not (eqb c 93)) (spelling name) ≡ true
-free_spelling Cb = refl
-free_spelling Pb = refl
-free_spelling Cf = refl
-free_spelling Fo = refl
-free_spelling Fl = refl
-free_spelling EndFl = refl
-free_spelling Hc = refl
-free_spelling Jl = refl
-free_spelling Jp = refl
-free_spelling Nl = refl
-free_spelling Np = refl
-free_spelling Pt = refl
+free_spelling name = grind arith
 
 before_fault : (rest : List ℕ) (r : Result Item FaultCode) (code : FaultCode) → with_rest rest r ≡ Err code → r ≡ Err code
-before_fault rest (Ok item) code e = absurd cc
-before_fault rest (Err other) code e = let same : other ≡ code = cc in ap (λ (c : FaultCode). Err c) same
+before_fault rest r code e = grind arith
 
 body_value_in : (body : List ℕ) (o : Option (TagName × List ℕ)) → ((name : TagName) (value : List ℕ) → o ≡ Some (name, value) → HasName name body value) → body_in o ≡ Err UnsupportedTagValue → (name : TagName) × (value : List ℕ) × HasName name body value
 body_value_in body None named e = absurd cc
@@ -211,26 +186,14 @@ opened_value (c ∷ cs) e = elim (chosen (c == 91) e) [
 
 closed_value : (text : List ℕ) → item_after_closing text ≡ Err UnsupportedTagValue → ⊥
 unfolding item_after_closing
-closed_value [] e = absurd cc
-closed_value (c ∷ cs) e = elim (chosen (c == 93) e) [
-  | inl bracket ↦ absurd (let never : Ok (Char 93, cs) ≡ Err UnsupportedTagValue = bracket.1 in cc)
-  | inr single ↦ absurd (let never : Err UnsupportedTag ≡ Err UnsupportedTagValue = single.1 in cc)
-]
+closed_value text e = grind arith
 
 value_fault : (text : List ℕ) → item_at text ≡ Err UnsupportedTagValue → BeginsWithNamedTag text
 unfolding item_at
-value_fault [] e = absurd cc
-value_fault (c ∷ cs) e = elim (chosen (c == 91) e) [
-  | inl opening ↦ subst (λ (d : ℕ). BeginsWithNamedTag (d ∷ cs)) (sym (eqb-true c 91 opening.0)) (opened_value cs opening.1)
-  | inr other ↦ elim (chosen (c == 93) other.1) [
-    | inl closing ↦ absurd (closed_value cs closing.1)
-    | inr neither ↦ absurd (let never : Ok (Char c, cs) ≡ Err UnsupportedTagValue = neither.1 in cc)
-  ]
-]
+value_fault text e = grind (arith, chosen, eqb-true, opened_value, closed_value)
 
 before_value : (o : Option Item) (rest : List ℕ) (code : FaultCode) → with_rest rest (ok_or o UnsupportedTagValue) ≡ Err code → code ≡ UnsupportedTagValue
-before_value None rest code e = cc
-before_value (Some item) rest code e = absurd cc
+before_value o rest code e = grind arith
 
 tag_read : (name : TagName) (body value rest : List ℕ) → HasName name body value → IsFree 93 body → tag_at (body ++ 93 ∷ rest) ≡ with_rest rest (ok_or (item_of name value) UnsupportedTagValue)
 unfolding tag_at body_item

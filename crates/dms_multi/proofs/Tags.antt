@@ -35,10 +35,7 @@ pub record HasName (name : TagName) (body value : List ℕ) : Type 0 where
   pub parts : body ≡ word ++ value
 
 letters_are : (a b x y : ℕ) (k name : TagName) → (((a == x) && (b == y)) ≡ true) × (Some k ≡ Some name) → x ∷ y ∷ [] ≡ spelling k → a ∷ b ∷ [] ≡ spelling name
-letters_are a b x y k name found letters =
-    let both = and_parts (eqb a x) (eqb b y) found.0 in
-    let same : k ≡ name = let equal : Some k ≡ Some name = found.1 in cc in
-    ap (λ c. c ∷ b ∷ []) (eqb-true a x both.0) ∙ ap (λ c. x ∷ c ∷ []) (eqb-true b y both.1) ∙ letters ∙ ap spelling same
+letters_are a b x y k name found letters = grind arith
 
 letters_found : (a b : ℕ) (name : TagName) → letters_name a b ≡ Some name → a ∷ b ∷ [] ≡ spelling name
 unfolding letters_name
@@ -121,21 +118,14 @@ name_found (a ∷ b ∷ rest) name value e = elim (chosen (a == 47) e) [
 two_letters : (x y : ℕ) (word : List ℕ) → Word (x ∷ y ∷ []) word → (a b : ℕ) × (word ≡ a ∷ b ∷ []) × (to_ascii_lowercase a ≡ x) × (to_ascii_lowercase b ≡ y)
 two_letters x y [] is = absurd cc
 two_letters x y (a ∷ []) is = absurd cc
-two_letters x y (a ∷ b ∷ []) is =
-    let first : to_ascii_lowercase a ≡ x = cc in
-    let second : to_ascii_lowercase b ≡ y = cc in
-    (a, b, refl, first, second)
+two_letters x y (a ∷ b ∷ []) is = grind arith
 two_letters x y (a ∷ b ∷ c ∷ cs) is = absurd cc
 
 three_letters : (x y z : ℕ) (word : List ℕ) → Word (x ∷ y ∷ z ∷ []) word → (a b c : ℕ) × (word ≡ a ∷ b ∷ c ∷ []) × (to_ascii_lowercase a ≡ x) × (to_ascii_lowercase b ≡ y) × (to_ascii_lowercase c ≡ z)
 three_letters x y z [] is = absurd cc
 three_letters x y z (a ∷ []) is = absurd cc
 three_letters x y z (a ∷ b ∷ []) is = absurd cc
-three_letters x y z (a ∷ b ∷ c ∷ []) is =
-    let first : to_ascii_lowercase a ≡ x = cc in
-    let second : to_ascii_lowercase b ≡ y = cc in
-    let third : to_ascii_lowercase c ≡ z = cc in
-    (a, b, c, refl, first, second, third)
+three_letters x y z (a ∷ b ∷ c ∷ []) is = grind arith
 three_letters x y z (a ∷ b ∷ c ∷ d ∷ cs) is = absurd cc
 
 letters_again : (x y : ℕ) (name : TagName) (body value : List ℕ) → letters_name x y ≡ Some name → x ≢ 47 → spelling name ≡ x ∷ y ∷ [] → HasName name body value → name_at body ≡ Some (name, value)

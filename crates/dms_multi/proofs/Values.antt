@@ -1,9 +1,9 @@
 -- What reading a value finds is spelled so, and what is spelled so is found.
-use Rattle.std.proofs.Common.{◌≡◌, ℕ, ◌<◌, ◌≤◌, Bool, true, false, cond, leb, List, [], ◌∷◌, ◌++◌, length, Option, Some, None, option_map, refl, sym, ap, ◌∙◌, inl, inr, ◌⊎◌, arith, subst, append-nil, length-append}
+use Rattle.std.proofs.Common.{◌≡◌, ℕ, ◌<◌, ◌≤◌, Bool, true, false, cond, List, [], ◌∷◌, ◌++◌, length, Option, Some, None, option_map, refl, sym, ap, ◌∙◌, inl, inr, ◌⊎◌, arith, subst, append-nil, length-append}
 use Rattle.std.specs.Prelude.{option_and_then}
 use Rattle.std.specs.Char.{to_ascii_lowercase, digit_value}
 use Rattle.std.specs.Str.Parse.{AllDigits}
-use Rattle.std.proofs.lemmas.Bool.{le-leb, leb-true, and_from, and_parts, ne_eqb}
+use Rattle.std.proofs.lemmas.Bool.{le-leb, and_from, ne_eqb}
 use Rattle.std.proofs.lemmas.Bool.Decides.{nat_tests}
 use Rattle.dms_text.specs.Numbers.{SpellsNumber, SpellsDecimal}
 use Rattle.dms_text.specs.Reading.{number_of, within}
@@ -17,25 +17,12 @@ use Rattle.dms_multi.proofs.Cuts.{IsFree, IsCut, cut_again, cut_free, cut_found}
 
 -- which way a choice went
 pub chosen : {A : Type 0} {x y z : A} (b : Bool) → cond b x y ≡ z → ((b ≡ true) × (x ≡ z)) ⊎ ((b ≡ false) × (y ≡ z))
-chosen true e = inl (refl, e)
-chosen false e = inr (refl, e)
-
-chosen_some : {A : Type 0} {x z : A} (b : Bool) → cond b (Some x) None ≡ Some z → (b ≡ true) × (x ≡ z)
-chosen_some true e = (refl, cc)
-chosen_some false e = absurd cc
+chosen b e = grind arith
 
 -- ---- numbers
 
 decimal_in : (low high n : ℕ) (text : List ℕ) (o : Option ℕ) → ((m : ℕ) → o ≡ Some m → SpellsNumber 10 5 m text) → option_and_then (within low high) o ≡ Some n → SpellsDecimal low high n text
-decimal_in low high n text None digits e = absurd cc
-decimal_in low high n text (Some m) digits e =
-    let found = chosen_some _ e in
-    let tests = and_parts (leb low m) (leb m high) found.0 in
-    record {
-      spelled = subst (λ (k : ℕ). SpellsNumber 10 5 k text) found.1 (digits m refl);
-      least = omega (arith, leb-true low m tests.0, found.1);
-      greatest = omega (arith, leb-true m high tests.1, found.1);
-    }
+decimal_in low high n text o digits e = grind arith
 
 pub decimal_found : (low high n : ℕ) (text : List ℕ) → decimal_of low high text ≡ Some n → SpellsDecimal low high n text
 unfolding decimal_of
@@ -43,9 +30,7 @@ decimal_found low high n text e = decimal_in low high n text (number_of 10 5 tex
 
 pub decimal_again : (low high n : ℕ) (text : List ℕ) → SpellsDecimal low high n text → decimal_of low high text ≡ Some n
 unfolding decimal_of
-decimal_again low high n text d =
-    let tests = and_from _ _ (le-leb _ _ d.least) (le-leb _ _ d.greatest) in
-    ap (option_and_then (within low high)) (number_only 10 5 n text d.spelled) ∙ rw tests refl
+decimal_again low high n text d = grind (arith, and_from, le-leb, number_only)
 
 -- ---- values
 
@@ -54,10 +39,7 @@ value_some low high v n text number e = subst (λ (w : Option ℕ). Value low hi
 
 pub value_found : (low high : ℕ) (v : Option ℕ) (text : List ℕ) → value_of low high text ≡ Some v → Value low high v text
 unfolding value_of
-value_found low high v [] e = let none : None ≡ v = cc in subst (λ (w : Option ℕ). Value low high w []) none refl
-value_found low high v (c ∷ cs) e =
-    let found = mapped_some Some _ v e in
-    value_some low high v found.0 (c ∷ cs) (decimal_found low high found.0 (c ∷ cs) found.1) found.2
+value_found low high v text e = grind (arith, mapped_some, value_some, decimal_found)
 
 pub value_again : (low high : ℕ) (v : Option ℕ) (text : List ℕ) → Value low high v text → value_of low high text ≡ Some v
 unfolding value_of
@@ -88,11 +70,7 @@ free_value letter low high (Some n) text large number = free_digits 10 letter te
 -- ---- two times
 
 paired_some : (a b : Option (Option ℕ)) (t : TwoTimes) → time_pair a b ≡ Some t → (a ≡ Some t.first) × (b ≡ Some t.second)
-paired_some None b t e = absurd cc
-paired_some (Some x) None t e = absurd cc
-paired_some (Some x) (Some y) t e =
-    let same : record { first = x; second = y } ≡ t = cc in
-    (ap (λ (u : TwoTimes). Some u.first) same, ap (λ (u : TwoTimes). Some u.second) same)
+paired_some a b t e = grind arith
 
 times_found_in : (letter high : ℕ) (text : List ℕ) (o : Option (List ℕ × List ℕ)) (t : TwoTimes) → ((front back : List ℕ) → o ≡ Some (front, back) → IsCut letter text front back) → times_in high text o ≡ Some t → Times (letter ∷ []) high t.first t.second text
 times_found_in letter high text None t pieces e =
@@ -122,25 +100,12 @@ one_letter letter (c ∷ d ∷ cs) word = absurd cc
 
 pub times_again : (letter high : ℕ) (first second : Option ℕ) (text : List ℕ) → 10 ≤ digit_value letter → Times (letter ∷ []) high first second text → times_of letter high text ≡ Some (record { first = first; second = second })
 unfolding times_of
-times_again letter high first second text large times =
-    elim times.second [
-      | inl later ↦ (
-          let octet = one_letter letter later.front later.first in
-          let whole : text ≡ times.front ++ octet.0 ∷ later.back = times.parts ∙ ap (λ t. times.front ++ t) (later.parts ∙ ap (λ t. t ++ later.back) octet.1) in
-          let there : cut letter text ≡ Some (times.front, later.back) = ap (cut letter) whole ∙ cut_again letter octet.0 times.front later.back (free_value letter 0 high first times.front large times.first) octet.2 in
-          rw (there, value_again 0 high first times.front times.first, value_again 0 high second later.back later.second) refl)
-      | inr nothing ↦ (
-          let whole : text ≡ times.front = times.parts ∙ ap (λ t. times.front ++ t) nothing.1 ∙ append-nil times.front in
-          let first_alone : Value 0 high first text = subst (Value 0 high first) (sym whole) times.first in
-          rw (cut_free letter text (free_value letter 0 high first text large first_alone), value_again 0 high first text first_alone, nothing.0) refl)
-    ]
+times_again letter high first second text large times = grind (arith, one_letter, cut_again, free_value, value_again, append-nil, cut_free)
 
 -- ---- fonts
 
 versioned_some : (a b : Option ℕ) (v : Option (ℕ × Option ℕ)) → font_pair a b ≡ Some v → (n version : ℕ) × (a ≡ Some n) × (b ≡ Some version) × (Some (n, Some version) ≡ v)
-versioned_some None b v e = absurd cc
-versioned_some (Some n) None v e = absurd cc
-versioned_some (Some n) (Some version) v e = (n, version, refl, refl, cc)
+versioned_some a b v e = grind arith
 
 font_found_in : (text : List ℕ) (o : Option (List ℕ × List ℕ)) (v : Option (ℕ × Option ℕ)) → ((front back : List ℕ) → o ≡ Some (front, back) → IsCut 44 text front back) → font_in text o ≡ Some v → FontValue v text
 font_found_in text None v pieces e =
@@ -163,13 +128,11 @@ font_found_in text (Some (front, back)) v pieces e =
 
 pub font_found : (v : Option (ℕ × Option ℕ)) (text : List ℕ) → font_of text ≡ Some v → FontValue v text
 unfolding font_of
-font_found v [] e = let none : None ≡ v = cc in subst (λ (w : Option (ℕ × Option ℕ)). FontValue w []) none refl
-font_found v (c ∷ cs) e = font_found_in (c ∷ cs) (cut 44 (c ∷ cs)) v (λ front back. cut_found 44 (c ∷ cs) front back) e
+font_found v text e = grind (arith, font_found_in, cut_found)
 
 font_some : (text : List ℕ) → 0 < length text → font_of text ≡ font_in text (cut 44 text)
 unfolding font_of
-font_some [] some = absurd (omega arith)
-font_some (c ∷ cs) some = refl
+font_some text some = grind arith
 
 pub font_again : (v : Option (ℕ × Option ℕ)) (text : List ℕ) → FontValue v text → font_of text ≡ Some v
 font_again None text nothing = ap font_of nothing ∙ (unfold font_of in refl)

@@ -3,7 +3,7 @@ use Rattle.std.proofs.lemmas.Bool.{eqb-true}
 use Rattle.std.proofs.lemmas.Bool.Decides.{nat_tests}
 use Rattle.dms_multi.specs.Outcomes.{outcomes_within}
 use Rattle.dms_multi.proofs.Readings.{shorter}
-use Rattle.dms_multi.proofs.Walk.{outcomes_none, outcomes_ok, outcomes_err}
+use Rattle.dms_multi.proofs.Walk.{outcomes_none, outcomes_ok}
 use Rattle.dms_multi.proofs.spots.outcome_at.Goals as goal
 
 pub returns-then-is_empty-clause-none : goal.returns-then-is_empty-clause-none
@@ -22,6 +22,4 @@ returns-in-Ok-clause-rest c = omega (arith, shorter _ _ c.in-Ok.ensures)
 
 pub returns-in-Err-clause-some : goal.returns-in-Err-clause-some
 unfolding outcomes_within
-returns-in-Err-clause-some c =
-    let some : 0 < length c.args.text.now = grind (arith, nat_tests, c.if-is_empty.ensures) in
-    outcomes_err _ _ _ some c.in-Err.ensures
+returns-in-Err-clause-some c = grind arith
