@@ -1,7 +1,6 @@
 -- A message for the sign comes to what its kind says, and another to nothing.
-use Rattle.std.proofs.Common.{◌≡◌, Bool, true, false, ◌&&◌, cond, sym, refl, true≢false}
+use Rattle.std.proofs.Common.{◌≡◌, Bool, true, false, ◌&&◌, cond, true≢false, arith}
 use Rattle.dms_wire.specs.declared.message.Kind.{Kind}
-use Rattle.dms_wire.specs.declared.message.Kind.TheVariants.{Get, GetNext, Response, Set}
 use Rattle.dms_wire.specs.Message.{SnmpMessage}
 use Rattle.dms_sign.specs.State.{SignState}
 use Rattle.dms_sign.specs.Reply.{is_request, heard, dropped, on_message}
@@ -9,21 +8,11 @@ use Rattle.dms_sign.specs.ReplyView.{is_addressed, answered}
 
 by_kind : (s : SignState) (m : SnmpMessage) (powered ours : Bool) (kind : Kind) → (powered && ours) ≡ true
     → cond (powered && is_request kind && ours) (heard s m) (dropped s) ≡ answered s m kind
-by_kind s m true true Get e = refl
-by_kind s m true true GetNext e = refl
-by_kind s m true true Response e = refl
-by_kind s m true true Set e = refl
-by_kind s m true false kind e = absurd (true≢false (sym e))
-by_kind s m false ours kind e = absurd (true≢false (sym e))
+by_kind s m powered ours kind e = grind arith
 
 by_none : (s : SignState) (m : SnmpMessage) (powered ours : Bool) (kind : Kind) → (powered && ours) ≡ false
     → cond (powered && is_request kind && ours) (heard s m) (dropped s) ≡ dropped s
-by_none s m true true kind e = absurd (true≢false e)
-by_none s m true false Get e = refl
-by_none s m true false GetNext e = refl
-by_none s m true false Response e = refl
-by_none s m true false Set e = refl
-by_none s m false ours kind e = refl
+by_none s m powered ours kind e = grind arith
 
 pub on_addressed : (s : SignState) (m : SnmpMessage) → is_addressed s m ≡ true → on_message s m ≡ answered s m m.kind
 on_addressed s m e = by_kind s m s.powered _ m.kind e

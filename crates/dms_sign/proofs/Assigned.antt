@@ -1,5 +1,5 @@
 -- The state in which the values of a SET are assigned, and what a command makes of it.
-use Rattle.std.proofs.Common.{◌≡◌, ℕ, Bool, true, false, cond, List, [], ◌∷◌, ◌++◌, find, Option, Some, None, Result, Ok, Err, is_some, IsSome, IsTrue, refl, sym, ap, subst, ◌∙◌, true≢false}
+use Rattle.std.proofs.Common.{◌≡◌, ℕ, Bool, true, false, List, [], ◌∷◌, ◌++◌, find, Option, Some, None, Result, Ok, Err, is_some, IsSome, IsTrue, refl, sym, ap, subst, ◌∙◌, true≢false, arith}
 use Rattle.std.specs.Prelude.{option_and_then, slice_get}
 use Rattle.std.specs.Option.{IfSome}
 use Rattle.std.specs.Result.{OnOk, OnErr}
@@ -14,7 +14,6 @@ use Rattle.dms_codes.specs.declared.codes.Activation.{Activation}
 use Rattle.dms_codes.specs.declared.row_id.RowId.{RowId}
 use Rattle.dms_codes.specs.declared.status.Ask.{Ask}
 use Rattle.dms_codes.specs.Codes.{octets_of_id, activation_of}
-use Rattle.dms_objects.specs.declared.scalar.Scalar.TheVariants.{ShortPowerLossTime, TimeCommLoss}
 use Rattle.dms_objects.specs.declared.instance.Instance.{Instance}
 use Rattle.dms_instances.specs.Objects.{instance_named}
 use Rattle.dms_table.specs.declared.row.Refused.{Refused}
@@ -26,23 +25,20 @@ use Rattle.dms_access.specs.declared.reports.Reports.{Reports}
 use Rattle.dms_sign.specs.declared.sign.Sign.TheInside.{Inside}
 use Rattle.dms_sign.specs.Communities.{are_communities}
 use Rattle.dms_sign.specs.State.{ConfigModel, SignState}
-use Rattle.dms_access.specs.Access.{Write, SetNumber, SetCode, SetField, AskRow, Activate, SetRemaining, is_command, is_settable, write_of}
-use Rattle.dms_access.specs.Assignment.{given, number_for}
+use Rattle.dms_access.specs.Access.{Write, AskRow, Activate, is_command, is_settable, write_of}
 use Rattle.dms_sign.specs.SetRequest.{with_writes, assigned, SetCause, causes, if_settable, settable_instance, write_at}
 use Rattle.dms_sign.specs.Requests.{as_decided, as_asked, commanded, commanded_if, command_index, writes_of, set, set_unless}
-use Rattle.dms_sign.specs.OwnCodes.{showing}
 use Rattle.dms_access.specs.Reports.{IsCauseInRange}
-use Rattle.dms_sign.specs.InRange.{AreOctets, IsTableInRange, IsShownInRange, AreReportsInRange, IsSignInRange}
+use Rattle.dms_sign.specs.InRange.{AreOctets, IsTableInRange, IsShownInRange, IsSignInRange}
 use Rattle.dms_sign.specs.Transitions.{HasFitDefaults}
 use Rattle.dms_sign.specs.Kept.{IsKept}
 use Rattle.dms_sign.specs.SignView.{state_of, IsWhole}
-use Rattle.dms_access.specs.Settings.{codes_by, defaults_by, set_by}
+use Rattle.dms_access.specs.Settings.{set_by}
 use Rattle.dms_sign.specs.SetView.{AreSettings}
 use Rattle.dms_sign.specs.SetView.{IsCommandInRange}
 use Rattle.dms_table.proofs.Decisions.{accepted_decision, accepted_elsewhere}
-use Rattle.dms_access.specs.declared.settings.Fallbacks.{Fallbacks}
-use Rattle.dms_sign.proofs.InRangeShown.{showing_in_range, telling_in_range, with_table_in_range, activation_is, IsDecisionInRange, decided_in_range}
-use Rattle.dms_sign.proofs.InRangeSets.{IsWriteInRange, writes_in_range, assigned_in_range, asked_in_range, accepted_reports}
+use Rattle.dms_sign.proofs.InRangeShown.{with_table_in_range, activation_is, IsDecisionInRange, decided_in_range}
+use Rattle.dms_sign.proofs.InRangeSets.{IsWriteInRange, writes_in_range, assigned_in_range, asked_in_range}
 use Rattle.dms_sign.proofs.StepDefaults.{writes_fit, assigned_fit}
 use Rattle.dms_sign.proofs.KnownTexts.{known_kept}
 use Rattle.dms_sign.proofs.StepRows.{KeepsRows, writes_keep, asked_keeps}
@@ -54,43 +50,15 @@ use Rattle.dms_sign.proofs.Writes.{writes_like, asked_alike, decided_alike}
 
 pub set_by_is : (settings : Settings) (s : SignState) (ws : List Write) → AreSettings settings s → AreSettings (set_by settings ws) (assigned s ws)
 unfolding set_by assigned
-set_by_is settings s ws is = record {
-  fallbacks = ap (λ (f : Fallbacks). codes_by f ws) is.fallbacks;
-  short_power_loss_time = ap (given (number_for ShortPowerLossTime) ws) is.short_power_loss_time;
-  time_comm_loss = ap (given (number_for TimeCommLoss) ws) is.time_comm_loss;
-  defaults = ap (λ (d : Defaults). defaults_by d ws) is.defaults;
-}
+set_by_is settings s ws is = grind arith
 
 pub judged_settings : (old : Inside) (settings : Settings) (ws : List Write) → settings ≡ set_by old.settings ws → AreSettings settings (assigned (state_of old) ws)
-judged_settings old settings ws e =
-    let own : AreSettings old.settings (state_of old) = record { fallbacks = refl; short_power_loss_time = refl; time_comm_loss = refl; defaults = refl } in
-    subst (λ (t : Settings). AreSettings t (assigned (state_of old) ws)) (sym e) (set_by_is old.settings (state_of old) ws own)
+judged_settings old settings ws e = grind (arith, set_by_is)
 
 pub state_assigned : (old : Inside) (ws : List Write) (settings : Settings) (table : TableModel) → table ≡ with_writes old.table ws
     → AreSettings settings (assigned (state_of old) ws) → state_of (record old { table = table; settings = settings }) ≡ assigned (state_of old) ws
 unfolding assigned
-state_assigned old ws settings table t is =
-    ap (λ (t : TableModel). record (state_of old) {
-      table = t;
-      fallbacks = settings.fallbacks;
-      short_power_loss_time = settings.short_power_loss_time;
-      time_comm_loss = settings.time_comm_loss;
-      defaults = settings.defaults;
-    }) t
-    ∙ ap (λ (f : Fallbacks). record (state_of old) {
-      table = with_writes old.table ws;
-      fallbacks = f;
-      short_power_loss_time = settings.short_power_loss_time;
-      time_comm_loss = settings.time_comm_loss;
-      defaults = settings.defaults;
-    }) is.fallbacks
-    ∙ ap (λ (n : ℕ). record (assigned (state_of old) ws) {
-      short_power_loss_time = n;
-      time_comm_loss = settings.time_comm_loss;
-      defaults = settings.defaults;
-    }) is.short_power_loss_time
-    ∙ ap (λ (n : ℕ). record (assigned (state_of old) ws) { time_comm_loss = n; defaults = settings.defaults }) is.time_comm_loss
-    ∙ ap (λ (d : Defaults). record (assigned (state_of old) ws) { defaults = d }) is.defaults
+state_assigned old ws settings table t is = grind arith
 
 assigned_config : (s : SignState) (ws : List Write) → (assigned s ws).config ≡ s.config
 unfolding assigned
@@ -131,8 +99,7 @@ unfolding assigned
 takes_after s ws id ask = asked_alike s.table (with_writes s.table ws) id ask (writes_like s.table ws)
 
 asked_none : (o : Option TableModel) → is_some o ≡ false → o ≡ None
-asked_none None e = refl
-asked_none (Some t) e = absurd (true≢false e)
+asked_none o e = grind arith
 
 pub ask_refused : (s : SignState) (ws : List Write) (bindings : List VarBind) (index : ℕ) (id : RowId) (ask : Ask) → is_some (asked s.table id ask) ≡ false
     → commanded s (assigned s ws) bindings index (AskRow id ask) ≡ as_asked s (assigned s ws) bindings index None
@@ -144,16 +111,7 @@ ask_refused s ws bindings index id ask e =
 pub accepted_whole : (old : Inside) (shown : ShownModel) (source octets : List ℕ) (reports : Reports) → IsWhole old → IsShownInRange shown → AreOctets 12 octets
     → source ≡ octets_of_id old.table.order shown.source → reports ≡ record old.reports { activate_error = 2; accepted_code = octets }
     → IsWhole (record old { shown = shown; source = source; reports = reports })
-accepted_whole old shown source octets reports is range twelve s r = record {
-  kept = record {
-    in_range = telling_in_range (showing (state_of old) shown) reports (showing_in_range (state_of old) shown is.kept.in_range range)
-        (subst AreReportsInRange (sym r) (accepted_reports old.reports octets is.kept.in_range.reports twelve));
-    fit = is.kept.fit;
-    communities = is.kept.communities;
-  };
-  source = s;
-  known = is.known;
-}
+accepted_whole old shown source octets reports is range twelve s r = grind arith
 
 pub decided_new : (s : SignState) (ws : List Write) (settings : Settings) (octets : List ℕ) (code : Activation) → AreSettings settings (assigned s ws)
     → code ≡ activation_of s.table.order octets
@@ -185,8 +143,7 @@ fit_of s ws is = is
 
 pub fit_new : (s : SignState) (bindings : List VarBind) (settings : Settings) → HasFitDefaults s → AreSettings settings (assigned s (writes_of s bindings))
     → IsTrue (fit s.config.face.fonts settings.defaults)
-fit_new s bindings settings is are =
-    subst (λ (d : Defaults). IsTrue (fit s.config.face.fonts d)) (sym are.defaults) (fit_of s (writes_of s bindings) (assigned_fit s (writes_of s bindings) (writes_fit s bindings) is))
+fit_new s bindings settings is are = grind (arith, fit_of, assigned_fit, writes_fit)
 
 decision_new : (s : SignState) (bindings : List VarBind) (settings : Settings) (octets : List ℕ) (code : Activation) → IsSignInRange s → AreBindingsInLimits bindings
     → AreSettings settings (assigned s (writes_of s bindings)) → code ≡ activation_of s.table.order octets → AreOctets 12 octets
@@ -221,34 +178,21 @@ activation_answer s ws bindings index settings octets code r are c e =
 -- ---- answers
 
 in_range_of : (o : Option Write) → IfSome o IsWriteInRange → IfSome o IsCommandInRange
-in_range_of None is = tt
-in_range_of (Some (SetNumber object number)) is = tt
-in_range_of (Some (SetCode object octets)) is = tt
-in_range_of (Some (SetField id field)) is = tt
-in_range_of (Some (AskRow id ask)) is = tt
-in_range_of (Some (Activate octets)) is = is
-in_range_of (Some (SetRemaining minutes)) is = tt
+in_range_of o is = grind arith
 
 pub command_in_range : (s : SignState) (bindings : List VarBind) (o : Option Write) → AreBindingsInLimits bindings → o ≡ find is_command (writes_of s bindings)
     → IfSome o IsCommandInRange
-command_in_range s bindings o within e =
-    subst (λ (o : Option Write). IfSome o IsCommandInRange) (sym e)
-    (in_range_of (find is_command (writes_of s bindings)) (if_found IsWriteInRange is_command (writes_of s bindings) (writes_in_range s bindings within)))
+command_in_range s bindings o within e = grind (arith, in_range_of, if_found, writes_in_range)
 
 -- without a cause the command is done
 pub set_commanded : (s : SignState) (may : Bool) (bindings : List VarBind) (index : ℕ) (command : Option Write) → causes s may bindings ≡ []
     → command ≡ find is_command (writes_of s bindings) → index ≡ command_index s bindings
     → commanded_if s (assigned s (writes_of s bindings)) bindings index command ≡ set s may bindings
-set_commanded s may bindings index command none c i =
-    ap (λ n. commanded_if s (assigned s (writes_of s bindings)) bindings n command) i
-    ∙ ap (commanded_if s (assigned s (writes_of s bindings)) bindings (command_index s bindings)) c ∙ ap (set_unless s bindings) (sym none)
+set_commanded s may bindings index command p c i = grind arith
 
 first_refuses : (s : SignState) (bindings : List VarBind) (found : List SetCause) (cause : SetCause) → slice_get found 0 ≡ Some cause
     → set_unless s bindings found ≡ record { status = cause.status; index = cause.index; bindings = bindings; after = s; accepted = None }
-first_refuses s bindings [] cause e = absurd (cc)
-first_refuses s bindings (x ∷ more) cause e =
-    let same : x ≡ cause = cc in
-    ap (λ (x : SetCause). set_unless s bindings (x ∷ more)) same
+first_refuses s bindings found cause e = grind arith
 
 pub set_refused : (s : SignState) (may : Bool) (bindings : List VarBind) (cause : SetCause) → slice_get (causes s may bindings) 0 ≡ Some cause
     → set s may bindings ≡ record { status = cause.status; index = cause.index; bindings = bindings; after = s; accepted = None }
@@ -262,15 +206,11 @@ set_echoes s may bindings = (set_unless_is s bindings (causes s may bindings) (a
 pub settable_there : (s : SignState) (b : VarBind) (i : Instance) (o : Option Write) → Some i ≡ instance_named s.table b.name → is_settable i ≡ true
     → o ≡ write_of s.config.face i b.value → o ≡ write_at s b
 unfolding write_at settable_instance
-settable_there s b i o e settable w =
-    w ∙ ap (λ c. option_and_then (λ i. write_of s.config.face i b.value) (cond c (Some i) None)) (sym settable)
-    ∙ ap (λ o. option_and_then (λ i. write_of s.config.face i b.value) (option_and_then if_settable o)) e
+settable_there s b i o e settable w = grind arith
 
 pub settable_not : (s : SignState) (b : VarBind) (i : Instance) → Some i ≡ instance_named s.table b.name → is_settable i ≡ false → None ≡ write_at s b
 unfolding write_at settable_instance
-settable_not s b i e settable =
-    ap (λ c. option_and_then (λ i. write_of s.config.face i b.value) (cond c (Some i) None)) (sym settable)
-    ∙ ap (λ o. option_and_then (λ i. write_of s.config.face i b.value) (option_and_then if_settable o)) e
+settable_not s b i e settable = grind arith
 
 pub settable_none : (s : SignState) (b : VarBind) → None ≡ instance_named s.table b.name → None ≡ write_at s b
 unfolding write_at settable_instance
@@ -279,13 +219,10 @@ settable_none s b e = ap (λ o. option_and_then (λ i. write_of s.config.face i 
 pub fields_more : (s : SignState) (initial table new : TableModel) (done : List VarBind) (b : VarBind) (o : Option Write)
     → table ≡ with_writes initial (writes_of s done) → o ≡ write_at s b → new ≡ with_writes table (cons_option o [])
     → new ≡ with_writes initial (writes_of s (done ++ b ∷ []))
-fields_more s initial table new done b o t w n =
-    n ∙ ap (λ o. with_writes table (cons_option o [])) w ∙ ap (λ t. with_writes t (writes_of s (b ∷ []))) t
-    ∙ sym (with_writes_append initial (writes_of s done) (writes_of s (b ∷ []))) ∙ ap (with_writes initial) (sym (writes_append s done (b ∷ [])))
+fields_more s initial table new done b o t w n = grind (arith, with_writes_append, writes_append)
 
 -- ---- a row that takes what it is asked
 
 pub asked_ok : (o : Option TableModel) (table : TableModel) (r : Result (Unit {0}) Refused) → IsSome o → OnOk r (o ≡ Some table) → OnErr r (o ≡ None)
     → o ≡ Some table
-asked_ok o table (Ok x) some ok err = ok
-asked_ok o table (Err e) some ok err = let none = true≢false (sym some ∙ ap is_some err) in absurd none
+asked_ok o table r some ok err = grind arith

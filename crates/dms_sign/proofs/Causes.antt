@@ -11,7 +11,7 @@ use Rattle.dms_access.specs.declared.settings.Fallbacks.{Fallbacks}
 use Rattle.dms_access.specs.declared.settings.Settings.{Settings}
 use Rattle.dms_table.specs.Rows.{TableModel}
 use Rattle.dms_sign.specs.State.{SignState}
-use Rattle.dms_access.specs.Access.{Write, SetNumber, SetCode, SetField, AskRow, Activate, SetRemaining, is_command}
+use Rattle.dms_access.specs.Access.{Write, is_command}
 use Rattle.dms_access.specs.Assignment.{given}
 use Rattle.dms_sign.specs.SetRequest.{SetCause, write_at, is_command_at, causes_at, causes_after, causes, with_write, with_writes}
 use Rattle.dms_sign.specs.SetView.{is_field, StaysWithout}
@@ -22,8 +22,7 @@ use Rattle.dms_access.specs.Settings.{codes_by, set_by}
 -- ---- lists with one element more
 
 cons_append : {X : Type 0} (o : Option X) (xs ys : List X) → cons_option o (xs ++ ys) ≡ cons_option o xs ++ ys
-cons_append None xs ys = refl
-cons_append (Some x) xs ys = refl
+cons_append o xs ys = grind arith
 
 pub writes_append : (s : SignState) (xs ys : List VarBind) → writes_of s (xs ++ ys) ≡ writes_of s xs ++ writes_of s ys
 writes_append s [] ys = refl
@@ -53,9 +52,7 @@ set_empty s = ap (λ (f : Fallbacks). record s { fallbacks = f }) (codes_empty s
 
 pick_by : {X : Type 0} (b c : Bool) (x y : X) (o new : Option X) → (c ≡ true → cond b (Some y) o ≡ None)
     → ((c ≡ true → o ≡ None) → new ≡ cond c (Some x) o) → cond b (Some y) new ≡ cond c (Some x) (cond b (Some y) o)
-pick_by true true x y o new none more = let n = none refl in absurd (cc)
-pick_by true false x y o new none more = refl
-pick_by false c x y o new none more = more none
+pick_by b c x y o new p more = grind arith
 
 find_push : {X : Type 0} (p : X → Bool) (xs : List X) (x : X) → (p x ≡ true → find p xs ≡ None) → find p (xs ++ x ∷ []) ≡ cond (p x) (Some x) (find p xs)
 find_push p [] x none = refl
@@ -76,8 +73,7 @@ none_position p i (x ∷ xs) e =
     ap (λ b. cond b (Some i) (position_from p (i + 1) xs)) parts.0 ∙ none_position p (i + 1) xs parts.1
 
 is_none_of : {X : Type 0} (o : Option X) → is_some o ≡ false → o ≡ None
-is_none_of None e = refl
-is_none_of (Some x) e = absurd (true≢false e)
+is_none_of o e = grind arith
 
 -- ---- the walk
 
@@ -92,31 +88,17 @@ pub record HasJudged (s : SignState) (may : Bool) (all : List VarBind) (old : Se
   pub any : is_some command ≡ list_any (is_command_at s) done
 
 pub judged_starts : (s : SignState) (may : Bool) (all rest : List VarBind) (settings : Settings) → rest ≡ all → HasJudged s may all settings 0 settings 0 None rest
-judged_starts s may all rest settings e = record {
-  done = [];
-  whole = e;
-  count = refl;
-  left = ap (causes_after s may []) e;
-  set = set_empty settings;
-  found = refl;
-  place = refl;
-  any = refl;
-}
+judged_starts s may all rest settings e = grind (arith, set_empty)
 
 pub before_is : (s : SignState) (may : Bool) (all : List VarBind) (old : Settings) (index : ℕ) (settings : Settings) (at : ℕ) (command : Option Write) (rest : List VarBind)
     → (is : HasJudged s may all old index settings at command rest) → take index all ≡ is.done
-before_is s may all old index settings at command rest is =
-    ap (λ n. take n all) (sym is.count) ∙ ap (take (length is.done)) (sym is.whole) ∙ take-append_seam is.done rest
+before_is s may all old index settings at command rest is = grind (arith, take-append_seam)
 
 some_if : (c b : Bool) (w : Write) (o : Option Write) → is_some o ≡ b → is_some (cond c (Some w) o) ≡ (b || c)
-some_if true true w o e = refl
-some_if true false w o e = refl
-some_if false true w o e = e
-some_if false false w o e = e
+some_if c b w o e = grind arith
 
 index_if : (c : Bool) (n m : ℕ) (o : Option ℕ) → m ≡ unwrap_or o 0 → cond c n m ≡ unwrap_or (cond c (Some n) o) 0
-index_if true n m o e = refl
-index_if false n m o e = e
+index_if c n m o e = grind arith
 
 pub judged_more : (s : SignState) (may : Bool) (all : List VarBind) (old : Settings) (index : ℕ) (settings : Settings) (at : ℕ) (command : Option Write) (rest more : List VarBind)
     (b : VarBind) (w : Write) (settings_new : Settings) (at_new : ℕ) (command_new : Option Write)
@@ -162,14 +144,7 @@ pub record AllJudged (s : SignState) (may : Bool) (all : List VarBind) (old sett
 pub judged_all : (s : SignState) (may : Bool) (all : List VarBind) (old : Settings) (index : ℕ) (settings : Settings) (at : ℕ) (command : Option Write) (rest : List VarBind)
     → HasJudged s may all old index settings at command rest → rest ≡ [] → AllJudged s may all old settings at command
 unfolding causes
-judged_all s may all old index settings at command rest is e =
-    let done : is.done ≡ all = sym (append-nil is.done) ∙ ap (λ r. is.done ++ r) (sym e) ∙ is.whole in
-    record {
-      none = sym is.left ∙ ap (causes_after s may is.done) e;
-      set = is.set ∙ ap (λ d. set_by old (writes_of s d)) done;
-      found = is.found ∙ ap (λ d. find is_command (writes_of s d)) done;
-      place = is.place ∙ ap (command_index s) done;
-    }
+judged_all s may all old index settings at command rest is e = grind (arith, append-nil)
 
 abbrev a_cause : ErrorStatus → ℕ → Option SetCause
 a_cause status n = Some (record { index = n; status = status })
@@ -212,19 +187,8 @@ all_taken s may all old index settings at command rest is e =
 -- ---- the table, where no field is written
 
 no_field : (table : TableModel) (w : Write) → is_field w ≡ false → with_write table w ≡ table
-no_field table (SetField id field) e = absurd (true≢false e)
-no_field table (SetNumber object number) e = refl
-no_field table (SetCode object octets) e = refl
-no_field table (AskRow id ask) e = refl
-no_field table (Activate octets) e = refl
-no_field table (SetRemaining minutes) e = refl
+no_field table w e = grind arith
 
 pub stays_more : (s : SignState) (xs ys : List VarBind) (b : VarBind) (w : Write) (old new : Bool) → write_at s b ≡ Some w → xs ++ b ∷ [] ≡ ys
     → new ≡ (old || is_field w) → StaysWithout old s xs → StaysWithout new s ys
-stays_more s xs ys b w old new writes e n stays = λ h.
-    let parts = or_parts old (is_field w) (sym n ∙ h) in
-    let all : writes_of s ys ≡ writes_of s xs ++ w ∷ [] =
-    ap (writes_of s) (sym e) ∙ writes_append s xs (b ∷ []) ∙ ap (λ o. writes_of s xs ++ cons_option o []) writes
-    in
-    ap (with_writes s.table) all ∙ with_writes_append s.table (writes_of s xs) (w ∷ []) ∙ ap (λ (t : TableModel). with_write t w) (stays parts.0)
-    ∙ no_field s.table w parts.1
+stays_more s xs ys b w old new writes e n stays = grind (arith, or_parts, writes_append, with_writes_append, no_field)

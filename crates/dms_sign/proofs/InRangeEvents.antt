@@ -1,28 +1,27 @@
 -- A second, a loss of power and its return keep a sign in range.
-use Rattle.std.proofs.Common.{◌≡◌, ℕ, ◌+◌, ◌-◌, ◌*◌, ◌<◌, ◌≤◌, ◌==◌, ◌&&◌, Bool, true, false, cond, Option, Some, None, refl, arith, ltb, ltb-true}
-use Rattle.std.specs.Prelude.{option_map, nat_lt, nat_le}
+use Rattle.std.proofs.Common.{◌≡◌, ℕ, ◌+◌, ◌-◌, ◌*◌, ◌<◌, ◌≤◌, ◌==◌, ◌&&◌, Bool, cond, Option, refl, arith, ltb, ltb-true}
+use Rattle.std.specs.Prelude.{option_map}
 use Rattle.std.specs.Option.{IfSome}
 use Rattle.std.proofs.lemmas.List.{length-map}
 use Rattle.dms_face.specs.declared.multi_fault.MultiFault.{MultiFault}
 use Rattle.dms_face.specs.Face.{FaceModel}
 use Rattle.dms_face.specs.Layout.{under}
-use Rattle.dms_face.specs.Fit.{fault_of}
 use Rattle.dms_table.specs.declared.row.Services.{Services}
 use Rattle.dms_codes.specs.declared.status.Status.{Status}
 use Rattle.dms_codes.specs.declared.validation_error.ValidationError.TheVariants as errors
 use Rattle.dms_table.specs.declared.validation.Verdict.{Verdict}
 use Rattle.dms_table.specs.Rows.{RowModel, TableModel, row_is_validating, interrupted, released, unused, after_power}
 use Rattle.dms_codes.specs.Limits.{longest_text}
-use Rattle.dms_table.specs.Validation.{verdict_without_fault, text_verdict, verdict_of, settled_row, settled, settling_row, verdict}
+use Rattle.dms_table.specs.Validation.{text_verdict, verdict_of, settled_row, settled, settling_row, verdict}
 use Rattle.dms_access.specs.declared.reports.Reports.{Reports}
-use Rattle.dms_sign.specs.State.{SignState, power_recovery_mode, communications_loss_mode, power_loss_mode, end_duration_mode}
-use Rattle.dms_sign.specs.OwnCodes.{showing, put_up_code}
-use Rattle.dms_access.specs.Reports.{text_reports, settled_reports}
+use Rattle.dms_sign.specs.State.{SignState, power_recovery_mode, communications_loss_mode}
+use Rattle.dms_sign.specs.OwnCodes.{put_up_code}
+use Rattle.dms_access.specs.Reports.{settled_reports}
 use Rattle.dms_sign.specs.Events.{after_settling, counted_down, after_duration, longest_silence, quieter, after_silence, after_tick, after_power_loss, recovery_code, restored, after_power_return}
 use Rattle.dms_sign.specs.InRange.{AreOctets, most_minutes, IsRowInRange, IsTableInRange, IsTimeInRange, AreReportsInRange, IsSignInRange}
 use Rattle.dms_sign.proofs.InRangeLists.{either, all_mapped}
 use Rattle.dms_sign.proofs.InRangeFaults.{fault_placed}
-use Rattle.dms_sign.proofs.InRangeShown.{showing_in_range, telling_in_range, with_table_in_range, fault_in_range, with_time, code_in_range}
+use Rattle.dms_sign.proofs.InRangeShown.{showing_in_range, telling_in_range, with_table_in_range, with_time, code_in_range}
 
 -- ---- settling
 
@@ -34,61 +33,26 @@ pub record IsVerdictInRange (verdict : Verdict) : Type 0 where
   pub fault : IsFaultPlaced verdict.fault
 
 text_verdict_in_range : (o : Option MultiFault) → IsFaultPlaced o → IsVerdictInRange (text_verdict o)
-text_verdict_in_range None placed = record { error = omega arith; fault = tt }
-text_verdict_in_range (Some fault) placed = record { error = omega arith; fault = placed }
+text_verdict_in_range o placed = grind arith
 
 verdict_in_range : (services : Services) (face : FaceModel) (row : RowModel) → IsVerdictInRange (verdict_of services face row)
-verdict_in_range services face row =
-    either IsVerdictInRange _ (verdict_without_fault errors.Beacons) _ (record { error = omega arith; fault = tt })
-    (either IsVerdictInRange _ (verdict_without_fault errors.PixelService) (text_verdict (fault_of face row.text)) (record { error = omega arith; fault = tt })
-    (text_verdict_in_range (fault_of face row.text) (fault_placed face row.text)))
+verdict_in_range services face row = grind (arith, either, text_verdict_in_range, fault_placed)
 
 any_if : {X Y : Type 0} (P : Y → Type 0) (f : X → Y) (o : Option X) → ((x : X) → P (f x)) → IfSome (option_map f o) P
-any_if P f None each = tt
-any_if P f (Some x) each = each x
+any_if P f o each = grind arith
 
 pub settled_verdict : (face : FaceModel) (table : TableModel) → IfSome (verdict face table) IsVerdictInRange
 settled_verdict face table = any_if IsVerdictInRange (verdict_of table.services face) (settling_row table) (verdict_in_range table.services face)
 
-text_reported : (reports : Reports) (o : Option MultiFault) → AreReportsInRange reports → IsFaultPlaced o
-    → AreReportsInRange (text_reports reports o)
-text_reported reports None are placed = record {
-  validate_error = are.validate_error;
-  activate_error = are.activate_error;
-  syntax_error = omega arith;
-  syntax_error_position = omega arith;
-  accepted_code = are.accepted_code;
-  failed_code = are.failed_code;
-}
-text_reported reports (Some fault) are placed = fault_in_range reports fault are placed
-
 pub verdict_reported : (reports : Reports) (o : Option Verdict) → AreReportsInRange reports → IfSome o IsVerdictInRange
     → AreReportsInRange (settled_reports reports o)
-verdict_reported reports None are verdict = are
-verdict_reported reports (Some found) are verdict =
-    let new = text_reported reports found.fault are verdict.fault in
-    record {
-      validate_error = verdict.error;
-      activate_error = new.activate_error;
-      syntax_error = new.syntax_error;
-      syntax_error_position = new.syntax_error_position;
-      accepted_code = new.accepted_code;
-      failed_code = new.failed_code;
-    }
+verdict_reported reports o are verdict = grind arith
 
 pub with_status_in_range : (row : RowModel) (status : Status) → IsRowInRange row → IsRowInRange (record row { status = status })
-with_status_in_range row status is =
-    record { text = is.text; owner = is.owner; beacon = is.beacon; pixel = is.pixel; least = is.least; priority = is.priority }
+with_status_in_range row status is = grind arith
 
 pub unused_in_range : IsRowInRange unused
-unused_in_range = record {
-  text = record { size = omega arith; below = tt };
-  owner = record { size = omega arith; below = tt };
-  beacon = omega arith;
-  pixel = omega arith;
-  least = omega arith;
-  priority = omega arith;
-}
+unused_in_range = grind arith
 
 settled_row_in_range : (services : Services) (face : FaceModel) (row : RowModel) → IsRowInRange row → IsRowInRange (settled_row services face row)
 settled_row_in_range services face row is = either IsRowInRange (row_is_validating row) _ row (with_status_in_range row _ is) is
@@ -117,42 +81,20 @@ settling_in_range s is =
 -- ---- a second
 
 down_in_range : (s : SignState) (o : Option ℕ) → IsSignInRange s → IsTimeInRange o → IsSignInRange (counted_down s o)
-down_in_range s None is time = is
-down_in_range s (Some seconds) is time =
-    either IsSignInRange (nat_le seconds 1) (put_up_code s s.fallbacks.end_duration end_duration_mode)
-    (showing s (record s.shown { remaining = Some (seconds - 1) }))
-    (code_in_range s s.fallbacks.end_duration end_duration_mode is is.fallbacks.end_duration.below (omega arith))
-    (showing_in_range s (record s.shown { remaining = Some (seconds - 1) }) is (with_time s.shown (Some (seconds - 1)) is.shown (omega arith)))
+down_in_range s o is time = grind (arith, either, code_in_range, showing_in_range, with_time)
 
 duration_in_range : (s : SignState) → IsSignInRange s → IsSignInRange (after_duration s)
 unfolding after_duration
 duration_in_range s is = down_in_range s s.shown.remaining is is.shown.remaining
 
 pub with_silence : (s : SignState) (silent_seconds : ℕ) → IsSignInRange s → silent_seconds ≤ 60 * most_minutes → IsSignInRange (record s { silent_seconds = silent_seconds })
-with_silence s silent_seconds is few = record {
-  config = is.config;
-  table = is.table;
-  fallbacks = is.fallbacks;
-  short_power_loss_time = is.short_power_loss_time;
-  time_comm_loss = is.time_comm_loss;
-  silent_seconds = few;
-  defaults = is.defaults;
-  shown = is.shown;
-  shown_at_power_loss = is.shown_at_power_loss;
-  reports = is.reports;
-}
+with_silence s silent_seconds is few = grind arith
 
 silence_by : (s : SignState) (b : Bool) → ltb s.silent_seconds (longest_silence s) ≡ b → IsSignInRange s
     → IsSignInRange (cond b
     (cond (s.silent_seconds + 1 == longest_silence s) (put_up_code (quieter s) s.fallbacks.communications_loss communications_loss_mode) (quieter s))
     s)
-silence_by s false e is = is
-silence_by s true e is =
-    let less : s.silent_seconds < 60 * s.time_comm_loss = ltb-true s.silent_seconds (longest_silence s) e in
-    let most : s.time_comm_loss ≤ most_minutes = is.time_comm_loss in
-    let quiet : IsSignInRange (quieter s) = with_silence s (s.silent_seconds + 1) is (omega arith) in
-    either IsSignInRange (s.silent_seconds + 1 == longest_silence s) _ (quieter s)
-    (code_in_range (quieter s) s.fallbacks.communications_loss communications_loss_mode quiet is.fallbacks.communications_loss.below (omega arith)) quiet
+silence_by s b e is = grind (arith, ltb-true, with_silence, either, code_in_range)
 
 silence_in_range : (s : SignState) → IsSignInRange s → IsSignInRange (after_silence s)
 unfolding after_silence
@@ -160,46 +102,19 @@ silence_in_range s is = silence_by s (ltb s.silent_seconds (longest_silence s)) 
 
 pub tick_in_range : (s : SignState) → IsSignInRange s → IsSignInRange (after_tick s)
 unfolding after_tick
-tick_in_range s is =
-    either IsSignInRange s.powered (after_silence (after_duration (after_settling s))) s
-    (silence_in_range (after_duration (after_settling s)) (duration_in_range (after_settling s) (settling_in_range s is))) is
+tick_in_range s is = grind (arith, either, silence_in_range, duration_in_range, settling_in_range)
 
 -- ---- power
 
 with_power : (s : SignState) (powered : Bool) → IsSignInRange s → IsSignInRange (record s { powered = powered })
-with_power s powered is = record {
-  config = is.config;
-  table = is.table;
-  fallbacks = is.fallbacks;
-  short_power_loss_time = is.short_power_loss_time;
-  time_comm_loss = is.time_comm_loss;
-  silent_seconds = is.silent_seconds;
-  defaults = is.defaults;
-  shown = is.shown;
-  shown_at_power_loss = is.shown_at_power_loss;
-  reports = is.reports;
-}
+with_power s powered is = grind arith
 
 keeping : (s : SignState) → IsSignInRange s → IsSignInRange (record s { shown_at_power_loss = s.shown })
-keeping s is = record {
-  config = is.config;
-  table = is.table;
-  fallbacks = is.fallbacks;
-  short_power_loss_time = is.short_power_loss_time;
-  time_comm_loss = is.time_comm_loss;
-  silent_seconds = is.silent_seconds;
-  defaults = is.defaults;
-  shown = is.shown;
-  shown_at_power_loss = is.shown;
-  reports = is.reports;
-}
+keeping s is = grind arith
 
 pub power_loss_in_range : (s : SignState) → IsSignInRange s → IsSignInRange (after_power_loss s)
 unfolding after_power_loss
-power_loss_in_range s is =
-    either IsSignInRange s.powered _ s
-    (with_power (put_up_code (record s { shown_at_power_loss = s.shown }) s.fallbacks.power_loss power_loss_mode) false
-    (code_in_range (record s { shown_at_power_loss = s.shown }) s.fallbacks.power_loss power_loss_mode (keeping s is) is.fallbacks.power_loss.below (omega arith))) is
+power_loss_in_range s is = grind (arith, either, with_power, code_in_range, keeping)
 
 interrupted_in_range : (row : RowModel) → IsRowInRange row → IsRowInRange (interrupted row)
 interrupted_in_range row is = either IsRowInRange (row_is_validating row) _ row (with_status_in_range row _ is) is
@@ -229,10 +144,7 @@ restored_in_range s is = record {
 }
 
 recovery_in_range : (s : SignState) (seconds : ℕ) → IsSignInRange s → AreOctets 5 (recovery_code s seconds)
-recovery_in_range s seconds is =
-    either (AreOctets 5)
-    (nat_lt 0 s.short_power_loss_time && nat_le seconds s.short_power_loss_time) s.fallbacks.short_power_recovery s.fallbacks.long_power_recovery
-    is.fallbacks.short_power_recovery is.fallbacks.long_power_recovery
+recovery_in_range s seconds is = grind arith
 
 pub power_return_in_range : (s : SignState) (seconds : ℕ) → IsSignInRange s → IsSignInRange (after_power_return s seconds)
 unfolding after_power_return

@@ -1,5 +1,5 @@
 -- The place of a fault lies in the text or at its end.
-use Rattle.std.proofs.Common.{◌≡◌, ℕ, zero, suc, ◌≤◌, Bool, true, false, cond, List, [], ◌∷◌, ◌++◌, length, Option, Some, None, Result, Ok, Err, refl, arith, ltb, ltb-false}
+use Rattle.std.proofs.Common.{◌≡◌, ℕ, zero, suc, ◌≤◌, Bool, true, false, cond, List, [], ◌∷◌, ◌++◌, length, Option, Some, Result, Ok, Err, refl, arith, ltb, ltb-false}
 use Rattle.std.specs.Option.{IfSome, option_or, option_map}
 use Rattle.std.specs.List.{AllByRecursion}
 use Rattle.dms_multi.specs.declared.fault.FaultCode.{FaultCode}
@@ -11,24 +11,12 @@ use Rattle.dms_multi.specs.TagReading.{item_at}
 use Rattle.dms_face.specs.declared.multi_fault.MultiFault.{MultiFault}
 use Rattle.dms_face.specs.declared.multi_fault.MultiFaultCode.{MultiFaultCode}
 use Rattle.dms_face.specs.declared.multi_fault.MultiFaultCode.TheVariants as codes
-use Rattle.dms_face.specs.FaultCode.{number_of_code, syntax_fault}
+use Rattle.dms_face.specs.FaultCode.{syntax_fault}
 use Rattle.dms_face.specs.Face.{FaceModel}
-use Rattle.dms_face.specs.Layout.{Turn, layout_of}
+use Rattle.dms_face.specs.Layout.{Turn}
 use Rattle.dms_codes.specs.Limits.{longest_text}
-use Rattle.dms_face.specs.Fit.{PlacedTurn, fits, code_of, turns_in, first_fault, fault_of_reading, fault_of}
+use Rattle.dms_face.specs.Fit.{PlacedTurn, turns_in, first_fault, fault_of_reading, fault_of}
 use Rattle.dms_sign.proofs.InRangeLists.{if_mapped}
-
-pub code_small : (code : MultiFaultCode) → number_of_code code ≤ 255
-code_small codes.Other = omega arith
-code_small codes.None = omega arith
-code_small codes.UnsupportedTag = omega arith
-code_small codes.UnsupportedTagValue = omega arith
-code_small codes.TextTooBig = omega arith
-code_small codes.FontNotDefined = omega arith
-code_small codes.CharacterNotDefined = omega arith
-code_small codes.TagConflict = omega arith
-code_small codes.TooManyPages = omega arith
-code_small codes.FontVersionId = omega arith
 
 -- ---- what a text is read as
 
@@ -38,8 +26,7 @@ IsPlaced end (Err fault) = fault.place ≤ end
 
 one_outcome : (end : ℕ) (text : List ℕ) (r : Result (Item × List ℕ) FaultCode) (more : List ℕ → List (Result Spot SyntaxFault))
     → ((rest : List ℕ) → AllByRecursion (IsPlaced end) (more rest)) → AllByRecursion (IsPlaced end) (with_outcome end text r more)
-one_outcome end text (Ok piece) more each = (omega arith, each piece.1)
-one_outcome end text (Err code) more each = (omega arith, tt)
+one_outcome end text r more each = grind arith
 
 outcomes_placed : (k end : ℕ) (text : List ℕ) → AllByRecursion (IsPlaced end) (outcomes_within k end text)
 unfolding outcomes_within
@@ -63,16 +50,12 @@ turns_placed end (Err fault ∷ more) placed = tt
 
 fault_if : (end : ℕ) (b : Bool) (o : Option MultiFault) (code : MultiFaultCode) (place : ℕ) → place ≤ end → IfSome o (IsPlacedBy end)
     → IfSome (cond b o (Some (record { code = code; place = place }))) (IsPlacedBy end)
-fault_if end true o code place by later = later
-fault_if end false o code place by later = by
+fault_if end b o code place by later = grind arith
 
 first_placed : (face : FaceModel) (end : ℕ) (front : List Turn) (turns : List PlacedTurn) → AllByRecursion (IsTurnBy end) turns
     → IfSome (first_fault face front turns) (IsPlacedBy end)
 first_placed face end front [] placed = tt
-first_placed face end front ((turn, place) ∷ more) placed =
-    fault_if end (fits face (front ++ turn ∷ [])) (first_fault face (front ++ turn ∷ []) more)
-    (code_of face (layout_of face front) turn) place placed.0
-    (first_placed face end (front ++ turn ∷ []) more placed.1)
+first_placed face end front ((turn, place) ∷ more) placed = grind (arith, fault_if, first_placed face end (front ++ turn ∷ []) more placed.1)
 
 syntax_placed : (end : ℕ) (read : List (Result Spot SyntaxFault)) → AllByRecursion (IsPlaced end) read
     → IfSome (fault_in read) (λ fault. fault.place ≤ end)
@@ -81,8 +64,7 @@ syntax_placed end (Ok spot ∷ more) placed = syntax_placed end more placed.1
 syntax_placed end (Err fault ∷ more) placed = placed.0
 
 either_placed : (end : ℕ) (o p : Option MultiFault) → IfSome o (IsPlacedBy end) → IfSome p (IsPlacedBy end) → IfSome (option_or o p) (IsPlacedBy end)
-either_placed end None p first second = second
-either_placed end (Some fault) p first second = first
+either_placed end o p first second = grind arith
 
 reading_placed : (face : FaceModel) (end : ℕ) (read : List (Result Spot SyntaxFault)) → AllByRecursion (IsPlaced end) read
     → IfSome (fault_of_reading face end read) (IsPlacedBy end)
@@ -92,8 +74,7 @@ reading_placed face end read placed =
     (if_mapped (λ (fault : SyntaxFault). fault.place ≤ end) (IsPlacedBy end) syntax_fault (fault_in read) (λ fault h. h) (syntax_placed end read placed))
 
 earlier : (end : ℕ) (o : Option MultiFault) → end ≤ longest_text → IfSome o (IsPlacedBy end) → IfSome o (IsPlacedBy longest_text)
-earlier end None short by = tt
-earlier end (Some fault) short by = omega arith
+earlier end o short by = grind arith
 
 fault_placed_by : (face : FaceModel) (text : List ℕ) (b : Bool) → ltb longest_text (length text) ≡ b
     → IfSome (cond b (Some (record { code = codes.TextTooBig; place = longest_text })) (fault_of_reading face (length text) (outcomes_of text))) (IsPlacedBy longest_text)

@@ -1,19 +1,17 @@
 -- A datagram keeps a sign in range: what it assigns, and what its command does.
-use Rattle.std.proofs.Common.{◌≡◌, ℕ, zero, suc, ◌-◌, ◌≤◌, ◌==◌, ◌&&◌, Bool, true, false, cond, List, [], ◌∷◌, length, set, find, Option, Some, None, Result, Ok, Err, slice_get, slice_set, refl, sym, subst, arith, eqb, leb, leb-true}
+use Rattle.std.proofs.Common.{◌≡◌, ℕ, zero, suc, ◌-◌, ◌≤◌, ◌==◌, ◌&&◌, Bool, true, cond, List, [], ◌∷◌, length, set, Option, Some, None, Result, slice_get, slice_set, refl, arith, leb}
 use Rattle.std.specs.Prelude.{option_map, option_and_then, unwrap_or, ⊤}
 use Rattle.std.specs.Option.{IfSome}
-use Rattle.std.specs.List.{AllByRecursion, position_from}
+use Rattle.std.specs.List.{AllByRecursion}
 use Rattle.std.specs.Int.Digits.{AllBelowBase}
-use Rattle.std.proofs.lemmas.Bool.{and_parts, eqb-true}
 use Rattle.std.proofs.lemmas.List.{length-set}
 use Rattle.dms_wire.specs.declared.message.Kind.{Kind}
-use Rattle.dms_wire.specs.declared.message.Kind.TheVariants.{Get, GetNext, Response, Set}
 use Rattle.dms_wire.specs.Message.{ObjectValue, integer, octet_string, null, object_identifier, ip_address, counter, gauge, time_ticks, opaque, VarBind, SnmpMessage}
 use Rattle.dms_wire.specs.MessageOf.{message_of}
 use Rattle.dms_wire.specs.Limits.{IsValueInLimits, AreBindingsInLimits}
 use Rattle.dms_wire.proofs.LimitsLaws.{spelled_in_limits}
 use Rattle.dms_wire.proofs.MessageOfLaws.{read_is_spelled}
-use Rattle.dms_face.specs.Face.{FaceModel, has_font}
+use Rattle.dms_face.specs.Face.{FaceModel}
 use Rattle.dms_face.proofs.Lists.{if_either, if_or, if_found}
 use Rattle.dms_table.specs.declared.activation.Cause.{Cause}
 use Rattle.dms_objects.specs.declared.column.Column.{Column}
@@ -22,30 +20,28 @@ use Rattle.dms_codes.specs.declared.row_id.RowId.{RowId}
 use Rattle.dms_codes.specs.declared.status.Ask.{Ask}
 use Rattle.dms_codes.specs.declared.status.Status.{Status}
 use Rattle.dms_codes.specs.declared.status.Status.TheVariants as statuses
-use Rattle.dms_codes.specs.Status.{next_status, is_modifying}
 use Rattle.dms_codes.specs.Codes.{activation_of}
-use Rattle.dms_table.specs.Rows.{RowModel, TableModel, FieldModel, Text, Owner, Beacon, Pixel, Priority, numbered, changed_in, with_changeable, with_volatile, changed, with_status, asked_row, may_ask, asked, is_in_range, with_field, written_row, written}
+use Rattle.dms_table.specs.Rows.{RowModel, TableModel, FieldModel, Text, Owner, Beacon, Pixel, Priority, numbered, changed_in, with_changeable, with_volatile, changed, with_status, asked, with_field, written}
 use Rattle.dms_codes.specs.Memory.{changeable_memory, volatile_memory}
 use Rattle.dms_codes.specs.Limits.{longest_text, longest_owner}
-use Rattle.dms_table.specs.Activation.{ShownModel, seconds_of, decided}
+use Rattle.dms_table.specs.Activation.{ShownModel, decided}
 use Rattle.dms_objects.specs.declared.scalar.Scalar.{Scalar}
 use Rattle.dms_objects.specs.declared.scalar.Scalar.TheVariants.{DefaultBackgroundColor, DefaultForegroundColor, DefaultFlashOn, DefaultFlashOff, DefaultFont, DefaultJustificationLine, DefaultJustificationPage, DefaultPageOnTime, DefaultPageOffTime, ActivateMessage, MessageTimeRemaining, ShortPowerRecoveryMessage, LongPowerRecoveryMessage, ShortPowerLossTime, CommunicationsLossMessage, TimeCommLoss, PowerLossMessage, EndDurationMessage}
 use Rattle.dms_objects.specs.declared.instance.Instance.{Instance}
 use Rattle.dms_objects.specs.declared.instance.Instance.TheVariants as kinds
 use Rattle.dms_objects.specs.Names.{scalar_number}
 use Rattle.dms_access.specs.declared.reports.Reports.{Reports}
-use Rattle.dms_sign.specs.State.{SignState, end_duration_mode}
-use Rattle.dms_sign.specs.OwnCodes.{showing, put_up_code}
-use Rattle.dms_access.specs.Access.{Write, SetNumber, SetCode, SetField, AskRow, Activate, SetRemaining, is_command, number_in, octets_in, font_in, ask_of, object_write, cell_write, write_of}
-use Rattle.dms_access.specs.Assignment.{given, is_same, number_for, code_for}
-use Rattle.dms_sign.specs.SetRequest.{SetCause, settable_instance, write_at, causes, with_write, with_writes, assigned}
-use Rattle.dms_sign.specs.Requests.{found_unless, has_no_value, is_last, as_decided, as_asked, with_remaining, commanded, commanded_if, writes_of, command_index, set_unless, may_write, answer_by, answer_of_any_size}
+use Rattle.dms_sign.specs.State.{SignState}
+use Rattle.dms_access.specs.Access.{Write, SetNumber, SetCode, SetField, AskRow, Activate, SetRemaining, number_in, octets_in, font_in, ask_of, object_write, cell_write, write_of}
+use Rattle.dms_access.specs.Assignment.{given, number_for, code_for}
+use Rattle.dms_sign.specs.SetRequest.{SetCause, settable_instance, write_at, with_write, with_writes, assigned}
+use Rattle.dms_sign.specs.Requests.{found_unless, as_decided, as_asked, with_remaining, commanded, commanded_if, writes_of, set_unless, answer_by, answer_of_any_size}
 use Rattle.dms_sign.specs.Reply.{is_heard, dropped, heard, on_message, on_message_if, received}
 use Rattle.dms_sign.specs.InRange.{AreOctets, AreOctetsUpTo, IsRowInRange, IsTableInRange, AreReportsInRange, IsSignInRange, IsBindingInLimits}
 use Rattle.dms_sign.proofs.NumbersRead.{number_passes}
 use Rattle.dms_sign.proofs.InRangeLists.{either, if_mapped, if_then, if_at, all_filtered}
-use Rattle.dms_sign.proofs.InRangeShown.{IsDecisionInRange, showing_in_range, telling_in_range, with_table_in_range, activation_is, decided_in_range, seconds_in_range, refused_code_in_range, with_time, code_in_range}
-use Rattle.dms_sign.proofs.InRangeEvents.{with_status_in_range, unused_in_range, with_silence}
+use Rattle.dms_sign.proofs.InRangeShown.{IsDecisionInRange, showing_in_range, activation_is, decided_in_range, seconds_in_range, with_time, code_in_range}
+use Rattle.dms_sign.proofs.InRangeEvents.{with_silence}
 
 -- ---- rows that are changed
 
@@ -95,21 +91,11 @@ changed_table table id change is each =
 
 -- ---- asking
 
-asked_status : (row : RowModel) (status : Status) → IsRowInRange row → IsRowInRange (with_status row status)
-asked_status row statuses.NotUsed is = unused_in_range
-asked_status row statuses.Modifying is = with_status_in_range row statuses.Modifying is
-asked_status row statuses.Validating is = with_status_in_range row statuses.Validating is
-asked_status row statuses.Valid is = with_status_in_range row statuses.Valid is
-asked_status row statuses.Error is = with_status_in_range row statuses.Error is
-
 any_status : (row : RowModel) (o : Option Status) → IsRowInRange row → IfSome (option_map (with_status row) o) IsRowInRange
-any_status row None is = tt
-any_status row (Some status) is = asked_status row status is
+any_status row o is = grind arith
 
 pub asked_in_range : (table : TableModel) (id : RowId) (ask : Ask) → IsTableInRange table → IfSome (asked table id ask) IsTableInRange
-asked_in_range table id ask is =
-    if_either IsTableInRange (may_ask table ask) (changed table id (asked_row ask)) None
-    (changed_table table id (asked_row ask) is (λ row r. any_status row (next_status row.status ask) r)) tt
+asked_in_range table id ask is = grind (arith, if_either, changed_table, any_status)
 
 -- ---- writing
 
@@ -121,22 +107,11 @@ IsFieldInRange (Pixel on) = on ≤ 1
 IsFieldInRange (Priority priority) = (1 ≤ priority) × (priority ≤ 255)
 
 field_in_range : (row : RowModel) (field : FieldModel) → IsRowInRange row → IsFieldInRange field → IsRowInRange (with_field row field)
-field_in_range row (Text octets) is new =
-    record { text = new; owner = is.owner; beacon = is.beacon; pixel = is.pixel; least = is.least; priority = is.priority }
-field_in_range row (Owner octets) is new =
-    record { text = is.text; owner = new; beacon = is.beacon; pixel = is.pixel; least = is.least; priority = is.priority }
-field_in_range row (Beacon on) is new =
-    record { text = is.text; owner = is.owner; beacon = new; pixel = is.pixel; least = is.least; priority = is.priority }
-field_in_range row (Pixel on) is new =
-    record { text = is.text; owner = is.owner; beacon = is.beacon; pixel = new; least = is.least; priority = is.priority }
-field_in_range row (Priority priority) is new =
-    record { text = is.text; owner = is.owner; beacon = is.beacon; pixel = is.pixel; least = new.0; priority = new.1 }
+field_in_range row field is new = grind arith
 
 written_in_range : (table : TableModel) (id : RowId) (field : FieldModel) → IsTableInRange table → IsFieldInRange field
     → IfSome (written table id field) IsTableInRange
-written_in_range table id field is new =
-    changed_table table id (written_row field) is
-    (λ row r. if_either IsRowInRange (is_modifying row.status && is_in_range field) (Some (with_field row field)) None (field_in_range row field r new) tt)
+written_in_range table id field is new = grind (arith, changed_table, if_either, field_in_range)
 
 -- ---- what a binding writes
 
@@ -156,8 +131,7 @@ abbrev IsWithin : (low high : ℕ) → ℕ → Type 0
 IsWithin low high n = (low ≤ n) × (n ≤ high)
 
 within_if : (low high : ℕ) (o : Option ℕ) → IfSome o (λ n. (leb low n && leb n high) ≡ true) → IfSome o (IsWithin low high)
-within_if low high None is = tt
-within_if low high (Some n) is = let parts = and_parts (leb low n) (leb n high) is in (leb-true low n parts.0, leb-true n high parts.1)
+within_if low high o is = grind arith
 
 number_is : (low high : ℕ) (value : ObjectValue) → IfSome (number_in low high value) (IsWithin low high)
 number_is low high value = within_if low high (number_in low high value) (number_passes low high value)
@@ -169,10 +143,7 @@ record AreOctetsWithin (low high : ℕ) (octets : List ℕ) : Type 0 where
 
 octets_if : (low high : ℕ) (octets : List ℕ) (b : Bool) → AllBelowBase 256 octets → (leb low (length octets) && leb (length octets) high) ≡ b
     → IfSome (cond b (Some octets) None) (AreOctetsWithin low high)
-octets_if low high octets true below e =
-    let parts = and_parts (leb low (length octets)) (leb (length octets) high) e in
-    record { least = leb-true low (length octets) parts.0; most = leb-true (length octets) high parts.1; below = below }
-octets_if low high octets false below e = tt
+octets_if low high octets b below e = grind arith
 
 octets_are : (low high : ℕ) (value : ObjectValue) → IsValueInLimits value → IfSome (octets_in low high value) (AreOctetsWithin low high)
 octets_are low high (integer z) within = tt
@@ -186,18 +157,14 @@ octets_are low high (time_ticks n) within = tt
 octets_are low high (opaque octets) within = tt
 
 font_is : (face : FaceModel) (value : ObjectValue) → IfSome (font_in face value) (IsWithin 1 255)
-font_is face value =
-    if_then (IsWithin 1 255) (IsWithin 1 255) (λ n. cond (has_font face.fonts n) (Some n) None) (number_in 1 255 value)
-    (λ n h. if_either (IsWithin 1 255) (has_font face.fonts n) (Some n) None h tt) (number_is 1 255 value)
+font_is face value = grind arith
 
 writes_number : (object : Scalar) (low high : ℕ) (o : Option ℕ) → high ≤ most_of_group (scalar_number object).0 → IfSome o (IsWithin low high)
     → IfSome (option_map (SetNumber object) o) IsWriteInRange
-writes_number object low high None few is = tt
-writes_number object low high (Some n) few is = let most : n ≤ high = is.1 in omega arith
+writes_number object low high o few is = grind arith
 
 writes_code : (object : Scalar) (o : Option (List ℕ)) → IfSome o (AreOctetsWithin 5 5) → IfSome (option_map (SetCode object) o) IsWriteInRange
-writes_code object None is = tt
-writes_code object (Some octets) is = record { size = omega (arith, is.least, is.most); below = is.below }
+writes_code object o is = grind arith
 
 object_writes : (face : FaceModel) (object : Scalar) (value : ObjectValue) → IsValueInLimits value
     → IfSome (object_write face object value) IsWriteInRange
@@ -283,29 +250,11 @@ given_in_range : {B : Type 0} (P : B → Type 0) (pick : Write → Option B) (wr
 given_in_range P pick [] old each all is = is
 given_in_range P pick (w ∷ ws) old each all is = given_in_range P pick ws (unwrap_or (pick w) old) each all.1 (if_or P (pick w) old (each w all.0) is)
 
-number_if_same : (object other : Scalar) (n : ℕ) (b : Bool) → is_same object other ≡ b → n ≤ most_of_group (scalar_number other).0
-    → IfSome (cond b (Some n) None) (λ n. n ≤ most_of_group (scalar_number object).0)
-number_if_same object other n false e few = tt
-number_if_same object other n true e few =
-    let parts = and_parts (eqb (scalar_number object).0 (scalar_number other).0) (eqb (scalar_number object).1 (scalar_number other).1) e in
-    let same : (scalar_number object).0 ≡ (scalar_number other).0 = eqb-true (scalar_number object).0 (scalar_number other).0 parts.0 in
-    subst (λ group. n ≤ most_of_group group) (sym same) few
-
 number_for_is : (object : Scalar) (w : Write) → IsWriteInRange w → IfSome (number_for object w) (λ n. n ≤ most_of_group (scalar_number object).0)
-number_for_is object (SetNumber other n) is = number_if_same object other n (is_same object other) refl is
-number_for_is object (SetCode other octets) is = tt
-number_for_is object (SetField id field) is = tt
-number_for_is object (AskRow id ask) is = tt
-number_for_is object (Activate octets) is = tt
-number_for_is object (SetRemaining minutes) is = tt
+number_for_is object w is = grind arith
 
 code_for_is : (object : Scalar) (w : Write) → IsWriteInRange w → IfSome (code_for object w) (AreOctets 5)
-code_for_is object (SetNumber other n) is = tt
-code_for_is object (SetCode other octets) is = if_either (AreOctets 5) (is_same object other) (Some octets) None is tt
-code_for_is object (SetField id field) is = tt
-code_for_is object (AskRow id ask) is = tt
-code_for_is object (Activate octets) is = tt
-code_for_is object (SetRemaining minutes) is = tt
+code_for_is object w is = grind arith
 
 given_number : (object : Scalar) (writes : List Write) (old : ℕ) → AllByRecursion IsWriteInRange writes → old ≤ most_of_group (scalar_number object).0
     → given (number_for object) writes old ≤ most_of_group (scalar_number object).0
@@ -364,40 +313,24 @@ assigned_in_range s writes is all = record {
 
 pub accepted_reports : (reports : Reports) (octets : List ℕ) → AreReportsInRange reports → AreOctets 12 octets
     → AreReportsInRange (record reports { activate_error = 2; accepted_code = octets })
-accepted_reports reports octets are twelve = record {
-  validate_error = are.validate_error;
-  activate_error = omega arith;
-  syntax_error = are.syntax_error;
-  syntax_error_position = are.syntax_error_position;
-  accepted_code = twelve;
-  failed_code = are.failed_code;
-}
+accepted_reports reports octets are twelve = grind arith
 
 as_decided_after : (old new : SignState) (bindings : List VarBind) (index : ℕ) (octets : List ℕ) (r : Result ShownModel Cause) → IsSignInRange old
     → IsSignInRange new
     → AreOctets 12 octets → IsDecisionInRange r → IsSignInRange (as_decided old new bindings index octets r).after
-as_decided_after old new bindings index octets (Ok shown) was is twelve decision =
-    telling_in_range (showing new shown) (record new.reports { activate_error = 2; accepted_code = octets }) (showing_in_range new shown is decision)
-    (accepted_reports new.reports octets is.reports twelve)
-as_decided_after old new bindings index octets (Err cause) was is twelve decision = refused_code_in_range old cause octets was decision twelve
+as_decided_after old new bindings index octets r was is twelve decision = grind arith
 
 as_asked_after : (old new : SignState) (bindings : List VarBind) (index : ℕ) (o : Option TableModel) → IsSignInRange old → IsSignInRange new
     → IfSome o IsTableInRange
     → IsSignInRange (as_asked old new bindings index o).after
-as_asked_after old new bindings index None was is table = was
-as_asked_after old new bindings index (Some t) was is table = with_table_in_range new t is table
+as_asked_after old new bindings index o was is table = grind arith
 
 remaining_in_range : (s : SignState) (minutes : ℕ) → IsSignInRange s → minutes ≤ 65535 → IsSignInRange (with_remaining s minutes)
-remaining_in_range s minutes is few =
-    either IsSignInRange (minutes == 0) (put_up_code s s.fallbacks.end_duration end_duration_mode)
-    (showing s (record s.shown { remaining = seconds_of minutes }))
-    (code_in_range s s.fallbacks.end_duration end_duration_mode is is.fallbacks.end_duration.below (omega arith))
-    (showing_in_range s (record s.shown { remaining = seconds_of minutes }) is (with_time s.shown (seconds_of minutes) is.shown (seconds_in_range minutes few)))
+remaining_in_range s minutes is few = grind (arith, either, code_in_range, showing_in_range, with_time, seconds_in_range)
 
 commanded_after : (old new : SignState) (bindings : List VarBind) (index : ℕ) (w : Write) → IsSignInRange old → IsSignInRange new → IsWriteInRange w
     → IsSignInRange (commanded old new bindings index w).after
-commanded_after old new bindings index (AskRow id ask) was is write =
-    as_asked_after old new bindings index (asked new.table id ask) was is (asked_in_range new.table id ask is.table)
+commanded_after old new bindings index (AskRow id ask) was is write = grind (arith, as_asked_after, asked_in_range, as_decided_after, decided_in_range, activation_is, remaining_in_range)
 commanded_after old new bindings index (Activate octets) was is write =
     as_decided_after old new bindings index octets
     (decided new.config.face new.defaults new.table new.shown (activation_of old.table.order octets)) was is write
@@ -411,29 +344,20 @@ commanded_after old new bindings index (SetField id field) was is write = is
 commanded_if_after : (old new : SignState) (bindings : List VarBind) (index : ℕ) (o : Option Write) → IsSignInRange old → IsSignInRange new
     → IfSome o IsWriteInRange
     → IsSignInRange (commanded_if old new bindings index o).after
-commanded_if_after old new bindings index None was is write = is
-commanded_if_after old new bindings index (Some w) was is write = commanded_after old new bindings index w was is write
+commanded_if_after old new bindings index o was is write = grind (arith, commanded_after)
 
 -- ---- answers
 
 found_after : (s : SignState) (bindings found : List VarBind) (o : Option ℕ) → IsSignInRange s → IsSignInRange (found_unless s bindings found o).after
-found_after s bindings found None is = is
-found_after s bindings found (Some index) is = is
+found_after s bindings found o is = grind arith
 
 set_unless_after : (s : SignState) (bindings : List VarBind) (found : List SetCause) → IsSignInRange s → AreBindingsInLimits bindings
     → IsSignInRange (set_unless s bindings found).after
-set_unless_after s bindings [] is within =
-    let all = writes_in_range s bindings within in
-    commanded_if_after s (assigned s (writes_of s bindings)) bindings (command_index s bindings) (find is_command (writes_of s bindings)) is
-    (assigned_in_range s (writes_of s bindings) is all) (if_found IsWriteInRange is_command (writes_of s bindings) all)
-set_unless_after s bindings (cause ∷ more) is within = is
+set_unless_after s bindings found is within = grind (arith, writes_in_range, commanded_if_after, assigned_in_range, if_found)
 
 answer_after : (s : SignState) (m : SnmpMessage) (kind : Kind) → IsSignInRange s → AreBindingsInLimits m.bindings
     → IsSignInRange (answer_by s m kind).after
-answer_after s m Get is within = found_after s m.bindings _ (position_from (has_no_value s) 1 m.bindings) is
-answer_after s m GetNext is within = found_after s m.bindings _ (position_from (is_last s) 1 m.bindings) is
-answer_after s m Response is within = is
-answer_after s m Set is within = set_unless_after s m.bindings (causes s (may_write s m) m.bindings) is within
+answer_after s m kind is within = grind (arith, found_after, set_unless_after)
 
 answer_in_range : (s : SignState) (m : SnmpMessage) → IsSignInRange s → AreBindingsInLimits m.bindings → IsSignInRange (answer_of_any_size s m).after
 unfolding answer_of_any_size
@@ -443,8 +367,7 @@ answer_in_range s m is within = answer_after s m m.kind is within
 
 heard_after : (s : SignState) (m : SnmpMessage) (b : Bool) → IsSignInRange s → AreBindingsInLimits m.bindings
     → IsSignInRange (cond b (heard s m) (dropped s)).after
-heard_after s m true is within = with_silence (answer_of_any_size s m).after 0 (answer_in_range s m is within) (omega arith)
-heard_after s m false is within = is
+heard_after s m b is within = grind (arith, with_silence, answer_in_range)
 
 pub message_keeps_range : (s : SignState) (m : SnmpMessage) → IsSignInRange s → AreBindingsInLimits m.bindings → IsSignInRange (on_message s m).after
 message_keeps_range s m is within = heard_after s m (is_heard s m) is within

@@ -1,6 +1,5 @@
 -- The text of each valid row stays good under the defaults that are kept for it.
 use Rattle.std.proofs.Common.{◌≡◌, ℕ, zero, suc, ◌+◌, ◌-◌, ◌<◌, ◌≤◌, ◌==◌, Bool, true, false, cond, List, [], ◌∷◌, map, get_or, set, replicate, length, Option, Some, None, slice_get, All, refl, ap, sym, subst, ◌∙◌, arith}
-use Rattle.std.specs.Prelude.{option_map}
 use Rattle.std.proofs.lemmas.Bool.{eqb-true, eqb-false}
 use Rattle.std.proofs.lemmas.List.{get_or-set_same, get_or-set_other}
 use Rattle.std.proofs.lemmas.Option.{slice_get_within, get_or_from_slice_get, same_Some}
@@ -8,7 +7,7 @@ use Rattle.dms_face.specs.declared.defaults.Defaults.{Defaults}
 use Rattle.dms_face.specs.Face.{FaceModel}
 use Rattle.dms_face.specs.Layout.{under}
 use Rattle.dms_face.specs.Fit.{IsGood}
-use Rattle.dms_codes.specs.declared.status.Status.TheVariants.{NotUsed, Valid, Error}
+use Rattle.dms_codes.specs.declared.status.Status.TheVariants.{Valid, Error}
 use Rattle.dms_codes.specs.Memory.{permanent_memory, changeable_memory, volatile_memory}
 use Rattle.dms_table.specs.declared.row.Services.{Services}
 use Rattle.dms_table.specs.declared.writable.Place.{Place}
@@ -42,9 +41,7 @@ set_elsewhere (row ∷ rows) (suc place) (suc k) new other = set_elsewhere rows 
 
 settled_by : (face : FaceModel) (validating passed : Bool) (old row : RowModel) → validating ≡ true → (passed ≡ true → IsGood face old.text)
     → cond validating (record old { status = cond passed Valid Error }) old ≡ row → row.status ≡ Valid → IsGood face row.text
-settled_by face true true old row is good e valid = subst (λ (r : RowModel). IsGood face r.text) e (good refl)
-settled_by face true false old row is good e valid = absurd (let wrong : Error ≡ row.status = ap (λ (r : RowModel). r.status) e in cc)
-settled_by face false passed old row is good e valid = absurd (cc)
+settled_by face validating passed old row is good e valid = grind arith
 
 -- the row at a place was settled under these defaults
 place_settled : (is_place : Bool) (services : Services) (face : FaceModel) (first defaults : Defaults) (entries : List Defaults) (start : ℕ) (rows : List RowModel)
@@ -78,8 +75,7 @@ list_settled : (o : Option RowModel) (services : Services) (face : FaceModel) (f
     → ((row : RowModel) → slice_get rows k ≡ Some row → row.status ≡ Valid → IsGood (under face (get_or entries (start + k) first)) row.text)
     → slice_get (map (settled_row services (under face defaults)) rows) k ≡ Some row → row.status ≡ Valid
     → IsGood (under face (get_or (set entries (start + place) defaults) (start + k) first)) row.text
-list_settled None services face first defaults entries start rows place k row there only room good e valid =
-    absurd (let none : None ≡ Some true = sym (ap (option_map row_is_validating) there) ∙ only.there in cc)
+list_settled None services face first defaults entries start rows place k row there only room good e valid = grind (arith, place_settled)
 list_settled (Some old) services face first defaults entries start rows place k row there only room good e valid =
     place_settled (k == place) services face first defaults entries start rows place k old row refl only there room good e valid
 
@@ -91,8 +87,7 @@ list_still services face rows k row none e = sym (ap (λ (rows : List RowModel).
 -- the defaults of another row stay
 other_entry : (face : FaceModel) (first defaults : Defaults) (entries : List Defaults) (place entry : ℕ) (row : RowModel) → (entry ≡ place → ⊥)
     → IsGood (under face (get_or entries entry first)) row.text → IsGood (under face (get_or (set entries place defaults) entry first)) row.text
-other_entry face first defaults entries place entry row other good =
-    subst (λ (d : Defaults). IsGood (under face d) row.text) (sym (get_or-set_other entries place entry defaults first other)) good
+other_entry face first defaults entries place entry row other good = grind (arith, get_or-set_other)
 
 -- there is an entry for each row that can be changed
 pub record HasEntries (known : KnownTexts) (table : TableModel) : Type 0 where
@@ -101,11 +96,7 @@ pub record HasEntries (known : KnownTexts) (table : TableModel) : Type 0 where
   pub volatile : length table.volatile ≤ 16
 
 pub only_within : (rows : List RowModel) (place : ℕ) → IsOnly place rows → place < length rows
-only_within rows place only = within_by (slice_get rows place) refl only.there
-  where
-    within_by : (o : Option RowModel) → slice_get rows place ≡ o → option_map row_is_validating o ≡ Some true → place < length rows
-    within_by None there is = absurd (cc)
-    within_by (Some row) there is = slice_get_within rows place row there
+only_within rows place only = grind (arith, slice_get, slice_get_within)
 
 -- the row at this index of a type of memory, once one of this type or of the other is settled
 row_settled : (memory other : Writable) (services : Services) (face : FaceModel) (known : KnownTexts) (defaults : Defaults) (table : TableModel)
@@ -132,8 +123,7 @@ row_settled Volatile Volatile services face known defaults table index k row has
     (omega (arith, only_within table.volatile index only, has.volatile, has.entries)) good e valid
 
 not_zero : (b : Bool) (o : Option RowModel) (row : RowModel) → cond b None o ≡ Some row → (b ≡ false) × (o ≡ Some row)
-not_zero true o row e = absurd (cc)
-not_zero false o row e = (refl, e)
+not_zero b o row e = grind arith
 
 known_of_type : (o : Option Writable) (place : Place) (known : KnownTexts) (face : FaceModel) (defaults : Defaults) (old : TableModel) (memory number : ℕ)
     → writable memory ≡ o → HasEntries known old → IsOnlyOfAll place old.changeable old.volatile
@@ -160,16 +150,12 @@ known_settled place known face defaults old has placed good = λ memory number.
 
 never_used : (n k : ℕ) (row : RowModel) → slice_get (replicate n unused) k ≡ Some row → row.status ≡ Valid → ⊥
 never_used zero k row e valid = cc
-never_used (suc n) zero row e valid =
-    let same : unused ≡ row = cc in
-    let status : NotUsed ≡ row.status = ap (λ (r : RowModel). r.status) same in
-    cc
+never_used (suc n) zero row e valid = grind arith
 never_used (suc n) (suc k) row e valid = never_used n k row e valid
 
 shown_at : (services : Services) (face : FaceModel) (rows : List RowModel) (k : ℕ) (row : RowModel) → All (IsShowable services face) rows
     → slice_get rows k ≡ Some row → IsGood face row.text
-shown_at services face rows k row each e =
-    (subst (IsShowable services face) (get_or_from_slice_get rows k row row e) (each k row (slice_get_within rows k row e))).good
+shown_at services face rows k row each e = grind (arith, get_or_from_slice_get, slice_get_within)
 
 unused_at : (rows : List RowModel) (n k : ℕ) (row : RowModel) → rows ≡ replicate n unused → slice_get rows k ≡ Some row → row.status ≡ Valid → ⊥
 unused_at rows n k row are e valid = never_used n k row (ap (λ (rows : List RowModel). slice_get rows k) (sym are) ∙ e) valid

@@ -1,13 +1,13 @@
 -- A reply is a Response to the request that came; the answer to a SET says little, and fits a datagram.
-use Rattle.std.proofs.Common.{◌≡◌, ℕ, suc, ◌+◌, ◌<◌, ◌≤◌, ◌&&◌, Bool, true, false, cond, List, [], ◌∷◌, ◌++◌, length, Option, Some, None, Result, Ok, Err, refl, sym, ap, subst, ◌∙◌, arith}
+use Rattle.std.proofs.Common.{◌≡◌, ℕ, suc, ◌+◌, ◌<◌, ◌≤◌, ◌&&◌, Bool, true, cond, List, [], ◌∷◌, ◌++◌, length, Option, Some, Result, refl, ap, ◌∙◌, arith}
 use Rattle.std.specs.Prelude.{nat_le, unwrap_or, filter_map, find}
 use Rattle.std.specs.List.{AllByRecursion, position_from}
-use Rattle.std.proofs.lemmas.Bool.{and_parts, le-leb}
+use Rattle.std.proofs.lemmas.Bool.{and_parts}
 use Rattle.std.proofs.lemmas.List.{length-append}
 use Rattle.dms_wire.specs.declared.message.Kind.{Kind}
 use Rattle.dms_wire.specs.declared.message.Kind.TheVariants.{Set}
 use Rattle.dms_wire.specs.declared.error_status.ErrorStatus.{ErrorStatus}
-use Rattle.dms_wire.specs.declared.error_status.ErrorStatus.TheVariants.{NoError, GenErr}
+use Rattle.dms_wire.specs.declared.error_status.ErrorStatus.TheVariants.{NoError}
 use Rattle.dms_wire.specs.ErrorStatus.{error_status_number}
 use Rattle.dms_wire.specs.Message.{VarBind, SnmpMessage}
 use Rattle.dms_wire.specs.MessageOf.{message_of}
@@ -23,9 +23,9 @@ use Rattle.dms_table.specs.Activation.{ShownModel, decided}
 use Rattle.dms_face.proofs.Lists.{all_append}
 use Rattle.dms_sign.specs.State.{SignState}
 use Rattle.dms_access.specs.Access.{Write, SetNumber, SetCode, SetField, AskRow, Activate, SetRemaining, is_command}
-use Rattle.dms_sign.specs.SetRequest.{SetCause, is_command_at, tests_at, cause_if, causes_at, causes_after, causes, assigned}
+use Rattle.dms_sign.specs.SetRequest.{SetCause, is_command_at, cause_if, causes_at, causes_after, causes, assigned}
 use Rattle.dms_sign.specs.Reply.{too_big}
-use Rattle.dms_sign.specs.Requests.{Answer, refused, granted, as_decided, as_asked, commanded, commanded_if, with_remaining, command_index, writes_of, set_unless, may_write, answer_by, answer_of_any_size}
+use Rattle.dms_sign.specs.Requests.{Answer, refused, granted, as_decided, as_asked, commanded, commanded_if, with_remaining, command_index, writes_of, set_unless, answer_by, answer_of_any_size}
 use Rattle.dms_sign.specs.Reply.{response_of, most_octets, reply_to, is_heard, heard, dropped, on_message_if, received}
 use Rattle.dms_sign.specs.Promises.{IsResponseTo, IsReplyTo}
 
@@ -33,8 +33,7 @@ use Rattle.dms_sign.specs.Promises.{IsResponseTo, IsReplyTo}
 
 response_either : (m : SnmpMessage) (a : Answer) (b : Bool)
     → IsResponseTo m (cond b (canonical (response_of m a)) (canonical (response_to m too_big 0)))
-response_either m a true = record { response = response_of m a; kind = refl; community = refl; number = refl; written = refl }
-response_either m a false = record { response = response_to m too_big 0; kind = refl; community = refl; number = refl; written = refl }
+response_either m a b = grind arith
 
 responds : (m : SnmpMessage) (a : Answer) → IsResponseTo m (reply_to m a)
 unfolding reply_to
@@ -45,15 +44,11 @@ asks_by powered b c h = (and_parts powered b (and_parts (powered && b) c h).0).1
 
 heard_reply : (s : SignState) (datagram reply : List ℕ) (m : SnmpMessage) (b : Bool) → message_of datagram ≡ Some m → is_heard s m ≡ b
     → (cond b (heard s m) (dropped s)).reply ≡ Some reply → IsReplyTo datagram reply
-heard_reply s datagram reply m false spelled is e = absurd (cc)
-heard_reply s datagram reply m true spelled is e =
-    let same : reply_to m (answer_of_any_size s m) ≡ reply = cc in
-    record { request = m; spelled = spelled; asks = asks_by s.powered _ _ is; responds = subst (IsResponseTo m) same (responds m (answer_of_any_size s m)) }
+heard_reply s datagram reply m b spelled is e = grind (arith, asks_by, responds)
 
 message_reply : (s : SignState) (datagram reply : List ℕ) (o : Option SnmpMessage) → message_of datagram ≡ o
     → (on_message_if s o).reply ≡ Some reply → IsReplyTo datagram reply
-message_reply s datagram reply None spelled e = absurd (cc)
-message_reply s datagram reply (Some m) spelled e = heard_reply s datagram reply m (is_heard s m) spelled refl e
+message_reply s datagram reply o spelled e = grind (arith, heard_reply)
 
 pub names_its_request : (s : SignState) (datagram reply : List ℕ) → (received s datagram).reply ≡ Some reply → IsReplyTo datagram reply
 unfolding received
@@ -82,14 +77,11 @@ granted_is s bindings = record { echo = refl; status = omega arith; index = omeg
 
 decided_is : (old new : SignState) (bindings : List VarBind) (index : ℕ) (octets : List ℕ) (r : Result ShownModel Cause) → index ≤ length bindings
     → IsSetAnswer bindings (as_decided old new bindings index octets r)
-decided_is old new bindings index octets (Ok shown) within = record { echo = refl; status = omega arith; index = omega arith; success = λ none. refl }
-decided_is old new bindings index octets (Err cause) within =
-    record { echo = refl; status = omega arith; index = within; success = λ none. absurd (cc) }
+decided_is old new bindings index octets r within = grind arith
 
 asked_is : (old new : SignState) (bindings : List VarBind) (index : ℕ) (o : Option TableModel) → index ≤ length bindings
     → IsSetAnswer bindings (as_asked old new bindings index o)
-asked_is old new bindings index None within = refused_is old bindings GenErr index (λ none. cc) (omega arith) within
-asked_is old new bindings index (Some table) within = granted_is (record new { table = table }) bindings
+asked_is old new bindings index o within = grind arith
 
 commanded_is : (old new : SignState) (bindings : List VarBind) (index : ℕ) (write : Write) → index ≤ length bindings
     → IsSetAnswer bindings (commanded old new bindings index write)
@@ -103,14 +95,12 @@ commanded_is old new bindings index (SetField id field) within = granted_is new 
 
 commanded_if_is : (old new : SignState) (bindings : List VarBind) (index : ℕ) (o : Option Write) → index ≤ length bindings
     → IsSetAnswer bindings (commanded_if old new bindings index o)
-commanded_if_is old new bindings index None within = granted_is new bindings
-commanded_if_is old new bindings index (Some write) within = commanded_is old new bindings index write within
+commanded_if_is old new bindings index o within = grind (arith, granted_is, commanded_is)
 
 -- ---- places and causes
 
 position_if : (i n : ℕ) (b : Bool) (o : Option ℕ) → unwrap_or o 0 ≤ i + 1 + n → unwrap_or (cond b (Some (i + 1)) o) 0 ≤ i + suc n
-position_if i n true o rest = omega arith
-position_if i n false o rest = omega arith
+position_if i n b o rest = grind arith
 
 position_within : {A : Type 0} (p : A → Bool) (i : ℕ) (xs : List A) → unwrap_or (position_from p (i + 1) xs) 0 ≤ i + length xs
 position_within p i [] = omega arith
@@ -123,8 +113,7 @@ IsTest test = (test.1 ≡ NoError → ⊥) × (error_status_number test.1 ≤ 5)
 held_if : (most index : ℕ) (b : Bool) (status : ErrorStatus) (tests : List (Bool × ErrorStatus)) → index ≤ most → (status ≡ NoError → ⊥) → error_status_number status ≤ 5
     → AllByRecursion (IsCause most) (filter_map (cause_if index) tests)
     → AllByRecursion (IsCause most) (filter_map (cause_if index) ((b, status) ∷ tests))
-held_if most index true status tests within fails small rest = (record { fails = fails; status = small; index = within }, rest)
-held_if most index false status tests within fails small rest = rest
+held_if most index b status tests within fails small rest = grind arith
 
 held : (most index : ℕ) (tests : List (Bool × ErrorStatus)) → index ≤ most → AllByRecursion IsTest tests
     → AllByRecursion (IsCause most) (filter_map (cause_if index) tests)
@@ -133,20 +122,12 @@ held most index (test ∷ tests) within each = held_if most index test.0 test.1 
 
 are_causes_at : (s : SignState) (writing : Bool) (before : List VarBind) (binding : VarBind) (most : ℕ) → length before + 1 ≤ most
     → AllByRecursion (IsCause most) (causes_at s writing before binding)
-are_causes_at s writing before binding most within =
-    held most (length before + 1) (tests_at s writing before binding) within
-    ((λ none. cc, omega arith), ((λ none. cc, omega arith), ((λ none. cc, omega arith), ((λ none. cc, omega arith), ((λ none. cc, omega arith), tt)))))
+are_causes_at s writing before binding most within = grind arith
 
 are_causes_after : (s : SignState) (writing : Bool) (before bindings : List VarBind) (most : ℕ) → length before + length bindings ≤ most
     → AllByRecursion (IsCause most) (causes_after s writing before bindings)
 are_causes_after s writing before [] most within = tt
-are_causes_after s writing before (binding ∷ more) most within =
-    all_append
-    (IsCause most)
-    (causes_at s writing before binding)
-    (causes_after s writing (before ++ binding ∷ []) more)
-    (are_causes_at s writing before binding most (omega arith))
-    (are_causes_after s writing (before ++ binding ∷ []) more most (omega (arith, length-append before (binding ∷ []))))
+are_causes_after s writing before (binding ∷ more) most within = grind (arith, all_append, are_causes_at, length-append, are_causes_after s writing (before ++ binding ∷ []) more most (omega (arith, length-append before (binding ∷ []))))
 
 pub are_causes : (s : SignState) (writing : Bool) (bindings : List VarBind) → AllByRecursion (IsCause (length bindings)) (causes s writing bindings)
 unfolding causes
@@ -162,11 +143,7 @@ set_unless_is s bindings [] each =
 set_unless_is s bindings (cause ∷ more) each = refused_is s bindings cause.status cause.index each.0.fails each.0.status each.0.index
 
 answer_by_is : (s : SignState) (m : SnmpMessage) (kind : Kind) → kind ≡ Set → IsSetAnswer m.bindings (answer_by s m kind)
-answer_by_is s m kind is =
-    subst
-    (λ k. IsSetAnswer m.bindings (answer_by s m k))
-    (sym is)
-    (set_unless_is s m.bindings (causes s (may_write s m) m.bindings) (are_causes s (may_write s m) m.bindings))
+answer_by_is s m kind is = grind (arith, set_unless_is, are_causes)
 
 pub is_set_answer : (s : SignState) (m : SnmpMessage) → m.kind ≡ Set → IsSetAnswer m.bindings (answer_of_any_size s m)
 unfolding answer_of_any_size
@@ -176,19 +153,14 @@ is_set_answer s m is = answer_by_is s m m.kind is
 
 reply_if : (m : SnmpMessage) (a : Answer) → length (canonical (response_of m a)) ≤ 1472 → reply_to m a ≡ canonical (response_of m a)
 unfolding reply_to
-reply_if m a fits =
-    ap (λ b. cond b (canonical (response_of m a)) (canonical (response_to m too_big 0))) (le-leb (length (canonical (response_of m a))) 1472 fits)
+reply_if m a fits = grind arith
 
 echoes : (m : SnmpMessage) (a : Answer) → a.bindings ≡ m.bindings → response_of m a ≡ response_to m (error_status_number a.status) a.index
 echoes m a same = ap (λ bindings. record (response_to m (error_status_number a.status) a.index) { bindings = bindings }) same
 
 not_replaced : (m : SnmpMessage) (datagram : List ℕ) (a : Answer) → Spells m datagram → IsSetAnswer m.bindings a → a.index < 128
     → reply_to m a ≡ canonical (response_to m (error_status_number a.status) a.index)
-not_replaced m datagram a spells is small =
-    let shorter : length (canonical (response_to m (error_status_number a.status) a.index)) ≤ length datagram =
-    response_no_longer m datagram (error_status_number a.status) a.index spells (omega (arith, is.status)) small in
-    let same : canonical (response_of m a) ≡ canonical (response_to m (error_status_number a.status) a.index) = ap canonical (echoes m a is.echo) in
-    reply_if m a (omega (arith, spells.size, ap length same)) ∙ same
+not_replaced m datagram a spells is small = grind (arith, response_no_longer, echoes, reply_if)
 
 pub one_binding_fits : (s : SignState) (m : SnmpMessage) (datagram : List ℕ) → message_of datagram ≡ Some m → m.kind ≡ Set → length m.bindings ≡ 1
     → reply_to m (answer_of_any_size s m) ≡ canonical (response_to m (error_status_number (answer_of_any_size s m).status) (answer_of_any_size s m).index)

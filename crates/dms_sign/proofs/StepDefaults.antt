@@ -1,11 +1,10 @@
 -- The defaults of a sign stay in their ranges, and name a font of its face.
-use Rattle.std.proofs.Common.{◌≡◌, ℕ, ◌+◌, ◌==◌, ◌&&◌, Bool, true, false, cond, IsTrue, List, [], ◌∷◌, map, find, Option, Some, None, Result, Ok, Err, refl, sym, subst, eqb, leb}
-use Rattle.std.specs.Prelude.{option_map, option_and_then, unwrap_or, filter_map, nat_lt, nat_le, ⊤}
+use Rattle.std.proofs.Common.{◌≡◌, ℕ, ◌+◌, ◌==◌, ◌&&◌, Bool, true, cond, List, [], ◌∷◌, Option, Some, None, Result, refl, leb, arith}
+use Rattle.std.specs.Prelude.{option_map, option_and_then, unwrap_or, filter_map, nat_le, ⊤}
 use Rattle.std.specs.Option.{IfSome}
-use Rattle.std.specs.List.{AllByRecursion, position_from}
-use Rattle.std.proofs.lemmas.Bool.{and_parts, and_from, eqb-true}
+use Rattle.std.specs.List.{AllByRecursion}
+use Rattle.std.proofs.lemmas.Bool.{and_parts}
 use Rattle.dms_wire.specs.declared.message.Kind.{Kind}
-use Rattle.dms_wire.specs.declared.message.Kind.TheVariants.{Get, GetNext, Response, Set}
 use Rattle.dms_wire.specs.Message.{ObjectValue, VarBind, SnmpMessage}
 use Rattle.dms_wire.specs.MessageOf.{message_of}
 use Rattle.dms_face.specs.declared.defaults.Defaults.{Defaults}
@@ -15,27 +14,26 @@ use Rattle.dms_table.specs.declared.activation.Cause.{Cause}
 use Rattle.dms_objects.specs.declared.column.Column.{Column}
 use Rattle.dms_objects.specs.declared.column.Column.TheVariants as columns
 use Rattle.dms_codes.specs.declared.row_id.RowId.{RowId}
-use Rattle.dms_codes.specs.Codes.{activation_of}
-use Rattle.dms_table.specs.Rows.{TableModel, Text, Owner, Beacon, Pixel, Priority, asked}
+use Rattle.dms_table.specs.Rows.{TableModel, Text, Owner, Beacon, Pixel, Priority}
 use Rattle.dms_codes.specs.Limits.{longest_text, longest_owner}
-use Rattle.dms_table.specs.Activation.{ShownModel, seconds_of, decided}
+use Rattle.dms_table.specs.Activation.{ShownModel}
 use Rattle.dms_objects.specs.declared.scalar.Scalar.{Scalar}
 use Rattle.dms_objects.specs.declared.scalar.Scalar.TheVariants.{DefaultBackgroundColor, DefaultForegroundColor, DefaultFlashOn, DefaultFlashOff, DefaultFont, DefaultJustificationLine, DefaultJustificationPage, DefaultPageOnTime, DefaultPageOffTime, ActivateMessage, MessageTimeRemaining, ShortPowerRecoveryMessage, LongPowerRecoveryMessage, ShortPowerLossTime, CommunicationsLossMessage, TimeCommLoss, PowerLossMessage, EndDurationMessage}
 use Rattle.dms_objects.specs.declared.instance.Instance.{Instance}
 use Rattle.dms_objects.specs.declared.instance.Instance.TheVariants as kinds
 use Rattle.dms_objects.specs.Names.{scalar_number}
-use Rattle.dms_sign.specs.State.{ConfigModel, SignState, power_recovery_mode, communications_loss_mode, power_loss_mode, end_duration_mode}
-use Rattle.dms_sign.specs.OwnCodes.{showing, put_up_code}
-use Rattle.dms_access.specs.Access.{Write, SetNumber, SetCode, SetField, AskRow, Activate, SetRemaining, is_command, number_in, octets_in, font_in, ask_of, object_write, cell_write, write_of}
-use Rattle.dms_access.specs.Assignment.{given, is_same, number_for}
-use Rattle.dms_sign.specs.SetRequest.{SetCause, settable_instance, write_at, causes, assigned}
-use Rattle.dms_sign.specs.Requests.{found_unless, with_value, has_no_value, next_after, is_last, as_decided, as_asked, with_remaining, commanded, commanded_if, writes_of, set_unless, may_write, answer_by, answer_of_any_size}
-use Rattle.dms_sign.specs.Reply.{is_heard, heard, dropped, on_message_if, received}
-use Rattle.dms_sign.specs.Events.{after_settling, counted_down, after_duration, longest_silence, quieter, after_silence, after_tick, recovery_code, restored, after_power_loss, after_power_return}
+use Rattle.dms_sign.specs.State.{SignState}
+use Rattle.dms_sign.specs.OwnCodes.{put_up_code}
+use Rattle.dms_access.specs.Access.{Write, SetNumber, SetCode, SetField, AskRow, Activate, SetRemaining, number_in, octets_in, font_in, ask_of, object_write, cell_write, write_of}
+use Rattle.dms_access.specs.Assignment.{given, number_for}
+use Rattle.dms_sign.specs.SetRequest.{SetCause, settable_instance, write_at, assigned}
+use Rattle.dms_sign.specs.Requests.{found_unless, as_decided, as_asked, with_remaining, commanded, commanded_if, writes_of, set_unless, answer_by, answer_of_any_size}
+use Rattle.dms_sign.specs.Reply.{heard, dropped, on_message_if, received}
+use Rattle.dms_sign.specs.Events.{after_settling, counted_down, after_duration, after_silence, after_tick, after_power_loss, after_power_return}
 use Rattle.dms_sign.specs.Transitions.{HasFitDefaults}
-use Rattle.dms_sign.proofs.NumbersRead.{passes_if, number_passes}
+use Rattle.dms_sign.proofs.NumbersRead.{number_passes}
 use Rattle.dms_sign.proofs.InRangeLists.{all_filtered, all_any}
-use Rattle.dms_sign.proofs.StepShown.{KeepsRest, code_puts_up}
+use Rattle.dms_sign.proofs.StepShown.{code_puts_up}
 
 -- ---- what a binding writes
 
@@ -62,24 +60,20 @@ WriteFits face (SetRemaining minutes) = ⊤
 
 font_then : (face : FaceModel) (o : Option ℕ)
     → IfSome (option_and_then (λ n. cond (has_font face.fonts n) (Some n) None) o) (λ n. has_font face.fonts n ≡ true)
-font_then face None = tt
-font_then face (Some n) = passes_if (has_font face.fonts) n (has_font face.fonts n) refl
+font_then face o = grind arith
 
 -- a number that passes a test writes what fits
 number_writes : (face : FaceModel) (object : Scalar) (test : ℕ → Bool) (o : Option ℕ) → ((n : ℕ) → test n ≡ true → object_fits face object n ≡ true)
     → IfSome o (λ n. test n ≡ true) → IfSome (option_map (SetNumber object) o) (WriteFits face)
-number_writes face object test None each is = tt
-number_writes face object test (Some n) each is = each n is
+number_writes face object test o each is = grind arith
 
 -- any number fits an object that is no default
 any_number : (face : FaceModel) (object : Scalar) (o : Option ℕ) → ((n : ℕ) → object_fits face object n ≡ true)
     → IfSome (option_map (SetNumber object) o) (WriteFits face)
-any_number face object None each = tt
-any_number face object (Some n) each = each n
+any_number face object o each = grind arith
 
 any_mapped : {A : Type 0} (face : FaceModel) (f : A → Write) (o : Option A) → ((x : A) → WriteFits face (f x)) → IfSome (option_map f o) (WriteFits face)
-any_mapped face f None each = tt
-any_mapped face f (Some x) each = each x
+any_mapped face f o each = grind arith
 
 object_writes : (face : FaceModel) (object : Scalar) (value : ObjectValue) → IfSome (object_write face object value) (WriteFits face)
 unfolding object_write
@@ -142,30 +136,13 @@ writes_fit s bindings = filtered_any (WriteFits s.config.face) (write_at s) bind
 
 -- ---- assignment
 
-fits_if_same : (face : FaceModel) (object other : Scalar) (n : ℕ) (b : Bool) → is_same object other ≡ b → object_fits face other n ≡ true
-    → IfSome (cond b (Some n) None) (λ n. object_fits face object n ≡ true)
-fits_if_same face object other n false e fits = tt
-fits_if_same face object other n true e fits =
-    let parts = and_parts (eqb (scalar_number object).0 (scalar_number other).0) (eqb (scalar_number object).1 (scalar_number other).1) e in
-    let group : (scalar_number object).0 ≡ (scalar_number other).0 = eqb-true (scalar_number object).0 (scalar_number other).0 parts.0 in
-    let place : (scalar_number object).1 ≡ (scalar_number other).1 = eqb-true (scalar_number object).1 (scalar_number other).1 parts.1 in
-    subst (λ g. number_fits face g (scalar_number object).1 n ≡ true) (sym group)
-    (subst (λ p. number_fits face (scalar_number other).0 p n ≡ true) (sym place) fits)
-
 given_number_fits : (face : FaceModel) (object : Scalar) (write : Write) → WriteFits face write → IfSome (number_for object write) (λ n. object_fits face object n ≡ true)
-given_number_fits face object (SetNumber other n) is = fits_if_same face object other n (is_same object other) refl is
-given_number_fits face object (SetCode other octets) is = tt
-given_number_fits face object (SetField id field) is = tt
-given_number_fits face object (AskRow id ask) is = tt
-given_number_fits face object (Activate octets) is = tt
-given_number_fits face object (SetRemaining minutes) is = tt
+given_number_fits face object write is = grind arith
 
 given_fits : (face : FaceModel) (object : Scalar) (writes : List Write) (old : ℕ) → AllByRecursion (WriteFits face) writes → object_fits face object old ≡ true
     → object_fits face object (given (number_for object) writes old) ≡ true
 given_fits face object [] old all is = is
-given_fits face object (write ∷ writes) old all is =
-    given_fits face object writes (unwrap_or (number_for object write) old) all.1
-    (if_or (λ n. object_fits face object n ≡ true) (number_for object write) old (given_number_fits face object write all.0) is)
+given_fits face object (write ∷ writes) old all is = grind (arith, if_or, given_number_fits, given_fits face object writes (unwrap_or (number_for object write) old) all.1)
 
 record AreFit (face : FaceModel) (defaults : Defaults) : Type 0 where
   background : nat_le defaults.background 9 ≡ true
@@ -175,19 +152,10 @@ record AreFit (face : FaceModel) (defaults : Defaults) : Type 0 where
   font : has_font face.fonts defaults.font ≡ true
 
 parts_of_fit : (face : FaceModel) (d : Defaults) → fit face.fonts d ≡ true → AreFit face d
-parts_of_fit face d e =
-    let four = and_parts (leb d.background 9 && leb d.foreground 9 && is_within 2 4 d.line && is_within 2 4 d.page) (has_font face.fonts d.font) e in
-    let three = and_parts (leb d.background 9 && leb d.foreground 9 && is_within 2 4 d.line) (is_within 2 4 d.page) four.0 in
-    let two = and_parts (leb d.background 9 && leb d.foreground 9) (is_within 2 4 d.line) three.0 in
-    let one = and_parts (leb d.background 9) (leb d.foreground 9) two.0 in
-    record { background = one.0; foreground = one.1; line = two.1; page = three.1; font = four.1 }
+parts_of_fit face d e = grind arith
 
 fit_of_parts : (face : FaceModel) (d : Defaults) → AreFit face d → fit face.fonts d ≡ true
-fit_of_parts face d are =
-    let one = and_from (leb d.background 9) (leb d.foreground 9) are.background are.foreground in
-    let two = and_from (leb d.background 9 && leb d.foreground 9) (is_within 2 4 d.line) one are.line in
-    let three = and_from (leb d.background 9 && leb d.foreground 9 && is_within 2 4 d.line) (is_within 2 4 d.page) two are.page in
-    and_from (leb d.background 9 && leb d.foreground 9 && is_within 2 4 d.line && is_within 2 4 d.page) (has_font face.fonts d.font) three are.font
+fit_of_parts face d are = grind arith
 
 pub assigned_fit : (s : SignState) (writes : List Write) → AllByRecursion (WriteFits s.config.face) writes → HasFitDefaults s → HasFitDefaults (assigned s writes)
 unfolding assigned
@@ -205,74 +173,50 @@ assigned_fit s writes all is =
 -- ---- codes of the sign's own
 
 code_fits : (s : SignState) (octets : List ℕ) (mode : ℕ) → HasFitDefaults s → HasFitDefaults (put_up_code s octets mode)
-code_fits s octets mode is =
-    let kept_rest : KeepsRest s (put_up_code s octets mode) = (code_puts_up s octets mode).kept_rest in
-    subst (λ (c : ConfigModel). IsTrue (fit c.face.fonts (put_up_code s octets mode).defaults)) (sym kept_rest.config)
-    (subst (λ (d : Defaults). IsTrue (fit s.config.face.fonts d)) (sym kept_rest.defaults) is)
+code_fits s octets mode is = grind (arith, code_puts_up)
 
 fits_if : (b : Bool) (x y : SignState) → HasFitDefaults x → HasFitDefaults y → HasFitDefaults (cond b x y)
-fits_if true x y first second = first
-fits_if false x y first second = second
+fits_if b x y first second = grind arith
 
 -- ---- messages
 
 decided_fits : (old new : SignState) (bindings : List VarBind) (index : ℕ) (octets : List ℕ) (r : Result ShownModel Cause) → HasFitDefaults old → HasFitDefaults new
     → HasFitDefaults (as_decided old new bindings index octets r).after
-decided_fits old new bindings index octets (Ok shown) was is = is
-decided_fits old new bindings index octets (Err cause) was is = was
+decided_fits old new bindings index octets r was is = grind arith
 
 asked_fits : (old new : SignState) (bindings : List VarBind) (index : ℕ) (o : Option TableModel) → HasFitDefaults old → HasFitDefaults new
     → HasFitDefaults (as_asked old new bindings index o).after
-asked_fits old new bindings index None was is = was
-asked_fits old new bindings index (Some table) was is = is
+asked_fits old new bindings index o was is = grind arith
 
 remaining_fits : (s : SignState) (minutes : ℕ) → HasFitDefaults s → HasFitDefaults (with_remaining s minutes)
-remaining_fits s minutes is =
-    fits_if (minutes == 0) (put_up_code s s.fallbacks.end_duration end_duration_mode) (showing s (record s.shown { remaining = seconds_of minutes }))
-    (code_fits s s.fallbacks.end_duration end_duration_mode is) is
+remaining_fits s minutes is = grind (arith, fits_if, code_fits)
 
 command_fits : (old new : SignState) (bindings : List VarBind) (index : ℕ) (write : Write) → HasFitDefaults old → HasFitDefaults new
     → HasFitDefaults (commanded old new bindings index write).after
-command_fits old new bindings index (AskRow id ask) was is = asked_fits old new bindings index (asked new.table id ask) was is
-command_fits old new bindings index (Activate octets) was is =
-    decided_fits old new bindings index octets (decided new.config.face new.defaults new.table new.shown (activation_of old.table.order octets)) was is
-command_fits old new bindings index (SetRemaining minutes) was is = remaining_fits new minutes is
-command_fits old new bindings index (SetNumber object number) was is = is
-command_fits old new bindings index (SetCode object octets) was is = is
-command_fits old new bindings index (SetField id field) was is = is
+command_fits old new bindings index write was is = grind (arith, asked_fits, decided_fits, remaining_fits)
 
 command_if_fits : (old new : SignState) (bindings : List VarBind) (index : ℕ) (o : Option Write) → HasFitDefaults old → HasFitDefaults new
     → HasFitDefaults (commanded_if old new bindings index o).after
-command_if_fits old new bindings index None was is = is
-command_if_fits old new bindings index (Some write) was is = command_fits old new bindings index write was is
+command_if_fits old new bindings index o was is = grind (arith, command_fits)
 
 set_fits : (s : SignState) (bindings : List VarBind) (found : List SetCause) → HasFitDefaults s → HasFitDefaults (set_unless s bindings found).after
-set_fits s bindings [] is =
-    command_if_fits s (assigned s (writes_of s bindings)) bindings _ (find is_command (writes_of s bindings)) is
-    (assigned_fit s (writes_of s bindings) (writes_fit s bindings) is)
-set_fits s bindings (cause ∷ more) is = is
+set_fits s bindings found is = grind (arith, command_if_fits, assigned_fit, writes_fit)
 
 found_fits : (s : SignState) (bindings found : List VarBind) (o : Option ℕ) → HasFitDefaults s → HasFitDefaults (found_unless s bindings found o).after
-found_fits s bindings found None is = is
-found_fits s bindings found (Some index) is = is
+found_fits s bindings found o is = grind arith
 
 kind_fits : (s : SignState) (m : SnmpMessage) (kind : Kind) → HasFitDefaults s → HasFitDefaults (answer_by s m kind).after
-kind_fits s m Get is = found_fits s m.bindings (map (with_value s) m.bindings) (position_from (has_no_value s) 1 m.bindings) is
-kind_fits s m GetNext is = found_fits s m.bindings (map (next_after s) m.bindings) (position_from (is_last s) 1 m.bindings) is
-kind_fits s m Response is = is
-kind_fits s m Set is = set_fits s m.bindings (causes s (may_write s m) m.bindings) is
+kind_fits s m kind is = grind (arith, found_fits, set_fits)
 
 answer_fits : (s : SignState) (m : SnmpMessage) → HasFitDefaults s → HasFitDefaults (answer_of_any_size s m).after
 unfolding answer_of_any_size
 answer_fits s m is = kind_fits s m m.kind is
 
 heard_fits : (s : SignState) (m : SnmpMessage) (b : Bool) → HasFitDefaults s → HasFitDefaults (cond b (heard s m) (dropped s)).after
-heard_fits s m true is = answer_fits s m is
-heard_fits s m false is = is
+heard_fits s m b is = grind (arith, answer_fits)
 
 message_fits : (s : SignState) (o : Option SnmpMessage) → HasFitDefaults s → HasFitDefaults (on_message_if s o).after
-message_fits s None is = is
-message_fits s (Some m) is = heard_fits s m (is_heard s m) is
+message_fits s o is = grind (arith, heard_fits)
 
 pub received_fits : (s : SignState) (datagram : List ℕ) → HasFitDefaults s → HasFitDefaults (received s datagram).after
 unfolding received
@@ -285,9 +229,7 @@ unfolding after_settling
 settling_fits s is = is
 
 down_fits : (s : SignState) (o : Option ℕ) → HasFitDefaults s → HasFitDefaults (counted_down s o)
-down_fits s None is = is
-down_fits s (Some seconds) is =
-    fits_if (nat_le seconds 1) (put_up_code s s.fallbacks.end_duration end_duration_mode) _ (code_fits s s.fallbacks.end_duration end_duration_mode is) is
+down_fits s o is = grind (arith, fits_if, code_fits)
 
 duration_fits : (s : SignState) → HasFitDefaults s → HasFitDefaults (after_duration s)
 unfolding after_duration
@@ -295,25 +237,16 @@ duration_fits s is = down_fits s s.shown.remaining is
 
 silence_fits : (s : SignState) → HasFitDefaults s → HasFitDefaults (after_silence s)
 unfolding after_silence
-silence_fits s is =
-    fits_if (nat_lt s.silent_seconds (longest_silence s)) _ s
-    (fits_if (s.silent_seconds + 1 == longest_silence s) (put_up_code (quieter s) s.fallbacks.communications_loss communications_loss_mode) (quieter s)
-    (code_fits (quieter s) s.fallbacks.communications_loss communications_loss_mode is) is) is
+silence_fits s is = grind (arith, fits_if, code_fits)
 
 pub tick_fits : (s : SignState) → HasFitDefaults s → HasFitDefaults (after_tick s)
 unfolding after_tick
-tick_fits s is =
-    fits_if s.powered (after_silence (after_duration (after_settling s))) s
-    (silence_fits (after_duration (after_settling s)) (duration_fits (after_settling s) (settling_fits s is))) is
+tick_fits s is = grind (arith, fits_if, silence_fits, duration_fits, settling_fits)
 
 pub power_loss_fits : (s : SignState) → HasFitDefaults s → HasFitDefaults (after_power_loss s)
 unfolding after_power_loss
-power_loss_fits s is =
-    fits_if s.powered (record (put_up_code (record s { shown_at_power_loss = s.shown }) s.fallbacks.power_loss power_loss_mode) { powered = false }) s
-    (code_fits (record s { shown_at_power_loss = s.shown }) s.fallbacks.power_loss power_loss_mode is) is
+power_loss_fits s is = grind (arith, fits_if, code_fits)
 
 pub power_return_fits : (s : SignState) (seconds : ℕ) → HasFitDefaults s → HasFitDefaults (after_power_return s seconds)
 unfolding after_power_return
-power_return_fits s seconds is =
-    fits_if s.powered s (put_up_code (restored s) (recovery_code s seconds) power_recovery_mode) is
-    (code_fits (restored s) (recovery_code s seconds) power_recovery_mode is)
+power_return_fits s seconds is = grind (arith, fits_if, code_fits)

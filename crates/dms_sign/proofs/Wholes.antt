@@ -1,6 +1,5 @@
 -- What a change of some fields leaves whole.
-use Rattle.std.proofs.Common.{◌≡◌, ℕ, ◌+◌, ◌<◌, ◌≤◌, ◌==◌, Bool, true, false, cond, List, Option, Some, None, Result, Ok, Err, length, refl, sym, subst, ap, ◌∙◌, arith}
-use Rattle.std.proofs.lemmas.Bool.{eqb-true}
+use Rattle.std.proofs.Common.{◌≡◌, ℕ, ◌+◌, ◌<◌, ◌≤◌, ◌==◌, true, List, Option, Some, None, Result, Ok, Err, length, sym, subst, ap, ◌∙◌, arith}
 use Rattle.std.specs.Option.{IfSome}
 use Rattle.std.specs.Prelude.{All, IsTrue}
 use Rattle.std.specs.Int.Digits.{AllBelowBase}
@@ -8,7 +7,6 @@ use Rattle.dms_face.specs.Layout.{under}
 use Rattle.dms_face.specs.declared.defaults.Defaults.{Defaults}
 use Rattle.dms_face.specs.Face.{FaceModel, fit}
 use Rattle.dms_codes.specs.declared.codes.Order.{Order}
-use Rattle.dms_codes.specs.declared.codes.Order.TheVariants.{High, Swapped}
 use Rattle.dms_table.specs.Stock.{HasOctets}
 use Rattle.dms_codes.specs.Memory.{current_buffer}
 use Rattle.dms_codes.specs.declared.codes.MessageId.{MessageId}
@@ -18,7 +16,6 @@ use Rattle.dms_table.specs.declared.activation.Cause.{Cause}
 use Rattle.dms_table.specs.declared.validation.Verdict.{Verdict}
 use Rattle.dms_table.specs.Rows.{TableModel, after_power}
 use Rattle.dms_table.specs.declared.writable.Writable.{Writable}
-use Rattle.dms_table.specs.declared.writable.Writable.TheVariants.{Changeable, Volatile}
 use Rattle.dms_table.specs.declared.writable.Place.{Place}
 use Rattle.dms_table.specs.PlaceView.{of_type, IsOnly, IsPlaced}
 use Rattle.dms_table.proofs.Places.{only_of_type}
@@ -34,11 +31,11 @@ use Rattle.dms_sign.specs.Kept.{IsKept}
 use Rattle.dms_access.specs.declared.settings.Settings.{Settings}
 use Rattle.dms_access.specs.Settings.{first_settings}
 use Rattle.dms_access.specs.Reports.{first_reports}
-use Rattle.dms_sign.specs.OwnCodes.{showing, with_refused_code, own_activation, put_up_as_decided, staying, put_up_code}
+use Rattle.dms_sign.specs.OwnCodes.{showing, with_refused_code, own_activation, put_up_as_decided, put_up_code}
 use Rattle.dms_access.specs.Reports.{settled_reports}
 use Rattle.dms_access.specs.Reports.{IsCauseInRange}
 use Rattle.dms_access.specs.Ranges.{AreDefaultsInRange}
-use Rattle.dms_sign.specs.InRange.{IsStocked, IsTableInRange, IsShownInRange, AreReportsInRange, IsSignInRange}
+use Rattle.dms_sign.specs.InRange.{IsStocked, IsTableInRange, IsShownInRange, IsSignInRange}
 use Rattle.dms_sign.specs.declared.known_texts.KnownTexts.{KnownTexts}
 use Rattle.dms_sign.specs.KnownTexts.{first_entry, HasRoom, noted, AreKnown}
 use Rattle.dms_sign.specs.SignView.{state_of, IsWhole}
@@ -46,7 +43,7 @@ use Rattle.dms_table.proofs.Decisions.{accepted_decision, refused_decision}
 use Rattle.dms_table.proofs.Places.{placed_settling}
 use Rattle.dms_table.proofs.Settlement.{nothing_settled, no_verdict}
 use Rattle.dms_sign.specs.Events.{after_settling}
-use Rattle.dms_sign.proofs.InRangeShown.{showing_in_range, telling_in_range, with_table_in_range, with_mode, own_is, id_is, IsDecisionInRange, decided_in_range}
+use Rattle.dms_sign.proofs.InRangeShown.{telling_in_range, with_table_in_range, with_mode, own_is, id_is, IsDecisionInRange, decided_in_range}
 use Rattle.dms_sign.proofs.KnownTexts.{HasEntries, only_within, known_kept, known_settled}
 use Rattle.dms_sign.proofs.StepRows.{after_power_keeps}
 use Rattle.dms_sign.proofs.InRangeStart.{start_in_range, stocked_in_range}
@@ -54,38 +51,25 @@ use Rattle.dms_sign.proofs.InRangeEvents.{IsVerdictInRange, settled_in_range, se
 
 pub shown_whole : (old : Inside) (shown : ShownModel) (source : List ℕ) → IsWhole old → IsShownInRange shown
     → source ≡ octets_of_id old.table.order shown.source → IsWhole (record old { shown = shown; source = source })
-shown_whole old shown source is range octets = record {
-  kept = record { in_range = showing_in_range (state_of old) shown is.kept.in_range range; fit = is.kept.fit; communities = is.kept.communities };
-  source = octets;
-  known = is.known;
-}
+shown_whole old shown source is range octets = grind arith
 
 placed : (o : Option Verdict) → IfSome o IsVerdictInRange → IfSome o (λ v. IfSome v.fault (λ f. f.place ≤ 512))
-placed None is = tt
-placed (Some v) is = is.fault
+placed o is = grind arith
 
 pub verdict_placed : (s : SignState) (o : Option Verdict) → o ≡ verdict (under s.config.face s.defaults) s.table
     → IfSome o (λ v. IfSome v.fault (λ f. f.place ≤ 512))
-verdict_placed s o e =
-    placed o (subst (λ o. IfSome o IsVerdictInRange) (sym e) (settled_verdict (under s.config.face s.defaults) s.table))
+verdict_placed s o e = grind (arith, placed, settled_verdict)
 
 settled_as_reported : (old : Inside) (table : TableModel) (reports : Reports) → IsWhole old
     → table ≡ settled (under old.face old.settings.defaults) old.table
     → reports ≡ settled_reports old.reports (verdict (under old.face old.settings.defaults) old.table)
     → IsSignInRange (state_of (record old { table = table; reports = reports }))
-settled_as_reported old table reports is t r =
-    let face = under old.face old.settings.defaults in
-    let range = is.kept.in_range in
-    let reported = verdict_reported old.reports (verdict face old.table) range.reports (settled_verdict face old.table) in
-    telling_in_range (record (state_of old) { table = table }) reports
-    (with_table_in_range (state_of old) table range (subst (λ t. IsTableInRange t) (sym t) (settled_in_range face old.table range.table)))
-    (subst AreReportsInRange (sym r) reported)
+settled_as_reported old table reports is t r = grind (arith, verdict_reported, settled_verdict, telling_in_range, with_table_in_range, settled_in_range)
 
 -- there is room for what becomes known of the row that is being validated
 room_by : (memory : Writable) (index : ℕ) (table : TableModel) → IsTableInRange table → IsOnly index (of_type memory table.changeable table.volatile)
     → first_entry memory + index < 80
-room_by Changeable index table is only = omega (arith, only_within table.changeable index only, is.changeable_count)
-room_by Volatile index table is only = omega (arith, only_within table.volatile index only, is.volatile_count)
+room_by memory index table is only = grind (arith, only_within)
 
 pub room_for : (place : Place) (table : TableModel) → IsTableInRange table → IsPlaced (Some place) table.changeable table.volatile → HasRoom place
 room_for place table is placed = room_by place.memory place.index table is (only_of_type place table.changeable table.volatile placed)
@@ -100,11 +84,7 @@ unsettled s nowhere =
     ∙ ap (λ (o : Option Verdict). record s { table = settled face s.table; reports = settled_reports s.reports o }) (no_verdict face s.table none)
 
 entries_there : (old : Inside) → IsWhole old → length old.known.rows ≡ 80 → HasEntries old.known old.table
-entries_there old is entries = record {
-  entries = entries;
-  changeable = is.kept.in_range.table.changeable_count;
-  volatile = is.kept.in_range.table.volatile_count;
-}
+entries_there old is entries = grind arith
 
 pub settled_whole : (old : Inside) (place : Place) (table : TableModel) (o : Option Verdict) (reports : Reports) (known : KnownTexts) → IsWhole old
     → length old.known.rows ≡ 80 → IsPlaced (Some place) old.table.changeable old.table.volatile
@@ -166,20 +146,12 @@ pub put_up_refused : {A : Type 0} (a : A) (s : SignState) (octets : List ℕ) (i
 put_up_refused a s octets id code cause is below e own err =
     subst IsDecisionInRange (sym (refused_decision a s.config.face s.defaults s.table s.shown code cause err)) (own_decision s octets id code is below e own)
 
-chosen_other : (b : Bool) (x y : SignState) → (b ≡ true → ⊥) → y ≡ cond b x y
-chosen_other false x y other = refl
-chosen_other true x y other = absurd (other refl)
-
 -- what comes of a decision on a code that is not of the current buffer
 own_as_decided : (s : SignState) (octets : List ℕ) (id : MessageId) (code : Activation) (mode : ℕ) (r : Result ShownModel Cause)
     → id ≡ id_of s.table.order octets → code ≡ own_activation id → (id.memory ≡ current_buffer → ⊥)
     → r ≡ decided s.config.face s.defaults s.table s.shown code → put_up_as_decided s id mode r ≡ put_up_code s octets mode
 unfolding put_up_code
-own_as_decided s octets id code mode r i own other e =
-    let by_id = λ (id : MessageId). put_up_as_decided s id mode (decided s.config.face s.defaults s.table s.shown (own_activation id)) in
-    ap (put_up_as_decided s id mode) (e ∙ ap (decided s.config.face s.defaults s.table s.shown) own)
-    ∙ chosen_other (id.memory == current_buffer) (staying s mode) (by_id id) (λ is. other (eqb-true id.memory current_buffer is))
-    ∙ ap (λ (id : MessageId). cond (id.memory == current_buffer) (staying s mode) (by_id id)) i
+own_as_decided s octets id code mode r i own other e = grind arith
 
 pub own_accepted : {A : Type 0} (a : A) (s : SignState) (octets : List ℕ) (id : MessageId) (code : Activation) (mode : ℕ) → id ≡ id_of s.table.order octets
     → code ≡ own_activation id → (id.memory ≡ current_buffer → ⊥)
@@ -201,8 +173,7 @@ own_refused a s octets id code mode cause blank told i own other e b t =
 -- ---- a sign as it is made
 
 pub blank_source : (order : Order) → blank_code ≡ octets_of_id order blank_id
-blank_source High = refl
-blank_source Swapped = refl
+blank_source order = grind arith
 
 pub made_kept : (config : ConfigModel) (table : TableModel) → config.face.width ≤ 256 → config.face.height ≤ 64 → IsTrue (fit config.face.fonts config.face.defaults)
     → IsTrue (are_communities config.reader config.writer) → AreDefaultsInRange config.face.defaults → AllBelowBase 256 config.reader → AllBelowBase 256 config.writer → IsStocked table → All HasOctets table.permanent
@@ -232,32 +203,7 @@ pub made_state : (config : ConfigModel) (table : TableModel) (defaults : Default
       shown_at_power_loss = kept;
       reports = reports;
     })
-made_state config table defaults settings reports shown kept d e r s k is =
-    let same : blank_shown config.face.defaults power_recovery_mode ≡ blank_shown defaults power_recovery_mode =
-    ap (λ (d : Defaults). blank_shown d power_recovery_mode) (sym d)
-    in
-    let all : IsKept (record (start config table) { defaults = defaults; shown = shown; shown_at_power_loss = kept }) =
-    subst (λ (x : Defaults). IsKept (record (start config table) { defaults = x; shown = shown; shown_at_power_loss = kept })) (sym d)
-    (subst (λ (x : ShownModel). IsKept (record (start config table) { shown = x; shown_at_power_loss = kept })) (same ∙ sym s)
-    (subst (λ (x : ShownModel). IsKept (record (start config table) { shown_at_power_loss = x })) (same ∙ sym k) is))
-    in
-    subst (λ (x : Reports). IsKept (record (start config table) {
-      fallbacks = settings.fallbacks;
-      short_power_loss_time = settings.short_power_loss_time;
-      time_comm_loss = settings.time_comm_loss;
-      defaults = settings.defaults;
-      shown = shown;
-      shown_at_power_loss = kept;
-      reports = x;
-    })) (sym r)
-    (subst (λ (x : Settings). IsKept (record (start config table) {
-      fallbacks = x.fallbacks;
-      short_power_loss_time = x.short_power_loss_time;
-      time_comm_loss = x.time_comm_loss;
-      defaults = x.defaults;
-      shown = shown;
-      shown_at_power_loss = kept;
-    })) (sym e) all)
+made_state config table defaults settings reports shown kept d e r s k is = grind arith
 
 pub made_source : (order : Order) (defaults : Defaults) (shown : ShownModel) → shown ≡ blank_shown defaults power_recovery_mode
     → blank_code ≡ octets_of_id order shown.source

@@ -1,5 +1,5 @@
 -- What the writes of a SET leave: rows that are not being modified stay as they are, so a command is judged alike before and after them.
-use Rattle.std.proofs.Common.{◌≡◌, ◌⊎◌, inl, inr, ℕ, zero, suc, ◌-◌, ◌==◌, ◌&&◌, ◌||◌, Bool, true, false, not, cond, List, [], ◌∷◌, Option, Some, None, Result, Err, is_some, refl, sym, ap, subst, ◌∙◌}
+use Rattle.std.proofs.Common.{◌≡◌, ◌⊎◌, inl, ℕ, zero, suc, ◌-◌, ◌==◌, ◌&&◌, ◌||◌, Bool, true, false, not, cond, List, [], ◌∷◌, Option, Some, None, is_some, refl, sym, ap, subst, ◌∙◌, arith}
 use Rattle.std.specs.Prelude.{option_map, option_and_then, unwrap_or, slice_get, slice_set, ⊤}
 use Rattle.std.specs.Option.{IfSome}
 use Rattle.std.specs.List.{list_any}
@@ -7,18 +7,16 @@ use Rattle.dms_face.specs.declared.defaults.Defaults.{Defaults}
 use Rattle.dms_face.specs.Face.{FaceModel}
 use Rattle.dms_face.proofs.Lists.{if_either}
 use Rattle.dms_codes.specs.declared.status.Status.{Status}
-use Rattle.dms_codes.specs.declared.status.Status.TheVariants.{NotUsed, Modifying, Validating, Valid, Error}
+use Rattle.dms_codes.specs.declared.status.Status.TheVariants.{Modifying}
 use Rattle.dms_codes.specs.declared.status.Ask.{Ask}
 use Rattle.dms_codes.specs.declared.row_id.RowId.{RowId}
 use Rattle.dms_codes.specs.declared.codes.Activation.{Activation}
-use Rattle.dms_codes.specs.Status.{next_status, is_modifying, is_valid, is_validating, is_validate}
-use Rattle.dms_codes.specs.Memory.{permanent_memory, changeable_memory, volatile_memory, current_buffer, blank_memory}
-use Rattle.dms_table.specs.declared.activation.Cause.{Cause}
+use Rattle.dms_codes.specs.Status.{next_status, is_modifying}
+use Rattle.dms_codes.specs.Memory.{changeable_memory, volatile_memory}
 use Rattle.dms_table.specs.declared.activation.Cause.TheVariants as causes
-use Rattle.dms_table.specs.Rows.{RowModel, TableModel, FieldModel, Text, Owner, Beacon, Pixel, Priority, RowReading, reading, blank_reading, blank_at, numbered, rows_of, row_read, changed_in, with_changeable, with_volatile, changed, with_status, asked_row, asked, may_ask, is_settling, row_is_validating, is_in_range, with_field, written_row, written}
-use Rattle.dms_codes.specs.Codes.{row_id}
+use Rattle.dms_table.specs.Rows.{RowModel, TableModel, FieldModel, Text, Owner, Beacon, Pixel, Priority, RowReading, reading, numbered, changed_in, with_changeable, with_volatile, with_status, asked_row, asked, row_is_validating, with_field, written_row, written}
 use Rattle.dms_codes.proofs.Options.{is_some_mapped}
-use Rattle.dms_table.specs.Activation.{ShownModel, is_memory, shown_reading, put_up, unless_refused, decided_on, decided}
+use Rattle.dms_table.specs.Activation.{ShownModel, decided_on, decided}
 use Rattle.dms_access.specs.Access.{Write, SetNumber, SetCode, SetField, AskRow, Activate, SetRemaining}
 use Rattle.dms_sign.specs.SetRequest.{with_write, with_writes}
 use Rattle.dms_sign.proofs.InRangeLists.{if_mapped}
@@ -30,9 +28,7 @@ abbrev IsLike : RowModel → RowModel → Type 0
 IsLike old new = (new ≡ old) ⊎ ((old.status ≡ Modifying) × (new.status ≡ Modifying))
 
 like_then : (a b c : RowModel) → IsLike a b → IsLike b c → IsLike a c
-like_then a b c (inl e) g = subst (λ (b : RowModel). IsLike b c) e g
-like_then a b c (inr h) (inl e) = inr (h.0, ap (λ (r : RowModel). r.status) e ∙ h.1)
-like_then a b c (inr h) (inr g) = inr (h.0, g.1)
+like_then a b c p g = grind arith
 
 abbrev AreLike : List RowModel → List RowModel → Type 0
 AreLike [] [] = ⊤
@@ -72,8 +68,7 @@ get_like (r ∷ rs) (q ∷ qs) zero are = are.0
 get_like (r ∷ rs) (q ∷ qs) (suc k) are = get_like rs qs k are.1
 
 numbered_by : (b : Bool) (o p : Option RowModel) → BothLike o p → BothLike (cond b None o) (cond b None p)
-numbered_by true o p both = tt
-numbered_by false o p both = both
+numbered_by b o p both = grind arith
 
 numbered_like : (old new : List RowModel) (number : ℕ) → AreLike old new → BothLike (numbered old number) (numbered new number)
 numbered_like old new number are = numbered_by (number == 0) (slice_get old (number - 1)) (slice_get new (number - 1)) (get_like old new (number - 1) are)
@@ -81,11 +76,7 @@ numbered_like old new number are = numbered_by (number == 0) (slice_get old (num
 -- ---- a write
 
 is_modified : (status : Status) → is_modifying status ≡ true → status ≡ Modifying
-is_modified NotUsed e = cc
-is_modified Modifying e = refl
-is_modified Validating e = cc
-is_modified Valid e = cc
-is_modified Error e = cc
+is_modified status e = grind arith
 
 field_status : (row : RowModel) (field : FieldModel) → (with_field row field).status ≡ row.status
 field_status row (Text octets) = refl
@@ -96,21 +87,15 @@ field_status row (Priority priority) = refl
 
 row_by : (rows : List RowModel) (k : ℕ) (row : RowModel) (field : FieldModel) (b c : Bool) → slice_get rows k ≡ Some row → is_modifying row.status ≡ b
     → IfSome (option_map (slice_set rows k) (cond (b && c) (Some (with_field row field)) None)) (AreLike rows)
-row_by rows k row field true true there e =
-    let status = is_modified row.status e in
-    set_like rows k row (with_field row field) there (inr (status, field_status row field ∙ status))
-row_by rows k row field true false there e = tt
-row_by rows k row field false c there e = tt
+row_by rows k row field b c there e = grind (arith, is_modified, set_like, field_status)
 
 get_by : (rows : List RowModel) (k : ℕ) (field : FieldModel) (o : Option RowModel) → slice_get rows k ≡ o
     → IfSome (option_and_then (λ row. option_map (slice_set rows k) (written_row field row)) o) (AreLike rows)
-get_by rows k field None e = tt
-get_by rows k field (Some row) e = row_by rows k row field (is_modifying row.status) (is_in_range field) e refl
+get_by rows k field o e = grind (arith, row_by)
 
 in_by : (rows : List RowModel) (k : ℕ) (field : FieldModel) (b : Bool)
     → IfSome (option_and_then (λ row. option_map (slice_set rows k) (written_row field row)) (cond b None (slice_get rows k))) (AreLike rows)
-in_by rows k field true = tt
-in_by rows k field false = get_by rows k field (slice_get rows k) refl
+in_by rows k field b = grind (arith, get_by)
 
 written_in : (rows : List RowModel) (number : ℕ) (field : FieldModel) → IfSome (changed_in rows number (written_row field)) (AreLike rows)
 written_in rows number field = in_by rows (number - 1) field (number == 0)
@@ -124,11 +109,7 @@ table_like : (table : TableModel) → IsTableLike table table
 table_like table = record { permanent = refl; changeable = all_like table.changeable; volatile = all_like table.volatile }
 
 tables_then : (a b c : TableModel) → IsTableLike a b → IsTableLike b c → IsTableLike a c
-tables_then a b c one other = record {
-  permanent = other.permanent ∙ one.permanent;
-  changeable = all_then a.changeable b.changeable c.changeable one.changeable other.changeable;
-  volatile = all_then a.volatile b.volatile c.volatile one.volatile other.volatile;
-}
+tables_then a b c one other = grind (arith, all_then)
 
 written_like : (table : TableModel) (id : RowId) (field : FieldModel) → IfSome (written table id field) (IsTableLike table)
 written_like table id field =
@@ -158,16 +139,13 @@ writes_like table (w ∷ ws) = tables_then table (with_write table w) (with_writ
 -- ---- asking
 
 like_status : (old new : RowModel) → IsLike old new → old.status ≡ new.status
-like_status old new (inl e) = ap (λ (r : RowModel). r.status) (sym e)
-like_status old new (inr h) = h.0 ∙ sym h.1
+like_status old new p = grind arith
 
 any_like : (old new : List RowModel) → AreLike old new → list_any row_is_validating old ≡ list_any row_is_validating new
 any_like [] [] are = refl
 any_like [] (q ∷ qs) are = absurd are
 any_like (r ∷ rs) [] are = absurd are
-any_like (r ∷ rs) (q ∷ qs) are =
-    ap (λ (s : Status). is_validating s || list_any row_is_validating rs) (like_status r q are.0)
-    ∙ ap (λ b. row_is_validating q || b) (any_like rs qs are.1)
+any_like (r ∷ rs) (q ∷ qs) are = grind (arith, like_status, any_like rs qs are.1)
 
 asked_some : (rows : List RowModel) (k : ℕ) (ask : Ask) (o : Option RowModel)
     → is_some (option_and_then (λ row. option_map (slice_set rows k) (asked_row ask row)) o)
@@ -178,10 +156,7 @@ asked_some rows k ask (Some row) =
 
 both_asked : (ask : Ask) (o p : Option RowModel) → BothLike o p
     → option_and_then (λ (row : RowModel). next_status row.status ask) o ≡ option_and_then (λ (row : RowModel). next_status row.status ask) p
-both_asked ask None None both = refl
-both_asked ask None (Some q) both = absurd both
-both_asked ask (Some r) None both = absurd both
-both_asked ask (Some r) (Some q) both = ap (λ (s : Status). next_status s ask) (like_status r q both)
+both_asked ask o p both = grind arith
 
 asked_in : (old new : List RowModel) (number : ℕ) (ask : Ask) → AreLike old new
     → is_some (changed_in old number (asked_row ask)) ≡ is_some (changed_in new number (asked_row ask))
@@ -198,72 +173,28 @@ changed_some false true old new o p q r e f = is_some_mapped (with_volatile old)
 changed_some false false old new o p q r e f = refl
 
 if_some : (b : Bool) (o p : Option TableModel) → is_some o ≡ is_some p → is_some (cond b o None) ≡ is_some (cond b p None)
-if_some true o p e = e
-if_some false o p e = refl
+if_some b o p e = grind arith
 
 -- a row takes what is asked after the writes where it took it before
 pub asked_alike : (old new : TableModel) (id : RowId) (ask : Ask) → IsTableLike old new → is_some (asked old id ask) ≡ is_some (asked new id ask)
-asked_alike old new id ask like =
-    let settling : is_settling old ≡ is_settling new =
-    ap (λ b. b || list_any row_is_validating old.volatile) (any_like old.changeable new.changeable like.changeable)
-    ∙ ap (λ b. list_any row_is_validating new.changeable || b) (any_like old.volatile new.volatile like.volatile)
-    in
-    if_some (may_ask old ask) (changed old id (asked_row ask)) (changed new id (asked_row ask))
-    (changed_some (id.memory == changeable_memory) (id.memory == volatile_memory) old new (changed_in old.changeable id.number (asked_row ask))
-    (changed_in old.volatile id.number (asked_row ask)) (changed_in new.changeable id.number (asked_row ask))
-    (changed_in new.volatile id.number (asked_row ask)) (asked_in old.changeable new.changeable id.number ask like.changeable)
-    (asked_in old.volatile new.volatile id.number ask like.volatile))
-    ∙ ap (λ b. is_some (cond (not (is_validate ask && b)) (changed new id (asked_row ask)) None)) settling
+asked_alike old new id ask like = grind (arith, any_like, if_some, changed_some, asked_in, is_some)
 
 -- ---- decisions
 
-modifying_refused : (p : ShownModel) (status : Status) (other : Option Cause) → status ≡ Modifying
-    → unless_refused p (cond (not (is_valid status)) (Some causes.Status) other) ≡ Err causes.Status
-modifying_refused p status other e = ap (λ (s : Status). unless_refused p (cond (not (is_valid s)) (Some causes.Status) other)) e
-
-row_alike : (face : FaceModel) (defaults : Defaults) (shown : ShownModel) (code : Activation) (old new : RowModel) → IsLike old new
-    → decided_on face defaults shown code (Some (reading old)) ≡ decided_on face defaults shown code (Some (reading new))
-row_alike face defaults shown code old new (inl e) = ap (λ (r : RowModel). decided_on face defaults shown code (Some (reading r))) (sym e)
-row_alike face defaults shown code old new (inr h) =
-    modifying_refused (put_up defaults shown code (reading old)) old.status _ h.0
-    ∙ sym (modifying_refused (put_up defaults shown code (reading new)) new.status _ h.1)
-
 both_alike : (face : FaceModel) (defaults : Defaults) (shown : ShownModel) (code : Activation) (o p : Option RowModel) → BothLike o p
     → decided_on face defaults shown code (option_map reading o) ≡ decided_on face defaults shown code (option_map reading p)
-both_alike face defaults shown code None None both = refl
-both_alike face defaults shown code None (Some q) both = absurd both
-both_alike face defaults shown code (Some r) None both = absurd both
-both_alike face defaults shown code (Some r) (Some q) both = row_alike face defaults shown code r q both
+both_alike face defaults shown code o p both = grind arith
 
 rows_by : (b c d : Bool) (old new : TableModel) → IsTableLike old new
     → AreLike (cond b old.permanent (cond c old.changeable (cond d old.volatile []))) (cond b new.permanent (cond c new.changeable (cond d new.volatile [])))
-rows_by true c d old new like = subst (λ rows. AreLike old.permanent rows) (sym like.permanent) (all_like old.permanent)
-rows_by false true d old new like = like.changeable
-rows_by false false true old new like = like.volatile
-rows_by false false false old new like = tt
+rows_by b c d old new like = grind (arith, all_like)
 
 read_by : (face : FaceModel) (defaults : Defaults) (shown : ShownModel) (code : Activation) (b : Bool) (o p q : Option RowReading)
     → decided_on face defaults shown code p ≡ decided_on face defaults shown code q
     → decided_on face defaults shown code (cond b o p) ≡ decided_on face defaults shown code (cond b o q)
-read_by face defaults shown code true o p q e = refl
-read_by face defaults shown code false o p q e = e
+read_by face defaults shown code b o p q e = grind arith
 
 -- a code is decided on alike before and after the writes
 pub decided_alike : (face : FaceModel) (defaults : Defaults) (old new : TableModel) (shown : ShownModel) (code : Activation) → IsTableLike old new
     → decided face defaults old shown code ≡ decided face defaults new shown code
-decided_alike face defaults old new shown code like =
-    let id = row_id code.id in
-    let rows = rows_by (id.memory == permanent_memory) (id.memory == changeable_memory) (id.memory == volatile_memory) old new like in
-    let stored =
-    both_alike face defaults shown code (numbered (rows_of old id.memory) id.number) (numbered (rows_of new id.memory) id.number)
-    (numbered_like (rows_of old id.memory) (rows_of new id.memory) id.number rows)
-    in
-    let read =
-    read_by face defaults shown code (id.memory == blank_memory) (option_map blank_reading (blank_at id.number))
-    (option_map reading (numbered (rows_of old id.memory) id.number)) (option_map reading (numbered (rows_of new id.memory) id.number)) stored
-    in
-    let all =
-    read_by face defaults shown code (id.memory == current_buffer) (cond (id.number == 1) (Some (shown_reading shown)) None)
-    (row_read old id) (row_read new id) read
-    in
-    ap (λ (r : Result ShownModel Cause). cond (is_memory code.id.memory) r (Err causes.MemoryType)) all
+decided_alike face defaults old new shown code like = grind (arith, rows_by, both_alike, numbered_like, read_by)

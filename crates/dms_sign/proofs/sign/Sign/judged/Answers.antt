@@ -1,4 +1,4 @@
-use Rattle.std.proofs.Common.{◌≡◌, ◌+◌, [], ◌∷◌, ◌++◌, true, false, take, is_some, refl, true≢false, sym, subst, ◌∙◌}
+use Rattle.std.proofs.Common.{◌≡◌, ◌+◌, [], ◌∷◌, ◌++◌, true, false, take, is_some, refl, true≢false, sym, subst, ◌∙◌, arith}
 use Rattle.std.specs.Prelude.{option_map}
 use Rattle.dms_wire.specs.View.{var_bind}
 use Rattle.dms_access.specs.Access.{is_command}
@@ -11,11 +11,7 @@ use Rattle.dms_sign.proofs.Causes.{one_more}
 use Rattle.dms_sign.proofs.sign.Sign.judged.Goals as goal
 
 pub loop-binding-init : goal.loop-binding-init
-loop-binding-init c = (
-  judged_starts c.args.self.now c.args.may_write c.args.binds.now c.again-rest.result c.args.settings c.again-rest.ensures,
-  λ name e. absurd (true≢false (sym e)),
-  λ e. refl,
-)
+loop-binding-init c = grind (arith, judged_starts)
 
 pub loop-binding-preserved : goal.loop-binding-preserved
 loop-binding-preserved c =

@@ -1,26 +1,16 @@
-use Rattle.std.proofs.Common.{◌≡◌, None, refl, sym, subst, ap, ◌∙◌}
+use Rattle.std.proofs.Common.{◌≡◌, None, refl, sym, subst, ap, ◌∙◌, arith}
 use Rattle.std.specs.Prelude.{option_map}
-use Rattle.dms_sign.specs.State.{SignState}
-use Rattle.dms_sign.specs.SetRequest.{assigned}
-use Rattle.dms_sign.specs.Requests.{Answer, writes_of}
+use Rattle.dms_sign.specs.Requests.{Answer}
 use Rattle.dms_access.specs.ChangeView.{write_by}
-use Rattle.dms_access.specs.Settings.{set_by}
-use Rattle.dms_sign.specs.SetView.{AreSettings}
 use Rattle.dms_sign.specs.SetView.{refusal_of, Says}
-use Rattle.dms_sign.specs.SignView.{state_of}
 use Rattle.dms_sign.proofs.Assigned.{judged_settings, command_in_range, set_commanded, set_refused}
 use Rattle.dms_sign.proofs.sign.Sign.set.Goals as goal
 
 pub command-requires-clause-settings : goal.command-requires-clause-settings
-command-requires-clause-settings c =
-    let bs = c.args.binds.now in
-    subst (λ (s : SignState). AreSettings c.in-Ok.judged.settings (assigned s (writes_of s bs))) c.self.view_is
-    (judged_settings c.self.inside c.in-Ok.judged.settings (writes_of (state_of c.self.inside) bs)
-    (c.in-Ok.ensures.settings ∙ ap (λ (s : SignState). set_by c.self.inside.settings (writes_of s bs)) (sym c.self.view_is)))
+command-requires-clause-settings c = grind (arith, judged_settings)
 
 pub command-requires-clause-range : goal.command-requires-clause-range
-command-requires-clause-range c =
-    command_in_range c.args.self.now c.args.binds.now (option_map write_by c.in-Ok.judged.command) c.requires.limits c.in-Ok.ensures.command
+command-requires-clause-range c = grind (arith, command_in_range)
 
 pub returns-in-Ok-clause-after : goal.returns-in-Ok-clause-after
 returns-in-Ok-clause-after c =

@@ -1,26 +1,18 @@
 use Rattle.std.proofs.Common.{◌≡◌, Option, subst, arith}
 use Rattle.dms_table.specs.declared.writable.Place.{Place}
 use Rattle.dms_table.specs.PlaceView.{IsPlaced}
-use Rattle.dms_sign.specs.State.{SignState}
-use Rattle.dms_sign.specs.Events.{after_settling}
 use Rattle.dms_sign.specs.SignView.{state_of}
 use Rattle.dms_sign.proofs.Wholes.{verdict_placed, room_for, unsettled, settled_whole}
 use Rattle.dms_sign.proofs.sign.Sign.settle.Goals as goal
 
 pub returns-in_default : goal.returns-in_default
-returns-in_default c =
-    let s = state_of c.self.inside in
-    subst (λ (s : SignState). s ≡ after_settling s) c.self.view_is
-    (unsettled s (subst (λ (o : Option Place). IsPlaced o s.table.changeable s.table.volatile) c.in_default.is c.settling.ensures))
+returns-in_default c = grind (arith, unsettled)
 
 pub with_verdict-self-inside-requires : goal.with_verdict-self-inside-requires
 with_verdict-self-inside-requires c = verdict_placed (state_of c.self.inside) c.settle-verdict.result c.settle-verdict.ensures.verdict
 
 pub note-requires : goal.note-requires
-note-requires c =
-    let s = state_of c.self.inside in
-    room_for c.in-Some.place s.table c.self.invariant.kept.in_range.table
-    (subst (λ (o : Option Place). IsPlaced o s.table.changeable s.table.volatile) c.in-Some.is c.settling.ensures)
+note-requires c = grind (arith, room_for)
 
 pub invariant_of-self : goal.invariant_of-self
 invariant_of-self c =

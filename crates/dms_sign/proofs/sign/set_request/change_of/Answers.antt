@@ -1,8 +1,7 @@
-use Rattle.std.proofs.Common.{◌≡◌, true, false, sym, ap, ◌∙◌}
+use Rattle.std.proofs.Common.{◌≡◌, false, sym, ap, ◌∙◌, arith}
 use Rattle.std.specs.Prelude.{option_map}
-use Rattle.dms_face.specs.Face.{FaceModel}
-use Rattle.dms_wire.specs.View.{object_value, var_bind}
-use Rattle.dms_access.specs.Access.{is_settable, write_of}
+use Rattle.dms_wire.specs.View.{var_bind}
+use Rattle.dms_access.specs.Access.{is_settable}
 use Rattle.dms_access.specs.ChangeView.{write_by}
 use Rattle.dms_sign.proofs.Assigned.{settable_there, settable_not, settable_none}
 use Rattle.dms_sign.proofs.sign.set_request.change_of.Goals as goal
@@ -11,11 +10,7 @@ pub returns-in_err-instance : goal.returns-in_err-instance
 returns-in_err-instance c = λ s has face. ap (option_map write_by) c.from_residual.ensures ∙ settable_none s (var_bind c.args.binding.now) (c.in_err-instance.ensures s.table has)
 
 pub returns-then-is_settable : goal.returns-then-is_settable
-returns-then-is_settable c = λ s has face.
-    let is : is_settable c.in_ok-instance.instance ≡ true = sym c.is_settable.ensures ∙ c.if-is_settable.true in
-    settable_there s (var_bind c.args.binding.now) c.in_ok-instance.instance (option_map write_by c.write_of.result) (c.in_ok-instance.ensures s.table has) is
-    (c.write_of.ensures.exact
-    ∙ ap (λ (f : FaceModel). write_of f c.in_ok-instance.instance (object_value c.args.binding.now.value)) (sym face))
+returns-then-is_settable c = grind (arith, settable_there)
 
 pub returns-else-is_settable : goal.returns-else-is_settable
 returns-else-is_settable c = λ s has face.
