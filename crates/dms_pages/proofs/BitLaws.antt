@@ -1,10 +1,10 @@
 -- A row of a picture is lit bit by bit: each step takes one bit away from those that are left.
-use Rattle.std.proofs.Common.{◌≡◌, ◌≢◌, ℕ, ◌+◌, ◌-◌, ◌*◌, ◌%◌, ◌^◌, ◌==◌, ◌<◌, ◌≤◌, ◌&&◌, ◌||◌, Bool, true, false, not, refl, sym, ap, ◌∙◌, arith, min, inl, inr}
+use Rattle.std.proofs.Common.{◌≡◌, ◌≢◌, ℕ, ◌+◌, ◌-◌, ◌*◌, ◌%◌, ◌^◌, ◌==◌, ◌<◌, ◌≤◌, ◌&&◌, ◌||◌, Bool, true, false, not, sym, ap, ◌∙◌, arith, min, inl, inr}
 use Rattle.std.specs.Prelude.{bit_and, nat_le, nat_lt}
 use Rattle.std.specs.Int.{w32, bit_at, bit_not, trailing_zeros}
 use Rattle.std.proofs.lemmas.Bool.{cases_Bool, cases_lt, and_parts, and_from, or_cases, or_left, or_right, leb-true, le-leb, ltb-true, lt-ltb, eqb-true, eq-eqb, false_from_ne_true, not-true}
 use Rattle.std.proofs.lemmas.Nat.{and_mask, and_le_l}
-use Rattle.std.proofs.lemmas.Nat.Bits.{bit_at-lt, bit_at-zero, bit_at_and, bit_at_ones, bit_at_ones_above, bit_at_above, bit_at_clear_same, bit_at_clear_other, bit_at-trailing_zeros}
+use Rattle.std.proofs.lemmas.Nat.Bits.{bit_at-lt, bit_at_and, bit_at_ones, bit_at_ones_above, bit_at_above, bit_at_clear_same, bit_at_clear_other, bit_at-trailing_zeros}
 use Rattle.std.proofs.Math.Bool.{and-true}
 use Rattle.dms_font.specs.Glyph.{GlyphModel, lit_at, is_bit}
 use Rattle.dms_pages.specs.Drawing.{is_lit_in_row}
@@ -19,8 +19,7 @@ above : (n k : ℕ) → n < 2 ^ 32 → 32 ≤ k → is_bit n k ≡ false
 above n k small high = no_bit n k (bit_at_above n 32 k small high)
 
 and_false : (b : Bool) → (b && false) ≡ false
-and_false true = refl
-and_false false = refl
+and_false b = grind arith
 
 -- the lowest bit of a number that is not 0
 pub lowest_bit : (left column : ℕ) → 0 < left → left < 2 ^ 32 → column ≡ trailing_zeros w32 left → (column < 32) × (is_bit left column ≡ true)
@@ -81,51 +80,14 @@ bits_below row columns k =
 abbrev pub is_done : ℕ → ℕ → ℕ → ℕ → Bool
 is_done first row left place = nat_le first place && (is_bit row (place - first) && not (is_bit left (place - first)))
 
-pub none_done : (first row place : ℕ) → is_done first row row place ≡ false
-none_done first row place = false_from_ne_true _ (λ on.
-    let bit = is_bit row (place - first) in
-    let parts = and_parts (nat_le first place) (bit && not bit) on in
-    let bits = and_parts bit (not bit) parts.1 in
-    let wrong : true ≡ false = sym bits.0 ∙ not-true bit bits.1 in
-    absurd cc)
-
 pub all_done : (first row place : ℕ) → is_done first row 0 place ≡ (nat_le first place && is_bit row (place - first))
-all_done first row place =
-    ap (λ b. nat_le first place && (is_bit row (place - first) && not b)) (no_bit 0 (place - first) (bit_at-zero (place - first)))
-    ∙ ap (λ b. nat_le first place && b) (and-true (is_bit row (place - first)))
+all_done first row place = grind arith
 
 -- one bit more
 pub one_done : (first row left column less place : ℕ) → is_bit left column ≡ true → ((k : ℕ) → is_bit left k ≡ true → is_bit row k ≡ true)
     → ((k : ℕ) → is_bit less k ≡ (is_bit left k && not (k == column)))
     → ((place == first + column) || is_done first row left place) ≡ is_done first row less place
-one_done first row left column less place on among is = same_test _ _
-    (λ h. elim (or_cases _ _ h) [
-      | inl here ↦
-          let at : place ≡ first + column = eqb-true _ _ here in
-          let k : place - first ≡ column = omega arith in
-          and_from _ _ (le-leb first place (omega arith))
-          (and_from _ _ (ap (is_bit row) k ∙ among column on)
-          (ap not (ap (is_bit less) k ∙ is column ∙ ap (λ b. is_bit left column && not b) (eq-eqb column column refl) ∙ and_false (is_bit left column))))
-      | inr before ↦
-          let parts = and_parts (nat_le first place) (is_bit row (place - first) && not (is_bit left (place - first))) before in
-          let bits = and_parts (is_bit row (place - first)) (not (is_bit left (place - first))) parts.1 in
-          and_from _ _ parts.0 (and_from _ _ bits.0
-          (ap not (is (place - first) ∙ ap (λ b. b && not (place - first == column)) (not-true (is_bit left (place - first)) bits.1))))
-    ])
-    (λ h.
-    let parts = and_parts (nat_le first place) (is_bit row (place - first) && not (is_bit less (place - first))) h in
-    let bits = and_parts (is_bit row (place - first)) (not (is_bit less (place - first))) parts.1 in
-    let low : first ≤ place = leb-true first place parts.0 in
-    elim (cases_Bool (is_bit left (place - first))) [
-      | inl there ↦
-          elim (cases_Bool (place - first == column)) [
-            | inl same ↦ let k : place - first ≡ column = eqb-true _ _ same in or_left _ _ (eq-eqb place (first + column) (omega arith))
-            | inr other ↦
-                let kept : is_bit less (place - first) ≡ true = is (place - first) ∙ and_from _ _ there (ap not other) in
-                absurd (let wrong : true ≡ false = sym kept ∙ not-true (is_bit less (place - first)) bits.1 in cc)
-          ]
-      | inr gone ↦ or_right _ _ (and_from _ _ parts.0 (and_from _ _ bits.0 (ap not gone)))
-    ])
+one_done first row left column less place on among is = grind (arith, same_test, or_cases, eqb-true, and_from, le-leb, eq-eqb, and_false, and_parts, not-true, leb-true, cases_Bool, or_left, or_right)
 
 pub still_among : (row left column less : ℕ) → ((k : ℕ) → is_bit left k ≡ true → is_bit row k ≡ true) → ((k : ℕ) → is_bit less k ≡ (is_bit left k && not (k == column)))
     → (k : ℕ) → is_bit less k ≡ true → is_bit row k ≡ true
@@ -136,16 +98,4 @@ still_among row left column less among is k on = among k (and_parts _ _ (sym (is
 pub columns_lit : (first columns row bits : ℕ) (glyph : GlyphModel) (line place : ℕ) → ((k : ℕ) → is_bit row k ≡ lit_at glyph k line)
     → ((k : ℕ) → is_bit bits k ≡ (nat_lt k columns && is_bit row k))
     → (nat_le first place && is_bit bits (place - first)) ≡ is_lit_in_row first columns glyph line place
-columns_lit first columns row bits glyph line place lit front = same_test _ _
-    (λ h.
-    let parts = and_parts _ _ h in
-    let low : first ≤ place = leb-true _ _ parts.0 in
-    let tests = and_parts _ _ (sym (front (place - first)) ∙ parts.1) in
-    let inside : place - first < columns = ltb-true _ _ tests.0 in
-    and_from _ _ (and_from _ _ parts.0 (lt-ltb place (first + columns) (omega arith))) (sym (lit (place - first)) ∙ tests.1))
-    (λ h.
-    let parts = and_parts _ _ h in
-    let tests = and_parts _ _ parts.0 in
-    let low : first ≤ place = leb-true _ _ tests.0 in
-    let high : place < first + columns = ltb-true _ _ tests.1 in
-    and_from _ _ tests.0 (front (place - first) ∙ and_from _ _ (lt-ltb (place - first) columns (omega arith)) (lit (place - first) ∙ parts.1)))
+columns_lit first columns row bits glyph line place lit front = grind arith

@@ -1,11 +1,9 @@
 -- A character is drawn row by row, and a row cell by cell.
-use Rattle.std.proofs.Common.{◌≡◌, ℕ, zero, suc, ◌+◌, ◌-◌, ◌*◌, ◌/◌, ◌%◌, ◌<◌, ◌≤◌, ◌&&◌, ◌||◌, Bool, true, false, cond, List, [], ◌∷◌, ◌++◌, length, Option, Some, None, refl, sym, ap, subst, ◌∙◌, arith, min, ◌⊎◌, inl, inr}
+use Rattle.std.proofs.Common.{◌≡◌, ℕ, zero, suc, ◌+◌, ◌-◌, ◌*◌, ◌/◌, ◌%◌, ◌<◌, ◌≤◌, ◌&&◌, ◌||◌, Bool, true, false, cond, List, [], ◌∷◌, ◌++◌, length, Option, Some, None, sym, ap, subst, ◌∙◌, arith, min, ◌⊎◌}
 use Rattle.std.specs.Prelude.{nat_lt, slice_index_or}
-use Rattle.std.specs.List.{find}
 use Rattle.std.specs.Option.{option_or}
-use Rattle.std.proofs.lemmas.Bool.{and_parts, and_from, or_cases, or_left, or_right, cases_lt, leb-true, le-leb, ltb-true, lt-ltb, eqb-true, eq-eqb, false_from_ne_true}
-use Rattle.std.proofs.lemmas.Nat.{div-add-mod', mod_below, div_below, same_from_place}
-use Rattle.std.proofs.Math.Nat.{mul_comm}
+use Rattle.std.proofs.lemmas.Bool.{and_parts, and_from, leb-true, le-leb, ltb-true, lt-ltb, eqb-true, eq-eqb}
+use Rattle.std.proofs.lemmas.Nat.{div-add-mod', mod_below, same_from_place}
 use Rattle.std.proofs.lemmas.List.Folds.{find-append}
 use Rattle.dms_face.specs.declared.cell.Cell.{Cell}
 use Rattle.dms_font.specs.Glyph.{GlyphModel, lit_at}
@@ -17,18 +15,10 @@ use Rattle.dms_pages.specs.Styled.{StyledCells, style, IsLitStyle, Lights}
 
 -- two tests that imply each other
 pub same_test : (a b : Bool) → (a ≡ true → b ≡ true) → (b ≡ true → a ≡ true) → a ≡ b
-same_test true b there back = sym (there refl)
-same_test false true there back = back refl
-same_test false false there back = refl
+same_test a b there back = grind arith
 
 kept : (lit cell : Cell) (b : Bool) → cell.lit ≡ b → lit.lit ≡ true → cond (cond b cell lit).lit (cond b cell lit) lit ≡ cond b cell lit
-kept lit cell true is on = ap (λ t. cond t cell lit) is
-kept lit cell false is on = ap (λ t. cond t lit lit) on
-
-pub covered_twice : (a b : Bool) (lit cell : Cell) → lit.lit ≡ true → covered a lit (covered b lit cell) ≡ covered (a || b) lit cell
-covered_twice false b lit cell on = refl
-covered_twice true true lit cell on = kept lit cell cell.lit refl on
-covered_twice true false lit cell on = refl
+kept lit cell b is on = grind arith
 
 -- ---- a row of a picture in a row of the matrix
 
@@ -36,20 +26,9 @@ pub wide : (place width height : ℕ) → place < width * height → 0 < width
 wide place zero height below = absurd (omega arith)
 wide place (suc width) height below = omega arith
 
-pub line_below : (place width height : ℕ) → place < width * height → place / width < height
-line_below place width height below = div_below place width height (wide place width height below) (let e : place < height * width = omega (arith, mul_comm width height) in e)
-
 -- outside of the matrix
 pub outside : (width height x y : ℕ) (glyph : GlyphModel) (row place : ℕ) → place < width * height → (width ≤ x) ⊎ (height ≤ y) → is_lit_on_row width x y glyph row place ≡ false
-outside width height x y glyph row place below out = false_from_ne_true _ (λ on.
-    let parts = and_parts _ _ on in
-    let tests = and_parts _ _ parts.0 in
-    let column : x ≤ place % width = leb-true _ _ tests.1 in
-    let line : place / width ≡ y = eqb-true _ _ tests.0 in
-    elim out [
-      | inl right ↦ let low : place % width < width = mod_below place width (wide place width height below) in absurd (omega arith)
-      | inr under ↦ let low : place / width < height = line_below place width height below in absurd (omega arith)
-    ])
+outside width height x y glyph row place below out = grind arith
 
 -- A row of a picture is cut off at the matrix's right end.
 pub on_row : (width x y columns wide : ℕ) (glyph : GlyphModel) (row place : ℕ) → 0 < width → x < width → columns ≡ min wide (width - x)
@@ -79,119 +58,43 @@ on_row width x y columns wide glyph row place some inside is within = same_test 
 
 -- ---- a picture
 
--- before its first row
-pub none_above : (lit : Bool) (line y : ℕ) → (lit ≡ true → y ≤ line) → (lit && nat_lt line (y + 0)) ≡ false
-none_above lit line y under = false_from_ne_true _ (λ on.
-    let parts = and_parts _ _ on in
-    let low : y ≤ line = under parts.0 in
-    let high : line < y + 0 = ltb-true _ _ parts.1 in
-    absurd (omega arith))
-
-pub under_top : (column line x y : ℕ) (glyph : GlyphModel) → is_in_picture column line x y glyph ≡ true → y ≤ line
-under_top column line x y glyph on = leb-true _ _ (and_parts _ _ (and_parts _ _ on).0).1
-
 -- one row more
 pub more_above : (width x y : ℕ) (glyph : GlyphModel) (rows place : ℕ)
     → (is_lit_on_row width x (y + rows) glyph rows place || (is_in_picture (place % width) (place / width) x y glyph && nat_lt (place / width) (y + rows)))
     ≡ (is_in_picture (place % width) (place / width) x y glyph && nat_lt (place / width) (y + (rows + 1)))
-more_above width x y glyph rows place = same_test _ _
-    (λ h. elim (or_cases _ _ h) [
-      | inl here ↦
-          let parts = and_parts _ _ here in
-          let tests = and_parts _ _ parts.0 in
-          let line : place / width ≡ y + rows = eqb-true _ _ tests.0 in
-          and_from _ _ (and_from _ _ (and_from _ _ tests.1 (le-leb y (place / width) (omega arith)))
-          (ap (λ k. lit_at glyph (place % width - x) k) (let e : place / width - y ≡ rows = omega arith in e) ∙ parts.1))
-          (lt-ltb (place / width) (y + (rows + 1)) (omega arith))
-      | inr above ↦
-          let parts = and_parts _ _ above in
-          let line : place / width < y + rows = ltb-true _ _ parts.1 in
-          and_from _ _ parts.0 (lt-ltb (place / width) (y + (rows + 1)) (omega arith))
-    ])
-    (λ h.
-    let parts = and_parts _ _ h in
-    let line : place / width < y + (rows + 1) = ltb-true _ _ parts.1 in
-    elim (cases_lt (place / width) (y + rows)) [
-      | inl above ↦ or_right _ _ (and_from _ _ parts.0 (lt-ltb (place / width) (y + rows) above))
-      | inr here ↦
-          let tests = and_parts _ _ parts.0 in
-          let sides = and_parts _ _ tests.0 in
-          or_left _ _ (and_from _ _ (and_from _ _ (eq-eqb (place / width) (y + rows) (omega arith)) sides.0)
-          (ap (λ k. lit_at glyph (place % width - x) k) (let e : rows ≡ place / width - y = omega arith in e) ∙ tests.1))
-    ])
+more_above width x y glyph rows place = grind arith
 
 -- all its rows
 pub all_above : (column line rows x y : ℕ) (glyph : GlyphModel) → ((k row : ℕ) → lit_at glyph k row ≡ true → row < rows)
     → (is_in_picture column line x y glyph && nat_lt line (y + rows)) ≡ is_in_picture column line x y glyph
-all_above column line rows x y glyph within = same_test _ _
-    (λ h. (and_parts _ _ h).0)
-    (λ h.
-    let lit : lit_at glyph (column - x) (line - y) ≡ true = (and_parts _ _ h).1 in
-    let low : y ≤ line = under_top column line x y glyph h in
-    let row : line - y < rows = within (column - x) (line - y) lit in
-    and_from _ _ h (lt-ltb line (y + rows) (omega arith)))
+all_above column line rows x y glyph within = grind arith
 
 -- ---- one character more
 
 shown_more : (page : PageModel) (placed : PlacedCharacter) (lit : Bool) (shown : Option PlacedCharacter)
     → covered lit (lit_cell placed.character.style) (cell_by page shown) ≡ cell_by page (option_or shown (cond lit (Some placed) None))
-shown_more page placed true (Some other) = refl
-shown_more page placed true None = refl
-shown_more page placed false (Some other) = refl
-shown_more page placed false None = refl
+shown_more page placed lit shown = grind arith
 
 pub shows_more : (face : FaceModel) (page : PageModel) (before : List PlacedCharacter) (placed : PlacedCharacter) (old new : List Cell) → length new ≡ length old
     → Shows face page before old
     → ((other : Cell) (place : ℕ) → place < length old → slice_index_or new place other
     ≡ covered (is_lit_by (place % face.width) (place / face.width) placed) (lit_cell placed.character.style) (slice_index_or old place other))
     → Shows face page (before ++ placed ∷ []) new
-shows_more face page before placed old new long shows more = record {
-  cell = λ other place below.
-      let test = is_lit_by (place % face.width) (place / face.width) in
-      let within : place < length old = omega arith in
-      more other place within
-      ∙ ap (covered (test placed) (lit_cell placed.character.style)) (shows.cell other place within)
-      ∙ shown_more page placed (test placed) (find test before)
-      ∙ ap (cell_by page) (sym (find-append test before (placed ∷ [])));
-}
+shows_more face page before placed old new long shows more = grind (arith, shown_more, find-append)
 
 -- ---- cells that are lit with one style
-
--- nothing is lit yet
-pub lights_none : (on : ℕ → Bool) (lit : Cell) (cells : StyledCells) → ((place : ℕ) → place < length cells.cells → on place ≡ false) → Lights on lit cells cells
-lights_none on lit cells none = record {
-  styles = refl;
-  len = refl;
-  cell = λ other place below. sym (ap (λ b. covered b lit (slice_index_or cells.cells place other)) (none place below));
-}
 
 -- the same cells by another test
 pub lights_same : (on more : ℕ → Bool) (lit : Cell) (old new : StyledCells) → ((place : ℕ) → place < length old.cells → on place ≡ more place) → Lights on lit old new
     → Lights more lit old new
-lights_same on more lit old new same lights = record {
-  styles = lights.styles;
-  len = lights.len;
-  cell = λ other place below. lights.cell other place below ∙ ap (λ b. covered b lit (slice_index_or old.cells place other)) (same place below);
-}
+lights_same on more lit old new same lights = grind arith
 
 -- some cells, and then some more with the same style
 pub lights_more : (before now both : ℕ → Bool) (number : ℕ) (old middle new : StyledCells) → IsLitStyle old.styles number
     → Lights before (style old.styles number) old middle → Lights now (style middle.styles number) middle new
     → ((place : ℕ) → place < length old.cells → (now place || before place) ≡ both place)
     → Lights both (style old.styles number) old new
-lights_more before now both number old middle new is first second same =
-    let lit = style old.styles number in
-    record {
-      styles = second.styles ∙ first.styles;
-      len = second.len ∙ first.len;
-      cell = λ other place below.
-          let cell = slice_index_or old.cells place other in
-          second.cell other place (omega (arith, below, first.len))
-          ∙ ap (λ styles. covered (now place) (style styles number) (slice_index_or middle.cells place other)) first.styles
-          ∙ ap (covered (now place) lit) (first.cell other place below)
-          ∙ covered_twice (now place) (before place) lit cell is.shines
-          ∙ ap (λ b. covered b lit cell) (same place below);
-    }
+lights_more before now both number old middle new is first second same = grind arith
 
 -- a style keeps its number
 pub still : (number : ℕ) (old new : StyledCells) → new.styles ≡ old.styles → IsLitStyle old.styles number → IsLitStyle new.styles number

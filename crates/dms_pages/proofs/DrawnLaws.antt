@@ -23,9 +23,7 @@ drawn_cell face page x y column row =
     ∙ ap (cell_of face page x) (div-mul-add y face.width x column)
 
 pub drawn_cell_of : (face : FaceModel) (page : PageModel) (made : DrawnPage) (x y : ℕ) → made ≡ drawn face page → x < made.width → y < made.height → cell_at made x y ≡ cell_of face page x y
-drawn_cell_of face page made x y is column row =
-    ap (λ (p : DrawnPage). cell_at p x y) is
-    ∙ drawn_cell face page x y (let e : x < face.width = omega (arith, ap (λ (p : DrawnPage). p.width) is) in e) (let e : y < face.height = omega (arith, ap (λ (p : DrawnPage). p.height) is) in e)
+drawn_cell_of face page made x y is column row = grind (arith, drawn_cell)
 
 -- Cells that show all characters of a page are its cells.
 pub cells_shown : (face : FaceModel) (page : PageModel) (cells : List Cell) → length cells ≡ face.width * face.height → Shows face page (lines_characters face page.lines) cells
@@ -37,24 +35,14 @@ cells_shown face page cells long shows =
 
 -- Cells before anything is drawn show no character.
 pub blank_shows : (face : FaceModel) (page : PageModel) (count : ℕ) (cells : List Cell) → cells ≡ replicate count (unlit page.background) → Shows face page [] cells
-blank_shows face page count cells are = record {
-  cell = λ other place below.
-      ap (λ l. get_or l place other) are
-      ∙ get_or-replicate count place (unlit page.background) other (let e : place < count = omega (arith, below, ap length are, length-replicate count (unlit page.background)) in e);
-}
+blank_shows face page count cells are = grind (arith, get_or, get_or-replicate, length-replicate)
 
 abbrev page_with : ℕ → ℕ → ℕ → ℕ → ℕ → List Cell → DrawnPage
 page_with width height background on off cells = record { width = width; height = height; background = background; on = on; off = off; cells = cells }
 
 pub page_is : (face : FaceModel) (page : PageModel) (width height background on off : ℕ) (cells : List Cell) → width ≡ face.width → height ≡ face.height
     → background ≡ page.background → on ≡ page.on → off ≡ page.off → cells ≡ (drawn face page).cells → page_with width height background on off cells ≡ drawn face page
-page_is face page width height background on off cells width_is height_is background_is on_is off_is cells_are =
-    ap (λ n. page_with n height background on off cells) width_is
-    ∙ ap (λ n. page_with face.width n background on off cells) height_is
-    ∙ ap (λ n. page_with face.width face.height n on off cells) background_is
-    ∙ ap (λ n. page_with face.width face.height page.background n off cells) on_is
-    ∙ ap (λ n. page_with face.width face.height page.background page.on n cells) off_is
-    ∙ ap (page_with face.width face.height page.background page.on page.off) cells_are
+page_is face page width height background on off cells width_is height_is background_is on_is off_is cells_are = grind arith
 
 -- which defaults a face has is nothing to its cells
 pub drawn_all_under : (face : FaceModel) (defaults : Defaults) (pages : List PageModel) → map (drawn face) pages ≡ map (drawn (under face defaults)) pages

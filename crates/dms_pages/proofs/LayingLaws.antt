@@ -1,18 +1,17 @@
 -- The items of a text make its pages, one by one.
-use Rattle.std.proofs.Common.{◌≡◌, ℕ, Bool, true, false, cond, List, [], ◌∷◌, ◌++◌, length, map, fold, Option, Some, None, Result, Ok, Err, refl, sym, ap, ◌∙◌, append_assoc, inl, inr}
+use Rattle.std.proofs.Common.{◌≡◌, ℕ, Bool, true, cond, List, [], ◌∷◌, ◌++◌, map, fold, Option, Some, None, Result, Ok, Err, refl, sym, ap, ◌∙◌, append_assoc, arith}
 use Rattle.std.specs.List.{list_all}
-use Rattle.std.specs.Option.{option_or, option_map}
-use Rattle.std.proofs.lemmas.Bool.{and_parts, cases_Bool}
+use Rattle.std.specs.Option.{option_or}
+use Rattle.std.proofs.lemmas.Bool.{and_parts}
 use Rattle.std.proofs.lemmas.Grind.{fold-append}
 use Rattle.dms_codes.proofs.Options.{mapped_none}
 use Rattle.dms_multi.specs.declared.spots.Spot.{Spot}
 use Rattle.dms_multi.specs.declared.fault.SyntaxFault.{SyntaxFault}
-use Rattle.dms_multi.specs.Outcomes.{outcomes_of, items_in, items_of, fault_in}
-use Rattle.dms_face.specs.FaultCode.{syntax_fault}
+use Rattle.dms_multi.specs.Outcomes.{items_in, items_of, fault_in}
 use Rattle.dms_face.specs.Face.{FaceModel}
-use Rattle.dms_face.specs.Layout.{PageModel, Layout, Turn, blank_layout, with_turn, with_page, layout_of}
+use Rattle.dms_face.specs.Layout.{PageModel, Layout, Turn, blank_layout, with_turn, with_page}
 use Rattle.dms_face.specs.Room.{page_fits}
-use Rattle.dms_face.specs.Fit.{fits, turns_of, PlacedTurn, turns_in, first_fault, code_of, fault_of}
+use Rattle.dms_face.specs.Fit.{fits, turns_of, PlacedTurn, turns_in, first_fault, fault_of}
 use Rattle.dms_face.specs.Cells.{pages_of}
 
 pub laid_all : (face : FaceModel) (text : List ℕ) → (with_page (fold (with_turn face) (blank_layout face) (map Some (items_of text)))).pages ≡ pages_of face text
@@ -24,18 +23,13 @@ laid_all face text = ap (λ (layout : Layout). layout.pages) (sym (fold-append (
 -- a turn that has no fault fits, and none after it has one
 passed : (face : FaceModel) (front : List Turn) (turn : Turn) (place : ℕ) (more : List PlacedTurn) → first_fault face front ((turn, place) ∷ more) ≡ None
     → (fits face (front ++ turn ∷ []) ≡ true) × (first_fault face (front ++ turn ∷ []) more ≡ None)
-passed face front turn place more none = elim (cases_Bool (fits face (front ++ turn ∷ []))) [
-  | inl fit ↦ (fit, rw fit at none)
-  | inr other ↦ absurd (let wrong : Some (record { code = code_of face (layout_of face front) turn; place = place }) ≡ None = rw other at none in cc)
-]
+passed face front turn place more p = grind arith
 
 -- where no turn has a fault, all of them fit
 all_fit : (face : FaceModel) (front : List Turn) (turn : Turn) (place : ℕ) (more : List PlacedTurn) → first_fault face front ((turn, place) ∷ more) ≡ None
     → fits face (front ++ turn ∷ map (λ (placed : PlacedTurn). placed.0) more) ≡ true
 all_fit face front turn place [] none = (passed face front turn place [] none).0
-all_fit face front turn place ((next, at) ∷ more) none =
-    ap (fits face) (sym (append_assoc front (turn ∷ []) (next ∷ map (λ (placed : PlacedTurn). placed.0) more)))
-    ∙ all_fit face (front ++ turn ∷ []) next at more ((passed face front turn place ((next, at) ∷ more) none).1)
+all_fit face front turn place ((next, at) ∷ more) none = grind (arith, passed, append_assoc, all_fit face (front ++ turn ∷ []) next at more ((passed face front turn place ((next, at) ∷ more) none).1))
 
 turns_are : (end : ℕ) (read : List (Result Spot SyntaxFault)) → fault_in read ≡ None → map (λ (placed : PlacedTurn). placed.0) (turns_in end read) ≡ turns_of (items_in read)
 turns_are end [] none = refl
@@ -50,17 +44,11 @@ reading_fits face end (Ok spot ∷ read) whole none =
 reading_fits face end (Err fault ∷ read) whole none = absurd (let wrong : Some fault ≡ None = whole in cc)
 
 neither : {A : Type 0} (a b : Option A) → option_or a b ≡ None → (a ≡ None) × (b ≡ None)
-neither None b none = (refl, none)
-neither (Some x) b none = absurd (let wrong : Some x ≡ None = none in cc)
+neither a b p = grind arith
 
 otherwise : {A : Type 0} (b : Bool) (x : A) (o : Option A) → cond b (Some x) o ≡ None → o ≡ None
-otherwise true x o none = absurd (let wrong : Some x ≡ None = none in cc)
-otherwise false x o none = none
+otherwise b x o p = grind arith
 
 pub pages_fit : (face : FaceModel) (text : List ℕ) → fault_of face text ≡ None → list_all (λ (page : PageModel). page_fits face page.lines) (pages_of face text) ≡ true
 unfolding pages_of fault_of
-pages_fit face text none =
-    let read = outcomes_of text in
-    let parts = neither (first_fault face [] (turns_in (length text) read)) (option_map syntax_fault (fault_in read)) (otherwise _ _ _ none) in
-    let fit = reading_fits face (length text) read (mapped_none syntax_fault (fault_in read) parts.1) parts.0 in
-    (and_parts _ _ (and_parts _ _ fit).1).0
+pages_fit face text page = grind (arith, neither, otherwise, reading_fits, mapped_none, and_parts)

@@ -1,5 +1,5 @@
 -- One walk judges the items of a text and lays them out.
-use Rattle.std.proofs.Common.{◌≡◌, ℕ, ◌≤◌, ◌<◌, ◌+◌, List, [], ◌∷◌, length, map, fold, Option, Some, None, IfNone, Result, Ok, Err, refl, sym, ap, subst, ◌∙◌}
+use Rattle.std.proofs.Common.{◌≡◌, ℕ, ◌≤◌, ◌<◌, ◌+◌, List, [], ◌∷◌, length, map, fold, Option, Some, None, Result, Ok, Err, sym, ap, ◌∙◌, arith}
 use Rattle.dms_codes.specs.Limits.{longest_text}
 use Rattle.dms_multi.specs.declared.spots.Spot.{Spot}
 use Rattle.dms_multi.specs.declared.fault.SyntaxFault.{SyntaxFault}
@@ -9,12 +9,12 @@ use Rattle.dms_face.specs.declared.multi_fault.MultiFaultCode.{MultiFaultCode}
 use Rattle.dms_face.specs.declared.multi_fault.MultiFaultCode.TheVariants.{TextTooBig}
 use Rattle.dms_face.specs.declared.totals.Totals.{Totals}
 use Rattle.dms_face.specs.Face.{FaceModel}
-use Rattle.dms_face.specs.Layout.{PageModel, Layout, blank_layout, closed, with_item, with_turn, with_page}
+use Rattle.dms_face.specs.Layout.{PageModel, Layout, blank_layout, closed, with_turn, with_page}
 use Rattle.dms_face.specs.Room.{lines_fit}
 use Rattle.dms_face.specs.Fit.{fault_of, or_fault, page_count, checked_text}
 use Rattle.dms_face.specs.Cells.{pages_of}
-use Rattle.dms_face.specs.OnePass.{room_fault, local_fault, or_else, walked}
-use Rattle.dms_face.specs.Totals.{Matches, Holds, AreSmall, Takes}
+use Rattle.dms_face.specs.OnePass.{room_fault, or_else, walked}
+use Rattle.dms_face.specs.Totals.{Matches, Holds, AreSmall}
 use Rattle.dms_face.proofs.WalkLaws.{checked_long, checked_walk}
 use Rattle.dms_pages.proofs.LayingLaws.{laid_all}
 
@@ -24,8 +24,7 @@ fault_in_answer (Ok value) = None
 fault_in_answer (Err fault) = Some fault
 
 fault_of_or_fault : {A : Type 0} (value : A) (fault : Option MultiFault) → fault_in_answer (or_fault value fault) ≡ fault
-fault_of_or_fault value None = refl
-fault_of_or_fault value (Some fault) = refl
+fault_of_or_fault value fault = grind arith
 
 -- the fault of an answer to the whole text
 pub fault_answered : (face : FaceModel) (text : List ℕ) (answer : Result ℕ MultiFault) → answer ≡ checked_text face text → fault_of face text ≡ fault_in_answer answer
@@ -45,51 +44,19 @@ pub record IsLaidTo (face : FaceModel) (text : List ℕ) (totals : Totals) (layo
 -- Nothing was taken so far.
 pub laid_starts : (face : FaceModel) (text : List ℕ) (totals : Totals) (layout : Layout) (rest : List (Result Spot SyntaxFault)) → length text ≤ longest_text
     → Holds face totals (blank_layout face) → AreSmall totals → layout ≡ blank_layout face → rest ≡ outcomes_of text → IsLaidTo face text totals layout rest
-laid_starts face text totals layout rest short holds small blank whole =
-    let P : Layout → Type 0 = λ l. IsLaidTo face text totals l rest in
-    let walk : walked face (length text) (blank_layout face) rest ≡ checked_text face text = ap (walked face (length text) (blank_layout face)) whole ∙ checked_walk face text short in
-    subst P (sym blank) (record {
-      holds = holds;
-      small = small;
-      fault = fault_answered face text (walked face (length text) (blank_layout face) rest) walk;
-      pages = sym (ap (pages_after face (blank_layout face)) whole ∙ laid_all face text);
-    })
-
--- An item was taken that has no fault, and was laid out.
-pub laid_more : (face : FaceModel) (text : List ℕ) (totals next : Totals) (layout after : Layout) (rest : List (Result Spot SyntaxFault)) (spot : Spot) (more : List (Result Spot SyntaxFault))
-    (fault : Option MultiFaultCode) → IsLaidTo face text totals layout rest → rest ≡ Ok spot ∷ more → fault ≡ None
-    → Takes face totals next fault (λ (layout : Layout). local_fault face layout (Some spot.item)) (λ (layout : Layout). with_item face layout spot.item)
-    → after ≡ with_item face layout spot.item → IsLaidTo face text next after more
-laid_more face text totals next layout after rest spot more fault state is none takes added =
-    let P : Layout → Type 0 = λ l. IsLaidTo face text next l more in
-    let Q : Option MultiFaultCode → Type 0 = λ o. IfNone o (Holds face next (with_item face layout spot.item)) in
-    let R : Option MultiFaultCode → Type 0 = λ o. IfNone o (AreSmall next) in
-    let fine : local_fault face layout (Some spot.item) ≡ None = sym (takes.fault layout state.holds) ∙ none in
-    let walk : walked face (length text) layout rest ≡ walked face (length text) (with_item face layout spot.item) more =
-    ap (walked face (length text) layout) is ∙ ap (λ o. or_else spot.first o (walked face (length text) (with_item face layout spot.item) more)) fine in
-    subst P (sym added) (record {
-      holds = subst Q none (takes.holds layout state.holds);
-      small = subst R none takes.small;
-      fault = state.fault ∙ ap (λ (a : Result ℕ MultiFault). fault_in_answer a) walk;
-      pages = state.pages ∙ ap (pages_after face layout) is;
-    })
+laid_starts face text totals layout rest short holds small blank whole = grind (arith, checked_walk, fault_answered, laid_all)
 
 -- The text's end has this fault, or none.
 pub end_fault : (face : FaceModel) (text : List ℕ) (totals : Totals) (layout : Layout) (rest : List (Result Spot SyntaxFault)) (fault : Option MultiFaultCode)
     → IsLaidTo face text totals layout rest → rest ≡ [] → ((l : Layout) → Matches totals l → fault ≡ room_fault (lines_fit face (closed l)))
     → fault_of face text ≡ fault_in_answer (or_else (length text) fault (Ok (length layout.pages + 1)))
-end_fault face text totals layout rest fault state is found =
-    state.fault ∙ ap (λ r. fault_in_answer (walked face (length text) layout r)) is
-    ∙ sym (ap (λ o. fault_in_answer (or_else (length text) o (Ok (length layout.pages + 1)))) (found layout state.holds.matches))
+end_fault face text totals layout rest fault state is found = grind arith
 
 -- A text without a fault is laid out.
 pub good_laid : (face : FaceModel) (text : List ℕ) (totals : Totals) (layout last : Layout) (rest : List (Result Spot SyntaxFault)) (fault : Option MultiFaultCode) (pages : List PageModel)
     → IsLaidTo face text totals layout rest → rest ≡ [] → ((l : Layout) → Matches totals l → fault ≡ room_fault (lines_fit face (closed l))) → fault ≡ None
     → last ≡ with_page layout → pages ≡ last.pages → (pages ≡ pages_of face text) × (fault_of face text ≡ None)
-good_laid face text totals layout last rest fault pages state is found none closing are = (
-  are ∙ ap (λ (l : Layout). l.pages) closing ∙ sym (state.pages ∙ ap (pages_after face layout) is),
-  end_fault face text totals layout rest fault state is found ∙ ap (λ o. fault_in_answer (or_else (length text) o (Ok (length layout.pages + 1)))) none,
-)
+good_laid face text totals layout last rest fault pages state is found p closing are = grind arith
 
 -- a text that is too long
 pub long_fault : (face : FaceModel) (text : List ℕ) → longest_text < length text → fault_of face text ≡ Some (record { code = TextTooBig; place = longest_text })

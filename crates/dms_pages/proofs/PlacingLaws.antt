@@ -1,5 +1,5 @@
 -- Things in a row, one more at the end, and how much room they take.
-use Rattle.std.proofs.Common.{◌≡◌, ℕ, ◌+◌, ◌-◌, ◌<◌, ◌≤◌, Bool, true, false, cond, List, [], ◌∷◌, ◌++◌, length, get_or, take, drop, filter, map, refl, sym, ap, ◌∙◌, arith, append_assoc, inl, inr}
+use Rattle.std.proofs.Common.{◌≡◌, ℕ, ◌+◌, ◌-◌, ◌<◌, ◌≤◌, Bool, true, cond, List, [], ◌∷◌, ◌++◌, length, get_or, take, drop, filter, map, refl, sym, ap, ◌∙◌, arith, append_assoc}
 use Rattle.std.specs.List.{flat_map, list_all}
 use Rattle.std.proofs.lemmas.List.Folds.{list_all_at}
 use Rattle.std.proofs.lemmas.Bool.{cases_Bool}
@@ -25,10 +25,7 @@ extent_front (a ∷ b ∷ rest) more = let front : extent (b ∷ rest) ≤ exten
 
 pub at_place-map : {A : Type 0} (block : A → Block) (place : Place) (xs : List A) → at_place place (map block xs) ≡ map block (filter (has_place block place) xs)
 at_place-map block place [] = refl
-at_place-map block place (x ∷ xs) = elim (cases_Bool (has_place block place x)) [
-  | inl here ↦ rw here (ap (λ blocks. block x ∷ blocks) (at_place-map block place xs))
-  | inr other ↦ rw other (at_place-map block place xs)
-]
+at_place-map block place (x ∷ xs) = grind (arith, cases_Bool, at_place-map block place xs)
 
 -- the things of one place among the first ones
 abbrev pub among : {A : Type 0} → (A → Block) → Place → ℕ → List A → List A
@@ -60,9 +57,7 @@ sums_more_of block place i xs x run below at here sums =
 pub placed_push : {A : Type 0} (block : A → Block) (start : ℕ) (xs : List A) (x : A)
     → placed_from block start (xs ++ x ∷ []) ≡ placed_from block start xs ++ (start + extent (map block xs ++ block x ∷ []) - (block x).size, x) ∷ []
 placed_push block start [] x = ap (λ n. (n, x) ∷ []) (let e : start ≡ start + (block x).size - (block x).size = omega arith in e)
-placed_push block start (y ∷ []) x =
-    ap (λ n. (start, y) ∷ (n, x) ∷ [])
-    (let e : start + (block y).size + gap_between (block y) (block x) ≡ start + ((block y).size + gap_between (block y) (block x) + (block x).size) - (block x).size = omega arith in e)
+placed_push block start (y ∷ []) x = grind arith
 placed_push block start (y ∷ z ∷ rest) x =
     let next = start + (block y).size + gap_between (block y) (block z) in
     let more = extent (map block (z ∷ rest) ++ block x ∷ []) in
@@ -72,11 +67,7 @@ placed_push block start (y ∷ z ∷ rest) x =
 
 -- three parts, one after the other
 pub three_parts : {A B : Type 0} (f : A → B) (before : List B) (x y z : List A) → ((before ++ map f x) ++ map f y) ++ map f z ≡ before ++ map f (x ++ (y ++ (z ++ [])))
-three_parts f before x y z =
-    append_assoc (before ++ map f x) (map f y) (map f z) ∙ append_assoc before (map f x) (map f y ++ map f z)
-    ∙ ap (λ l. before ++ (map f x ++ l)) (sym (map-append f y z))
-    ∙ ap (λ l. before ++ l) (sym (map-append f x (y ++ z)))
-    ∙ ap (λ l. before ++ map f (x ++ (y ++ l))) (sym (append-nil z))
+three_parts f before x y z = grind (arith, append_assoc, map-append, append-nil)
 
 pub last_fits : (blocks : List Block) (block : Block) → block.size ≤ extent (blocks ++ block ∷ [])
 last_fits [] block = omega arith
@@ -109,11 +100,7 @@ placed_more_of block place i xs x f start at before below is here at_is =
 
 pub three_parts_of : {A B : Type 0} (f : A → List B) (before : List B) (x y z : List A)
     → ((before ++ flat_map f x) ++ flat_map f y) ++ flat_map f z ≡ before ++ flat_map f (x ++ (y ++ (z ++ [])))
-three_parts_of f before x y z =
-    append_assoc (before ++ flat_map f x) (flat_map f y) (flat_map f z) ∙ append_assoc before (flat_map f x) (flat_map f y ++ flat_map f z)
-    ∙ ap (λ l. before ++ (flat_map f x ++ l)) (sym (flat_map-append f y z))
-    ∙ ap (λ l. before ++ l) (sym (flat_map-append f x (y ++ z)))
-    ∙ ap (λ l. before ++ flat_map f (x ++ (y ++ l))) (sym (append-nil z))
+three_parts_of f before x y z = grind (arith, append_assoc, flat_map-append, append-nil)
 
 -- the row of a place, of three that have a beginning each
 abbrev row : {A : Type 0} → (A → Block) → List A → ℕ → Place → List (ℕ × A)
@@ -126,11 +113,7 @@ rows block xs first second third = row block xs first Start ++ (row block xs sec
 rows_are : {A : Type 0} (block : A → Block) (whole : ℕ) (xs ys : List A) (first second third : ℕ) → xs ≡ ys
     → first ≡ begin Start whole (extent_at Start (map block xs)) → second ≡ begin Halfway whole (extent_at Halfway (map block xs)) → third ≡ begin End whole (extent_at End (map block xs))
     → rows block xs first second third ≡ spread block whole ys
-rows_are block whole xs ys first second third same one two three =
-    ap (λ n. rows block xs n second third) one
-    ∙ ap (λ n. rows block xs (begin Start whole (extent_at Start (map block xs))) n third) two
-    ∙ ap (λ n. rows block xs (begin Start whole (extent_at Start (map block xs))) (begin Halfway whole (extent_at Halfway (map block xs))) n) three
-    ∙ ap (spread block whole) same
+rows_are block whole xs ys first second third same one two three = grind arith
 
 pub line_is : (face : FaceModel) (top : ℕ) (line : Line) (characters : List Character) (left centre right bottom : ℕ) (before : List PlacedCharacter) → characters ≡ line.characters
     → left ≡ begin Start face.width (extent_at Start (map character_block characters)) → centre ≡ begin Halfway face.width (extent_at Halfway (map character_block characters))
@@ -149,13 +132,8 @@ pub lines_are : (face : FaceModel) (lines : List Line) (top middle bottom : ℕ)
     → ((before ++ flat_map (line_characters face) (row line_block lines top Start)) ++ flat_map (line_characters face) (row line_block lines middle Halfway))
     ++ flat_map (line_characters face) (row line_block lines bottom End)
     ≡ before ++ lines_characters face lines
-lines_are face lines top middle bottom before one two three =
-    three_parts_of (line_characters face) before (row line_block lines top Start) (row line_block lines middle Halfway) (row line_block lines bottom End)
-    ∙ ap (λ l. before ++ flat_map (line_characters face) l) (rows_are line_block face.height lines lines top middle bottom refl one two three)
+lines_are face lines top middle bottom before one two three = grind (arith, three_parts_of, rows_are)
 
 -- what all pass, the one at a place does
 pub all_at : {A : Type 0} (p : A → Bool) (xs : List A) (i : ℕ) (x : A) → i < length xs → get_or xs i x ≡ x → list_all p xs ≡ true → p x ≡ true
-all_at p xs i x below is all = elim (cases_Bool (p x)) [
-  | inl passes ↦ passes
-  | inr fails ↦ absurd (let wrong : true ≡ false = sym all ∙ list_all_at p xs i x below (ap p is ∙ fails) in cc)
-]
+all_at p xs i x below is all = grind (arith, cases_Bool, list_all_at)

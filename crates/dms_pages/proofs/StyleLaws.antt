@@ -1,5 +1,5 @@
 -- Cells are the styles that their numbers name.
-use Rattle.std.proofs.Common.{◌≡◌, ◌≢◌, ℕ, zero, suc, ◌+◌, ◌<◌, ◌==◌, ◌&&◌, Bool, true, false, List, [], ◌∷◌, ◌++◌, length, map, get_or, set, replicate, length-append, refl, sym, ap, subst, ◌∙◌, arith, inl, inr}
+use Rattle.std.proofs.Common.{◌≡◌, ◌≢◌, ℕ, zero, suc, ◌+◌, ◌<◌, ◌==◌, ◌&&◌, Bool, true, false, List, [], ◌∷◌, ◌++◌, length, map, get_or, set, replicate, length-append, refl, ap, ◌∙◌, arith}
 use Rattle.std.specs.Prelude.{slice_index_or}
 use Rattle.std.proofs.lemmas.Bool.{cases_Bool, and_parts, and_from, eqb-true, eq-eqb}
 use Rattle.std.proofs.lemmas.List.{get_or-map, length-map, length-set, get_or-set_same, get_or-set_other, get_or_append_left}
@@ -16,8 +16,7 @@ covered_dark : (lit cell : Cell) → cell.lit ≡ false → covered true lit cel
 covered_dark lit cell dark = rw dark refl
 
 covered_lit : (on : Bool) (lit cell : Cell) → cell.lit ≡ true → covered on lit cell ≡ cell
-covered_lit false lit cell bright = refl
-covered_lit true lit cell bright = rw bright refl
+covered_lit on lit cell bright = grind arith
 
 -- what a cell shows
 pub shown_at : (styles : List Cell) (numbers : List ℕ) (place : ℕ) (other : Cell) → place < length numbers
@@ -25,55 +24,19 @@ pub shown_at : (styles : List Cell) (numbers : List ℕ) (place : ℕ) (other : 
 shown_at styles numbers place other below = get_or-map (style styles) numbers place 0 other below
 
 away : (on b : Bool) → b ≡ false → (on && b) ≡ false
-away true b e = e
-away false b e = refl
+away on b e = grind arith
 
 -- a cell that is not lit yet
 pub lit_now : (styles : List Cell) (numbers : List ℕ) (place number : ℕ) (on : Bool) → AreStyled styles numbers → place < length numbers → on ≡ true
     → get_or numbers place 0 ≡ 0
     → Lights (λ k. on && k == place) (style styles number) (with_numbers styles numbers) (with_numbers styles (set numbers place number))
-lit_now styles numbers place number on are below now dark = record {
-  styles = refl;
-  len = length-map (set numbers place number) (style styles) ∙ length-set numbers place number ∙ sym (length-map numbers (style styles));
-  cell = λ other k inside.
-      let within : k < length numbers = omega (arith, length-map numbers (style styles)) in
-      let before : slice_index_or (map (style styles) numbers) k other ≡ style styles (get_or numbers k 0) = shown_at styles numbers k other within in
-      let after : slice_index_or (map (style styles) (set numbers place number)) k other ≡ style styles (get_or (set numbers place number) k 0) =
-      shown_at styles (set numbers place number) k other (omega (arith, length-set numbers place number)) in
-      elim (cases_Bool (k == place)) [
-        | inl here ↦
-            let same : k ≡ place = eqb-true _ _ here in
-            let unlit_before : slice_index_or (map (style styles) numbers) k other ≡ style styles 0 = before ∙ ap (λ i. style styles (get_or numbers i 0)) same ∙ ap (style styles) dark in
-            after ∙ ap (λ i. style styles (get_or (set numbers place number) i 0)) same ∙ ap (style styles) (get_or-set_same numbers place number 0 below)
-            ∙ sym (covered_dark (style styles number) (slice_index_or (map (style styles) numbers) k other) (ap (λ (cell : Cell). cell.lit) unlit_before ∙ are.unlit_first))
-            ∙ sym (ap (λ b. covered b (style styles number) (slice_index_or (map (style styles) numbers) k other)) (and_from on (k == place) now here))
-        | inr there ↦
-            let other_place : k ≢ place = λ same. let wrong : true ≡ false = sym (eq-eqb k place same) ∙ there in cc in
-            after ∙ ap (style styles) (get_or-set_other numbers place k number 0 other_place) ∙ sym before
-            ∙ sym (ap (λ b. covered b (style styles number) (slice_index_or (map (style styles) numbers) k other)) (away on (k == place) there))
-      ];
-}
+lit_now styles numbers place number on are below now dark = grind (arith, length-map, length-set, get_or, shown_at, cases_Bool, eqb-true, get_or-set_same, covered_dark, and_from, eq-eqb, get_or-set_other, away)
 
 -- a cell that stays: it is not to be lit, or it is lit
 pub lit_before : (styles : List Cell) (numbers : List ℕ) (place number : ℕ) (on : Bool) → AreStyled styles numbers
     → (on ≡ true → 0 < get_or numbers place 0)
     → Lights (λ k. on && k == place) (style styles number) (with_numbers styles numbers) (with_numbers styles numbers)
-lit_before styles numbers place number on are stays = record {
-  styles = refl;
-  len = refl;
-  cell = λ other k inside.
-      let within : k < length numbers = omega (arith, length-map numbers (style styles)) in
-      let cell = slice_index_or (map (style styles) numbers) k other in
-      elim (cases_Bool (on && k == place)) [
-        | inl here ↦
-            let parts = and_parts _ _ here in
-            let same : k ≡ place = eqb-true _ _ parts.1 in
-            let some : 0 < get_or numbers k 0 = subst (λ i. 0 < get_or numbers i 0) (sym same) (stays parts.0) in
-            sym (covered_lit (on && k == place) (style styles number) cell
-            (ap (λ (it : Cell). it.lit) (shown_at styles numbers k other within) ∙ are.lit_others (get_or numbers k 0) some (are.below k within)))
-        | inr there ↦ sym (ap (λ b. covered b (style styles number) cell) there)
-      ];
-}
+lit_before styles numbers place number on are stays = grind (arith, length-map, cases_Bool, and_parts, eqb-true, get_or, covered_lit, shown_at)
 
 -- a style more
 pub style_kept : (styles : List Cell) (lit : Cell) (k : ℕ) → k < length styles → style (styles ++ lit ∷ []) k ≡ style styles k

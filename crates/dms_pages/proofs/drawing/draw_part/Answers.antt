@@ -1,8 +1,7 @@
 use Rattle.std.proofs.Common.{◌≡◌, ◌∙◌, ◌+◌, ◌-◌, ◌<◌, true, [], ◌∷◌, ◌++◌, get_or, length, map, sym, ap, subst, arith}
 use Rattle.std.specs.List.{flat_map}
 use Rattle.dms_face.specs.declared.room.Block.{Block}
-use Rattle.dms_face.specs.Layout.{Line}
-use Rattle.dms_face.specs.Room.{is_at, extent, placed_from, line_block, characters_fit}
+use Rattle.dms_face.specs.Room.{is_at, extent, placed_from, line_block}
 use Rattle.dms_face.specs.Totals.{Sums}
 use Rattle.dms_face.specs.Cells.{line_characters}
 use Rattle.dms_pages.specs.Drawing.{has_place, Shows}
@@ -14,22 +13,10 @@ with-run-requires c =
     omega (arith, front_extent line_block c.args.part c.loop-line.line-index c.args.lines.now, c.loop-line.invariant.0.size, c.requires.room)
 
 pub overflow_sub-first : goal.overflow_sub-first
-overflow_sub-first c =
-    let xs = c.args.lines.now in
-    let i = c.loop-line.line-index in
-    let x = c.line-item.result in
-    let front = map line_block (among line_block c.args.part i xs) in
-    let sums = c.with-run.ensures.sums front c.loop-line.invariant.0 in
-    omega (arith, last_fits front c.block-block.result, sums.size, c.from.ensures)
+overflow_sub-first c = grind (arith, among, last_fits)
 
 pub draw_line-requires : goal.draw_line-requires
-draw_line-requires c =
-    let below : c.loop-line.line-index < length c.args.lines.now = omega arith in
-    record {
-      matrix = c.loop-line.invariant.2 ∙ c.requires.matrix;
-      room = all_at (λ (line : Line). characters_fit c.args.face.now line.characters) c.args.lines.now c.loop-line.line-index c.line-item.result below (sym c.line-item.is) c.requires.lines;
-      top = omega (arith, c.requires.first, c.with-run.ensures.within);
-    }
+draw_line-requires c = grind (arith, all_at)
 
 pub loop-line-preserved : goal.loop-line-preserved
 loop-line-preserved c =

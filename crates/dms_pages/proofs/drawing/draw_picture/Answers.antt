@@ -2,22 +2,14 @@ use Rattle.std.proofs.Common.{◌≡◌, ◌∙◌, ◌+◌, ◌/◌, ◌%◌, �
 use Rattle.std.specs.Prelude.{nat_lt}
 use Rattle.dms_pages.specs.Drawing.{is_in_picture, is_lit_on_row}
 use Rattle.dms_pages.specs.Styled.{style}
-use Rattle.dms_pages.proofs.DrawingLaws.{none_above, under_top, more_above, all_above, lights_none, lights_same, lights_more, still}
+use Rattle.dms_pages.proofs.DrawingLaws.{more_above, all_above, lights_same, lights_more}
 use Rattle.dms_pages.proofs.drawing.draw_picture.Goals as goal
 
 pub loop-row-init : goal.loop-row-init
-loop-row-init c =
-    let width = c.args.face.now.width in
-    lights_none (λ place. is_in_picture (place % width) (place / width) c.args.x c.args.y c.args.glyph.now && nat_lt (place / width) (c.args.y + 0))
-    (style c.args.cells.now.styles c.args.number) c.args.cells.now
-    (λ place below. none_above _ (place / width) c.args.y (under_top (place % width) (place / width) c.args.x c.args.y c.args.glyph.now))
+loop-row-init c = grind arith
 
 pub draw_row-requires : goal.draw_row-requires
-draw_row-requires c = record {
-  matrix = omega (arith, c.requires.matrix, c.loop-row.invariant.len);
-  number = still c.args.number c.args.cells.now c.loop-row.cells c.loop-row.invariant.styles c.requires.number;
-  glyph = λ column line on. (c.height-row-end.ensures.inside column line on).0;
-}
+draw_row-requires c = grind arith
 
 pub loop-row-preserved : goal.loop-row-preserved
 loop-row-preserved c =

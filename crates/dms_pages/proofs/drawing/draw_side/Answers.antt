@@ -15,13 +15,7 @@ with-run-requires c =
     omega (arith, front_extent character_block c.args.side c.loop-character.character-index c.args.characters.now, c.loop-character.invariant.0.size, c.requires.room)
 
 pub overflow_sub-x : goal.overflow_sub-x
-overflow_sub-x c =
-    let xs = c.args.characters.now in
-    let i = c.loop-character.character-index in
-    let x = c.character-item.result in
-    let front = map character_block (among character_block c.args.side i xs) in
-    let sums = c.with-run.ensures.sums front c.loop-character.invariant.0 in
-    omega (arith, last_fits front c.block-block.result, sums.size, c.from.ensures)
+overflow_sub-x c = grind (arith, among, last_fits)
 
 pub loop-character-preserved : goal.loop-character-preserved
 loop-character-preserved c =

@@ -3,16 +3,12 @@ use Rattle.std.specs.Prelude.{nat_le}
 use Rattle.std.specs.Int.{w32, trailing_zeros}
 use Rattle.dms_font.specs.Glyph.{is_bit}
 use Rattle.dms_pages.specs.Styled.{style}
-use Rattle.dms_pages.proofs.BitLaws.{lowest_bit, is_done, none_done, one_done, all_done, still_among}
-use Rattle.dms_pages.proofs.DrawingLaws.{lights_none, lights_same, lights_more, still}
+use Rattle.dms_pages.proofs.BitLaws.{lowest_bit, is_done, one_done, all_done, still_among}
+use Rattle.dms_pages.proofs.DrawingLaws.{lights_same, lights_more, still}
 use Rattle.dms_pages.proofs.drawing.light_bits.Goals as goal
 
 pub loop-left-init : goal.loop-left-init
-loop-left-init c = record {
-  lit = lights_none (is_done c.args.first c.args.row c.args.row) (style c.args.cells.now.styles c.args.number) c.args.cells.now (λ place below. none_done c.args.first c.args.row place);
-  among = λ k on. on;
-  small = omega arith;
-}
+loop-left-init c = grind arith
 
 pub light-requires : goal.light-requires
 light-requires c =

@@ -1,6 +1,5 @@
-use Rattle.std.proofs.Common.{◌∙◌, ◌-◌, ◌<◌, ◌&&◌, sym, arith}
+use Rattle.std.proofs.Common.{◌∙◌, ◌-◌, ◌<◌, ◌&&◌, arith}
 use Rattle.std.specs.Prelude.{nat_le}
-use Rattle.std.proofs.lemmas.Bool.{and_parts, ltb-true}
 use Rattle.dms_font.specs.Glyph.{is_bit}
 use Rattle.dms_pages.specs.Drawing.{is_lit_in_row}
 use Rattle.dms_pages.specs.Styled.{style}
@@ -9,13 +8,7 @@ use Rattle.dms_pages.proofs.DrawingLaws.{lights_same}
 use Rattle.dms_pages.proofs.drawing.light_row.Goals as goal
 
 pub light_bits-requires : goal.light_bits-requires
-light_bits-requires c = record {
-  inside = λ k on.
-      let below : k < c.args.columns = ltb-true _ _ (and_parts _ _ (sym (c.first_columns.ensures k) ∙ on)).0 in
-      omega (arith, c.requires.inside);
-  small = omega (arith, c.requires.small);
-  number = c.requires.number;
-}
+light_bits-requires c = grind arith
 
 pub returns : goal.returns
 returns c =

@@ -1,21 +1,11 @@
 use Rattle.std.proofs.Common.{◌≡◌, ◌∙◌, ◌+◌, ◌*◌, ◌<◌, ap, arith}
 use Rattle.std.specs.Prelude.{slice_index_or}
-use Rattle.std.proofs.lemmas.Nat.{mul-add-lt}
 use Rattle.dms_pages.specs.Drawn.{DrawnPage, unlit, cell_at}
 use Rattle.dms_pages.proofs.DrawnLaws.{drawn_cell_of}
 use Rattle.dms_pages.proofs.page.Page.cell.Goals as goal
 
 pub at-requires : goal.at-requires
-at-requires c =
-    let fields = c.self.inside in
-    let width : fields.width ≡ c.args.self.now.width = ap (λ (p : DrawnPage). p.width) c.self.view_is in
-    let height : fields.height ≡ c.args.self.now.height = ap (λ (p : DrawnPage). p.height) c.self.view_is in
-    let column : c.args.x < fields.width = omega (arith, width, c.requires.column) in
-    let row : c.args.y < fields.height = omega (arith, height, c.requires.row) in
-    let same : c.from.result * c.from-2.result + c.from-3.result ≡ c.args.y * fields.width + c.args.x =
-    ap (λ y. y * c.from-2.result + c.from-3.result) c.from.ensures ∙ ap (λ w. c.args.y * w + c.from-3.result) c.from-2.ensures
-    ∙ ap (λ x. c.args.y * fields.width + x) c.from-3.ensures in
-    omega (arith, same, c.self.invariant, mul-add-lt c.args.y fields.width c.args.x fields.height row column)
+at-requires c = grind arith
 
 pub returns : goal.returns
 returns c =

@@ -1,4 +1,4 @@
-use Rattle.std.proofs.Common.{◌≡◌, ◌∙◌, ◌*◌, [], length, replicate, ap, subst}
+use Rattle.std.proofs.Common.{◌≡◌, ◌∙◌, ◌*◌, [], length, replicate, ap, subst, arith}
 use Rattle.dms_face.specs.Layout.{PageModel}
 use Rattle.dms_pages.specs.Drawn.{unlit}
 use Rattle.dms_pages.specs.Drawing.{lines_characters, Shows}
@@ -6,9 +6,7 @@ use Rattle.dms_pages.proofs.DrawnLaws.{blank_shows, cells_shown, page_is}
 use Rattle.dms_pages.proofs.page.Page.drawn.Goals as goal
 
 pub draw_lines-requires-clause-matrix : goal.draw_lines-requires-clause-matrix
-draw_lines-requires-clause-matrix c =
-    c.in_ok-cells.ensures.len
-    ∙ ap (λ n. n * c.from-2.result) (c.from.ensures ∙ c.width.ensures.value) ∙ ap (λ n. c.args.face.now.width * n) (c.from-2.ensures ∙ c.height.ensures.value)
+draw_lines-requires-clause-matrix c = grind arith
 
 pub returns : goal.returns
 returns c =

@@ -1,4 +1,4 @@
-use Rattle.std.proofs.Common.{◌≡◌, ◌∙◌, Bool, true, false, List, [], ◌∷◌, Option, Some, None, ap, refl, inl, inr}
+use Rattle.std.proofs.Common.{◌≡◌, ◌∙◌, Bool, true, false, List, [], ◌∷◌, Option, ap, refl, inl, inr, arith}
 use Rattle.std.specs.Option.{is_some, option_map}
 use Rattle.std.specs.List.{find, list_any}
 use Rattle.std.proofs.lemmas.Bool.{and_parts, cases_Bool}
@@ -13,8 +13,7 @@ found p (x ∷ xs) some = elim (cases_Bool (p x)) [
 ]
 
 mapped : {A B : Type 0} (f : A → B) (o : Option A) → is_some o ≡ is_some (option_map f o)
-mapped f None = refl
-mapped f (Some x) = refl
+mapped f o = grind arith
 
 pub unwrap-requires : goal.unwrap-requires
 unwrap-requires c = mapped _ c.font.result ∙ ap is_some c.font.ensures ∙ found _ c.args.face.now.fonts ((and_parts _ _ c.requires).1)
