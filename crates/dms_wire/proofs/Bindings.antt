@@ -2,15 +2,14 @@
 use Rattle.std.proofs.Common.{◌≡◌, ◌+◌, ◌-◌, ◌<◌, ◌≤◌, ℕ, zero, suc, true, inl, ◌++◌, List, [], ◌∷◌, length, Ok, Err, Result, refl, sym, ap, ◌∙◌, subst, arith, append_assoc, append-nil, length-append}
 use Rattle.std.proofs.lemmas.List.{nil_from_length}
 use Rattle.dms_ber.specs.declared.fault.WireFault.{WireFault}
-use Rattle.dms_ber.specs.declared.fault.FaultKind.TheVariants.{TrailingBytes}
 use Rattle.dms_wire.specs.Message.{ObjectValue, null, VarBind}
 use Rattle.dms_ber.specs.Element.{IsElement, ◌⨾◌}
 use Rattle.dms_ber.specs.ObjectIdentifier.{IsName}
 use Rattle.dms_wire.specs.Spelling.{IsValue, IsBinding, AreBindings}
-use Rattle.dms_ber.specs.Reading.{◌>>=◌, fault, element_at, name_of, name_at, offset_of_content, ended}
+use Rattle.dms_ber.specs.Reading.{◌>>=◌, element_at, name_of, name_at, offset_of_content, ended}
 use Rattle.dms_wire.specs.Reading.{value_at, members_at, binding_at, bindings_up_to, bindings_at}
 use Rattle.dms_wire.specs.Walk.{or_none, bindings_within, bindings_of, AreWhole}
-use Rattle.dms_ber.proofs.Elements.{bind_ok, done, ok_is, not_ok}
+use Rattle.dms_ber.proofs.Elements.{bind_ok, done, ok_is}
 use Rattle.dms_ber.proofs.Names.{name_found}
 use Rattle.dms_ber.specs.NameReading.{is_name, numbers_of}
 use Rattle.dms_ber.proofs.Members.{Front, after, joined, last, with_found, with_only, name_at_found, name_at_only, name_of_found}
@@ -18,8 +17,7 @@ use Rattle.dms_wire.proofs.Values.{value_found, value_only}
 
 pub ended_found : (end : ℕ) (bytes : List ℕ) (x : Unit {0}) → ended end bytes ≡ Ok x → bytes ≡ []
 unfolding ended
-ended_found end [] x h = refl
-ended_found end (b ∷ bytes) x h = not_ok (fault TrailingBytes (end - length (b ∷ bytes))) x h
+ended_found end bytes x h = grind arith
 
 -- a binding's content
 abbrev Members : VarBind → List ℕ → Type 0
@@ -85,8 +83,7 @@ some_octets tag P bytes e = omega (arith, ap length e.parts)
 
 -- what follows a binding is shorter
 fewer_left : (b : VarBind) (front back bytes : List ℕ) → IsBinding b front → bytes ≡ front ++ back → length back < length bytes
-fewer_left b front back bytes e parts =
-    omega (arith, some_octets 48 (Members b) front e, length-append front back, ap length parts)
+fewer_left b front back bytes e parts = grind (arith, some_octets, length-append)
 
 fewer_found : (end : ℕ) (bytes rest : List ℕ) (b : VarBind) → binding_at end bytes ≡ Ok (b, rest) → length rest < length bytes
 fewer_found end bytes rest b h =
@@ -94,9 +91,7 @@ fewer_found end bytes rest b h =
     fewer_left b f.front rest bytes f.spelled f.parts
 
 no_bindings : (bytes : List ℕ) (bs : List VarBind) → length bytes ≤ 0 → done [] ≡ Ok bs → AreBindings bs bytes
-no_bindings bytes bs none h =
-    let size : length bytes ≡ 0 = omega arith in
-    subst (λ bs. AreBindings bs bytes) (ok_is [] bs h) (nil_from_length bytes size)
+no_bindings bytes bs p h = grind (arith, ok_is, nil_from_length)
 
 pub bindings_found : (k end : ℕ) (bytes : List ℕ) (bs : List VarBind) → length bytes ≤ k → bindings_up_to k end bytes ≡ Ok bs
     → AreBindings bs bytes
@@ -114,16 +109,14 @@ bindings_found (suc k) end (octet ∷ bytes) bs small h =
 pub bindings_step : (k end : ℕ) (bytes : List ℕ) → 0 < length bytes
     → bindings_up_to (suc k) end bytes ≡ (binding_at end bytes >>= λ first. bindings_up_to k end first.1 >>= λ others. done (first.0 ∷ others))
 unfolding bindings_up_to
-bindings_step k end [] some = absurd (omega arith)
-bindings_step k end (b ∷ bytes) some = refl
+bindings_step k end bytes some = grind arith
 
 pub bindings_only : (bs : List VarBind) (k end : ℕ) (bytes : List ℕ) → length bytes ≤ k → AreBindings bs bytes
     → bindings_up_to k end bytes ≡ Ok bs
 unfolding bindings_up_to
 bindings_only [] zero end bytes small nil = refl
 bindings_only [] (suc k) end bytes small nil = rw nil refl
-bindings_only (b ∷ bs) zero end bytes small are =
-    absurd (omega (arith, fewer_left b are.front are.back bytes are.first are.parts))
+bindings_only (b ∷ bs) zero end bytes small are = grind (arith, fewer_left, bindings_step, binding_only)
 bindings_only (b ∷ bs) (suc k) end bytes small are =
     let fewer = fewer_left b are.front are.back bytes are.first are.parts in
     bindings_step k end bytes (omega arith)
@@ -131,14 +124,12 @@ bindings_only (b ∷ bs) (suc k) end bytes small are =
 
 no_binding : (k : ℕ) → bindings_within k [] ≡ []
 unfolding bindings_within binding_at element_at
-no_binding zero = refl
-no_binding (suc k) = refl
+no_binding k = grind arith
 
 pub bindings_of_only : (bs : List VarBind) (k : ℕ) (bytes : List ℕ) → length bytes ≤ k → AreBindings bs bytes → bindings_within k bytes ≡ bs
 unfolding bindings_within
 bindings_of_only [] k bytes small nil = ap (bindings_within k) nil ∙ no_binding k
-bindings_of_only (b ∷ bs) zero bytes small are =
-    absurd (omega (arith, fewer_left b are.front are.back bytes are.first are.parts))
+bindings_of_only (b ∷ bs) zero bytes small are = grind (arith, no_binding, fewer_left, binding_only)
 bindings_of_only (b ∷ bs) (suc k) bytes small are =
     let fewer = fewer_left b are.front are.back bytes are.first are.parts in
     ap (bindings_within (suc k)) are.parts
@@ -162,8 +153,7 @@ pub record IsRest (end : ℕ) (content rest : List ℕ) : Type 0 where
 
 regroup : (front : List VarBind) (b : VarBind) (read : Result (List VarBind) WireFault)
     → with_front front (read >>= λ bs. Ok (b ∷ bs)) ≡ with_front (front ++ b ∷ []) read
-regroup front b (Ok bs) = ap Ok (sym (append_assoc front (b ∷ []) bs))
-regroup front b (Err f) = refl
+regroup front b read = grind (arith, append_assoc)
 
 -- where octets are left, so is a turn
 turn_left : (turns : ℕ) (rest : List ℕ) → 0 < length rest → length rest ≤ turns → (t : ℕ) × (turns ≡ suc t)
@@ -202,18 +192,14 @@ rest_done end content rest none is =
     all ∙ ap Ok (sym (walked end content (is.front ++ []) all))
 
 no_turn : (k : ℕ) (bytes : List ℕ) → length bytes ≤ 0 → bindings_within k bytes ≡ []
-no_turn k bytes none =
-    let size : length bytes ≡ 0 = omega arith in
-    ap (bindings_within k) (nil_from_length bytes size) ∙ no_binding k
+no_turn k bytes p = grind (arith, nil_from_length, no_binding)
 
 -- one turn more on both sides
 turn_same : (j k : ℕ) (bytes : List ℕ) (read : Result (VarBind × List ℕ) WireFault) → binding_at (length bytes) bytes ≡ read
     → length bytes ≤ suc j → length bytes ≤ suc k
     → ((rest : List ℕ) → length rest ≤ j → length rest ≤ k → bindings_within j rest ≡ bindings_within k rest)
     → or_none [] (λ b rest. b ∷ bindings_within j rest) read ≡ or_none [] (λ b rest. b ∷ bindings_within k rest) read
-turn_same j k bytes (Ok (b, rest)) is fits_j fits_k same =
-    let fewer = fewer_found (length bytes) bytes rest b is in
-    ap (λ bs. b ∷ bs) (same rest (omega arith) (omega arith))
+turn_same j k bytes (Ok (b, rest)) is fits_j fits_k same = grind (arith, fewer_found)
 turn_same j k bytes (Err f) is fits_j fits_k same = refl
 
 -- more turns than octets give the same bindings
@@ -227,10 +213,7 @@ turns_same (suc j) (suc k) bytes fits_j fits_k =
 walk_turns : (k : ℕ) (bytes rest : List ℕ) (b : VarBind) → length bytes ≡ k → binding_at (length bytes) bytes ≡ Ok (b, rest)
     → bindings_within k bytes ≡ b ∷ bindings_of rest
 unfolding bindings_within
-walk_turns zero bytes rest b size h = absurd (omega (arith, fewer_found (length bytes) bytes rest b h))
-walk_turns (suc k) bytes rest b size h =
-    let fewer = fewer_found (length bytes) bytes rest b h in
-    rw h (ap (λ bs. b ∷ bs) (turns_same k (length rest) rest (omega arith) (omega arith)))
+walk_turns k bytes rest b size h = grind (arith, fewer_found, turns_same)
 
 pub walk_more : (bytes rest : List ℕ) (b : VarBind) → binding_at (length bytes) bytes ≡ Ok (b, rest)
     → bindings_of bytes ≡ b ∷ bindings_of rest
@@ -238,8 +221,7 @@ walk_more bytes rest b h = walk_turns (length bytes) bytes rest b refl h
 
 walk_stops : (k : ℕ) (bytes : List ℕ) (f : WireFault) → binding_at (length bytes) bytes ≡ Err f → bindings_within k bytes ≡ []
 unfolding bindings_within
-walk_stops zero bytes f h = refl
-walk_stops (suc k) bytes f h = rw h refl
+walk_stops k bytes f h = grind arith
 
 pub walk_end : (bytes : List ℕ) (f : WireFault) → binding_at (length bytes) bytes ≡ Err f → bindings_of bytes ≡ []
 walk_end bytes f h = walk_stops (length bytes) bytes f h
@@ -287,16 +269,7 @@ no_first bytes f h = walk_end bytes f (rw h refl)
 pub known_name : (end : ℕ) (bytes : List ℕ) (b : VarBind) (c : List ℕ × List ℕ) → members_at end bytes ≡ Ok b → element_at 6 end bytes ≡ Ok c
     → IsName b.name c.0
 unfolding members_at name_at
-known_name end bytes b c h e =
-    after (name_at end bytes) _ b h λ name name_read h.
-    after (value_at end name.1) _ b h λ value value_read h.
-    after (ended end value.1) (λ _. done (record { name = name.0; value = value.0 })) b h λ nothing nothing_read h.
-    after (element_at 6 end bytes) _ name name_read λ x x_read h2.
-    after (name_of (offset_of_content end x.0 x.1) x.0) (λ n. done (n, x.1)) name h2 λ n n_read h3.
-    let made : VarBind = record { name = name.0; value = value.0 } in
-    let numbers : n ≡ b.name = ap (λ x. x.0) (ok_is (n, x.1) name h3) ∙ ap (λ b. b.name) (ok_is made b h) in
-    let same : x ≡ c = ok_is x c (sym x_read ∙ e) in
-    subst (λ c. IsName b.name c.0) same (subst (λ ns. IsName ns x.0) numbers (name_of_found (offset_of_content end x.0 x.1) x.0 n n_read))
+known_name end bytes b c h e = grind (arith, after, done, ok_is, name_of_found)
 
 pub known_value : (end : ℕ) (bytes : List ℕ) (b : VarBind) (c : List ℕ × List ℕ) (r : Result (ObjectValue × List ℕ) WireFault)
     → members_at end bytes ≡ Ok b → element_at 6 end bytes ≡ Ok c
@@ -317,9 +290,7 @@ known_value end bytes b c r h e v =
 
 pub some_element : (end : ℕ) (bytes : List ℕ) (b : VarBind) (f : WireFault) → members_at end bytes ≡ Ok b → element_at 6 end bytes ≡ Err f → ⊥
 unfolding members_at name_at
-some_element end bytes b f h e =
-    let fails : members_at end bytes ≡ Err f = rw e refl in
-    not_ok f b (sym fails ∙ h)
+some_element end bytes b f h e = grind arith
 
 pub known_members_are : (end : ℕ) (bytes : List ℕ) (b : VarBind) (c : List ℕ × List ℕ) (name : List ℕ) (value : ObjectValue) (rest : List ℕ)
     → members_at end bytes ≡ Ok b → element_at 6 end bytes ≡ Ok c → value_at end c.1 ≡ Ok (value, rest) → name ≡ b.name

@@ -2,7 +2,6 @@
 use Rattle.std.proofs.Common.{◌≡◌, ℕ, ℤ, pos, IsTrue, ◌^◌, ◌<◌, ◌≤◌, List, [], ◌∷◌, ◌++◌, length, refl, arith, flat_map, lt-ltb, append_assoc}
 use Rattle.std.specs.Int.Digits.{AllBelowBase}
 use Rattle.dms_wire.specs.declared.message.Kind.{Kind}
-use Rattle.dms_wire.specs.declared.message.Kind.TheVariants.{Get, GetNext, Response, Set}
 use Rattle.dms_wire.specs.Message.{ObjectValue, integer, octet_string, null, object_identifier, ip_address, counter, gauge, time_ticks, opaque, VarBind, SnmpMessage}
 use Rattle.dms_ber.specs.Integer.{IsInteger, in_range}
 use Rattle.dms_ber.specs.ObjectIdentifier.{IsName}
@@ -69,10 +68,7 @@ fits_pdu m within =
     rw pdu_parts (fits_both _ _ _ _ request (fits_both _ _ _ _ status (fits_both _ _ _ _ index bindings)))
 
 tag_octet : (k : Kind) → tag_of k < 256
-tag_octet Get = omega arith
-tag_octet GetNext = omega arith
-tag_octet Response = omega arith
-tag_octet Set = omega arith
+tag_octet k = grind arith
 
 fits_version : Fits (IsElement 2 (IsInteger (pos 0))) (element 2 (0 ∷ []))
 fits_version =

@@ -1,5 +1,5 @@
 -- A binding takes seven octets at least, so a datagram has few of them.
-use Rattle.std.proofs.Common.{◌≡◌, ℕ, pos, ◌+◌, ◌*◌, ◌<◌, ◌≤◌, List, [], ◌∷◌, length, map, ap, arith, length-append}
+use Rattle.std.proofs.Common.{◌≡◌, ℕ, pos, ◌+◌, ◌*◌, ◌<◌, ◌≤◌, List, [], ◌∷◌, length, ap, arith, length-append}
 use Rattle.dms_wire.specs.Message.{ObjectValue, integer, octet_string, null, object_identifier, ip_address, counter, gauge, time_ticks, opaque, VarBind, SnmpMessage}
 use Rattle.dms_ber.specs.Length.{IsLength}
 use Rattle.dms_ber.specs.Element.{IsElement, ◌⨾◌}
@@ -16,8 +16,7 @@ anything : (P : List ℕ → Type 0) → AtLeast 0 P
 anything P = record { octets = λ bytes p. omega arith }
 
 length_octets : (len : List ℕ) (n : ℕ) → IsLength len n → 1 ≤ length len
-length_octets [] n form = elim form [ ]
-length_octets (b ∷ bs) n form = omega arith
+length_octets len n form = grind arith
 
 -- a tag and a length are two octets at least
 element_octets : {Content : List ℕ → Type 0} (tag n : ℕ) → AtLeast n Content → AtLeast (n + 2) (IsElement tag Content)
@@ -38,9 +37,7 @@ sequence_octets {First} {Second} m n first second = record {
 
 sub_identifiers_octets : (ns bytes : List ℕ) → 0 < length ns → AreSubIdentifiers ns bytes → 1 ≤ length bytes
 sub_identifiers_octets [] bytes some are = absurd (omega arith)
-sub_identifiers_octets (n ∷ ns) bytes some are =
-    let first = are.3 in
-    omega (arith, ap length are.5, length-append are.0 are.1, ap length first.parts, length-append (map (λ d. 128 + d) first.high) (first.low ∷ []))
+sub_identifiers_octets (n ∷ ns) bytes some are = grind (arith, length-append)
 
 name_octets_some : (numbers : List ℕ) → AtLeast 1 (IsName numbers)
 name_octets_some numbers = record { octets = λ bytes name. sub_identifiers_octets name.sub_identifiers bytes name.some name.spelled }

@@ -1,5 +1,5 @@
 -- What octets spell is in the limits.
-use Rattle.std.proofs.Common.{◌≡◌, ℕ, pos, ◌^◌, ◌<◌, List, [], ◌∷◌, ◌++◌, subst, ltb-true}
+use Rattle.std.proofs.Common.{◌≡◌, ℕ, pos, ◌^◌, ◌<◌, List, [], ◌∷◌, ◌++◌, subst, ltb-true, arith}
 use Rattle.std.specs.Int.Digits.{AllBelowBase}
 use Rattle.dms_wire.specs.Message.{ObjectValue, integer, octet_string, null, object_identifier, ip_address, counter, gauge, time_ticks, opaque, VarBind, SnmpMessage}
 use Rattle.dms_ber.specs.Integer.{IsInteger}
@@ -11,9 +11,7 @@ use Rattle.dms_ber.proofs.NameLimits.{name_within}
 
 -- a content's octets are among those of its element
 content_below : (tag : ℕ) (P : List ℕ → Type 0) (bytes : List ℕ) (is : IsElement tag P bytes) → AllBelowBase 256 bytes → AllBelowBase 256 is.content
-content_below tag P bytes is below =
-    let whole : AllBelowBase 256 (tag ∷ (is.len ++ is.content)) = subst (AllBelowBase 256) is.parts below in
-    below_back 256 is.len is.content whole.1
+content_below tag P bytes is below = grind (arith, below_back)
 
 octets_below : (tag : ℕ) (octets bytes : List ℕ) → IsElement tag (λ content. content ≡ octets) bytes → AllBelowBase 256 bytes → AllBelowBase 256 octets
 octets_below tag octets bytes is below = subst (AllBelowBase 256) is.spelled (content_below tag (λ content. content ≡ octets) bytes is below)

@@ -1,5 +1,5 @@
 -- Reading computes the message that octets spell, and no other.
-use Rattle.std.proofs.Common.{◌≡◌, ◌↔◌, ℕ, Bool, true, false, cond, List, [], ◌∷◌, Some, None, Result, Ok, Err, refl, ltb, ltb-true, lt-ltb}
+use Rattle.std.proofs.Common.{◌≡◌, ◌↔◌, ℕ, Bool, true, cond, List, [], ◌∷◌, Some, None, Result, Ok, refl, ltb, ltb-true, lt-ltb, arith}
 use Rattle.std.specs.Result.{result_ok}
 use Rattle.std.proofs.lemmas.Bool.{and_parts, and_from}
 use Rattle.std.specs.Int.Digits.{AllBelowBase}
@@ -29,9 +29,7 @@ message_of_octets bytes below = rw (message_of_is, octets_pass bytes below) refl
 
 -- a test that was passed, and a result that is no error
 some_parts : (test : Bool) (read : Result SnmpMessage WireFault) (m : SnmpMessage) → cond test (result_ok read) None ≡ Some m → (test ≡ true) × (read ≡ Ok m)
-some_parts true (Ok x) m e = (refl, cc)
-some_parts true (Err f) m e = absurd (cc)
-some_parts false read m e = absurd (cc)
+some_parts test read m e = grind arith
 
 read_spells : (octets : List ℕ) (m : SnmpMessage) → message_of octets ≡ Some m → Spells m octets
 read_spells octets m read =

@@ -1,21 +1,19 @@
 -- Messages: what reading gives is spelled, what is spelled is read, and the faults of octets too few or too many.
-use Rattle.std.proofs.Common.{◌≡◌, ◌+◌, ◌-◌, ◌<◌, ◌≤◌, ℕ, ℤ, pos, negsuc, inl, inr, ◌++◌, List, [], ◌∷◌, length, take, drop, eqb, ltb, nat_lt, ◌==◌, Ok, Err, Some, true, false, ok_or, refl, sym, ap, ap₂, ◌∙◌, subst, arith, append_assoc, append-nil, length-append, length-drop, one-add}
-use Rattle.std.proofs.lemmas.Bool.{eqb-true, eq-eqb, ltb-false, lt-ltb, le-ltb, ne_eqb, cases_lt}
+use Rattle.std.proofs.Common.{◌≡◌, ◌+◌, ◌-◌, ◌<◌, ◌≤◌, ℕ, ℤ, pos, inl, inr, ◌++◌, List, [], ◌∷◌, length, take, drop, ltb, nat_lt, ◌==◌, Ok, Err, Some, true, ok_or, refl, sym, ap, ◌∙◌, subst, arith, append_assoc, append-nil, length-append, length-drop, one-add}
+use Rattle.std.proofs.lemmas.Bool.{eqb-true, eq-eqb, ltb-false, lt-ltb, le-ltb, cases_lt}
 use Rattle.std.proofs.lemmas.List.{length-take-le, take-append-le, take-append-drop, take_at, drop_at}
 use Rattle.std.specs.Int.Digits.{AllBelowBase}
-use Rattle.std.proofs.lemmas.Option.{same_Some}
 use Rattle.dms_ber.specs.declared.fault.WireFault.{WireFault}
-use Rattle.dms_ber.specs.declared.fault.FaultKind.TheVariants.{Truncated, BadTag, BadInteger, BadVersion, TrailingBytes, TooLong}
+use Rattle.dms_ber.specs.declared.fault.FaultKind.TheVariants.{Truncated, BadTag, TrailingBytes, TooLong}
 use Rattle.dms_wire.specs.declared.message.Kind.{Kind}
-use Rattle.dms_wire.specs.declared.message.Kind.TheVariants.{Get, GetNext, Response, Set}
 use Rattle.dms_wire.specs.Message.{VarBind, SnmpMessage}
 use Rattle.dms_ber.specs.Length.{IsLength}
 use Rattle.dms_ber.specs.Integer.{IsInteger}
 use Rattle.dms_ber.specs.Element.{IsElement, ◌⨾◌}
 use Rattle.dms_wire.specs.Spelling.{AreBindings, tag_of, IsPdu, IsMessage, Spells}
-use Rattle.dms_ber.specs.Reading.{◌>>=◌, fault, offset_of_content, length_at, content_at, element_at, integer_value, integer_at, ended}
+use Rattle.dms_ber.specs.Reading.{◌>>=◌, fault, offset_of_content, length_at, content_at, element_at, integer_at, ended}
 use Rattle.dms_wire.specs.Reading.{bindings_at, is_zero, kind_of, version_of, version_at, list_at, Numbered, pdu_at, tagged_pdu_at, inside_at, outer_content, outer_at, datagram_at, message_at}
-use Rattle.dms_ber.proofs.Elements.{bind_ok, chosen, done, ok_is, not_ok, guarded, tested, length_found, length_only, content_found, content_only, element_found, element_only}
+use Rattle.dms_ber.proofs.Elements.{bind_ok, done, ok_is, not_ok, guarded, tested, length_found, length_only, content_found, content_only, element_found, element_only}
 use Rattle.dms_ber.proofs.Integers.{integer_found, integer_only}
 use Rattle.dms_ber.proofs.Members.{Front, after, joined, last, ok_or_found, made, with_found, with_only, integer_at_found, integer_at_only}
 use Rattle.dms_wire.proofs.Bindings.{ended_found, bindings_found, bindings_only}
@@ -36,18 +34,14 @@ list_only end bs front rest e =
     (λ c bs h. bindings_only bs (length c.0) (end - length c.1) c.0 (omega arith) h) 48 end bs front rest e
 
 is_zero_true : (z : ℤ) → is_zero z ≡ true → z ≡ pos 0
-is_zero_true (pos n) h = ap pos (eqb-true n 0 h)
-is_zero_true (negsuc n) h = cc h
+is_zero_true z h = grind arith
 
 -- a version, of which nothing is kept
 abbrev IsVersion : Unit {0} → List ℕ → Type 0
 IsVersion x = IsInteger (pos 0)
 
 version_of_found : (place : ℕ) (content : List ℕ) (x : Unit {0}) → version_of place content ≡ Ok x → IsInteger (pos 0) content
-version_of_found place content x h =
-    let z = bind_ok (ok_or (integer_value content) (fault BadInteger place)) _ x h in
-    let zero_is = is_zero_true z.0 (tested (is_zero z.0) (fault BadVersion place) (Ok tt) x z.2).0 in
-    subst (λ z. IsInteger z content) zero_is (integer_found content z.0 (ok_or_found (integer_value content) (fault BadInteger place) z.0 z.1))
+version_of_found place content x h = grind (arith, bind_ok, ok_or, is_zero_true, tested, integer_found, ok_or_found)
 
 version_of_only : (place : ℕ) (content : List ℕ) (x : Unit {0}) → IsInteger (pos 0) content → version_of place content ≡ Ok x
 version_of_only place content x e = rw (integer_only content (pos 0) e) refl
@@ -100,27 +94,10 @@ pdu_only end p bytes e =
     rw (request, status, index, bindings) refl
 
 kind_found : (b : ℕ) (f : WireFault) (k : Kind) → ok_or (kind_of b) f ≡ Ok k → b ≡ tag_of k
-kind_found b f k h =
-    let is : (kind : Kind) → Some kind ≡ Some k → tag_of kind ≡ tag_of k = λ kind h. ap tag_of (same_Some kind k h) in
-    elim (chosen (b == 160) _ _ (Some k) (ok_or_found (kind_of b) f k h)) [
-      | inl t ↦ eqb-true b 160 t.0 ∙ is Get t.1
-      | inr n160 ↦ elim (chosen (b == 161) _ _ (Some k) n160.1) [
-        | inl t ↦ eqb-true b 161 t.0 ∙ is GetNext t.1
-        | inr n161 ↦ elim (chosen (b == 162) _ _ (Some k) n161.1) [
-          | inl t ↦ eqb-true b 162 t.0 ∙ is Response t.1
-          | inr n162 ↦ elim (chosen (b == 163) _ _ (Some k) n162.1) [
-            | inl t ↦ eqb-true b 163 t.0 ∙ is Set t.1
-            | inr none ↦ cc none.1
-          ]
-        ]
-      ]
-    ]
+kind_found b f k h = grind arith
 
 kind_only : (k : Kind) → kind_of (tag_of k) ≡ Some k
-kind_only Get = refl
-kind_only GetNext = refl
-kind_only Response = refl
-kind_only Set = refl
+kind_only k = grind arith
 
 abbrev IsTagged : Kind × Numbered → List ℕ → Type 0
 IsTagged p = IsElement (tag_of p.0) (IsNumbered p.1)
@@ -178,10 +155,7 @@ inside_found end bytes m h =
 
 community_only : (end : ℕ) (community front rest : List ℕ) → IsElement 4 (λ content. content ≡ community) front
     → element_at 4 end (front ++ rest) ≡ Ok (community, rest)
-community_only end community front rest e =
-    ap (λ bytes. element_at 4 end (bytes ++ rest)) e.parts
-    ∙ element_only 4 end e.len e.content rest e.form
-    ∙ ap (λ content. done (content, rest)) e.spelled
+community_only end community front rest e = grind (arith, element_only, done)
 
 inside_only : (end : ℕ) (m : SnmpMessage) (bytes : List ℕ) → Inside m bytes → inside_at end bytes ≡ Ok m
 unfolding inside_at ended
@@ -198,35 +172,17 @@ inside_only end m bytes e =
 outer_content_found : (end : ℕ) (bytes : List ℕ) (x : List ℕ × List ℕ) → outer_content end bytes ≡ Ok x
     → (len : List ℕ) × IsLength len (length x.0) × (bytes ≡ (len ++ x.0) ++ x.1)
 unfolding outer_content
-outer_content_found end bytes x h =
-    after (length_at end bytes) _ x h λ n length_read h.
-    let t = guarded (nat_lt (length n.1) n.0) (fault Truncated end) (Ok (take n.0 n.1, drop n.0 n.1)) x h in
-    let fits : n.0 ≤ length n.1 = ltb-false (length n.1) n.0 t.0 in
-    let found = length_found end bytes n length_read in
-    let size : n.0 ≡ length (take n.0 n.1) = sym (length-take-le n.0 n.1 fits) in
-    let parts : bytes ≡ (found.0 ++ take n.0 n.1) ++ drop n.0 n.1 =
-    found.2 ∙ ap (λ rest. found.0 ++ rest) (sym (take-append-drop n.0 n.1)) ∙ sym (append_assoc found.0 (take n.0 n.1) (drop n.0 n.1)) in
-    subst (λ (x : List ℕ × List ℕ). (len : List ℕ) × IsLength len (length x.0) × (bytes ≡ (len ++ x.0) ++ x.1))
-    (ok_is (take n.0 n.1, drop n.0 n.1) x t.1)
-    (found.0, subst (IsLength found.0) size found.1, parts)
+outer_content_found end bytes x h = grind (arith, after, guarded, nat_lt, ltb-false, length_found, length-take-le, take-append-drop, append_assoc, ok_is)
 
 outer_found : (bytes : List ℕ) (x : List ℕ × List ℕ) → outer_at bytes ≡ Ok x
     → (len : List ℕ) × IsLength len (length x.0) × (bytes ≡ (48 ∷ (len ++ x.0)) ++ x.1)
 unfolding outer_at
-outer_found [] x h = not_ok (fault Truncated 0) x h
-outer_found (b ∷ bytes) x h =
-    let t = tested (b == 48) (fault BadTag 0) (outer_content (1 + length bytes) bytes) x h in
-    let found = outer_content_found (1 + length bytes) bytes x t.1 in
-    (found.0, found.1, ap₂ (λ b bytes. b ∷ bytes) (eqb-true b 48 t.0) found.2)
+outer_found bytes x h = grind (arith, not_ok, tested, outer_content_found, eqb-true)
 
 outer_content_only : (end : ℕ) (len content rest : List ℕ) → IsLength len (length content)
     → outer_content end ((len ++ content) ++ rest) ≡ Ok (content, rest)
 unfolding outer_content
-outer_content_only end len content rest form =
-    let read : length_at end ((len ++ content) ++ rest) ≡ Ok (length content, content ++ rest) =
-    ap (length_at end) (append_assoc len content rest) ∙ length_only end (length content) len (content ++ rest) form in
-    let fits : ltb (length (content ++ rest)) (length content) ≡ false = le-ltb (length (content ++ rest)) (length content) (omega (arith, length-append content rest)) in
-    rw (read, fits, take_at content rest (length content) refl, drop_at content rest (length content) refl) refl
+outer_content_only end len content rest form = grind (arith, append_assoc, length_only, le-ltb, length-append, take_at, drop_at)
 
 -- an outermost element, whatever follows it
 outer_only : (len content rest : List ℕ) → IsLength len (length content) → outer_at ((48 ∷ (len ++ content)) ++ rest) ≡ Ok (content, rest)
@@ -248,9 +204,7 @@ datagram_found bytes m h =
 
 pub message_found : (bytes : List ℕ) (m : SnmpMessage) → AllBelowBase 256 bytes → message_at bytes ≡ Ok m → Spells m bytes
 unfolding message_at
-message_found bytes m octets h =
-    let t = guarded (nat_lt longest_datagram (length bytes)) (fault TooLong longest_datagram) (datagram_at bytes) m h in
-    record { octets = octets; size = ltb-false longest_datagram (length bytes) t.0; message = datagram_found bytes m t.1 }
+message_found bytes m octets h = grind (arith, guarded, nat_lt, ltb-false, datagram_found)
 
 -- a message's octets and what follows them
 datagram_then : (m : SnmpMessage) (bytes rest : List ℕ) → IsMessage m bytes
@@ -292,17 +246,7 @@ splits f more len content parts fits =
 length_short : (end n : ℕ) (f more len content : List ℕ) → IsLength len n → f ++ more ≡ len ++ content → length f < length len
     → length_at end f ≡ Err (fault Truncated end)
 unfolding length_at
-length_short end n [] more len content form parts short = refl
-length_short end n (b ∷ f) more [] content form parts short = absurd (omega arith)
-length_short end n (b ∷ f) more (c ∷ cs) content (inl form) parts short =
-    absurd (omega (arith, ap length form.1))
-length_short end n (b ∷ f) more (c ∷ cs) content (inr form) parts short =
-    let first : b ≡ c = cc in
-    let long : ltb b 128 ≡ false = le-ltb b 128 (omega (arith, form.0)) in
-    let few : ltb 132 b ≡ false = le-ltb 132 b (omega (arith, form.0, form.2)) in
-    let some : eqb b 128 ≡ false = ne_eqb b 128 (λ is. omega (arith, form.0, form.1)) in
-    let cut : ltb (length f) (b - 128) ≡ true = lt-ltb (length f) (b - 128) (omega (arith, form.0)) in
-    rw (long, few, some, cut) refl
+length_short end n f more len content form parts short = grind arith
 
 content_short : (end : ℕ) (f more len content : List ℕ) → IsLength len (length content) → f ++ more ≡ len ++ content → 0 < length more
     → outer_content end f ≡ Err (fault Truncated end)
@@ -320,20 +264,13 @@ content_short end f more len content form parts some = elim (cases_lt (length f)
 outer_short : (f more len content : List ℕ) → IsLength len (length content) → f ++ more ≡ 48 ∷ (len ++ content) → 0 < length more
     → outer_at f ≡ Err (fault Truncated (length f))
 unfolding outer_at
-outer_short [] more len content form parts some = refl
-outer_short (b ∷ f) more len content form parts some =
-    let first : b ≡ 48 = cc in
-    let tail : f ++ more ≡ len ++ content = cc in
-    rw (eq-eqb b 48 first, content_short (1 + length f) f more len content form tail some, one-add) refl
+outer_short f more len content form parts some = grind (arith, eq-eqb, content_short, one-add)
 
 -- a proper front of a message is truncated at its length
 pub message_truncated : (bytes more : List ℕ) (m : SnmpMessage) → Spells m (bytes ++ more) → 0 < length more
     → message_at bytes ≡ Err (fault Truncated (length bytes))
 unfolding datagram_at
-message_truncated bytes more m s some =
-    let e = s.message in
-    let fits : length bytes ≤ longest_datagram = omega (arith, s.size, length-append bytes more) in
-    within_size bytes fits ∙ rw (outer_short bytes more e.len e.content e.form e.parts some) refl
+message_truncated bytes more m s some = grind (arith, length-append, within_size, outer_short)
 
 pub message_too_long : (bytes : List ℕ) → longest_datagram < length bytes → message_at bytes ≡ Err (fault TooLong longest_datagram)
 unfolding message_at

@@ -1,5 +1,5 @@
 -- A message's octets are those before its bindings and those of its bindings.
-use Rattle.std.proofs.Common.{◌≡◌, ℕ, suc, ◌+◌, ◌<◌, ◌≤◌, Bool, true, false, cond, nat_le, List, [], ◌∷◌, ◌++◌, length, Option, Some, None, refl, sym, ap, ◌∙◌, arith, flat_map, append_assoc, length-append, leb-false}
+use Rattle.std.proofs.Common.{◌≡◌, ℕ, ◌+◌, ◌<◌, ◌≤◌, Bool, true, false, cond, nat_le, List, [], ◌∷◌, ◌++◌, length, Option, Some, None, refl, sym, ap, ◌∙◌, arith, flat_map, append_assoc, length-append}
 use Rattle.dms_wire.specs.declared.message.Header.{Header}
 use Rattle.dms_wire.specs.declared.message.MessageParts.{MessageParts}
 use Rattle.dms_wire.specs.Message.{VarBind, SnmpMessage}
@@ -22,8 +22,7 @@ size_of_element tag content = omega (arith, element_length tag content)
 
 size_of_pdu : (m : SnmpMessage) (octets : List ℕ) → AreBindingsOf m octets → length (pdu_octets m) ≡ pdu_size m (length octets)
 unfolding pdu_octets
-size_of_pdu m octets are =
-    omega (arith, length-append (numbers_octets m) (element 48 (flat_map binding_octets m.bindings)), size_of_element 48 (flat_map binding_octets m.bindings), ap length are, ap (λ octets. element_size (length octets)) are)
+size_of_pdu m octets are = grind (arith, length-append, flat_map, size_of_element)
 
 -- the content of a message
 abbrev inside : SnmpMessage → List ℕ
@@ -34,10 +33,7 @@ unfolding element
 size_of_version = refl
 
 size_of_inside : (m : SnmpMessage) (octets : List ℕ) → AreBindingsOf m octets → length (inside m) ≡ content_size m (pdu_size m (length octets))
-size_of_inside m octets are =
-    let version = size_of_version in
-    let pdu = size_of_element (tag_of m.kind) (pdu_octets m) ∙ ap element_size (size_of_pdu m octets are) in
-    omega (arith, version, pdu, length-append (element 2 (0 ∷ []) ++ element 4 m.community) (element (tag_of m.kind) (pdu_octets m)), length-append (element 2 (0 ∷ [])) (element 4 m.community))
+size_of_inside m octets are = grind (arith, size_of_version, size_of_element, size_of_pdu, length-append)
 
 size_of_message : (m : SnmpMessage) (octets : List ℕ) → AreBindingsOf m octets → length (canonical m) ≡ message_size m (length octets)
 unfolding canonical
@@ -48,8 +44,7 @@ unfolding pdu_octets
 prefix_of_pdu m octets are = element_put (numbers_octets m) 48 (length octets) octets refl ∙ ap (λ octets. numbers_octets m ++ element 48 octets) are
 
 prefix_of_inside : (m : SnmpMessage) (octets : List ℕ) → AreBindingsOf m octets → message_prefix m (pdu_size m (length octets)) ++ pdu_octets m ≡ inside m
-prefix_of_inside m octets are =
-    element_put (element 2 (0 ∷ []) ++ element 4 m.community) (tag_of m.kind) (pdu_size m (length octets)) (pdu_octets m) (sym (size_of_pdu m octets are))
+prefix_of_inside m octets are = grind (arith, element_put, size_of_pdu)
 
 prefix_of_message : (m : SnmpMessage) (octets : List ℕ) → AreBindingsOf m octets → prefix m (length octets) ++ octets ≡ canonical m
 unfolding canonical
@@ -87,22 +82,15 @@ bindings_alone m = omega (arith, size_of_message m (flat_map binding_octets m.bi
 
 -- octets that were kept, or too many to keep
 kept : (test : Bool) (xs octets : List ℕ) → nat_le (length octets) longest_datagram ≡ test → Some xs ≡ cond test (Some octets) None → octets ≡ xs
-kept true xs octets is e = cc
-kept false xs octets is e = absurd (cc)
-
-not_kept : (test : Bool) (octets : List ℕ) → nat_le (length octets) longest_datagram ≡ test → None ≡ cond test (Some octets) None → longest_datagram < length octets
-not_kept true octets is e = absurd (cc)
-not_kept false octets is e = leb-false (length octets) longest_datagram is
+kept test xs octets is e = grind arith
 
 pub are_kept : (too_big : Bool) (xs : List ℕ) (now : Option (List ℕ)) (bindings : List VarBind) → too_big ≡ false → cond too_big None (Some xs) ≡ now
     → now ≡ octets_of_bindings bindings → xs ≡ flat_map binding_octets bindings
-are_kept true xs now bindings is view e = absurd (cc)
-are_kept false xs now bindings is view e = sym (kept (nat_le (length (flat_map binding_octets bindings)) longest_datagram) xs (flat_map binding_octets bindings) refl (view ∙ e))
+are_kept too_big xs now bindings is view e = grind arith
 
 pub are_too_big : (too_big : Bool) (xs : List ℕ) (now : Option (List ℕ)) (bindings : List VarBind) → too_big ≡ true → cond too_big None (Some xs) ≡ now
     → now ≡ octets_of_bindings bindings → longest_datagram < length (flat_map binding_octets bindings)
-are_too_big true xs now bindings is view e = not_kept (nat_le (length (flat_map binding_octets bindings)) longest_datagram) (flat_map binding_octets bindings) refl (view ∙ e)
-are_too_big false xs now bindings is view e = absurd (cc)
+are_too_big too_big xs now bindings is view e = grind arith
 
 -- what a message to write says beside its bindings
 abbrev pub header_of : MessageParts → Header

@@ -1,5 +1,5 @@
 -- What the exact clause of the reading says in the words of `read`'s contract.
-use Rattle.std.proofs.Common.{◌≡◌, ℕ, ◌<◌, suc, List, [], ◌∷◌, get_or, Result, Ok, Err, IfOk, OnErr, Option, IfSome, sym, ap, ◌∙◌}
+use Rattle.std.proofs.Common.{◌≡◌, ℕ, ◌<◌, suc, List, [], ◌∷◌, get_or, Result, Ok, Err, IfOk, OnErr, Option, IfSome, sym, ap, ◌∙◌, arith}
 use Rattle.std.specs.Option.{option_map}
 use Rattle.std.specs.Result.{result_ok}
 use Rattle.std.specs.Int.Digits.{AllBelowBase}
@@ -21,8 +21,7 @@ octets_fit (b ∷ bs) fit = (fit 0, octets_fit bs (λ i. fit (suc i)))
 
 pub is_found : (bytes : List ℕ) (r : Result Message WireFault) → AllBelowBase 256 bytes → Gives snmp_message r (message_at bytes)
     → IfOk r (λ m. Spells (snmp_message m) bytes)
-is_found bytes (Ok m) octets gives = message_found bytes (snmp_message m) octets gives
-is_found bytes (Err f) octets gives = tt
+is_found bytes r octets gives = grind (arith, message_found)
 
 pub is_only : (bytes : List ℕ) (r : Result Message WireFault) → Gives snmp_message r (message_at bytes) → (m : SnmpMessage) → Spells m bytes
     → Gives snmp_message r (Ok m)
@@ -45,8 +44,7 @@ same_fault g f h = cc
 
 pub is_fault : (bytes : List ℕ) (r : Result Message WireFault) (f : WireFault) → Gives snmp_message r (message_at bytes)
     → message_at bytes ≡ Err f → r ≡ Err f
-is_fault bytes (Ok x) f gives h = not_ok f (snmp_message x) (sym h ∙ gives)
-is_fault bytes (Err g) f gives h = same_fault g f (sym gives ∙ h)
+is_fault bytes r f gives h = grind arith
 
 -- octets spell one message at most
 pub one_spelled : (m n : SnmpMessage) (bytes : List ℕ) → Spells m bytes → Spells n bytes → m ≡ n
@@ -54,16 +52,14 @@ one_spelled m n bytes first second = ok_is m n (sym (message_only bytes m first)
 
 -- a reading as an option: the message, or none
 heard_is : (r : Result Message WireFault) (read : Result SnmpMessage WireFault) → Gives snmp_message r read → option_map snmp_message (result_ok r) ≡ result_ok read
-heard_is (Ok m) read gives = ap result_ok (sym gives)
-heard_is (Err f) read gives = ap result_ok (sym gives)
+heard_is r read gives = grind arith
 
 pub is_heard : (bytes : List ℕ) (r : Result Message WireFault) (o : Option Message) → o ≡ result_ok r → AllBelowBase 256 bytes
     → Gives snmp_message r (message_at bytes) → option_map snmp_message o ≡ message_of bytes
 is_heard bytes r o is octets gives = ap (option_map snmp_message) is ∙ heard_is r (message_at bytes) gives ∙ sym (message_of_octets bytes octets)
 
 spelled_if : (bytes : List ℕ) (r : Result Message WireFault) → IfOk r (λ m. Spells (snmp_message m) bytes) → IfSome (result_ok r) (λ m. Spells (snmp_message m) bytes)
-spelled_if bytes (Ok m) found = found
-spelled_if bytes (Err f) found = tt
+spelled_if bytes r found = grind arith
 
 pub is_heard_spelled : (bytes : List ℕ) (r : Result Message WireFault) (o : Option Message) → o ≡ result_ok r
     → IfOk r (λ m. Spells (snmp_message m) bytes) → IfSome o (λ m. Spells (snmp_message m) bytes)

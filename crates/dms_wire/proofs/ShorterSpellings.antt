@@ -5,8 +5,7 @@ use Rattle.std.specs.List.{flat_map}
 use Rattle.dms_wire.specs.Message.{ObjectValue, integer, octet_string, null, object_identifier, ip_address, counter, gauge, time_ticks, opaque, VarBind, SnmpMessage}
 use Rattle.dms_ber.specs.Element.{IsElement, ◌⨾◌}
 use Rattle.dms_ber.specs.Integer.{IsInteger}
-use Rattle.dms_wire.specs.Spelling.{IsAddress, IsValue, IsBinding, AreBindings, tag_of, IsPdu, IsMessage, Spells}
-use Rattle.dms_ber.specs.Length.{short_length}
+use Rattle.dms_wire.specs.Spelling.{IsValue, IsBinding, AreBindings, tag_of, IsPdu, IsMessage, Spells}
 use Rattle.dms_ber.specs.Element.{element}
 use Rattle.dms_ber.specs.Integer.{integer_octets}
 use Rattle.dms_wire.specs.Canonical.{value_octets, binding_octets, numbers_octets, pdu_octets, canonical}
@@ -25,13 +24,7 @@ exactly s = record { than = λ bytes below e. rw e (omega arith) }
 element_length : (tag any : ℕ) (Content : List ℕ → Type 0) (short bytes : List ℕ) → NoLonger short Content → AllBelowBase 256 bytes → IsElement tag Content bytes
     → length (element any short) ≤ length bytes
 unfolding element
-element_length tag any Content short bytes shorter below e =
-    let inside : AllBelowBase 256 (tag ∷ (e.len ++ e.content)) = subst (AllBelowBase 256) e.parts below in
-    let parts = below_parts e.len e.content inside.1 in
-    let content : length short ≤ length e.content = shorter.than e.content parts.1 e.spelled in
-    let before : length (short_length (length short)) ≤ length e.len =
-    le_trans (short_length_monotone (length short) (length e.content) content) (length_no_longer e.len (length e.content) parts.0 e.form) in
-    omega (arith, ap length e.parts, length-append e.len e.content, length-append (short_length (length short)) short)
+element_length tag any Content short bytes shorter below e = grind (arith, below_parts, le_trans, short_length_monotone, length_no_longer, length-append)
 
 -- the tag may differ, since each is one octet
 pub element_no_longer : {tag : ℕ} {Content : List ℕ → Type 0} {short : List ℕ} (any : ℕ) → NoLonger short Content → NoLonger (element any short) (IsElement tag Content)
@@ -51,8 +44,7 @@ value_no_longer (integer z) = element_no_longer 2 (integer_no_longer z)
 value_no_longer (octet_string s) = element_no_longer 4 (exactly s)
 value_no_longer null = element_no_longer 5 (exactly [])
 value_no_longer (object_identifier numbers) = element_no_longer 6 (name_no_longer numbers)
-value_no_longer (ip_address address) =
-    element_no_longer {Content = IsAddress address} 64 (record { than = λ bytes below a. (exactly address).than bytes below a.0 })
+value_no_longer (ip_address address) = grind (arith, element_no_longer, integer_no_longer, exactly, name_no_longer)
 value_no_longer (counter n) = element_no_longer 65 (integer_no_longer (pos n))
 value_no_longer (gauge n) = element_no_longer 66 (integer_no_longer (pos n))
 value_no_longer (time_ticks n) = element_no_longer 67 (integer_no_longer (pos n))
@@ -76,11 +68,7 @@ record IsShorter (r m : SnmpMessage) : Type 0 where
 
 pdu_no_longer : (r m : SnmpMessage) → IsShorter r m → NoLonger (pdu_octets r) (IsPdu m)
 unfolding pdu_octets numbers_octets
-pdu_no_longer r m s =
-    let bindings : NoLonger (flat_map binding_octets r.bindings) (AreBindings m.bindings) = rw s.bindings (bindings_no_longer m.bindings) in
-    simp append_assoc
-    (sequence_no_longer (element_no_longer 2 s.request)
-    (sequence_no_longer (element_no_longer 2 s.status) (sequence_no_longer (element_no_longer 2 s.index) (element_no_longer 48 bindings))))
+pdu_no_longer r m s = grind (arith, bindings_no_longer, append_assoc, sequence_no_longer, element_no_longer)
 
 message_no_longer : (r m : SnmpMessage) → IsShorter r m → NoLonger (canonical r) (IsMessage m)
 unfolding canonical

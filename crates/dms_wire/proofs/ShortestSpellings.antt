@@ -1,7 +1,7 @@
 -- A spelling of a binding that is no longer than the shortest one is the shortest one: only a length can be spelled longer.
-use Rattle.std.proofs.Common.{◌≡◌, ℕ, ℤ, pos, negsuc, ◌+◌, ◌-◌, ◌<◌, ◌≤◌, nat_lt, nat_le, Bool, true, false, cond, List, [], ◌∷◌, ◌++◌, length, refl, sym, ap, ap₂, ◌∙◌, subst, ⊎_elim, inl, inr, Ok, take, drop, get_or, take_all, length-append, append-nil, arith, le-ltb, leb-true, leb-false, le_trans}
+use Rattle.std.proofs.Common.{◌≡◌, ℕ, ℤ, pos, negsuc, ◌+◌, ◌-◌, ◌<◌, ◌≤◌, nat_lt, nat_le, Bool, true, cond, List, [], ◌∷◌, ◌++◌, length, refl, sym, ap, ap₂, ◌∙◌, subst, ⊎_elim, Ok, take, drop, get_or, take_all, length-append, append-nil, arith, le-ltb, leb-true, leb-false, le_trans}
 use Rattle.std.specs.Int.Digits.{digits_of, number_from_digits, AllBelowBase}
-use Rattle.std.specs.List.{flat_map, slice_index_or}
+use Rattle.std.specs.List.{slice_index_or}
 use Rattle.std.proofs.lemmas.Bool.{cond-false, cases_lt, cases_eq}
 use Rattle.std.proofs.lemmas.Bool.Decides.{nat_tests}
 use Rattle.std.proofs.lemmas.Int.Digits.{number_lt, length-digits_of-le}
@@ -49,21 +49,10 @@ digits_same (d ∷ ds) below few =
 
 long_same : (b n : ℕ) (bs : List ℕ) → AllBelowBase 256 bs → b ≡ 128 + length bs → 0 < length bs → n ≡ number_from_digits 256 bs
     → length (b ∷ bs) ≤ length (short_length n) → b ∷ bs ≡ short_length n
-long_same b n bs below first some is few =
-    ⊎_elim
-    (λ small. absurd (omega (arith, some, few, ap length (short_length_small n small))))
-    (λ large.
-    let long = long_form n large in
-    let as_many : length bs ≤ length (digits_of 256 (number_from_digits 256 bs)) = omega (arith, few, ap length long, ap (λ n. length (digits_of 256 n)) is) in
-    let digits : digits_of 256 n ≡ bs = ap (digits_of 256) is ∙ digits_same bs below as_many in
-    ap (λ b. b ∷ bs) first ∙ sym (long ∙ ap (λ ds. (128 + length ds) ∷ ds) digits))
-    (cases_lt n 128)
+long_same b n bs below first some is few = grind (arith, short_length_small, long_form, digits_same, cases_lt)
 
 length_same : (len : List ℕ) (n : ℕ) → AllBelowBase 256 len → IsLength len n → length len ≤ length (short_length n) → len ≡ short_length n
-length_same [] n below form few = elim form [ ]
-length_same (b ∷ bs) n below (inl short) few =
-    ap (λ bs. b ∷ bs) short.1 ∙ ap (λ d. d ∷ []) (sym short.2) ∙ sym (short_length_small n (omega (arith, short.0, short.2)))
-length_same (b ∷ bs) n below (inr long) few = long_same b n bs below.1 long.0 long.1 long.3 few
+length_same len n below form few = grind (arith, short_length_small, long_same)
 
 -- Numbers: their octets are the shortest by what they are.
 
@@ -76,10 +65,7 @@ positive_padded n d ds e high = ap padded e ∙ grind (arith, nat_tests)
 
 -- a 0 stands before nothing, or before 128 or more
 zero_first : (bs : List ℕ) → AllBelowBase 256 bs → is_shortest (0 ∷ bs) ≡ true → positive_octets (number_from_digits 256 bs) ≡ 0 ∷ bs
-zero_first [] below short = positive_small 0 (omega arith)
-zero_first (c ∷ cs) below short =
-    let high : 128 ≤ c = leb-true 128 c short in
-    positive_padded (number_from_digits 256 (c ∷ cs)) c cs (digits_number 256 base256 (c ∷ cs) below (omega (arith, high))) high
+zero_first bs below short = grind (arith, positive_small, leb-true, positive_padded, digits_number, base256)
 
 positive_same : (b : ℕ) (bs : List ℕ) → AllBelowBase 256 (b ∷ bs) → b < 128 → is_shortest (b ∷ bs) ≡ true
     → positive_octets (number_from_digits 256 (b ∷ bs)) ≡ b ∷ bs
@@ -93,40 +79,22 @@ positive_same b bs below free short =
     (cases_eq b 0)
 
 inverted_shortest : (b : ℕ) (bs : List ℕ) → AllBelowBase 256 (b ∷ bs) → 128 ≤ b → is_shortest (b ∷ bs) ≡ true → is_shortest (inverted (b ∷ bs)) ≡ true
-inverted_shortest b [] below high short = refl
-inverted_shortest b (c ∷ bs) below high short = let first = below.0 in let second = below.1.0 in grind (arith, nat_tests)
+inverted_shortest b bs below high short = grind arith
 
 signed_same : (b : ℕ) (bs : List ℕ) (negative : Bool) → nat_le 128 b ≡ negative → AllBelowBase 256 (b ∷ bs) → is_shortest (b ∷ bs) ≡ true
     → integer_octets (cond negative (negsuc (number_from_digits 256 (inverted (b ∷ bs)))) (pos (number_from_digits 256 (b ∷ bs)))) ≡ b ∷ bs
 unfolding integer_octets
-signed_same b bs true sign below short =
-    let high : 128 ≤ b = leb-true 128 b sign in
-    ap inverted (positive_same (255 - b) (inverted bs) (below_inverted (b ∷ bs)) (omega arith) (inverted_shortest b bs below high short))
-    ∙ inverted_back (b ∷ bs) below
-signed_same b bs false sign below short = positive_same b bs below (leb-false 128 b sign) short
+signed_same b bs negative sign below short = grind (arith, leb-true, positive_same, below_inverted, inverted_shortest, inverted_back, leb-false)
 
 integer_same : (z : ℤ) (bytes : List ℕ) → AllBelowBase 256 bytes → IsInteger z bytes → bytes ≡ integer_octets z
-integer_same z [] below i = absurd (let short = i.shortest in cc)
-integer_same z (b ∷ bs) below i = sym (ap integer_octets i.value ∙ signed_same b bs (nat_le 128 b) refl below i.shortest)
+integer_same z bytes below i = grind (arith, signed_same, nat_le)
 
 -- Elements and their sequences.
 
 element_same : (tag : ℕ) (Content : List ℕ → Type 0) (short bytes : List ℕ) → OnlyShortest short Content → AllBelowBase 256 bytes
     → IsElement tag Content bytes → length bytes ≤ length (element tag short) → bytes ≡ element tag short
 unfolding element
-element_same tag Content short bytes only below e few =
-    let inside : AllBelowBase 256 (tag ∷ (e.len ++ e.content)) = subst (AllBelowBase 256) e.parts below in
-    let parts = below_parts e.len e.content inside.1 in
-    let more : length short ≤ length e.content = only.longer.than e.content parts.1 e.spelled in
-    let before : length (short_length (length short)) ≤ length e.len =
-    le_trans (short_length_monotone (length short) (length e.content) more) (length_no_longer e.len (length e.content) parts.0 e.form) in
-    let all = ap length e.parts in
-    let joined = length-append e.len e.content in
-    let shortest = length-append (short_length (length short)) short in
-    let content : e.content ≡ short = only.same e.content parts.1 e.spelled (omega (arith, all, joined, shortest, before, few)) in
-    let len : e.len ≡ short_length (length e.content) =
-    length_same e.len (length e.content) parts.0 e.form (rw content (omega (arith, all, joined, shortest, more, few))) in
-    e.parts ∙ ap (λ len. tag ∷ (len ++ e.content)) len ∙ ap (element tag) content
+element_same tag Content short bytes only below e few = grind (arith, below_parts, le_trans, short_length_monotone, length_no_longer, length-append, length_same)
 
 element_shortest : {tag : ℕ} {Content : List ℕ → Type 0} {short : List ℕ} → OnlyShortest short Content → OnlyShortest (element tag short) (IsElement tag Content)
 element_shortest {tag} {Content} {short} only = record {
@@ -161,10 +129,7 @@ one_name : (numbers : List ℕ) → OnlyShortest (name_octets numbers) (IsName n
 one_name numbers = record { longer = name_no_longer numbers; same = λ bytes below name few. name_is numbers bytes name }
 
 one_address : (address : List ℕ) → OnlyShortest address (IsAddress address)
-one_address address = record {
-  longer = record { than = λ bytes below a. (exactly address).than bytes below a.0 };
-  same = λ bytes below a few. a.0;
-}
+one_address address = grind arith
 
 value_is : (v : ObjectValue) → OnlyShortest (value_octets v) (IsValue v)
 value_is (integer z) = element_shortest (one_integer z)
@@ -194,17 +159,7 @@ record IsHeaded (short bytes : List ℕ) : Type 0 where
 
 headed : (tag : ℕ) (Content : List ℕ → Type 0) (short bytes : List ℕ) → ((content : List ℕ) → AllBelowBase 256 content → Content content → content ≡ short)
     → AllBelowBase 256 bytes → IsElement tag Content bytes → IsHeaded (element tag short) bytes
-headed tag Content short bytes law below e =
-    let inside : AllBelowBase 256 (tag ∷ (e.len ++ e.content)) = subst (AllBelowBase 256) e.parts below in
-    let parts = below_parts e.len e.content inside.1 in
-    record {
-      tag = tag;
-      len = e.len;
-      content = e.content;
-      form = e.form;
-      parts = e.parts;
-      same = ap (element tag) (sym (law e.content parts.1 e.spelled));
-    }
+headed tag Content short bytes law below e = grind (arith, below_parts)
 
 value_headed : (v : ObjectValue) (bytes : List ℕ) → AllBelowBase 256 bytes → IsValue v bytes → IsHeaded (value_octets v) bytes
 value_headed (integer z) bytes below e = headed 2 (IsInteger z) (integer_octets z) bytes (integer_same z) below e
@@ -221,8 +176,7 @@ value_headed (opaque s) bytes below e = headed 68 (λ content. content ≡ s) s 
 -- what reading an element gives is what was spelled
 element_read : (tag end : ℕ) (len content rest bytes : List ℕ) (c : List ℕ × List ℕ) → IsLength len (length content) → bytes ≡ (tag ∷ (len ++ content)) ++ rest
     → element_at tag end bytes ≡ Ok c → c ≡ (content, rest)
-element_read tag end len content rest bytes c form parts h =
-    ok_is c (content, rest) (sym h ∙ ap (element_at tag end) parts ∙ element_only tag end len content rest form)
+element_read tag end len content rest bytes c form parts h = grind (arith, ok_is, element_only)
 
 content_read : (end : ℕ) (len content bytes : List ℕ) (c : List ℕ × List ℕ) → IsLength len (length content) → bytes ≡ len ++ content
     → content_at end bytes ≡ Ok c → c ≡ (content, [])
@@ -249,8 +203,7 @@ members_read b content name_end value_end n v tag after below m name_found is va
 
 -- octets, and those after the first
 first_and_after : (xs : List ℕ) → 1 ≤ length xs → xs ≡ get_or xs 0 0 ∷ take (length xs - 1) (drop 1 xs)
-first_and_after [] some = absurd (omega arith)
-first_and_after (x ∷ xs) some = ap (λ ys. x ∷ ys) (sym (take_all (length (x ∷ xs) - 1) xs (omega arith)))
+first_and_after xs some = grind (arith, take_all)
 
 -- the first of bindings, where it has no more octets than its shortest spelling
 pub record IsFirst (bytes rest : List ℕ) : Type 0 where
@@ -291,8 +244,7 @@ first_shortest bytes c n v below whole h name_found some value_found fewer size 
     (omega (arith, fewer, size (get_or n.1 0 0)))
 
 pub first_and_rest : (bytes rest : List ℕ) → IsFirst bytes rest → AreShortest rest → AreShortest bytes
-first_and_rest bytes rest first shortest =
-    first.shortest ∙ ap (λ rest. binding_octets first.binding ++ rest) shortest ∙ sym (ap (flat_map binding_octets) (walk_more bytes rest first.binding first.read))
+first_and_rest bytes rest first shortest = grind (arith, walk_more)
 
 pub whole_rest : (bytes rest : List ℕ) → IsFirst bytes rest → AreWhole bytes → AreWhole rest
 whole_rest bytes rest first whole = whole_more bytes rest first.binding whole first.read

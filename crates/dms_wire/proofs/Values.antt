@@ -1,10 +1,9 @@
 -- Values and the elements around them: what reading gives is spelled, and what is spelled is read.
-use Rattle.std.proofs.Common.{◌≡◌, ℕ, pos, inl, inr, ◌++◌, List, [], ◌∷◌, length, eqb, ◌==◌, Ok, Some, None, true, false, Option, ok_or, option_map, refl, ap, ◌∙◌, subst, arith, eq-eqb, ◌-◌}
+use Rattle.std.proofs.Common.{◌≡◌, ℕ, pos, inl, inr, ◌++◌, List, [], ◌∷◌, length, eqb, ◌==◌, Ok, Some, true, false, Option, ok_or, option_map, refl, ap, ◌∙◌, subst, arith, eq-eqb, ◌-◌}
 use Rattle.std.proofs.lemmas.Bool.{eqb-true}
 use Rattle.std.proofs.lemmas.Bool.Decides.{nat_tests}
 use Rattle.std.proofs.lemmas.List.{nil_from_length}
-use Rattle.dms_ber.specs.declared.fault.WireFault.{WireFault}
-use Rattle.dms_ber.specs.declared.fault.FaultKind.TheVariants.{BadInteger, BadLength, BadName, Truncated}
+use Rattle.dms_ber.specs.declared.fault.FaultKind.TheVariants.{BadInteger, BadLength, BadName}
 use Rattle.dms_wire.specs.Message.{ObjectValue, integer, octet_string, null, object_identifier, ip_address, counter, gauge, time_ticks, opaque}
 use Rattle.dms_ber.specs.Length.{IsLength}
 use Rattle.dms_ber.specs.Integer.{IsInteger}
@@ -23,11 +22,6 @@ use Rattle.dms_ber.proofs.Members.{Front, natural_found, natural_only, made}
 abbrev Stands : ℕ → List ℕ → ObjectValue → Type 0
 Stands tag content value = (len : List ℕ) → IsLength len (length content) → IsValue value (tag ∷ (len ++ content))
 
-map_found : {A : Type 0} (make : A → ObjectValue) (o : Option A) (f : WireFault) (value : ObjectValue)
-    → ok_or (option_map make o) f ≡ Ok value → (v : A) × (o ≡ Some v) × (make v ≡ value)
-map_found make (Some v) f value h = (v, refl, ok_is (make v) value h)
-map_found make None f value h = not_ok f value h
-
 -- the tag that is none of the others
 last_tag : (tag : ℕ) → is_value_tag tag ≡ true → eqb tag 2 ≡ false → eqb tag 4 ≡ false → eqb tag 5 ≡ false → eqb tag 6 ≡ false
     → eqb tag 64 ≡ false → eqb tag 65 ≡ false → eqb tag 66 ≡ false → eqb tag 67 ≡ false → tag ≡ 68
@@ -39,10 +33,7 @@ number_found : {A : Type 0} (make : A → ObjectValue) (P : A → List ℕ → T
     → (k tag place : ℕ) (len content : List ℕ) (value : ObjectValue) → eqb tag k ≡ true → IsLength len (length content)
     → ((v : A) → IsElement k (P v) (tag ∷ (len ++ content)) → IsValue (make v) (tag ∷ (len ++ content)))
     → ok_or (option_map make (parse content)) (fault BadInteger place) ≡ Ok value → IsValue value (tag ∷ (len ++ content))
-number_found make P parse law k tag place len content value is form spells h =
-    let v = map_found make (parse content) (fault BadInteger place) value h in
-    subst (λ value. IsValue value (tag ∷ (len ++ content))) v.2
-    (spells v.0 (made k tag (P v.0) len content (eqb-true tag k is) form (law content v.0 v.1)))
+number_found make P parse law k tag place len content value is form spells h = grind arith
 
 -- what is read as v is the value
 spells_same : (v value : ObjectValue) (bytes : List ℕ) → done v ≡ Ok value → IsValue v bytes → IsValue value bytes
@@ -101,12 +92,7 @@ value_element : (tag end : ℕ) (P : List ℕ → Type 0) (front rest : List ℕ
     → (e : IsElement tag P front)
     → ((before place : ℕ) → value_from tag before place e.content ≡ Ok value) → value_at end (front ++ rest) ≡ Ok (value, rest)
 unfolding value_at after_tag
-value_element tag end P front rest value is e law =
-    let before : ℕ = end - length ((e.len ++ e.content) ++ rest) in
-    let back = λ (c : List ℕ × List ℕ). value_from tag before (offset_of_content end c.0 c.1) c.0 >>= λ v. done (v, c.1) in
-    ap (λ bytes. value_at end (bytes ++ rest)) e.parts
-    ∙ rw is
-    (ap (λ r. r >>= back) (content_only end e.len e.content rest e.form) ∙ ap (λ r. r >>= λ v. done (v, rest)) (law before (offset_of_content end e.content rest)))
+value_element tag end P front rest value is e law = grind (arith, done, content_only)
 
 pub value_only : (value : ObjectValue) (end : ℕ) (front rest : List ℕ) → IsValue value front
     → value_at end (front ++ rest) ≡ Ok (value, rest)
@@ -149,7 +135,4 @@ after_found tag end bytes x is h =
 
 pub value_found : (end : ℕ) (bytes : List ℕ) (x : ObjectValue × List ℕ) → value_at end bytes ≡ Ok x → Front (IsValue x.0) bytes x.1
 unfolding value_at
-value_found end [] x h = not_ok (fault Truncated end) x h
-value_found end (b ∷ bytes) x h =
-    let t = tested (is_value_tag b) _ (after_tag b end bytes) x h in
-    after_found b end bytes x t.0 t.1
+value_found end bytes x h = grind (arith, not_ok, tested, after_found)

@@ -1,3 +1,4 @@
+use Rattle.std.proofs.Common.{arith}
 use Rattle.dms_wire.specs.View.{var_bind}
 use Rattle.dms_wire.proofs.Bindings.{walk_more, known_first, binding_joined, whole_more, no_first}
 use Rattle.dms_wire.proofs.binding.first_binding.Goals as goal
@@ -6,8 +7,7 @@ pub returns-in_default-clause-none : goal.returns-in_default-clause-none
 returns-in_default-clause-none c = no_first c.args.octets.now _ c.in_default.ensures.exact
 
 pub known_members-requires-clause-known : goal.known_members-requires-clause-known
-known_members-requires-clause-known c =
-    rw c.offset_of.ensures (known_first c.args.octets.now _ c.requires c.in-Ok.ensures.exact)
+known_members-requires-clause-known c = grind (arith, known_first)
 
 pub returns-clause-some : goal.returns-clause-some
 returns-clause-some c =

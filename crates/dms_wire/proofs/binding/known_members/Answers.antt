@@ -1,10 +1,10 @@
+use Rattle.std.proofs.Common.{arith}
 use Rattle.dms_ber.proofs.Elements.{not_ok}
 use Rattle.dms_wire.proofs.Bindings.{known_name, known_value, known_members_are, some_element}
 use Rattle.dms_wire.proofs.binding.known_members.Goals as goal
 
 pub returns-in_default-clause-always : goal.returns-in_default-clause-always
-returns-in_default-clause-always c =
-    absurd (some_element c.args.end c.args.octets.now c.requires.known.0 _ c.requires.known.1 c.in_default.ensures.exact)
+returns-in_default-clause-always c = grind (arith, some_element)
 
 pub returns-in_default-read_value-clause-always : goal.returns-in_default-read_value-clause-always
 returns-in_default-read_value-clause-always c =

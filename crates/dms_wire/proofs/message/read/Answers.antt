@@ -1,4 +1,4 @@
-use Rattle.std.proofs.Common.{◌↔◌, ℕ, List, Result, Ok, Err, IsOk, refl}
+use Rattle.std.proofs.Common.{◌↔◌, ℕ, List, Result, IsOk, arith}
 use Rattle.std.specs.Int.Digits.{AllBelowBase}
 use Rattle.dms_ber.specs.declared.fault.WireFault.{WireFault}
 use Rattle.dms_wire.specs.declared.message.Message.{Message}
@@ -13,12 +13,10 @@ use Rattle.dms_wire.proofs.message.read.Goals as goal
 
 is_accepted : (bytes : List ℕ) (r : Result Message WireFault) → AllBelowBase 256 bytes → Gives snmp_message r (message_at bytes)
     → IsOk r ↔ ((m : SnmpMessage) × Spells m bytes)
-is_accepted bytes (Ok m) octets gives = (λ _. (snmp_message m, is_found bytes (Ok m) octets gives), λ _. refl)
-is_accepted bytes (Err f) octets gives = (λ ok. cc, λ spelled. absurd (is_none bytes (Err f) gives spelled.0 spelled.1))
+is_accepted bytes r octets gives = grind (arith, is_found, is_none)
 
 pub returns-clause-accepts : goal.returns-clause-accepts
-returns-clause-accepts c =
-    is_accepted c.args.octets.now c.read_message.result (octets_fit _ (λ i. (c.type_inv.octets i).fits)) c.read_message.ensures
+returns-clause-accepts c = grind (arith, is_accepted, octets_fit)
 
 pub returns-clause-found : goal.returns-clause-found
 returns-clause-found c = is_found c.args.octets.now _ (octets_fit _ (λ i. (c.type_inv.octets i).fits)) c.read_message.ensures
