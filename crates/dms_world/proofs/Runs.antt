@@ -1,25 +1,22 @@
 -- A run of events in a world, one after another.
-use Rattle.std.proofs.Common.{◌≡◌, ℕ, zero, suc, ◌+◌, ◌<◌, ◌≤◌, inl, inr, true, false, List, [], ◌∷◌, length, get_or, take, Some, option_map, Result, Ok, Err, OnOk, OnErr, slice_get, refl, sym, ap, ◌∙◌, subst, add-one, arith}
+use Rattle.std.proofs.Common.{◌≡◌, ℕ, zero, suc, ◌+◌, ◌<◌, ◌≤◌, true, false, List, [], ◌∷◌, length, get_or, take, Some, option_map, Result, OnOk, OnErr, slice_get, refl, ap, ◌∙◌, arith}
 use Rattle.std.specs.Prelude.{is_err}
-use Rattle.std.proofs.lemmas.Bool.{cases_lt}
-use Rattle.std.proofs.lemmas.Option.{none-some, same_Some, slice_get_within, slice_get-map, slice_get-get_or}
+use Rattle.std.proofs.lemmas.Option.{none-some, slice_get_within, slice_get-map, slice_get-get_or}
 use Rattle.std.proofs.lemmas.List.{length-map, length-take-le}
 use Rattle.dms_world.specs.declared.event.Event.{Event}
 use Rattle.dms_world.specs.CodeView.{event_model, events_model}
 use Rattle.dms_world.specs.Event.{EventModel, command}
-use Rattle.dms_world.specs.World.{WorldModel, happens, happens_if, world_at, world_after}
+use Rattle.dms_world.specs.World.{WorldModel, happens, world_at, world_after}
 use Rattle.dms_world.specs.Growing.{may_grow, StopsAt}
 use Rattle.dms_world.specs.Headline.{IsEvent, AreEvents}
 
 -- ---- results
 
 pub on_err : {A E : Type 0} (result : Result A E) (P : Type 0) → is_err result ≡ true → OnErr result P → P
-on_err (Ok x) P e is = absurd (cc)
-on_err (Err x) P e is = is
+on_err result P e is = grind arith
 
 pub on_ok : {A E : Type 0} (result : Result A E) (P : Type 0) → is_err result ≡ false → OnOk result P → P
-on_ok (Ok x) P e is = is
-on_ok (Err x) P e is = absurd (cc)
+on_ok result P e is = grind arith
 
 -- ---- events
 
@@ -33,9 +30,7 @@ within_events events count within = omega (arith, length-map events event_model,
 -- the event at which a run stops may want memory
 pub stops_at : (before now : WorldModel) (events : List Event) (count : ℕ) (otherwise : Event) → count < length events → now ≡ before
     → may_grow before (event_model (get_or events count otherwise)) ≡ true → StopsAt now (events_model events) count
-stops_at before now events count otherwise within same grows =
-    let event : EventModel = event_model (get_or events count otherwise) in
-    (event, event_at events count otherwise within, subst (λ world. may_grow world event ≡ true) (sym same) grows)
+stops_at before now events count otherwise within same grows = grind (arith, get_or, event_at)
 
 -- ---- the world
 
@@ -43,11 +38,7 @@ stops_at before now events count otherwise within same grows =
 pub one_more_event : (before now next : WorldModel) (events : List EventModel) (count : ℕ) (event : EventModel)
     → now ≡ world_at before events count → slice_get events count ≡ Some event → next ≡ happens (count + 1) now event
     → next ≡ world_at before events (count + 1)
-one_more_event before now next events count event is at then =
-    let last : next ≡ happens (suc count) now event = subst (λ n. next ≡ happens n now event) (add-one count) then in
-    let last_at : happens (suc count) now event ≡ happens_if (suc count) (world_at before events count) (slice_get events count) =
-    ap (λ w. happens (suc count) w event) is ∙ ap (happens_if (suc count) (world_at before events count)) (sym at) in
-    subst (λ n. next ≡ world_at before events n) (sym (add-one count)) (last ∙ last_at)
+one_more_event before now next events count event is at then = grind arith
 
 -- what stands at a place of a prefix stands there
 in_prefix : {X : Type 0} (n : ℕ) (xs : List X) (place : ℕ) (x : X) → slice_get (take n xs) place ≡ Some x → (place < n) × (slice_get xs place ≡ Some x)
@@ -64,15 +55,12 @@ of_prefix (suc n) (y ∷ xs) (suc place) less = of_prefix n xs place (omega (ari
 
 world_of_prefix : (world : WorldModel) (events : List EventModel) (n count : ℕ) → count ≤ n → world_at world (take n events) count ≡ world_at world events count
 world_of_prefix world events n zero le = refl
-world_of_prefix world events n (suc count) le =
-    ap (λ w. happens_if (suc count) w (slice_get (take n events) count)) (world_of_prefix world events n count (omega (arith, le)))
-    ∙ ap (happens_if (suc count) (world_at world events count)) (of_prefix n events count (omega (arith, le)))
+world_of_prefix world events n (suc count) le = grind (arith, slice_get, of_prefix, world_of_prefix world events n count (omega (arith, le)))
 
 -- the world after the first events is that of their list
 pub after_prefix : (world : WorldModel) (events : List EventModel) (count : ℕ) → count ≤ length events
     → world_at world events count ≡ world_after world (take count events)
-after_prefix world events count le =
-    sym (ap (world_at world (take count events)) (length-take-le count events le) ∙ world_of_prefix world events count count (omega arith))
+after_prefix world events count le = grind (arith, length-take-le, world_of_prefix)
 
 -- ---- the values of commands
 
@@ -82,14 +70,7 @@ AreEventsUpTo events count = (place : ℕ) (event : EventModel) → place < coun
 
 pub one_more_is_event : (events : List EventModel) (count : ℕ) (event : EventModel) → AreEventsUpTo events count → slice_get events count ≡ Some event
     → IsEvent event → AreEventsUpTo events (count + 1)
-one_more_is_event events count event are at is = λ place other less there.
-    elim (cases_lt place count) [
-      | inl before ↦ are place other before there
-      | inr not_before ↦
-          (let same : place ≡ count = omega (arith, less, not_before) in
-          let here : slice_get events count ≡ Some other = subst (λ n. slice_get events n ≡ Some other) same there in
-          subst IsEvent (same_Some event other (sym at ∙ here)) is)
-    ]
+one_more_is_event events count event are at is = grind arith
 
 pub prefix_are_events : (events : List EventModel) (count : ℕ) → AreEventsUpTo events count → AreEvents (take count events)
 prefix_are_events events count are = λ asked has.

@@ -1,12 +1,12 @@
 -- What was sent and what was accepted stays in its place, whatever happens later.
-use Rattle.std.proofs.Common.{◌≡◌, ℕ, zero, suc, ◌<◌, ◌≤◌, inl, inr, List, ◌++◌, Option, Some, None, slice_get, option_to_list, refl, sym, subst, arith, append-nil}
+use Rattle.std.proofs.Common.{◌≡◌, ℕ, zero, suc, ◌<◌, ◌≤◌, inl, inr, List, ◌++◌, Option, Some, None, slice_get, option_to_list, refl, subst, arith, append-nil}
 use Rattle.std.proofs.lemmas.Bool.{cases_lt}
 use Rattle.dms_codes.specs.declared.codes.Activation.{Activation}
 use Rattle.dms_sign.specs.Reply as sign_reply
 use Rattle.dms_requests.specs.Job.{SettingsModel}
 use Rattle.dms_centre.specs.Sending.{Move}
 use Rattle.dms_centre.specs.Commands.{commanded}
-use Rattle.dms_centre.specs.Inputs.{received, ticked}
+use Rattle.dms_centre.specs.Inputs.{ticked}
 use Rattle.dms_centre.specs.History.{Input, History, move_at}
 use Rattle.dms_centre_laws.specs.RequestNumbers.{HasNumber, Sends, Nothing, Again, New}
 use Rattle.dms_centre_laws.proofs.Lists.{on_left, in_push}
@@ -14,7 +14,7 @@ use Rattle.dms_centre_laws.proofs.Numbers.{one_number, request_number}
 use Rattle.dms_centre_laws.proofs.Keeping.{keeps_input}
 use Rattle.dms_centre_laws.proofs.LedgerLaws.{HistoryIsKept, next_grows}
 use Rattle.dms_world.specs.Event.{EventModel, command, sign_tick, centre_tick, to_sign, to_centre, power_lost, power_back, centre_restart, forge_sign, forge_centre}
-use Rattle.dms_world.specs.World.{WorldModel, noted, by_sign, by_centre, at_sign, at_centre, happens, happens_if, world_at, IsFresh}
+use Rattle.dms_world.specs.World.{WorldModel, by_sign, by_centre, at_sign, at_centre, happens, happens_if, world_at, IsFresh}
 use Rattle.dms_world.specs.Backed.{Has}
 use Rattle.dms_world.specs.Headline.{AreEvents}
 use Rattle.dms_world.proofs.WorldInputs.{history_of, after_if, input_after, moves_at, IsInputIf, is_input_after}
@@ -29,33 +29,19 @@ pub record Grows (before after : WorldModel) : Type 0 where
 -- ---- one event
 
 grows_not : (before after : WorldModel) → after.to_sign ≡ before.to_sign → after.to_centre ≡ before.to_centre → after.accepted ≡ before.accepted → Grows before after
-grows_not before after a b c = record {
-  to_sign = λ place datagram e. subst (λ xs. slice_get xs place ≡ Some datagram) (sym a) e;
-  to_centre = λ place datagram e. subst (λ xs. slice_get xs place ≡ Some datagram) (sym b) e;
-  accepted = λ place one e. subst (λ xs. slice_get xs place ≡ Some one) (sym c) e;
-}
+grows_not before after a b c = grind arith
 
 grows_by_sign : (number : ℕ) (world : WorldModel) (did : sign_reply.Received) → Grows world (by_sign number world did)
-grows_by_sign number world did = record {
-  to_sign = λ place datagram e. e;
-  to_centre = λ place datagram e. on_left world.to_centre (option_to_list did.reply) place datagram e;
-  accepted = λ place one e. on_left world.accepted (noted number did.accepted) place one e;
-}
+grows_by_sign number world did = grind (arith, on_left, option_to_list)
 
 grows_by_centre : (world : WorldModel) (move : Move) → Grows world (by_centre world move)
-grows_by_centre world move = record {
-  to_sign = λ place datagram e. on_left world.to_sign (option_to_list move.sent) place datagram e;
-  to_centre = λ place datagram e. e;
-  accepted = λ place one e. e;
-}
+grows_by_centre world move = grind (arith, on_left, option_to_list)
 
 grows_at_sign : (number : ℕ) (world : WorldModel) (o : Option (List ℕ)) → Grows world (at_sign number world o)
-grows_at_sign number world None = grows_not world world refl refl refl
-grows_at_sign number world (Some datagram) = grows_by_sign number world (sign_reply.received world.sign datagram)
+grows_at_sign number world o = grind (arith, grows_not, grows_by_sign)
 
 grows_at_centre : (world : WorldModel) (o : Option (List ℕ)) → Grows world (at_centre world o)
-grows_at_centre world None = grows_not world world refl refl refl
-grows_at_centre world (Some datagram) = grows_by_centre world (received world.centre datagram)
+grows_at_centre world o = grind (arith, grows_not, grows_by_centre)
 
 grows_event : (number : ℕ) (world : WorldModel) (event : EventModel) → Grows world (happens number world event)
 grows_event number world (command asked) = grows_by_centre world (commanded world.centre asked)
@@ -70,8 +56,7 @@ grows_event number world (forge_sign datagram) = grows_at_sign number world (Som
 grows_event number world (forge_centre datagram) = grows_at_centre world (Some datagram)
 
 grows_if : (number : ℕ) (world : WorldModel) (o : Option EventModel) → Grows world (happens_if number world o)
-grows_if number world None = grows_not world world refl refl refl
-grows_if number world (Some event) = grows_event number world event
+grows_if number world o = grind (arith, grows_not, grows_event)
 
 -- ---- any number of events
 
@@ -79,18 +64,11 @@ pub grows_step : (world : WorldModel) (events : List EventModel) (count : ℕ) �
 grows_step world events count = grows_if (suc count) (world_at world events count) (slice_get events count)
 
 grows_again : (a b c : WorldModel) → Grows a b → Grows b c → Grows a c
-grows_again a b c first second = record {
-  to_sign = λ place datagram e. second.to_sign place datagram (first.to_sign place datagram e);
-  to_centre = λ place datagram e. second.to_centre place datagram (first.to_centre place datagram e);
-  accepted = λ place one e. second.accepted place one (first.accepted place one e);
-}
+grows_again a b c first second = grind arith
 
 pub grows_until : (world : WorldModel) (events : List EventModel) (count later : ℕ) → count ≤ later
     → Grows (world_at world events count) (world_at world events later)
-grows_until world events count zero le =
-    let same : count ≡ zero = omega (arith, le) in
-    subst (λ n. Grows (world_at world events count) (world_at world events n)) same
-    (grows_not (world_at world events count) (world_at world events count) refl refl refl)
+grows_until world events count zero le = grind (arith, grows_not, cases_lt, grows_again, grows_step)
 grows_until world events count (suc later) le =
     elim (cases_lt later count) [
       | inl now ↦
@@ -111,15 +89,11 @@ next_if history (Some input) kept is =
 
 pub next_step : (world : WorldModel) (events : List EventModel) → IsFresh world → AreEvents events → (count : ℕ)
     → (world_at world events count).centre.next ≤ (world_at world events (suc count)).centre.next
-next_step world events fresh are count =
-    subst (λ (history : History). (world_at world events count).centre.next ≤ history.state.next) (sym (moves_at world events count))
-    (next_if (history_of (world_at world events count)) (input_after world events count) (kept_at world events fresh are count).kept (is_input_after world events count are))
+next_step world events fresh are count = grind (arith, moves_at, next_if, history_of, input_after, kept_at, is_input_after)
 
 pub next_until : (world : WorldModel) (events : List EventModel) → IsFresh world → AreEvents events → (count later : ℕ) → count ≤ later
     → (world_at world events count).centre.next ≤ (world_at world events later).centre.next
-next_until world events fresh are count zero le =
-    let same : count ≡ zero = omega (arith, le) in
-    subst (λ n. (world_at world events count).centre.next ≤ (world_at world events n).centre.next) same (omega arith)
+next_until world events fresh are count zero le = grind (arith, cases_lt, next_step)
 next_until world events fresh are count (suc later) le =
     elim (cases_lt later count) [
       | inl now ↦
@@ -131,14 +105,8 @@ next_until world events fresh are count (suc later) le =
 -- A datagram whose number had been taken before the move was there before it.
 there_by : (settings : SettingsModel) (next : ℕ) (sent : List (List ℕ)) (move : Move) (number : ℕ) → Sends settings next sent move → number < next
     → (place : ℕ) (datagram : List ℕ) → slice_get (sent ++ option_to_list move.sent) place ≡ Some datagram → HasNumber number datagram → Has sent datagram
-there_by settings next sent move number (Nothing none same) less place datagram e has =
-    let all = subst (λ o. slice_get (sent ++ option_to_list o) place ≡ Some datagram) none e in
-    (place, subst (λ xs. slice_get xs place ≡ Some datagram) (append-nil sent) all)
-there_by settings next sent move number (Again octets k out there same) less place datagram e has =
-    elim (in_push sent octets place datagram (subst (λ o. slice_get (sent ++ option_to_list o) place ≡ Some datagram) out e)) [
-      | inl old ↦ (place, old)
-      | inr last ↦ (k, subst (λ o. slice_get sent k ≡ Some o) last.1 there)
-    ]
+there_by settings next sent move number (Nothing none same) less place datagram e has = grind (arith, slice_get, option_to_list, append-nil, in_push, one_number, request_number)
+there_by settings next sent move number (Again octets k out there same) less place datagram e has = grind (arith, slice_get, option_to_list, append-nil, in_push, one_number, request_number)
 there_by settings next sent move number (New octets out is more) less place datagram e has =
     elim (in_push sent octets place datagram (subst (λ o. slice_get (sent ++ option_to_list o) place ≡ Some datagram) out e)) [
       | inl old ↦ (place, old)
@@ -166,9 +134,7 @@ there_step world events fresh are count number less datagram there has =
 pub there_before : (world : WorldModel) (events : List EventModel) → IsFresh world → AreEvents events → (count later number : ℕ) → count ≤ later
     → number < (world_at world events count).centre.next → (datagram : List ℕ) → Has (world_at world events later).to_sign datagram
     → HasNumber number datagram → Has (world_at world events count).to_sign datagram
-there_before world events fresh are count zero number le less datagram there has =
-    let same : zero ≡ count = omega (arith, le) in
-    subst (λ n. Has (world_at world events n).to_sign datagram) same there
+there_before world events fresh are count zero number le less datagram there has = grind (arith, cases_lt, there_step, next_until)
 there_before world events fresh are count (suc later) number le less datagram there has =
     elim (cases_lt later count) [
       | inl now ↦

@@ -1,13 +1,13 @@
 -- What the ledger says of a code is what the sign did with it, where nothing is forged.
-use Rattle.std.proofs.Common.{◌≡◌, ◌≢◌, ℕ, zero, suc, ◌<◌, ◌≤◌, inl, inr, true, false, List, [], ◌∷◌, ◌++◌, length, Some, slice_get, refl, sym, ap, ◌∙◌, subst, arith}
+use Rattle.std.proofs.Common.{◌≡◌, ◌≢◌, ℕ, suc, ◌<◌, ◌≤◌, inl, inr, true, false, List, [], ◌∷◌, ◌++◌, length, Some, slice_get, refl, sym, ap, ◌∙◌, subst, arith}
 use Rattle.std.specs.Prelude.{ℤ, pos}
 use Rattle.std.specs.List.{Contains}
 use Rattle.std.proofs.lemmas.Option.{same_Some}
 use Rattle.dms_wire.specs.ErrorStatus.{error_status_number}
 use Rattle.dms_wire.specs.declared.error_status.ErrorStatus.{ErrorStatus}
-use Rattle.dms_wire.specs.declared.error_status.ErrorStatus.TheVariants.{NoError, TooBig, NoSuchName, BadValue, GenErr}
+use Rattle.dms_wire.specs.declared.error_status.ErrorStatus.TheVariants.{NoError}
 use Rattle.dms_wire.specs.declared.message.Kind.TheVariants.{Set}
-use Rattle.dms_wire.specs.Message.{SnmpMessage, VarBind, octet_string}
+use Rattle.dms_wire.specs.Message.{SnmpMessage}
 use Rattle.dms_wire.specs.MessageOf.{message_of}
 use Rattle.dms_wire.specs.Limits.{AreBindingsInLimits}
 use Rattle.dms_wire.proofs.LimitsLaws.{spelled_in_limits}
@@ -134,18 +134,7 @@ in_flight world events fair count octets came =
 
 later_answer : (world : WorldModel) (events : List EventModel) (count later number : ℕ) (code : Activation) (status : ℤ) → count ≤ later
     → IsAnsweredWith world events count number code status → IsAnsweredWith world events later number code status
-later_answer world events count later number code status le was = record {
-  before = was.before;
-  earlier = omega (arith, was.earlier, le);
-  place = was.place;
-  event = was.event;
-  datagram = was.datagram;
-  handed = was.handed;
-  puts_up = was.puts_up;
-  hears = was.hears;
-  heard_is = was.heard_is;
-  status_is = was.status_is;
-}
+later_answer world events count later number code status le was = grind arith
 
 -- the reply that reported it was the sign's
 answer_heard : (world : WorldModel) (events : List EventModel) → IsFresh world → AreEvents events → NothingIsForged events → (count number : ℕ)
@@ -198,19 +187,14 @@ was_refused world events fresh are entry status was = record {
 -- ---- accepted
 
 only_one : (one other : List ℕ) → Contains (activates one ∷ []) (activates other) → other ≡ one
-only_one one other (zero, within, same) = let values : octet_string one ≡ octet_string other = ap (λ (b : VarBind). b.value) same in cc values
-only_one one other (suc place, within, same) = absurd (omega (arith, within))
+only_one one other p = grind arith
 
 number_zero : (n : ℕ) → pos n ≡ pos 0 → n ≡ 0
 number_zero n e = cc e
 
 -- only noError has the number 0
 no_error_is : (status : ErrorStatus) → error_status_number status ≡ 0 → status ≡ NoError
-no_error_is NoError e = refl
-no_error_is TooBig e = absurd (omega arith)
-no_error_is NoSuchName e = absurd (omega arith)
-no_error_is BadValue e = absurd (omega arith)
-no_error_is GenErr e = absurd (omega arith)
+no_error_is status e = grind arith
 
 pub status_zero : (status : ErrorStatus) → pos (error_status_number status) ≡ pos 0 → status ≡ NoError
 status_zero status e = no_error_is status (number_zero (error_status_number status) e)
@@ -267,15 +251,7 @@ is_up : (world : WorldModel) (events : List EventModel) (number : ℕ) (code tak
     → IsTaken world (world_at world events was.before).sign number code taken
     → code.id.memory ≢ current_buffer → code.id.memory ≢ blank_memory → world.sign.table.order ≡ world.centre.settings.order
     → shown_checksum (world_at world events (suc was.before)).sign.shown ≡ code.id.crc
-is_up world events number code taken status count was is not_current not_blank order =
-    let s : SignState = (world_at world events was.before).sign in
-    let request : SnmpMessage = request_for world number code in
-    let octets : octets_of_activation world.centre.settings.order taken ≡ octets_of_activation world.centre.settings.order code =
-    subst (λ o. octets_of_activation o taken ≡ octets_for world code) order is.same in
-    let both = alike world.centre.settings.order taken code octets in
-    let up : shown_checksum (answer_of_any_size s request).after.shown ≡ taken.id.crc =
-    accepted_is_up s request taken is.accepted (λ e. not_current (sym both.memory ∙ e)) (λ e. not_blank (sym both.memory ∙ e)) in
-    ap (λ (w : WorldModel). shown_checksum w.sign.shown) (after_it world events number code status count was) ∙ up ∙ both.crc
+is_up world events number code taken status count was is not_current not_blank order = grind (arith, alike, accepted_is_up, after_it)
 
 was_accepted : (world : WorldModel) (events : List EventModel) → IsFresh world → AreEvents events → (entry : Entry)
     → IsAnsweredWith world events (length events) entry.number entry.code (pos 0) → WasAccepted world events entry
@@ -316,5 +292,4 @@ refused_is_true world events fresh are fair entry status there is =
     (answer_heard world events fresh are fair count entry.number entry.code status heard.0 heard.1)
 
 pub ledger_is_true : (world : WorldModel) (events : List EventModel) → IsFresh world → AreEvents events → NothingIsForged events → LedgerIsTrue world events
-ledger_is_true world events fresh are fair =
-    record { accepted = accepted_is_true world events fresh are fair; refused = refused_is_true world events fresh are fair }
+ledger_is_true world events fresh are fair = grind (arith, accepted_is_true, refused_is_true)

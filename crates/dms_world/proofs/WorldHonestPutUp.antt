@@ -1,28 +1,25 @@
 -- An activation of a row that is accepted puts up a message with the checksum of its code.
-use Rattle.std.proofs.Common.{◌≡◌, ◌≢◌, ℕ, ◌==◌, Bool, true, false, not, cond, List, [], ◌∷◌, Option, Some, None, Result, Ok, Err, option_map, if◌then◌else◌, refl, sym, ap, subst, ◌∙◌, arith}
+use Rattle.std.proofs.Common.{◌≡◌, ◌≢◌, ℕ, ◌==◌, Bool, true, not, cond, List, [], ◌∷◌, Option, Some, None, Result, Ok, Err, if◌then◌else◌, ◌∙◌, arith}
 use Rattle.std.specs.Prelude.{find}
-use Rattle.std.proofs.lemmas.Bool.Decides.{nat_tests}
 use Rattle.dms_wire.specs.declared.message.Kind.{Kind}
 use Rattle.dms_wire.specs.declared.message.Kind.TheVariants.{Get, GetNext, Response, Set}
 use Rattle.dms_wire.specs.Message.{VarBind, SnmpMessage}
 use Rattle.dms_face.specs.declared.defaults.Defaults.{Defaults}
 use Rattle.dms_face.specs.Face.{FaceModel}
-use Rattle.dms_face.specs.Layout.{under}
 use Rattle.dms_table.specs.declared.activation.Cause.{Cause}
 use Rattle.dms_table.specs.declared.activation.Cause.TheVariants as causes_of
 use Rattle.dms_codes.specs.declared.codes.MessageId.{MessageId}
 use Rattle.dms_codes.specs.declared.codes.Activation.{Activation}
 use Rattle.dms_codes.specs.Status.{is_valid}
-use Rattle.dms_table.specs.Rows.{RowModel, TableModel, RowReading, row_checksum, reading, blank_reading, blank_at, rows_of, numbered, row_read}
+use Rattle.dms_table.specs.Rows.{TableModel, RowReading, row_checksum}
 use Rattle.dms_codes.specs.Memory.{current_buffer, blank_memory}
-use Rattle.dms_codes.specs.Codes.{row_id, activation_of}
-use Rattle.dms_table.specs.Activation.{ShownModel, shown_reading, named, is_memory, has_checksum, activation_error, put_up, unless_refused, decided_on, decided}
+use Rattle.dms_codes.specs.Codes.{activation_of}
+use Rattle.dms_table.specs.Activation.{ShownModel, named, is_memory, activation_error, put_up, unless_refused, decided_on, decided}
 use Rattle.dms_sign.specs.State.{SignState}
 use Rattle.dms_access.specs.Access.{Write, SetNumber, SetCode, SetField, AskRow, Activate, SetRemaining, is_command}
 use Rattle.dms_sign.specs.SetRequest.{SetCause, causes, assigned}
 use Rattle.dms_sign.specs.Requests.{as_decided, commanded, commanded_if, writes_of, set_unless, may_write, answer_by, answer_of_any_size}
 use Rattle.dms_sign_laws.proofs.Accepted.{asked_accepts, found_accepts}
-use Rattle.dms_centre_laws.proofs.Lists.{by_test}
 use Rattle.dms_world.specs.Honest.{shown_checksum}
 
 -- what a code of a row put up has its checksum
@@ -35,63 +32,29 @@ HasItsChecksum code shown = code.id.memory ≢ current_buffer → code.id.memory
 abbrev ReadsItsChecksum : RowReading → Type 0
 ReadsItsChecksum message = is_valid message.row.status ≡ true → row_checksum message.row ≡ message.checksum
 
-reads_itself : (row : RowModel) → ReadsItsChecksum (reading row)
-reads_itself row valid = sym (ap (λ b. cond b (row_checksum row) 0) valid)
-
-reads_found : (o : Option RowModel) (message : RowReading) → option_map reading o ≡ Some message → ReadsItsChecksum message
-reads_found None message e = absurd (cc)
-reads_found (Some row) message e = let same : reading row ≡ message = cc in subst ReadsItsChecksum same (reads_itself row)
-
 named_reads : (table : TableModel) (shown : ShownModel) (id : MessageId) (message : RowReading) → id.memory ≢ current_buffer → id.memory ≢ blank_memory
     → named table shown id ≡ Some message → ReadsItsChecksum message
-named_reads table shown id message not_current not_blank =
-    by_test (λ (o : Option RowReading). o ≡ Some message → ReadsItsChecksum message) (id.memory == current_buffer)
-    (if id.number == 1 then Some (shown_reading shown) else None) (row_read table (row_id id))
-    (λ is e. absurd (grind (arith, nat_tests)))
-    (λ no. by_test (λ (o : Option RowReading). o ≡ Some message → ReadsItsChecksum message) (id.memory == blank_memory)
-    (option_map blank_reading (blank_at id.number)) (option_map reading (numbered (rows_of table id.memory) id.number))
-    (λ is e. absurd (grind (arith, nat_tests)))
-    (λ other e. reads_found (numbered (rows_of table id.memory) id.number) message e))
+named_reads table shown id message not_current not_blank = grind arith
 
 -- ---- what is decided
 
 first_two : (valid checks : Bool) (one two : Cause) (o : Option Cause) → cond (not valid) (Some one) (cond (not checks) (Some two) o) ≡ None
     → (valid ≡ true) × (checks ≡ true)
-first_two false checks one two o e = absurd (cc)
-first_two true false one two o e = absurd (cc)
-first_two true true one two o e = (refl, refl)
-
-checks_crc : (id : MessageId) (message : RowReading) → has_checksum id message ≡ true → id.memory ≢ blank_memory → id.crc ≡ message.checksum
-checks_crc id message e not_blank = grind (arith, nat_tests)
-
-unless_up : (defaults : Defaults) (shown up : ShownModel) (code : Activation) (message : RowReading) (o : Option Cause)
-    → unless_refused (put_up defaults shown code message) o ≡ Ok up → (o ≡ None) × (put_up defaults shown code message ≡ up)
-unless_up defaults shown up code message None e = (refl, cc)
-unless_up defaults shown up code message (Some cause) e = absurd (cc)
+first_two valid checks one two o e = grind arith
 
 on_message : (face : FaceModel) (defaults : Defaults) (shown up : ShownModel) (code : Activation) (message : RowReading)
     → (code.id.memory ≢ current_buffer → code.id.memory ≢ blank_memory → ReadsItsChecksum message)
     → unless_refused (put_up defaults shown code message) (activation_error face shown code message) ≡ Ok up → HasItsChecksum code up
-on_message face defaults shown up code message reads e not_current not_blank =
-    let done = unless_up defaults shown up code message (activation_error face shown code message) e in
-    let held = first_two (is_valid message.row.status) (has_checksum code.id message) causes_of.Status causes_of.Checksum _ done.0 in
-    let crc : code.id.crc ≡ message.checksum = checks_crc code.id message held.1 not_blank in
-    let row : row_checksum message.row ≡ message.checksum = reads not_current not_blank held.0 in
-    ap shown_checksum (sym done.1) ∙ row ∙ sym crc
+on_message face defaults shown up code message reads e not_current not_blank = grind arith
 
 on_named : (face : FaceModel) (defaults : Defaults) (shown up : ShownModel) (code : Activation) (o : Option RowReading)
     → (code.id.memory ≢ current_buffer → code.id.memory ≢ blank_memory → (message : RowReading) → o ≡ Some message → ReadsItsChecksum message)
     → decided_on face defaults shown code o ≡ Ok up → HasItsChecksum code up
-on_named face defaults shown up code None reads e = absurd (cc)
-on_named face defaults shown up code (Some message) reads e =
-    on_message (under face defaults) defaults shown up code message (λ not_current not_blank. reads not_current not_blank message refl) e
+on_named face defaults shown up code o reads e = grind arith
 
 on_memory : (b : Bool) (face : FaceModel) (defaults : Defaults) (table : TableModel) (shown up : ShownModel) (code : Activation)
     → cond b (decided_on face defaults shown code (named table shown code.id)) (Err causes_of.MemoryType) ≡ Ok up → HasItsChecksum code up
-on_memory false face defaults table shown up code e = absurd (cc)
-on_memory true face defaults table shown up code e =
-    on_named face defaults shown up code (named table shown code.id)
-    (λ not_current not_blank message is. named_reads table shown code.id message not_current not_blank is) e
+on_memory b face defaults table shown up code e = grind (arith, on_named, named_reads)
 
 decided_up : (face : FaceModel) (defaults : Defaults) (table : TableModel) (shown up : ShownModel) (code : Activation)
     → decided face defaults table shown code ≡ Ok up → HasItsChecksum code up
@@ -102,10 +65,7 @@ decided_up face defaults table shown up code e = on_memory (is_memory code.id.me
 up_by : (old new : SignState) (bindings : List VarBind) (index : ℕ) (octets : List ℕ) (r : Result ShownModel Cause) (a : Activation)
     → ((up : ShownModel) → r ≡ Ok up → HasItsChecksum (activation_of old.table.order octets) up)
     → (as_decided old new bindings index octets r).accepted ≡ Some a → HasItsChecksum a (as_decided old new bindings index octets r).after.shown
-up_by old new bindings index octets (Ok shown) a each e =
-    let same : activation_of old.table.order octets ≡ a = cc in
-    subst (λ c. HasItsChecksum c shown) same (each shown refl)
-up_by old new bindings index octets (Err cause) a each e = absurd (cc)
+up_by old new bindings index octets r a each e = grind arith
 
 commanded_up : (old new : SignState) (bindings : List VarBind) (index : ℕ) (write : Write) (a : Activation)
     → (commanded old new bindings index write).accepted ≡ Some a → HasItsChecksum a (commanded old new bindings index write).after.shown

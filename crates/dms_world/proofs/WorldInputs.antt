@@ -1,5 +1,5 @@
 -- A world's centre has a history of inputs: each event gives it one at most.
-use Rattle.std.proofs.Common.{◌≡◌, ℕ, suc, List, Option, Some, None, option_map, slice_get, refl, sym, ap, subst, append-nil}
+use Rattle.std.proofs.Common.{◌≡◌, ℕ, suc, List, Option, Some, None, option_map, slice_get, refl, ap, append-nil, arith}
 use Rattle.dms_requests.specs.Commands.{CommandModel, IsCommand}
 use Rattle.dms_centre.specs.Inputs.{restarted}
 use Rattle.dms_requests.specs.Requests.{AreSettings}
@@ -39,17 +39,13 @@ after_if history (Some input) = after_input history input
 -- ---- one event
 
 at_sign_moves : (number : ℕ) (world : WorldModel) (o : Option (List ℕ)) → history_of (at_sign number world o) ≡ history_of world
-at_sign_moves number world None = refl
-at_sign_moves number world (Some datagram) = refl
+at_sign_moves number world o = grind arith
 
 at_centre_moves : (world : WorldModel) (o : Option (List ℕ)) → history_of (at_centre world o) ≡ after_if (history_of world) (option_map Hears o)
-at_centre_moves world None = refl
-at_centre_moves world (Some datagram) = refl
+at_centre_moves world o = grind arith
 
 restart_moves : (world : WorldModel) → history_of (with_centre world (restarted world.centre)) ≡ after_input (history_of world) Restarts
-restart_moves world =
-    let with_sent : List (List ℕ) → History = λ sent. record { state = restarted world.centre; sent = sent } in
-    ap with_sent (sym (append-nil world.to_sign))
+restart_moves world = grind (arith, append-nil)
 
 happens_moves : (number : ℕ) (world : WorldModel) (event : EventModel) → history_of (happens number world event) ≡ after_if (history_of world) (input_at world event)
 happens_moves number world (command asked) = refl
@@ -64,8 +60,7 @@ happens_moves number world (forge_sign datagram) = at_sign_moves number world (S
 happens_moves number world (forge_centre datagram) = refl
 
 if_moves : (number : ℕ) (world : WorldModel) (o : Option EventModel) → history_of (happens_if number world o) ≡ after_if (history_of world) (input_if world o)
-if_moves number world None = refl
-if_moves number world (Some event) = happens_moves number world event
+if_moves number world o = grind (arith, happens_moves)
 
 -- each event leaves the history or adds one input to it
 pub moves_at : (world : WorldModel) (events : List EventModel) (count : ℕ)
@@ -96,9 +91,7 @@ is_event_input world (forge_centre datagram) is = OfDatagram datagram
 
 is_input_if : (world : WorldModel) (events : List EventModel) (count : ℕ) (o : Option EventModel) → slice_get events count ≡ o → AreEvents events
     → IsInputIf (input_if world o)
-is_input_if world events count None e are = tt
-is_input_if world events count (Some event) e are =
-    is_event_input world event (λ asked same. are asked (count, subst (λ x. slice_get events count ≡ Some x) same e))
+is_input_if world events count o e are = grind (arith, is_event_input, slice_get)
 
 pub is_input_after : (world : WorldModel) (events : List EventModel) (count : ℕ) → AreEvents events → IsInputIf (input_after world events count)
 is_input_after world events count are = is_input_if (world_at world events count) events count (slice_get events count) refl are

@@ -1,5 +1,5 @@
 -- A noError to an activation has its code among those that the sign accepted.
-use Rattle.std.proofs.Common.{◌≡◌, ℕ, suc, ◌<◌, Bool, true, false, cond, List, [], ◌∷◌, ◌++◌, length, Some, slice_get, sym, ap, ◌∙◌, subst, arith}
+use Rattle.std.proofs.Common.{◌≡◌, ℕ, suc, ◌<◌, Bool, cond, List, [], ◌∷◌, ◌++◌, length, Some, slice_get, sym, ap, ◌∙◌, subst, arith}
 use Rattle.std.specs.Prelude.{pos, nat_le}
 use Rattle.std.proofs.lemmas.Option.{same_Some, slice_get_within}
 use Rattle.dms_wire.specs.declared.error_status.ErrorStatus.TheVariants.{NoError}
@@ -17,21 +17,19 @@ use Rattle.dms_sign.specs.InRange.{response_sent, IsSpelledReply}
 use Rattle.dms_sign_laws.proofs.AcceptedAmong.{accepted_among}
 use Rattle.dms_sign_laws.proofs.InRangeReplies.{replies_spell_their_response}
 use Rattle.dms_centre_laws.proofs.Lists.{at_end}
-use Rattle.dms_world.specs.Event.{EventModel, to_sign, forge_sign}
+use Rattle.dms_world.specs.Event.{EventModel}
 use Rattle.dms_world.specs.World.{WorldModel, noted, by_sign, happens_if, world_at, world_after, IsFresh}
 use Rattle.dms_world.specs.Backed.{Has}
 use Rattle.dms_world.specs.InFlight.{IsHanded, was_sent, was_forged, AnswersActivation, NoErrorWasAccepted}
 use Rattle.dms_world.proofs.WorldSignSound.{sound_at}
 use Rattle.dms_world.proofs.WorldGrows.{grows_until}
 use Rattle.dms_world.proofs.WorldHonestRange.{in_range_at}
-use Rattle.dms_world.proofs.WorldHonest.{status_zero}
 use Rattle.dms_world.proofs.WorldReplies.{heard_message, turned}
 
 -- ---- the event
 
 within : (world : WorldModel) (events : List EventModel) (before : ℕ) (datagram : List ℕ) → IsHanded world events before datagram → before < length events
-within world events before datagram (was_sent place event handed) = slice_get_within events before (to_sign place) event
-within world events before datagram (was_forged event) = slice_get_within events before (forge_sign datagram) event
+within world events before datagram p = grind (arith, slice_get_within)
 
 -- the world after it
 after_it : (world : WorldModel) (events : List EventModel) (before : ℕ) (datagram : List ℕ) → IsHanded world events before datagram
@@ -45,8 +43,7 @@ after_it world events before datagram (was_forged event) = ap (happens_if (suc b
 -- a Response of noError is none that says that the answer is too big
 no_error_if : (m : SnmpMessage) (a : Answer) (b : Bool) → (cond b (response_of m a) (response_to m too_big 0)).status ≡ pos (error_status_number NoError)
     → a.status ≡ NoError
-no_error_if m a true e = status_zero a.status e
-no_error_if m a false e = absurd (cc)
+no_error_if m a b e = grind arith
 
 no_error : (m : SnmpMessage) (a : Answer) → (response_sent m a).status ≡ pos (error_status_number NoError) → a.status ≡ NoError
 no_error m a e = no_error_if m a (nat_le (length (canonical (response_of m a))) most_octets) e

@@ -1,10 +1,10 @@
 -- The numbers of the requests to a sign, and the entries that they belong to, after any events.
-use Rattle.std.proofs.Common.{◌≡◌, ℕ, zero, suc, List, Option, Some, None, length, refl, sym, ◌∙◌, subst}
+use Rattle.std.proofs.Common.{◌≡◌, ℕ, zero, suc, List, Option, Some, None, length, refl, sym, ◌∙◌, subst, arith}
 use Rattle.dms_requests.specs.Job.{SettingsModel, Job}
 use Rattle.dms_centre.specs.State.{Pending, Awaits}
 use Rattle.dms_centre.specs.History.{Input, History}
 use Rattle.dms_centre_laws.specs.RequestNumbers.{AreRequests, EqualNumbersMeanEqualOctets, ThreeSendsAtMost}
-use Rattle.dms_centre_laws.specs.Numbered.{IsOut, IsAwaited}
+use Rattle.dms_centre_laws.specs.Numbered.{IsOut}
 use Rattle.dms_centre_laws.specs.Ledger.{LedgerIsSent, NumbersPutUpTheirCodes}
 use Rattle.dms_centre_laws.proofs.Keeping.{keeps_input}
 use Rattle.dms_centre_laws.proofs.LedgerLaws.{HistoryIsKept, is_kept_made, is_kept_input, put_up_by}
@@ -51,10 +51,7 @@ settings_at world events fresh are count = (kept_at world events fresh are count
 -- each datagram to the sign spells a request, whose number is below the next one
 pub requests_at : (world : WorldModel) (events : List EventModel) → IsFresh world → AreEvents events → (count : ℕ)
     → AreRequests world.centre.settings (world_at world events count).centre.next (world_at world events count).to_sign
-requests_at world events fresh are count =
-    let at = world_at world events count in
-    subst (λ settings. AreRequests settings at.centre.next at.to_sign) (settings_at world events fresh are count)
-    (kept_at world events fresh are count).kept.numbered.requests
+requests_at world events fresh are count = grind (arith, settings_at, kept_at)
 
 -- datagrams of one number are the same octets
 pub same_at : (world : WorldModel) (events : List EventModel) → IsFresh world → AreEvents events → (count : ℕ)
@@ -69,19 +66,12 @@ few_at world events fresh are count = (kept_at world events fresh are count).kep
 pub waiting_at : (world : WorldModel) (events : List EventModel) → IsFresh world → AreEvents events → (count : ℕ) (job : Job) (pending : Pending)
     → (world_at world events count).centre.phase ≡ Awaits job pending
     → IsOut world.centre.settings (world_at world events count).centre.next pending (world_at world events count).to_sign
-waiting_at world events fresh are count job pending e =
-    let at = world_at world events count in
-    let out : IsAwaited at.centre.settings at.centre.next at.centre.phase at.to_sign = (kept_at world events fresh are count).kept.numbered.out in
-    subst (λ settings. IsAwaited settings at.centre.next (Awaits job pending) at.to_sign) (settings_at world events fresh are count)
-    (subst (λ phase. IsAwaited at.centre.settings at.centre.next phase at.to_sign) e out)
+waiting_at world events fresh are count job pending e = grind (arith, kept_at, settings_at)
 
 -- the entries have numbers below the next one, which rise, and the request of each was sent
 pub entries_at : (world : WorldModel) (events : List EventModel) → IsFresh world → AreEvents events → (count : ℕ)
     → LedgerIsSent world.centre.settings (world_at world events count).centre.next (world_at world events count).centre.ledger (world_at world events count).to_sign
-entries_at world events fresh are count =
-    let at = world_at world events count in
-    subst (λ settings. LedgerIsSent settings at.centre.next at.centre.ledger at.to_sign) (settings_at world events fresh are count)
-    (kept_at world events fresh are count).kept.ledger
+entries_at world events fresh are count = grind (arith, settings_at, kept_at)
 
 -- each datagram of an entry's number puts the entry's code up
 pub codes_at : (world : WorldModel) (events : List EventModel) → IsFresh world → AreEvents events → (count : ℕ)

@@ -1,5 +1,5 @@
 -- What each event makes of a centre's ledger, and that each code of it is that of a command which the centre took.
-use Rattle.std.proofs.Common.{◌≡◌, ◌⊎◌, inl, inr, ℕ, zero, suc, List, length, Option, Some, None, option_map, slice_get, refl, sym, ap, ◌∙◌, subst}
+use Rattle.std.proofs.Common.{◌≡◌, ◌⊎◌, inr, ℕ, zero, suc, List, length, Option, Some, None, option_map, slice_get, refl, sym, ap, ◌∙◌, subst, arith}
 use Rattle.std.proofs.lemmas.Option.{none-some}
 use Rattle.dms_requests.specs.Job.{Work}
 use Rattle.dms_centre.specs.State.{Entry, CentreState}
@@ -14,7 +14,7 @@ use Rattle.dms_world.specs.Event.{EventModel, command, sign_tick, centre_tick, t
 use Rattle.dms_world.specs.World.{WorldModel, world_at, IsFresh}
 use Rattle.dms_world.specs.Headline.{AreEvents}
 use Rattle.dms_world.specs.Honest.{WasOrdered, LedgerWasOrdered}
-use Rattle.dms_world.proofs.WorldInputs.{history_of, input_if, input_after, after_if, moves_at, IsInputIf, is_input_after, fresh_history}
+use Rattle.dms_world.proofs.WorldInputs.{history_of, input_if, input_after, after_if, moves_at, IsInputIf, is_input_after}
 use Rattle.dms_world.proofs.WorldNumbers.{kept_at, settings_at}
 
 -- ---- one event
@@ -56,10 +56,7 @@ CameBy world o datagram = WasHandedOver world o datagram ⊎ (o ≡ Some (forge_
 
 handed : (world : WorldModel) (place : ℕ) (datagram : List ℕ) (o : Option (List ℕ)) → slice_get world.to_centre place ≡ o → option_map Hears o ≡ Some (Hears datagram)
     → CameBy world (Some (to_centre place)) datagram
-handed world place datagram None e same = absurd (none-some (Hears datagram) same)
-handed world place datagram (Some other) e same =
-    let one : other ≡ datagram = cc same in
-    inl (record { place = place; event = refl; there = subst (λ x. slice_get world.to_centre place ≡ Some x) one e })
+handed world place datagram o e same = grind arith
 
 heard_if : (world : WorldModel) (o : Option EventModel) (datagram : List ℕ) → input_if world o ≡ Some (Hears datagram) → CameBy world o datagram
 heard_if world None datagram e = absurd (none-some (Hears datagram) e)
@@ -76,10 +73,6 @@ heard_if world (Some (forge_centre other)) datagram e =
     let one : other ≡ datagram = cc e in
     inr (ap (λ x. Some (forge_centre x)) one)
 
-pub heard_at : (world : WorldModel) (events : List EventModel) (count : ℕ) (datagram : List ℕ) → input_after world events count ≡ Some (Hears datagram)
-    → CameBy (world_at world events count) (slice_get events count) datagram
-heard_at world events count datagram e = heard_if (world_at world events count) (slice_get events count) datagram e
-
 -- ---- whose codes
 
 -- the work of a command that was taken
@@ -94,24 +87,9 @@ abbrev OfTakenIf : (Work → Type 0) → CentreState → Option Input → Type 0
 OfTakenIf P state None = Unit {0}
 OfTakenIf P state (Some input) = OfTaken P state input
 
-of_heard : (P : Work → Type 0) (state : CentreState) (o : Option (List ℕ)) → OfTakenIf P state (option_map Hears o)
-of_heard P state None = tt
-of_heard P state (Some datagram) = tt
-
 taken_if : (world : WorldModel) (events : List EventModel) (count : ℕ) (o : Option EventModel) → slice_get events count ≡ o
     → OfTakenIf (WasTaken world events) (world_at world events count).centre (input_if (world_at world events count) o)
-taken_if world events count None e = tt
-taken_if world events count (Some (command asked)) e = λ none. record { before = count; asked = asked; event = e; taken = none; work_is = refl }
-taken_if world events count (Some sign_tick) e = tt
-taken_if world events count (Some centre_tick) e = tt
-taken_if world events count (Some (to_sign place)) e = tt
-taken_if world events count (Some (to_centre place)) e =
-    of_heard (WasTaken world events) (world_at world events count).centre (slice_get (world_at world events count).to_centre place)
-taken_if world events count (Some power_lost) e = tt
-taken_if world events count (Some (power_back seconds)) e = tt
-taken_if world events count (Some centre_restart) e = tt
-taken_if world events count (Some (forge_sign datagram)) e = tt
-taken_if world events count (Some (forge_centre datagram)) e = tt
+taken_if world events count o e = grind arith
 
 are_if : (P : Work → Type 0) (history : History) (o : Option Input) → HistoryIsKept history → IsInputIf o → AreOf P history.state → OfTakenIf P history.state o
     → AreOf P (after_if history o).state
@@ -119,9 +97,7 @@ are_if P history None kept is are taken = are
 are_if P history (Some input) kept is are taken = are_of_input P history input kept is are taken
 
 are_fresh : (P : Work → Type 0) (world : WorldModel) → IsFresh world → AreOf P world.centre
-are_fresh P world fresh =
-    subst (λ (history : History). AreOf P history.state) (sym (fresh_history world fresh))
-    (record { job = tt; entries = λ k entry e. absurd (none-some entry e) })
+are_fresh P world fresh = grind arith
 
 -- the centre's job and each entry are of commands that were taken
 pub taken_at : (world : WorldModel) (events : List EventModel) → IsFresh world → AreEvents events → (count : ℕ)
@@ -137,19 +113,11 @@ taken_at world events fresh are (suc count) =
 
 was_ordered : (world : WorldModel) (events : List EventModel) (entry : Entry) (work : Work) → WasTaken world events work → entry.code ≡ code_of work
     → WasOrdered world events entry
-was_ordered world events entry work was e = record {
-  before = was.before;
-  asked = was.asked;
-  event = was.event;
-  taken = was.taken;
-  code = ap code_of was.work_is ∙ sym e;
-}
+was_ordered world events entry work was e = grind arith
 
 pub ordered_at : (world : WorldModel) (events : List EventModel) → IsFresh world → AreEvents events → (count place : ℕ) (entry : Entry)
     → slice_get (world_at world events count).centre.ledger place ≡ Some entry → WasOrdered world events entry
-ordered_at world events fresh are count place entry e =
-    let of_work = (taken_at world events fresh are count).entries place entry e in
-    was_ordered world events entry of_work.0 of_work.1 of_work.2
+ordered_at world events fresh are count place entry e = grind (arith, taken_at, was_ordered)
 
 pub ledger_was_ordered : (world : WorldModel) (events : List EventModel) → IsFresh world → AreEvents events → LedgerWasOrdered world events
 ledger_was_ordered world events fresh are entry there = ordered_at world events fresh are (length events) there.0 entry there.1

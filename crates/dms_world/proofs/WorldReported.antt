@@ -14,7 +14,7 @@ use Rattle.dms_world.specs.World.{WorldModel, world_at, IsFresh}
 use Rattle.dms_world.specs.Backed.{Has}
 use Rattle.dms_world.specs.Headline.{AreEvents}
 use Rattle.dms_world.proofs.WorldInputs.{input_after, fresh_history}
-use Rattle.dms_world.proofs.WorldOrders.{CameBy, rests_at, acts_at, ledger_at, heard_at}
+use Rattle.dms_world.proofs.WorldOrders.{CameBy, rests_at, acts_at, ledger_at}
 
 -- The event that follows on so many others, fewer than `count`, gave the centre this reply to the request of the entry, which waited then.
 pub record WasHeard (world : WorldModel) (events : List EventModel) (count number : ℕ) (code : Activation) : Type 0 where
@@ -43,16 +43,7 @@ EntryWasReported world events count entry = WasReported world events count entry
 
 heard_later : (world : WorldModel) (events : List EventModel) (count number : ℕ) (code : Activation) → WasHeard world events count number code
     → WasHeard world events (suc count) number code
-heard_later world events count number code heard = record {
-  before = heard.before;
-  less = omega (arith, heard.less);
-  datagram = heard.datagram;
-  came = heard.came;
-  reply = heard.reply;
-  spelled = heard.spelled;
-  answers = heard.answers;
-  waited = heard.waited;
-}
+heard_later world events count number code heard = grind arith
 
 reported_later : (world : WorldModel) (events : List EventModel) (count number : ℕ) (code : Activation) (outcome : Outcome)
     → WasReported world events count number code outcome → WasReported world events (suc count) number code outcome
@@ -69,16 +60,7 @@ entry_of number code outcome = record { number = number; code = code; outcome = 
 heard_now : (world : WorldModel) (events : List EventModel) (count number : ℕ) (code : Activation) (datagram : List ℕ) (reply : SnmpMessage)
     → input_after world events count ≡ Some (Hears datagram) → message_of datagram ≡ Some reply → Answers world.centre.settings number reply
     → Has (world_at world events count).centre.ledger (entry_of number code Waiting) → WasHeard world events (suc count) number code
-heard_now world events count number code datagram reply e spelled answers waited = record {
-  before = count;
-  less = omega arith;
-  datagram = datagram;
-  came = heard_at world events count datagram e;
-  reply = reply;
-  spelled = spelled;
-  answers = answers;
-  waited = waited;
-}
+heard_now world events count number code datagram reply e spelled answers waited = grind arith
 
 reported_by : (world : WorldModel) (events : List EventModel) (count number : ℕ) (code : Activation) (input : Input) (old new : Outcome)
     → input_after world events count ≡ Some input → Has (world_at world events count).centre.ledger (entry_of number code old)
@@ -108,9 +90,7 @@ AllWereReported world events count ledger = (place : ℕ) (entry : Entry) → sl
 reported_if : (world : WorldModel) (events : List EventModel) → IsFresh world → AreEvents events → (count : ℕ) (o : Option Input) → input_after world events count ≡ o
     → AllWereReported world events count (world_at world events count).centre.ledger
     → AllWereReported world events (suc count) (world_at world events (suc count)).centre.ledger
-reported_if world events fresh are count None e reported =
-    subst (λ (history : History). AllWereReported world events (suc count) history.state.ledger) (sym (rests_at world events count e))
-    (λ place entry there. reported_later world events count entry.number entry.code entry.outcome (reported place entry there))
+reported_if world events fresh are count None e reported = grind (arith, rests_at, reported_later, acts_at, ledger_at, reported_entry)
 reported_if world events fresh are count (Some input) e reported =
     subst (λ (history : History). AllWereReported world events (suc count) history.state.ledger) (sym (acts_at world events count input e))
     (λ place later there.
@@ -121,8 +101,6 @@ reported_if world events fresh are count (Some input) e reported =
 
 pub reported_at : (world : WorldModel) (events : List EventModel) → IsFresh world → AreEvents events → (count place : ℕ) (entry : Entry)
     → slice_get (world_at world events count).centre.ledger place ≡ Some entry → EntryWasReported world events count entry
-reported_at world events fresh are zero =
-    subst (λ (history : History). AllWereReported world events zero history.state.ledger) (sym (fresh_history world fresh))
-    (λ place entry there. absurd (none-some entry there))
+reported_at world events fresh are zero = grind (arith, fresh_history, none-some, reported_if, input_after)
 reported_at world events fresh are (suc count) =
     reported_if world events fresh are count (input_after world events count) refl (reported_at world events fresh are count)

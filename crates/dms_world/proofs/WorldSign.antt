@@ -1,5 +1,5 @@
 -- What each event keeps of a sign holds of it after all events.
-use Rattle.std.proofs.Common.{ℕ, zero, suc, List, Option, Some, None, slice_get}
+use Rattle.std.proofs.Common.{ℕ, zero, suc, List, Option, Some, None, slice_get, arith}
 use Rattle.dms_sign.specs.State.{SignState}
 use Rattle.dms_sign.specs.Reply.{received}
 use Rattle.dms_sign.specs.Events.{after_tick, after_power_loss, after_power_return}
@@ -18,8 +18,7 @@ kept_at_sign P kept number world None is = is
 kept_at_sign P kept number world (Some datagram) is = kept.datagram world.sign datagram is
 
 kept_at_centre : (P : SignState → Type 0) (world : WorldModel) (o : Option (List ℕ)) → P world.sign → P (at_centre world o).sign
-kept_at_centre P world None is = is
-kept_at_centre P world (Some datagram) is = is
+kept_at_centre P world o is = grind arith
 
 kept_event : (P : SignState → Type 0) → EachEventKeeps P → (number : ℕ) (world : WorldModel) (event : EventModel) → P world.sign → P (happens number world event).sign
 kept_event P kept number world (command asked) is = is

@@ -1,5 +1,5 @@
 -- What is shown after any events is blank, or was validated, and its checksum stands in the code that put it up.
-use Rattle.std.proofs.Common.{◌≡◌, ◌⊎◌, inl, inr, ℕ, zero, suc, IsTrue, List, length, Option, Some, refl, ap, sym, subst, ◌∙◌, arith}
+use Rattle.std.proofs.Common.{◌≡◌, ◌⊎◌, inl, inr, ℕ, zero, suc, IsTrue, List, length, Option, Some, sym, subst, ◌∙◌, arith}
 use Rattle.dms_face.specs.declared.defaults.Defaults.{Defaults}
 use Rattle.dms_face.specs.Layout.{under}
 use Rattle.dms_face.specs.Fit.{IsGood}
@@ -7,73 +7,26 @@ use Rattle.dms_codes.specs.declared.codes.Order.{Order}
 use Rattle.dms_codes.specs.declared.codes.MessageId.{MessageId}
 use Rattle.dms_codes.specs.declared.codes.Activation.{Activation}
 use Rattle.dms_table.specs.Rows.{RowModel}
-use Rattle.dms_table.specs.Validation.{IsShowable}
-use Rattle.dms_table.specs.Activation.{ShownModel, shown_row}
+use Rattle.dms_table.specs.Activation.{ShownModel}
 use Rattle.dms_sign.specs.State.{ConfigModel}
 use Rattle.dms_sign.specs.Transitions.{IsSameMessage, IsRowOf, IsOwnCode, ShowsNow, stayed, came_back, blanked, activated, fell_back}
-use Rattle.dms_sign.proofs.StepShown.{checksum_as}
 use Rattle.dms_world.specs.Event.{EventModel}
 use Rattle.dms_world.specs.World.{WorldModel, IsFresh, world_at}
-use Rattle.dms_world.specs.Backed.{Has, IsBlank, WasPutUp, WasTheSigns, stored_row, Held, WasHeld, IsValidated, IsBackedAt, IsBacked}
+use Rattle.dms_world.specs.Backed.{Has, IsBlank, WasPutUp, WasTheSigns, WasHeld, IsBackedAt, IsBacked}
 use Rattle.dms_world.specs.InFlight.{KeptIsBacked}
-use Rattle.dms_world.specs.GoodRows.{WasGood, was_made, was_settled}
+use Rattle.dms_world.specs.GoodRows.{WasGood}
 use Rattle.dms_world.proofs.WorldSignSteps.{world_step}
 use Rattle.dms_world.proofs.WorldSignSound.{sound_at}
 use Rattle.dms_world.proofs.WorldSignGood.{good_rows_at}
 
 -- ---- the same message
 
-showable_as : (world : WorldModel) (a b : ShownModel) → IsSameMessage a b
-    → IsShowable world.sign.table.services (under world.sign.config.face a.defaults) (shown_row a)
-    → IsShowable world.sign.table.services (under world.sign.config.face b.defaults) (shown_row b)
-showable_as world a b same is = record {
-  good = subst (λ (d : Defaults). IsGood (under world.sign.config.face d) b.text) (sym same.defaults)
-      (subst (IsGood (under world.sign.config.face a.defaults)) (sym same.text) is.good);
-  has_beacon = λ on. is.has_beacon (sym same.beacon ∙ on);
-  has_pixel = λ on. is.has_pixel (sym same.pixel ∙ on);
-}
-
-held_as : (row : RowModel) (a b : ShownModel) → IsSameMessage a b → Held row a → Held row b
-held_as row a b same held = record {
-  valid = held.valid;
-  text = held.text ∙ sym same.text;
-  owner = held.owner ∙ sym same.owner;
-  beacon = held.beacon ∙ sym same.beacon;
-  pixel = held.pixel ∙ sym same.pixel;
-  priority = held.priority ∙ sym same.priority;
-}
-
-was_held_as : (world : WorldModel) (events : List EventModel) (count : ℕ) (a b : ShownModel) → IsSameMessage a b → WasHeld world events count a
-    → WasHeld world events count b
-was_held_as world events count a b same was = (
-  was.0,
-  was.1,
-  was.2,
-  ap (λ (id : MessageId). stored_row (world_at world events was.0).sign.table id.memory id.number) same.source ∙ was.3,
-  held_as was.1 a b same was.4,
-)
-
 blank_as : (a b : ShownModel) → IsSameMessage a b → IsBlank a → IsBlank b
-blank_as a b same is = record {
-  memory = ap (λ (id : MessageId). id.memory) same.source ∙ is.memory;
-  text = same.text ∙ is.text;
-  beacon = same.beacon ∙ is.beacon;
-  pixel = same.pixel ∙ is.pixel;
-}
-
-validated_as : (world : WorldModel) (events : List EventModel) (count : ℕ) (a b : ShownModel) → IsSameMessage a b → IsValidated world events count a
-    → IsValidated world events count b
-validated_as world events count a b same is = record {
-  good = showable_as world a b same is.good;
-  checksum = checksum_as a b same is.checksum;
-  source = subst (λ (id : MessageId). WasPutUp world events count id ⊎ WasTheSigns world events count id) (sym same.source) is.source;
-  row = was_held_as world events count a b same is.row;
-}
+blank_as a b same is = grind arith
 
 backed_as : (world : WorldModel) (events : List EventModel) (count : ℕ) (a b : ShownModel) → IsSameMessage a b → IsBackedAt world events count a
     → IsBackedAt world events count b
-backed_as world events count a b same (inl is) = inl (blank_as a b same is)
-backed_as world events count a b same (inr is) = inr (validated_as world events count a b same is)
+backed_as world events count a b same p = grind arith
 
 -- ---- one event more
 
@@ -103,8 +56,7 @@ record IsServed (world : WorldModel) (row : RowModel) : Type 0 where
   has_pixel : row.pixel ≡ 1 → IsTrue world.sign.table.services.pixel
 
 served : (world : WorldModel) (events : List EventModel) (count memory number : ℕ) (row : RowModel) → WasGood world events count memory number row → IsServed world row
-served world events count memory number row (was_made is could) = record { has_beacon = could.has_beacon; has_pixel = could.has_pixel }
-served world events count memory number row (was_settled is before less first then could) = record { has_beacon = could.has_beacon; has_pixel = could.has_pixel }
+served world events count memory number row p = grind arith
 
 validated_row : (world : WorldModel) (events : List EventModel) (count : ℕ) → IsFresh world
     → IsRowOf (world_at world events count).sign.config.face (world_at world events count).sign.defaults (world_at world events count).sign.table
@@ -181,9 +133,7 @@ sure_next world events count fresh sure =
 -- ---- the start, and any number of events
 
 blank_first : (world : WorldModel) → IsFresh world → IsBlank world.sign.shown × IsBlank world.sign.shown_at_power_loss
-blank_first world fresh =
-    subst (λ (w : WorldModel). IsBlank w.sign.shown × IsBlank w.sign.shown_at_power_loss) (sym fresh.is_beginning)
-    (record { memory = refl; text = refl; beacon = refl; pixel = refl }, record { memory = refl; text = refl; beacon = refl; pixel = refl })
+blank_first world fresh = grind arith
 
 sure_at : (world : WorldModel) (events : List EventModel) → IsFresh world → (count : ℕ) → IsSureAt world events count
 sure_at world events fresh zero = let blank = blank_first world fresh in record { shown = inl blank.0; kept = inl blank.1 }

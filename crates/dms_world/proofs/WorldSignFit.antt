@@ -1,9 +1,8 @@
 -- The defaults of a sign fit its face after any events, and so does the copy that belongs to what is shown.
-use Rattle.std.proofs.Common.{◌≡◌, ℕ, ◌&&◌, true, IsTrue, length, List, sym, subst}
+use Rattle.std.proofs.Common.{◌≡◌, ℕ, ◌&&◌, true, IsTrue, length, List, subst, arith}
 use Rattle.std.proofs.lemmas.Bool.{and_parts}
 use Rattle.dms_face.specs.declared.defaults.Defaults.{Defaults}
 use Rattle.dms_face.specs.Face.{FaceModel, is_matrix, are_fonts, fit, is_face}
-use Rattle.dms_sign.specs.State.{ConfigModel}
 use Rattle.dms_sign.specs.Transitions.{HasFitDefaults}
 use Rattle.dms_sign.proofs.StepDefaults.{received_fits, tick_fits, power_loss_fits, power_return_fits}
 use Rattle.dms_world.specs.Event.{EventModel}
@@ -19,14 +18,11 @@ face_fits : (face : FaceModel) → is_face face ≡ true → IsTrue (fit face.fo
 face_fits face e = (and_parts (is_matrix face.width face.height && are_fonts face.fonts) (fit face.fonts face.defaults) e).1
 
 fits_first : (world : WorldModel) → IsFresh world → HasFitDefaults world.sign
-fits_first world fresh =
-    subst (λ (w : WorldModel). HasFitDefaults w.sign) (sym fresh.is_beginning) (face_fits fresh.config.face fresh.can_be_made.face)
+fits_first world fresh = grind arith
 
 fits_at : (world : WorldModel) (events : List EventModel) → IsFresh world → (count : ℕ)
     → IsTrue (fit world.sign.config.face.fonts (world_at world events count).sign.defaults)
-fits_at world events fresh count =
-    subst (λ (c : ConfigModel). IsTrue (fit c.face.fonts (world_at world events count).sign.defaults)) (sound_at world events fresh count).config
-    (kept_after HasFitDefaults fit_is_kept world events (fits_first world fresh) count)
+fits_at world events fresh count = grind (arith, sound_at, kept_after, fit_is_kept, fits_first)
 
 pub defaults_fit_after : (world : WorldModel) (events : List EventModel) → IsFresh world → DefaultsFit world events
 defaults_fit_after world events fresh =

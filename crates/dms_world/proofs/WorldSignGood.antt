@@ -1,18 +1,15 @@
 -- Each row that is valid after any events was good when it was settled.
-use Rattle.std.proofs.Common.{◌≡◌, ◌≢◌, ℕ, zero, suc, ◌-◌, ◌==◌, ◌&&◌, Bool, true, false, cond, List, [], ◌∷◌, length, replicate, Some, None, slice_get, refl, ap, sym, subst, ◌∙◌, arith}
+use Rattle.std.proofs.Common.{◌≡◌, ◌≢◌, ℕ, zero, suc, ◌-◌, ◌==◌, ◌&&◌, Bool, true, false, cond, List, [], ◌∷◌, length, replicate, Some, None, slice_get, refl, subst, ◌∙◌, arith}
 use Rattle.std.specs.List.{list_all}
 use Rattle.std.proofs.lemmas.Bool.{eqb-true, and_parts}
 use Rattle.dms_face.specs.Face.{FaceModel}
 use Rattle.dms_face.specs.Layout.{under}
-use Rattle.dms_codes.specs.declared.status.Status.TheVariants.{NotUsed, Valid, Validating}
-use Rattle.dms_codes.specs.Status.{is_valid}
+use Rattle.dms_codes.specs.declared.status.Status.TheVariants.{Valid, Validating}
 use Rattle.dms_table.specs.declared.row.Services.{Services}
 use Rattle.dms_table.specs.Rows.{RowModel, TableModel, unused, numbered}
 use Rattle.dms_codes.specs.Memory.{permanent_memory, changeable_memory, volatile_memory}
-use Rattle.dms_table.specs.Validation.{verdict_of, passes, IsShowable, CameToBeValid, was_valid, was_settled as came_settled}
-use Rattle.dms_table.specs.Stock.{has_ranges}
+use Rattle.dms_table.specs.Validation.{IsShowable, CameToBeValid, was_valid, was_settled as came_settled}
 use Rattle.dms_table.proofs.GoodRows.{showable}
-use Rattle.dms_sign.specs.State.{ConfigModel}
 use Rattle.dms_sign.proofs.StepRows.{good_where_passes}
 use Rattle.dms_sign.specs.Construction.{may_stand}
 use Rattle.dms_world.specs.Event.{EventModel}
@@ -38,27 +35,11 @@ good_more world events count memory number row (was_settled is before less first
 could_be : (world : WorldModel) (events : List EventModel) (count : ℕ) (row : RowModel) → IsSoundAt world events count
     → IsShowable (world_at world events count).sign.table.services (under (world_at world events count).sign.config.face (world_at world events count).sign.defaults) row
     → CouldBeShown world (world_at world events count).sign.defaults row
-could_be world events count row sound can =
-    let defaults = (world_at world events count).sign.defaults in
-    subst (λ (c : ConfigModel). IsShowable world.sign.table.services (under c.face defaults) row) sound.config
-    (subst (λ (s : Services). IsShowable s (under (world_at world events count).sign.config.face defaults) row) sound.services can)
-
--- a permanent row is never settled
-not_permanent : (old new : TableModel) (number : ℕ) (row : RowModel) → new.permanent ≡ old.permanent → row.status ≡ Valid
-    → numbered old.permanent number ≡ Some (record row { status = Validating }) → numbered new.permanent number ≡ Some row → {P : Type 0} → P
-not_permanent old new number row same valid before then =
-    let e : Some (record row { status = Validating }) ≡ Some row = sym before ∙ sym (ap (λ rows. numbered rows number) same) ∙ then in
-    let rows : record row { status = Validating } ≡ row = cc in
-    let status : Validating ≡ row.status = ap (λ (r : RowModel). r.status) rows in
-    let wrong : Validating ≡ Valid = status ∙ valid in
-    absurd (cc)
+could_be world events count row sound can = grind arith
 
 is_changed : (old new : TableModel) (memory number : ℕ) (row : RowModel) → new.permanent ≡ old.permanent → row.status ≡ Valid
     → stored_row old memory number ≡ Some (record row { status = Validating }) → stored_row new memory number ≡ Some row → memory ≢ permanent_memory
-is_changed old new memory number row same valid before then = λ is.
-    not_permanent old new number row same valid
-    (subst (λ m. stored_row old m number ≡ Some (record row { status = Validating })) is before)
-    (subst (λ m. stored_row new m number ≡ Some row) is then)
+is_changed old new memory number row same valid before then = grind arith
 
 good_came : (world : WorldModel) (events : List EventModel) (count memory number : ℕ) (row : RowModel) → GoodRowsAt world events count
     → stored_row (world_at world events (suc count)).sign.table memory number ≡ Some row → row.status ≡ Valid
@@ -84,28 +65,20 @@ good_next world events count fresh good = λ memory number row there valid.
 
 at_place : (test : RowModel → Bool) (rows : List RowModel) (place : ℕ) (row : RowModel) → list_all test rows ≡ true → slice_get rows place ≡ Some row → test row ≡ true
 at_place test [] place row all e = absurd (cc)
-at_place test (x ∷ xs) zero row all e =
-    let same : x ≡ row = cc in subst (λ r. test r ≡ true) same (and_parts (test x) (list_all test xs) all).0
+at_place test (x ∷ xs) zero row all e = grind (arith, and_parts)
 at_place test (x ∷ xs) (suc place) row all e = at_place test xs place row (and_parts (test x) (list_all test xs) all).1 e
 
 never_at : (n place : ℕ) (row : RowModel) → slice_get (replicate n unused) place ≡ Some row → row.status ≡ Valid → {P : Type 0} → P
 never_at zero place row e valid = absurd (cc)
-never_at (suc n) zero row e valid =
-    let same : unused ≡ row = cc in
-    let status : NotUsed ≡ row.status = ap (λ (r : RowModel). r.status) same in
-    let wrong : NotUsed ≡ Valid = status ∙ valid in
-    absurd (cc)
+never_at (suc n) zero row e valid = grind arith
 never_at (suc n) (suc place) row e valid = never_at n place row e valid
 
 can_stand : (services : Services) (face : FaceModel) (row : RowModel) → may_stand services face row ≡ true → IsShowable services face row
-can_stand services face row e =
-    let pass = (and_parts (is_valid row.status && has_ranges row) (passes (verdict_of services face row)) e).1 in
-    showable services face row pass (good_where_passes services face row pass)
+can_stand services face row e = grind (arith, and_parts, showable, good_where_passes)
 
 permanent_can : (b : Bool) (services : Services) (face : FaceModel) (rows : List RowModel) (place : ℕ) (row : RowModel) → list_all (may_stand services face) rows ≡ true
     → cond b None (slice_get rows place) ≡ Some row → IsShowable services face row
-permanent_can true services face rows place row all e = absurd (cc)
-permanent_can false services face rows place row all e = can_stand services face row (at_place (may_stand services face) rows place row all e)
+permanent_can b services face rows place row all e = grind (arith, can_stand, at_place)
 
 none_valid : (b : Bool) (rows : List RowModel) (place : ℕ) (row : RowModel) → rows ≡ replicate (length rows) unused → cond b None (slice_get rows place) ≡ Some row
     → row.status ≡ Valid → {P : Type 0} → P
@@ -114,8 +87,7 @@ none_valid false rows place row are e valid =
     never_at (length rows) place row (subst (λ (xs : List RowModel). slice_get xs place ≡ Some row) are e) valid
 
 none_in_none : (b : Bool) (place : ℕ) (row : RowModel) → cond b None (slice_get [] place) ≡ Some row → {P : Type 0} → P
-none_in_none true place row e = absurd (cc)
-none_in_none false place row e = absurd (cc)
+none_in_none b place row e = grind arith
 
 -- a table in which only permanent rows are used
 record IsStart (face : FaceModel) (table : TableModel) : Type 0 where
@@ -134,10 +106,7 @@ start_rows false false true face table memory number row start is e valid = none
 start_rows false false false face table memory number row start is e valid = none_in_none (number == 0) (number - 1) row e
 
 is_start : (world : WorldModel) → IsFresh world → IsStart (under world.sign.config.face world.sign.config.face.defaults) world.sign.table
-is_start world fresh =
-    let made = fresh.can_be_made in
-    subst (λ (w : WorldModel). IsStart (under w.sign.config.face w.sign.config.face.defaults) w.sign.table) (sym fresh.is_beginning)
-    (record { permanent = made.rows; changeable = made.changeable_unused; volatile = made.volatile_unused })
+is_start world fresh = grind arith
 
 good_first : (world : WorldModel) (events : List EventModel) → IsFresh world → GoodRowsAt world events zero
 good_first world events fresh = λ memory number row there valid.

@@ -1,5 +1,5 @@
 -- At most one row of a sign is being validated, whatever happens.
-use Rattle.std.proofs.Common.{◌≡◌, List, length, replicate, ap, sym, subst, arith}
+use Rattle.std.proofs.Common.{◌≡◌, List, length, replicate, arith}
 use Rattle.dms_table.specs.Rows.{TableModel, unused, IsTable}
 use Rattle.dms_table.proofs.OneRow.{count, none_unused}
 use Rattle.dms_sign.specs.State.{SignState}
@@ -18,14 +18,7 @@ one_is_kept = record { datagram = one_received; tick = one_after_tick; power_los
 
 -- rows that are not used are not being validated
 none_of_unused : (table : TableModel) → table.changeable ≡ replicate (length table.changeable) unused → table.volatile ≡ replicate (length table.volatile) unused → IsTable table
-none_of_unused table changeable volatile =
-    let first : count table.changeable ≡ count (replicate (length table.changeable) unused) = ap count changeable in
-    let second : count table.volatile ≡ count (replicate (length table.volatile) unused) = ap count volatile in
-    record { one = omega (arith, first, second, none_unused (length table.changeable), none_unused (length table.volatile)) }
+none_of_unused table changeable volatile = grind (arith, count, none_unused)
 
 pub one_at_all : (world : WorldModel) (events : List EventModel) → IsFresh world → OneRowIsValidating world events
-one_at_all world events fresh =
-    let made = fresh.can_be_made in
-    let first : IsTable world.sign.table =
-    subst (λ w. IsTable w.sign.table) (sym fresh.is_beginning) (none_of_unused fresh.table made.changeable_unused made.volatile_unused) in
-    kept_after IsOne one_is_kept world events first (length events)
+one_at_all world events fresh = grind (arith, none_of_unused, kept_after, one_is_kept)

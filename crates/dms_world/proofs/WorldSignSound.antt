@@ -1,9 +1,9 @@
 -- What is shown, what is stored, and the rows of a sign, after any events.
-use Rattle.std.proofs.Common.{◌≡◌, ◌⊎◌, inl, inr, ℕ, zero, suc, List, length, Option, refl, sym, subst, ◌∙◌, arith}
+use Rattle.std.proofs.Common.{◌≡◌, ◌⊎◌, ℕ, zero, suc, List, length, Option, sym, ◌∙◌, arith}
 use Rattle.dms_face.specs.declared.defaults.Defaults.{Defaults}
 use Rattle.dms_codes.specs.declared.codes.Activation.{Activation}
 use Rattle.dms_table.specs.Activation.{ShownModel}
-use Rattle.dms_sign.specs.Transitions.{ShowsNow, stayed, came_back, blanked, activated, fell_back}
+use Rattle.dms_sign.specs.Transitions.{ShowsNow}
 use Rattle.dms_world.specs.Event.{EventModel}
 use Rattle.dms_world.specs.World.{WorldModel, IsFresh, world_at}
 use Rattle.dms_world.specs.Backed.{WereDefaults, CopiedDefaults}
@@ -31,21 +31,12 @@ copy_now world events count defaults e = (count, omega arith, sym e)
 copy_shown : (world : WorldModel) (events : List EventModel) (count : ℕ) (accepted : Option Activation) → IsSoundAt world events count
     → ShowsNow (world_at world events count).sign (world_at world events (suc count)).sign accepted
     → WereDefaults world events (suc count) (world_at world events (suc count)).sign.shown.defaults
-copy_shown world events count accepted sound (stayed same) =
-    subst (WereDefaults world events (suc count)) (sym same.defaults) (copy_more world events count _ sound.shown_copy)
-copy_shown world events count accepted sound (came_back same) =
-    subst (WereDefaults world events (suc count)) (sym same.defaults) (copy_more world events count _ sound.kept_copy)
-copy_shown world events count accepted sound (blanked is) = copy_now world events (suc count) _ is.copied
-copy_shown world events count accepted sound (activated code e source is) = copy_now world events (suc count) _ is.copied
-copy_shown world events count accepted sound (fell_back own is) = copy_now world events (suc count) _ is.copied
+copy_shown world events count accepted sound p = grind (arith, copy_more, copy_now)
 
 copy_kept : (world : WorldModel) (events : List EventModel) (count : ℕ) (kept : ShownModel) → IsSoundAt world events count
     → (kept ≡ (world_at world events count).sign.shown_at_power_loss) ⊎ (kept ≡ (world_at world events count).sign.shown)
     → WereDefaults world events (suc count) kept.defaults
-copy_kept world events count kept sound (inl e) =
-    subst (λ (k : ShownModel). WereDefaults world events (suc count) k.defaults) (sym e) (copy_more world events count _ sound.kept_copy)
-copy_kept world events count kept sound (inr e) =
-    subst (λ (k : ShownModel). WereDefaults world events (suc count) k.defaults) (sym e) (copy_more world events count _ sound.shown_copy)
+copy_kept world events count kept sound p = grind arith
 
 -- ---- the start, and one event more
 
@@ -62,13 +53,7 @@ sound_next world events count sound =
     }
 
 sound_first : (world : WorldModel) (events : List EventModel) → IsFresh world → IsSoundAt world events zero
-sound_first world events fresh = record {
-  config = refl;
-  services = refl;
-  order = refl;
-  shown_copy = (0, omega arith, subst (λ (w : WorldModel). w.sign.defaults ≡ w.sign.shown.defaults) (sym fresh.is_beginning) refl);
-  kept_copy = (0, omega arith, subst (λ (w : WorldModel). w.sign.defaults ≡ w.sign.shown_at_power_loss.defaults) (sym fresh.is_beginning) refl);
-}
+sound_first world events fresh = grind arith
 
 pub sound_at : (world : WorldModel) (events : List EventModel) → IsFresh world → (count : ℕ) → IsSoundAt world events count
 sound_at world events fresh zero = sound_first world events fresh

@@ -1,11 +1,10 @@
 -- Each event of a world makes one step of its sign, and lists what was accepted.
-use Rattle.std.proofs.Common.{◌≡◌, ℕ, suc, List, [], ◌∷◌, ◌++◌, Option, Some, None, slice_get, refl, sym, subst}
+use Rattle.std.proofs.Common.{◌≡◌, ℕ, suc, List, [], ◌∷◌, ◌++◌, Option, Some, None, slice_get, refl, subst, arith}
 use Rattle.dms_codes.specs.declared.codes.Activation.{Activation}
 use Rattle.dms_sign.specs.State.{SignState}
-use Rattle.dms_sign.specs.Reply.{received}
 use Rattle.dms_sign.specs.Events.{after_tick, after_power_loss, after_power_return}
 use Rattle.dms_sign.specs.Transitions.{IsSignStep}
-use Rattle.dms_sign_laws.proofs.StepEvents.{step_none, step_received, step_tick, step_power_loss, step_power_return}
+use Rattle.dms_sign_laws.proofs.StepEvents.{step_received, step_tick, step_power_loss, step_power_return}
 use Rattle.dms_centre_laws.proofs.Lists.{on_left}
 use Rattle.dms_world.specs.Event.{EventModel, command, sign_tick, centre_tick, to_sign, to_centre, power_lost, power_back, centre_restart, forge_sign, forge_centre}
 use Rattle.dms_world.specs.World.{WorldModel, noted, with_sign, at_sign, at_centre, happens, happens_if, world_at}
@@ -30,12 +29,7 @@ pub record IsWorldStep (number : ℕ) (old new : WorldModel) : Type 0 where
 
 -- where the sign does nothing
 resting : (number : ℕ) (old new : WorldModel) → new.sign ≡ old.sign → new.accepted ≡ old.accepted → IsWorldStep number old new
-resting number old new sign accepted = record {
-  accepted = None;
-  step = subst (λ s. IsSignStep old.sign s None) (sym sign) (step_none old.sign);
-  listed = λ entry has. subst (λ (xs : List (ℕ × Activation)). Has xs entry) (sym accepted) has;
-  known = λ code e. absurd (cc);
-}
+resting number old new sign accepted = grind arith
 
 -- where no datagram comes
 alone : (number : ℕ) (old : WorldModel) (new : SignState) → IsSignStep old.sign new None → IsWorldStep number old (with_sign old new)
@@ -48,18 +42,10 @@ note_is number xs (Some other) code e =
 
 handed_to_sign : (number : ℕ) (world : WorldModel) (o : Option (List ℕ)) → IsWorldStep number world (at_sign number world o)
 handed_to_sign number world None = resting number world world refl refl
-handed_to_sign number world (Some datagram) =
-    let o = (received world.sign datagram).accepted in
-    record {
-      accepted = o;
-      step = step_received world.sign datagram;
-      listed = λ entry has. has_on_left world.accepted (noted number o) entry has;
-      known = λ code e. note_is number world.accepted o code e;
-    }
+handed_to_sign number world (Some datagram) = grind (arith, resting, step_received, has_on_left, note_is)
 
 handed_to_centre : (number : ℕ) (world : WorldModel) (o : Option (List ℕ)) → IsWorldStep number world (at_centre world o)
-handed_to_centre number world None = resting number world world refl refl
-handed_to_centre number world (Some datagram) = resting number world (at_centre world (Some datagram)) refl refl
+handed_to_centre number world o = grind arith
 
 event_step : (number : ℕ) (world : WorldModel) (event : EventModel) → IsWorldStep number world (happens number world event)
 event_step number world (command asked) = resting number world (happens number world (command asked)) refl refl
@@ -74,8 +60,7 @@ event_step number world (forge_sign datagram) = handed_to_sign number world (Som
 event_step number world (forge_centre datagram) = handed_to_centre number world (Some datagram)
 
 step_if : (number : ℕ) (world : WorldModel) (o : Option EventModel) → IsWorldStep number world (happens_if number world o)
-step_if number world None = resting number world world refl refl
-step_if number world (Some event) = event_step number world event
+step_if number world o = grind (arith, resting, event_step)
 
 pub world_step : (world : WorldModel) (events : List EventModel) (count : ℕ) → IsWorldStep (suc count) (world_at world events count) (world_at world events (suc count))
 world_step world events count = step_if (suc count) (world_at world events count) (slice_get events count)

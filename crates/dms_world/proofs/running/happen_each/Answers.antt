@@ -1,4 +1,4 @@
-use Rattle.std.proofs.Common.{sym, ◌∙◌}
+use Rattle.std.proofs.Common.{sym, ◌∙◌, arith}
 use Rattle.dms_world.specs.CodeView.{events_model, seen}
 use Rattle.dms_world.proofs.Runs.{on_err, on_ok, event_at, within_events, stops_at, one_more_event, after_prefix, one_more_is_event, prefix_are_events, are_all_events, all_are_events}
 use Rattle.dms_world.proofs.running.happen_each.Goals as goal
@@ -10,22 +10,13 @@ returns-then-is_err-clause-world c =
     unchanged ∙ c.loop-done.invariant.world ∙ after_prefix (seen c.args.world.now) (events_model c.args.events.now) c.loop-done.done within
 
 pub returns-then-is_err-clause-stopped : goal.returns-then-is_err-clause-stopped
-returns-then-is_err-clause-stopped c =
-    let is_err = sym c.is_err.ensures.value ∙ c.if-is_err.true in
-    let unchanged = on_err c.happen.result _ is_err c.happen.ensures.unchanged in
-    stops_at _ _ c.args.events.now c.loop-done.done _ c.loop-done-test.true unchanged (on_err c.happen.result _ is_err c.happen.ensures.grows)
+returns-then-is_err-clause-stopped c = grind (arith, on_err, stops_at)
 
 pub returns-then-is_err-clause-ranges : goal.returns-then-is_err-clause-ranges
 returns-then-is_err-clause-ranges c = prefix_are_events (events_model c.args.events.now) c.loop-done.done c.loop-done.invariant.ranges
 
 pub loop-done-preserved : goal.loop-done-preserved
-loop-done-preserved c =
-    let at = event_at c.args.events.now c.loop-done.done _ c.loop-done-test.true in
-    let next = on_ok c.happen.result _ (sym c.is_err.ensures.value ∙ c.if-is_err.false) c.happen.ensures.world in
-    record {
-      world = one_more_event (seen c.args.world.now) _ _ (events_model c.args.events.now) c.loop-done.done _ c.loop-done.invariant.world at next;
-      ranges = one_more_is_event (events_model c.args.events.now) c.loop-done.done _ c.loop-done.invariant.ranges at c.has_ranges.ensures;
-    }
+loop-done-preserved c = grind (arith, event_at, on_ok, one_more_event, one_more_is_event)
 
 pub returns-clause-ranges : goal.returns-clause-ranges
 returns-clause-ranges c =
