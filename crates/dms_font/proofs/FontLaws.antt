@@ -1,8 +1,8 @@
 -- A font is what its text spells.
-use Rattle.std.proofs.Common.{◌≡◌, ℕ, ◌<◌, ◌≤◌, ◌==◌, ◌&&◌, ◌||◌, Bool, true, false, cond, not, List, [], ◌∷◌, ◌++◌, length, Option, Some, None, Result, Ok, Err, refl, sym, ap, subst, ◌∙◌, arith, append_assoc, length-append, inl, inr}
+use Rattle.std.proofs.Common.{◌≡◌, ℕ, ◌<◌, ◌≤◌, ◌==◌, ◌&&◌, ◌||◌, Bool, true, false, cond, not, List, [], ◌∷◌, ◌++◌, length, Option, Some, None, Result, Ok, Err, refl, sym, ap, subst, ◌∙◌, arith, append_assoc, length-append}
 use Rattle.std.specs.Prelude.{codes, nat_le}
 use Rattle.std.specs.List.{list_any}
-use Rattle.std.proofs.lemmas.Bool.{and_parts, and_from, cases_Bool, eqb-true, eq-eqb, leb-false, lt-leb, not-true, or_parts, eqb-false, ne_eqb}
+use Rattle.std.proofs.lemmas.Bool.{and_parts, and_from, leb-false, lt-leb, not-true, or_parts}
 use Rattle.std.proofs.lemmas.Option.{cond_some, same_Some}
 use Rattle.std.proofs.lemmas.List.{append-nil}
 use Rattle.std.proofs.lemmas.List.Folds.{list_any-append}
@@ -15,7 +15,7 @@ use Rattle.dms_text.specs.Octets.{SpellsOctets}
 use Rattle.dms_font.specs.Glyph.{GlyphModel, glyph_from}
 use Rattle.dms_font.specs.Font.{FontModel, has_glyph, are_distinct}
 use Rattle.dms_font.specs.FontText.{SpellsHeader, SpellsGlyph, SpellsGlyphs, SpellsFont}
-use Rattle.dms_font.specs.FontReading.{labelled_at, version_at, header_of, GlyphWords, glyph_words, are_enough, bitmap_of, bitmap_or, glyph_with, glyph_said, glyph_read, with_glyph, glyph_added, added_then, glyphs_added, font_with, font_of_lines, font_read, whole, fault, placed}
+use Rattle.dms_font.specs.FontReading.{labelled_at, version_at, header_of, GlyphWords, glyph_words, are_enough, bitmap_of, bitmap_or, glyph_with, glyph_said, glyph_read, with_glyph, glyph_added, added_then, glyphs_added, font_with, font_of_lines, font_read, whole, fault}
 use Rattle.dms_font.specs.declared.fault.FontFaultKind.{FontFaultKind}
 use Rattle.dms_font.specs.declared.fault.FontFaultKind.TheVariants.{Header, Glyph, Bitmap, Twice, TooMany}
 use Rattle.dms_font.specs.declared.fault.FontFault.{FontFault}
@@ -41,17 +41,14 @@ labelled_found label low high words found e =
 labelled_only : (label : List ℕ) (low high number : ℕ) (word : List ℕ) (rest : List (List ℕ)) → 0 < length label → SpellsDecimal low high number word
     → labelled_at label low high (label ∷ word ∷ rest) ≡ Some (number, rest)
 unfolding labelled_at
-labelled_only label low high number word rest some spelled =
-    goes_on _ _ _ (keyword_only label (word ∷ rest) some) ∙ decimal_only low high number word rest spelled
+labelled_only label low high number word rest some spelled = grind (arith, goes_on, keyword_only, decimal_only)
 
 pub ended : (words : List (List ℕ)) → is_end words ≡ true → words ≡ []
-ended [] e = refl
-ended (word ∷ words) e = absurd (let never : false ≡ true = e in cc)
+ended words e = grind arith
 
 -- what follows where a test holds
 tested : {A : Type 0} (b : Bool) (o : Option A) (y : A) → cond b o None ≡ Some y → (b ≡ true) × (o ≡ Some y)
-tested true o y e = (refl, e)
-tested false o y e = absurd (let none : None ≡ Some y = e in cc)
+tested b o y e = grind arith
 
 record FoundVersion (words : List (List ℕ)) (number : ℕ) : Type 0 where
   word : List ℕ
@@ -60,24 +57,11 @@ record FoundVersion (words : List (List ℕ)) (number : ℕ) : Type 0 where
 
 last_version_found : (words : List (List ℕ)) (number : ℕ) → version_at words ≡ Some number → FoundVersion words number
 unfolding version_at
-last_version_found words number e =
-    let read = begun _ _ _ e in
-    let found = begun _ _ _ read.2 in
-    let tests = tested _ _ _ found.2 in
-    record {
-      word = found.0.0;
-      words_are = keyword_found (codes "version") words read.0 read.1
-          ∙ ap (λ rest. codes "version" ∷ rest) ((word_found read.0 found.0 found.1).0)
-          ∙ ap (λ rest. codes "version" ∷ found.0.0 ∷ rest) (ended found.0.1 tests.0);
-      spelled = version_found number found.0.0 tests.1;
-    }
+last_version_found words number e = grind (arith, begun, tested, keyword_found, word_found, ended, version_found)
 
 last_version_only : (number : ℕ) (word : List ℕ) → SpellsVersion number word → version_at (codes "version" ∷ word ∷ []) ≡ Some number
 unfolding version_at
-last_version_only number word spelled =
-    goes_on _ _ _ (keyword_only (codes "version") (word ∷ []) (omega arith))
-    ∙ goes_on _ _ _ (word_only word [] spelled.spelled.numeral.0)
-    ∙ version_only number word spelled
+last_version_only number word spelled = grind (arith, goes_on, keyword_only, word_only, version_only)
 
 pub header_found : (words : List (List ℕ)) (font : FontModel) → header_of words ≡ Some font → SpellsHeader font words × (font.glyphs ≡ [])
 unfolding header_of
@@ -115,13 +99,7 @@ header_found words font e =
 
 pub header_only : (words : List (List ℕ)) (font : FontModel) → SpellsHeader font words → header_of words ≡ Some (record font { glyphs = [] })
 unfolding header_of
-header_only words font spelled =
-    ap header_of spelled.words_are
-    ∙ goes_on _ _ _ (labelled_only (codes "font") 1 255 font.number spelled.number_word _ (omega arith) spelled.number)
-    ∙ goes_on _ _ _ (labelled_only (codes "height") 1 32 font.height spelled.height_word _ (omega arith) spelled.height)
-    ∙ goes_on _ _ _ (labelled_only (codes "space") 0 32 font.character_spacing spelled.character_word _ (omega arith) spelled.character_spacing)
-    ∙ goes_on _ _ _ (labelled_only (codes "line") 0 32 font.line_spacing spelled.line_word _ (omega arith) spelled.line_spacing)
-    ∙ goes_on _ _ _ (last_version_only font.version spelled.version_word spelled.version)
+header_only words font spelled = grind (arith, goes_on, labelled_only, last_version_only)
 
 -- ---- a character's line
 
@@ -155,15 +133,11 @@ words_found words found e =
 
 bitmap_found : (width height : ℕ) (word octets : List ℕ) → bitmap_of width height word ≡ Some octets → SpellsOctets octets word × (are_enough width height octets ≡ true)
 unfolding bitmap_of
-bitmap_found width height word octets e =
-    let read = begun _ _ _ e in
-    let tests = cond_some _ _ _ read.2 in
-    (octets_found octets word (read.1 ∙ ap Some tests.1), subst (λ os. are_enough width height os ≡ true) tests.1 tests.0)
+bitmap_found width height word octets e = grind (arith, begun, cond_some, octets_found)
 
 bitmap_only : (width height : ℕ) (word octets : List ℕ) → SpellsOctets octets word → are_enough width height octets ≡ true → bitmap_of width height word ≡ Some octets
 unfolding bitmap_of
-bitmap_only width height word octets spelled enough =
-    goes_on _ _ _ (octets_only octets word spelled) ∙ ap (λ b. cond b (Some octets) None) enough
+bitmap_only width height word octets spelled enough = grind (arith, goes_on, octets_only)
 
 with_found : (height : ℕ) (words : List (List ℕ)) (found : GlyphWords) (bitmap : Option (List ℕ)) (glyph : GlyphModel) → FoundWords words found
     → bitmap_of found.width height found.bits ≡ bitmap → glyph_with found height (bitmap_or bitmap) ≡ Ok glyph → SpellsGlyph height glyph words
@@ -194,11 +168,7 @@ glyph_found height line glyph e = said_found height (words_of line) (glyph_words
 words_only : (character width : ℕ) (character_word width_word bits_word : List ℕ) → SpellsDecimal 1 65535 character character_word → SpellsDecimal 1 32 width width_word
     → 0 < length bits_word → glyph_words (codes "glyph" ∷ character_word ∷ width_word ∷ bits_word ∷ []) ≡ Some (record { character = character; width = width; bits = bits_word })
 unfolding glyph_words
-words_only character width character_word width_word bits_word at_character at_width some =
-    goes_on _ _ _ (keyword_only (codes "glyph") (character_word ∷ width_word ∷ bits_word ∷ []) (omega arith))
-    ∙ goes_on _ _ _ (decimal_only 1 65535 character character_word (width_word ∷ bits_word ∷ []) at_character)
-    ∙ goes_on _ _ _ (decimal_only 1 32 width width_word (bits_word ∷ []) at_width)
-    ∙ goes_on _ _ _ (word_only bits_word [] some)
+words_only character width character_word width_word bits_word at_character at_width some = grind (arith, goes_on, keyword_only, decimal_only, word_only)
 
 glyph_only : (height : ℕ) (line : List ℕ) (glyph : GlyphModel) → SpellsGlyph height glyph (words_of line) → glyph_read height line ≡ Ok glyph
 unfolding glyph_read
@@ -212,27 +182,15 @@ glyph_only height line glyph spelled =
 -- ---- each character once
 
 either_way : (p q d h : Bool) → (not (p || (q || false)) && (d && not h)) ≡ ((not p && d) && not (q || h))
-either_way true q d h = refl
-either_way false true true h = refl
-either_way false true false h = refl
-either_way false false true h = refl
-either_way false false false h = refl
+either_way p q d h = grind arith
 
 eqb_comm : (a b : ℕ) → (a == b) ≡ (b == a)
-eqb_comm a b = elim (cases_Bool (a == b)) [
-  | inl same ↦ same ∙ sym (eq-eqb b a (sym (eqb-true a b same)))
-  | inr other ↦ other ∙ sym (ne_eqb b a (λ e. eqb-false a b other (sym e)))
-]
+eqb_comm a b = grind arith
 
 -- a character more
 pub distinct_push : (glyphs : List GlyphModel) (glyph : GlyphModel) → are_distinct (glyphs ++ glyph ∷ []) ≡ (are_distinct glyphs && not (has_glyph glyphs glyph.character))
 distinct_push [] glyph = refl
-distinct_push (first ∷ glyphs) glyph =
-    let any : has_glyph (glyphs ++ glyph ∷ []) first.character ≡ (has_glyph glyphs first.character || ((glyph.character == first.character) || false)) =
-    list_any-append (λ (g : GlyphModel). g.character == first.character) glyphs (glyph ∷ []) in
-    ap (λ b. not b && are_distinct (glyphs ++ glyph ∷ [])) (any ∙ ap (λ q. has_glyph glyphs first.character || (q || false)) (eqb_comm glyph.character first.character))
-    ∙ ap (λ b. not (has_glyph glyphs first.character || ((first.character == glyph.character) || false)) && b) (distinct_push glyphs glyph)
-    ∙ either_way (has_glyph glyphs first.character) (first.character == glyph.character) (are_distinct glyphs) (has_glyph glyphs glyph.character)
+distinct_push (first ∷ glyphs) glyph = grind (arith, list_any-append, eqb_comm, either_way, distinct_push glyphs glyph)
 
 front_lacks : (p : GlyphModel → Bool) (xs ys : List GlyphModel) → list_any p (xs ++ ys) ≡ false → list_any p xs ≡ false
 front_lacks p [] ys e = refl
@@ -257,20 +215,7 @@ pub record OneMore (font : FontModel) (line : List ℕ) (longer : FontModel) : T
   pub longer_is : record font { glyphs = font.glyphs ++ glyph ∷ [] } ≡ longer
 
 more_with : (font : FontModel) (line : List ℕ) (read : Result GlyphModel FontFaultKind) (longer : FontModel) → glyph_read font.height line ≡ read → with_glyph font read ≡ Ok longer → OneMore font line longer
-more_with font line (Err kind) longer is e = absurd (let wrong : Err kind ≡ Ok longer = e in cc)
-more_with font line (Ok glyph) longer is e = by_tests (has_glyph font.glyphs glyph.character) (nat_le 255 (length font.glyphs)) refl refl e
-  where
-    by_tests : (twice many : Bool) → has_glyph font.glyphs glyph.character ≡ twice → nat_le 255 (length font.glyphs) ≡ many
-        → cond twice (Err Twice) (cond many (Err TooMany) (Ok (record font { glyphs = font.glyphs ++ glyph ∷ [] }))) ≡ Ok longer → OneMore font line longer
-    by_tests true many t m e = absurd (let wrong : Err Twice ≡ Ok longer = e in cc)
-    by_tests false true t m e = absurd (let wrong : Err TooMany ≡ Ok longer = e in cc)
-    by_tests false false t m e = record {
-      glyph = glyph;
-      spelled = glyph_found font.height line glyph is;
-      new = t;
-      few = leb-false _ _ m;
-      longer_is = let same : record font { glyphs = font.glyphs ++ glyph ∷ [] } ≡ longer = cc in same;
-    }
+more_with font line read longer is e = grind (arith, glyph_found, leb-false)
 
 pub added_found : (font : FontModel) (line : List ℕ) (longer : FontModel) → glyph_added font line ≡ Ok longer → OneMore font line longer
 unfolding glyph_added
@@ -296,21 +241,11 @@ pub record AllAdded (font : FontModel) (lines : List NumberedLine) (full : FontM
 
 then_found : (more : FontModel → Result FontModel FontFault) (number : ℕ) (read : Result FontModel FontFaultKind) (full : FontModel) → added_then more number read ≡ Ok full
     → (longer : FontModel) × (read ≡ Ok longer) × (more longer ≡ Ok full)
-then_found more number (Ok longer) full e = (longer, refl, e)
-then_found more number (Err kind) full e = absurd (let wrong : Err (placed kind number) ≡ Ok full = e in cc)
+then_found more number read full e = grind arith
 
 pub glyphs_found : (lines : List NumberedLine) (font full : FontModel) → glyphs_added font lines ≡ Ok full → AllAdded font lines full
 unfolding glyphs_added
-glyphs_found [] font full e =
-    let same : font ≡ full = cc in
-    let nothing : font.glyphs ++ [] ≡ font.glyphs = append-nil font.glyphs in
-    record {
-      glyphs = [];
-      full_is = ap (λ glyphs. record font { glyphs = glyphs }) nothing ∙ same;
-      spelled = refl;
-      few = λ few. omega (arith, ap length nothing);
-      distinct = λ distinct. ap are_distinct nothing ∙ distinct;
-    }
+glyphs_found [] font full e = grind (arith, append-nil, then_found, added_found, append_assoc, length-append, distinct_push, and_from)
 glyphs_found (line ∷ lines) font full e =
     let step = then_found (λ longer. glyphs_added longer lines) line.number (glyph_added font line.octets) full e in
     let one = added_found font line.octets step.0 step.1 in
@@ -346,19 +281,7 @@ glyphs_only (line ∷ lines) font (glyph ∷ glyphs) spelled distinct few =
 
 -- the header says nothing of the characters
 pub same_header : (font : FontModel) (glyphs : List GlyphModel) (words : List (List ℕ)) → SpellsHeader font words → SpellsHeader (record font { glyphs = glyphs }) words
-same_header font glyphs words spelled = record {
-  number_word = spelled.number_word;
-  height_word = spelled.height_word;
-  character_word = spelled.character_word;
-  line_word = spelled.line_word;
-  version_word = spelled.version_word;
-  words_are = spelled.words_are;
-  number = spelled.number;
-  height = spelled.height;
-  character_spacing = spelled.character_spacing;
-  line_spacing = spelled.line_spacing;
-  version = spelled.version;
-}
+same_header font glyphs words spelled = grind arith
 
 font_found_with : (text : List ℕ) (first : NumberedLine) (more : List NumberedLine) (header : Option FontModel) (font : FontModel) → lines_left (whole text) ≡ first ∷ more
     → header_of (words_of first.octets) ≡ header → font_with first.number more header ≡ Ok font → SpellsFont text font
@@ -378,8 +301,7 @@ font_found_with text first more (Some begun) font are is e =
     })
 
 font_found_in : (text : List ℕ) (missing : ℕ) (all : List NumberedLine) (font : FontModel) → lines_left (whole text) ≡ all → font_of_lines missing all ≡ Ok font → SpellsFont text font
-font_found_in text missing [] font are e = absurd (let wrong : Err (fault Header missing) ≡ Ok font = e in cc)
-font_found_in text missing (first ∷ more) font are e = font_found_with text first more (header_of (words_of first.octets)) font are refl e
+font_found_in text missing all font are e = grind (arith, font_found_with)
 
 pub font_found : (text : List ℕ) (font : FontModel) → font_read text ≡ Ok font → SpellsFont text font
 unfolding font_read

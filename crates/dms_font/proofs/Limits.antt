@@ -2,7 +2,7 @@
 use Rattle.std.proofs.Common.{◌≡◌, ℕ, ◌<◌, ◌≤◌, ◌*◌, false, not, List, [], ◌∷◌, ◌++◌, length, ap, ◌∙◌, arith, length-append}
 use Rattle.std.proofs.lemmas.Bool.{and_from}
 use Rattle.std.proofs.lemmas.List.Elements.{All-push}
-use Rattle.dms_font.specs.Glyph.{GlyphModel, IsPicture, bits_of, glyph_from}
+use Rattle.dms_font.specs.Glyph.{GlyphModel, IsPicture, glyph_from}
 use Rattle.dms_font.specs.Font.{FontModel, IsGlyph, IsFont, has_glyph}
 use Rattle.dms_font.proofs.Pictures.{length-rows_of}
 use Rattle.dms_font.proofs.RowLaws.{length-bits_of, widths_of}
@@ -10,16 +10,7 @@ use Rattle.dms_font.proofs.FontLaws.{distinct_push}
 
 -- a picture of enough octets
 pub picture_is_glyph : (character width height : ℕ) (octets : List ℕ) → IsPicture character width height octets → character ≤ 65535 → IsGlyph height (glyph_from character width height octets)
-picture_is_glyph character width height octets is greatest =
-    let same : height * width ≡ width * height = omega arith in
-    record {
-      least_character = is.least_character;
-      greatest_character = greatest;
-      least_width = is.least_width;
-      greatest_width = is.greatest_width;
-      height_is = length-rows_of width height (bits_of octets);
-      width_is = widths_of width height (bits_of octets) (omega (arith, is.room, length-bits_of octets));
-    }
+picture_is_glyph character width height octets is greatest = grind (arith, length-rows_of, widths_of, length-bits_of)
 
 pub ruleset limits = (picture_is_glyph)
 

@@ -1,5 +1,5 @@
 -- The bits of a picture, and the octets that hold them.
-use Rattle.std.proofs.Common.{◌≡◌, ℕ, zero, suc, ◌+◌, ◌-◌, ◌*◌, ◌/◌, ◌%◌, ◌^◌, ◌==◌, ◌<◌, Bool, false, List, [], ◌∷◌, ◌++◌, length, take, drop, get_or, refl, sym, ap, ◌∙◌, arith}
+use Rattle.std.proofs.Common.{◌≡◌, ℕ, zero, suc, ◌+◌, ◌-◌, ◌*◌, ◌/◌, ◌%◌, ◌^◌, ◌==◌, ◌<◌, Bool, false, List, [], ◌∷◌, ◌++◌, length, take, drop, get_or, refl, ap, ◌∙◌, arith}
 use Rattle.std.specs.Prelude.{bit_and}
 use Rattle.std.proofs.lemmas.Grind.{common_steps}
 use Rattle.std.proofs.lemmas.List.{get_or_append_left, get_or-append-add, drop-drop}
@@ -35,20 +35,15 @@ length-rows_of width (suc height) bits = ap suc (length-rows_of width height (dr
 pub row_at : (width height row : ℕ) (bits : List Bool) → row < height → get_or (rows_of width height bits) row [] ≡ take width (drop (row * width) bits)
 row_at width zero row bits below = absurd (omega arith)
 row_at width (suc height) zero bits below = ap (λ k. take width (drop k bits)) (let e : 0 ≡ 0 * width = omega arith in e)
-row_at width (suc height) (suc row) bits below =
-    row_at width height row (drop width bits) (omega arith) ∙ ap (take width) (drop-drop (row * width) width bits)
-    ∙ ap (λ k. take width (drop k bits)) (let e : width + row * width ≡ suc row * width = omega arith in e)
+row_at width (suc height) (suc row) bits below = grind (arith, drop-drop, row_at width height row (drop width bits) (omega arith))
 
 bit_one : (n : ℕ) → bit_and n 1 ≡ n % 2
 bit_one n = grind (arith, common_steps)
 
 place_bit : (octets : List ℕ) (place : ℕ) → place < 8 * length octets → get_or (bits_of octets) place false ≡ has_bit (get_or octets (place / 8) 0) (place % 8)
-place_bit octets place below =
-    let parts : place ≡ 8 * (place / 8) + place % 8 = omega arith in
-    ap (λ k. get_or (bits_of octets) k false) parts ∙ bit_at octets (place / 8) (place % 8) (omega arith) (omega arith)
+place_bit octets place below = grind (arith, get_or, bit_at)
 
 -- the test of a bit
 pub tested_bit : (octets : List ℕ) (place octet : ℕ) → place < 8 * length octets → octet ≡ get_or octets (place / 8) 0
     → (bit_and (octet / 2 ^ (7 - place % 8)) 1 == 1) ≡ get_or (bits_of octets) place false
-tested_bit octets place octet below is =
-    ap (λ n. n == 1) (bit_one (octet / 2 ^ (7 - place % 8))) ∙ ap (λ o. has_bit o (place % 8)) is ∙ sym (place_bit octets place below)
+tested_bit octets place octet below is = grind (arith, bit_one, place_bit)

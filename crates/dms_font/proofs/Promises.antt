@@ -1,5 +1,5 @@
 -- What `from_text` promises, of what it reads.
-use Rattle.std.proofs.Common.{◌≡◌, ℕ, List, Result, Ok, Err, sym, ap, ◌∙◌, ◌⊎◌, inl, inr}
+use Rattle.std.proofs.Common.{◌≡◌, ℕ, List, Result, Ok, Err, sym, ap, ◌∙◌, ◌⊎◌, inl, inr, arith}
 use Rattle.std.specs.Prelude.{IfOk, IfErr}
 use Rattle.dms_font.specs.Font.{FontModel}
 use Rattle.dms_font.specs.FontText.{SpellsFont}
@@ -10,8 +10,7 @@ use Rattle.dms_font.specs.declared.fault.FontFaultKind.TheVariants.{Memory}
 use Rattle.dms_font.proofs.FontLaws.{font_found, font_only}
 
 pub is_found : (text : List ℕ) (result : Result FontModel FontFault) → ReadsOrMemory result (font_read text) → IfOk result (λ (font : FontModel). SpellsFont text font)
-is_found text (Ok font) read = font_found text font read
-is_found text (Err found) read = tt
+is_found text result read = grind (arith, font_found)
 
 pub is_only : (text : List ℕ) (result : Result FontModel FontFault) → ReadsOrMemory result (font_read text)
     → (font : FontModel) → SpellsFont text font → (result ≡ Ok font) ⊎ (result ≡ Err (fault Memory 0))

@@ -14,18 +14,11 @@ length-bits_of (octet ∷ octets) = omega (arith, length-append (octet_bits octe
 -- bits are their rows, and what is after them
 rows_and_rest : (width height : ℕ) (bits : List Bool) → bits ≡ joined (rows_of width height bits) ++ drop (height * width) bits
 rows_and_rest width zero bits = ap (λ k. drop k bits) (let e : 0 ≡ 0 * width = omega arith in e)
-rows_and_rest width (suc height) bits =
-    let dropped : drop (height * width) (drop width bits) ≡ drop (suc height * width) bits =
-    drop-drop (height * width) width bits ∙ ap (λ k. drop k bits) (let e : width + height * width ≡ suc height * width = omega arith in e) in
-    sym (take-append-drop width bits) ∙ ap (λ rest. take width bits ++ rest) (rows_and_rest width height (drop width bits))
-    ∙ sym (append_assoc (take width bits) (joined (rows_of width height (drop width bits))) (drop (height * width) (drop width bits)))
-    ∙ ap (λ rest. (take width bits ++ joined (rows_of width height (drop width bits))) ++ rest) dropped
+rows_and_rest width (suc height) bits = grind (arith, drop-drop, take-append-drop, append_assoc, rows_and_rest width height (drop width bits))
 
 pub widths_of : (width height : ℕ) (bits : List Bool) → height * width ≤ length bits → AllByRecursion (λ row. length row ≡ width) (rows_of width height bits)
 widths_of width zero bits room = tt
-widths_of width (suc height) bits room =
-    let all : suc height * width ≡ width + height * width = omega arith in
-    (omega (arith, length-take width bits), widths_of width height (drop width bits) (omega (arith, length-drop width bits)))
+widths_of width (suc height) bits room = grind (arith, length-take, length-drop, widths_of width height (drop width bits) (omega (arith, length-drop width bits)))
 
 pub rows_found : (width height : ℕ) (octets : List ℕ) → are_enough width height octets ≡ true → SpellsRows width height (rows_of width height (bits_of octets)) octets
 rows_found width height octets enough =
@@ -42,9 +35,7 @@ rows_found width height octets enough =
 
 length-joined : (width : ℕ) (rows : List (List Bool)) → AllByRecursion (λ row. length row ≡ width) rows → length (joined rows) ≡ length rows * width
 length-joined width [] widths = omega arith
-length-joined width (row ∷ rows) widths =
-    let more : suc (length rows) * width ≡ width + length rows * width = omega arith in
-    omega (arith, length-append row (joined rows), widths.0, length-joined width rows widths.1)
+length-joined width (row ∷ rows) widths = grind (arith, length-append, length-joined width rows widths.1)
 
 -- rows of one width are cut again as they were
 rows_again : (width : ℕ) (rows : List (List Bool)) (padding : List Bool) → AllByRecursion (λ row. length row ≡ width) rows

@@ -5,7 +5,7 @@ use Rattle.std.proofs.Math.Nat.{pow-suc}
 use Rattle.std.proofs.Math.Pow.{pow_mono}
 use Rattle.std.proofs.lemmas.Bool.{cases_lt}
 use Rattle.std.proofs.lemmas.Nat.{pow_pos}
-use Rattle.std.proofs.lemmas.Nat.Bits.{bit_at-zero, bit_at-suc, bit_at_lowest, bit_at_above}
+use Rattle.std.proofs.lemmas.Nat.Bits.{bit_at-zero, bit_at-suc, bit_at_above}
 use Rattle.std.proofs.lemmas.List.{length-map, get_or-map, get_or_past, take_more, take_more_set, take_all, map_more}
 use Rattle.std.proofs.lemmas.List.FromFn.{length-map-range_with_len, get_or-map-range_with_len}
 use Rattle.dms_font.specs.Glyph.{GlyphModel, lit_at, is_bit, row_bits, row_number, glyph_of_rows, glyph_from, bits_of, rows_of, AreRows, IsPicture}
@@ -18,16 +18,14 @@ abbrev bit_value : Bool → ℕ
 bit_value bit = if bit then 1 else 0
 
 bit_value_below : (bit : Bool) → bit_value bit < 2
-bit_value_below true = omega arith
-bit_value_below false = omega arith
+bit_value_below bit = grind arith
 
 pub number_below : (bits : List Bool) → row_number bits < 2 ^ length bits
 number_below [] = omega arith
 number_below (bit ∷ bits) = omega (arith, number_below bits, bit_value_below bit, pow-suc 2 (length bits))
 
 lowest_is : (bit : Bool) (n : ℕ) → is_bit (bit_value bit + 2 * n) 0 ≡ bit
-lowest_is true n = ap (λ d. d == 1) (bit_at_lowest (1 + 2 * n) ∙ (let e : (1 + 2 * n) % 2 ≡ 1 = omega arith in e))
-lowest_is false n = ap (λ d. d == 1) (bit_at_lowest (0 + 2 * n) ∙ (let e : (0 + 2 * n) % 2 ≡ 0 = omega arith in e))
+lowest_is bit n = grind arith
 
 half_is : (bit : Bool) (n : ℕ) → (bit_value bit + 2 * n) / 2 ≡ n
 half_is bit n = omega (arith, bit_value_below bit)
@@ -51,14 +49,7 @@ bits_again (bit ∷ bits) =
 -- one column more
 number_more : (bits : List Bool) (bit : Bool) → row_number (bits ++ bit ∷ []) ≡ row_number bits + bit_value bit * 2 ^ length bits
 number_more [] bit = omega arith
-number_more (first ∷ bits) bit =
-    let last = bit_value bit * 2 ^ length bits in
-    let twice : bit_value bit * 2 ^ suc (length bits) ≡ 2 * last = one_or_none bit (length bits) in
-    omega (arith, number_more bits bit)
-  where
-    one_or_none : (bit : Bool) (k : ℕ) → bit_value bit * 2 ^ suc k ≡ 2 * (bit_value bit * 2 ^ k)
-    one_or_none true k = omega (arith, pow-suc 2 k)
-    one_or_none false k = omega arith
+number_more (first ∷ bits) bit = grind (arith, pow-suc, number_more bits bit)
 
 -- the first columns of a row
 pub one_column_more : (bits : List Bool) (column : ℕ) (bit : Bool) → column < length bits → get_or bits column false ≡ bit
@@ -70,9 +61,7 @@ one_column_more bits column bit below is =
     ∙ ap (λ k. row_number (take column bits) + bit_value bit * 2 ^ k) long
 
 pub number_small : (bits : List Bool) (column : ℕ) → row_number (take column bits) < 2 ^ column
-number_small bits column =
-    let short : length (take column bits) ≤ column = omega (arith, length-take column bits) in
-    omega (arith, number_below (take column bits), pow_mono short)
+number_small bits column = grind (arith, length-take, number_below, pow_mono)
 
 -- ---- all rows
 
@@ -90,32 +79,12 @@ one_row_more width height row first number bits rows below inside at so_far is =
 -- all of them
 pub all_rows : (width height row : ℕ) (bits : List Bool) (rows : List ℕ) → row ≡ height → take row rows ≡ map row_number (take row (rows_of width height bits))
     → take height rows ≡ map row_number (rows_of width height bits)
-all_rows width height row bits rows is so_far =
-    ap (λ k. take k rows) (sym is) ∙ so_far ∙ ap (map row_number) (take_all row (rows_of width height bits) (omega (arith, length-rows_of width height bits)))
+all_rows width height row bits rows is so_far = grind (arith, take_all, length-rows_of)
 
 -- a row of numbers has a bit where its number has it
 pub lit_in_rows : (character width height : ℕ) (rows : List ℕ) (column row : ℕ) → AreRows character width height rows
     → is_bit (get_or rows row 0) column ≡ lit_at (glyph_of_rows character width rows) column row
-lit_in_rows character width height rows column row are =
-    elim (cases_lt row (length rows)) [
-      | inl below ↦
-          let number = get_or rows row 0 in
-          let there : get_or (map (row_bits width) rows) row [] ≡ row_bits width number = get_or-map (row_bits width) rows row 0 [] below in
-          column_of number column (are.within row) ∙ sym (ap (λ bits. get_or bits column false) there)
-      | inr past ↦
-          let none : get_or (map (row_bits width) rows) row [] ≡ [] = get_or_past (map (row_bits width) rows) row [] (omega (arith, length-map rows (row_bits width))) in
-          ap (λ n. is_bit n column) (get_or_past rows row 0 past) ∙ ap (λ d. d == 1) (bit_at-zero column)
-          ∙ sym (ap (λ bits. get_or bits column false) none ∙ get_or_past [] column false (omega arith))
-    ]
-  where
-    column_of : (number column : ℕ) → number < 2 ^ width → is_bit number column ≡ get_or (row_bits width number) column false
-    column_of number column small =
-        elim (cases_lt column width) [
-          | inl inside ↦ sym (get_or-map-range_with_len (is_bit number) 0 width column column false inside (omega arith))
-          | inr beside ↦
-              ap (λ d. d == 1) (bit_at_above number width column small beside)
-              ∙ sym (get_or_past (row_bits width number) column false (omega (arith, length-map-range_with_len (is_bit number) 0 width)))
-        ]
+lit_in_rows character width height rows column row are = grind (arith, cases_lt, get_or, get_or-map, get_or_past, length-map, bit_at-zero, get_or-map-range_with_len, bit_at_above, length-map-range_with_len)
 
 -- where there is a bit
 pub lit_within : (character width : ℕ) (rows : List ℕ) (column row : ℕ) → lit_at (glyph_of_rows character width rows) column row ≡ true → column < width × row < length rows
@@ -148,9 +117,7 @@ numbers_within width (first ∷ rows) widths zero = subst (λ w. row_number firs
 numbers_within width (first ∷ rows) widths (suc row) = numbers_within width rows widths.1 row
 
 all_wide : (character width height : ℕ) (octets : List ℕ) → IsPicture character width height octets → AllByRecursion (λ row. length row ≡ width) (rows_of width height (bits_of octets))
-all_wide character width height octets is =
-    let same : height * width ≡ width * height = omega arith in
-    widths_of width height (bits_of octets) (omega (arith, is.room, length-bits_of octets))
+all_wide character width height octets is = grind (arith, widths_of, length-bits_of)
 
 -- The numbers of a picture's rows are that picture.
 pub rows_are_picture : (character width height : ℕ) (octets rows : List ℕ) → IsPicture character width height octets → rows ≡ map row_number (rows_of width height (bits_of octets))

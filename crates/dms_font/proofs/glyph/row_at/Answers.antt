@@ -12,12 +12,7 @@ use Rattle.dms_font.proofs.glyph.row_at.Goals as goal
 use Rattle.dms_font.proofs.glyph.row_at.Goals.{then-bits-place-eq1, else-bits-place-eq1}
 
 pub overflow_add-number : goal.overflow_add-number
-overflow_add-number c =
-    let column = c.loop-column.column in
-    let inside : column < 32 = omega (arith, c.requires.width) in
-    let small : c.loop-column.number < 2 ^ column = omega (arith, c.loop-column.invariant, number_small (drop c.args.first (bits_of c.args.bits.now)) column) in
-    let below : column ≤ 31 = omega arith in
-    omega (arith, small, one_shl column 32 inside, pow_mono below)
+overflow_add-number c = grind (arith, number_small, one_shl, pow_mono)
 
 pub loop-column-preserved : goal.loop-column-preserved
 loop-column-preserved c =

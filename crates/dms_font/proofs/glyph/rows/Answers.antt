@@ -1,4 +1,4 @@
-use Rattle.std.proofs.Common.{◌∙◌, ◌*◌, refl, ap, arith}
+use Rattle.std.proofs.Common.{◌∙◌, ◌*◌, refl, arith}
 use Rattle.std.proofs.lemmas.List.{length-set}
 use Rattle.dms_font.specs.Glyph.{bits_of}
 use Rattle.dms_font.proofs.RowNumbers.{one_row_more, all_rows}
@@ -8,12 +8,7 @@ pub loop-row-init : goal.loop-row-init
 loop-row-init c = record { front = refl; long = refl }
 
 pub loop-row-preserved : goal.loop-row-preserved
-loop-row-preserved c = record {
-  front = one_row_more c.args.width c.args.height c.loop-row.row _ c.row_at.result (bits_of c.args.bits.now) c.loop-row.rows
-      (omega (arith, c.from-row-end.ensures)) (omega (arith, c.loop-row.invariant.long, c.requires.height, c.from-row-end.ensures))
-      (ap (λ w. c.loop-row.row * w) c.from.ensures) c.loop-row.invariant.front c.row_at.ensures;
-  long = length-set c.loop-row.rows c.loop-row.row c.row_at.result ∙ c.loop-row.invariant.long;
-}
+loop-row-preserved c = grind (arith, one_row_more, length-set)
 
 pub returns : goal.returns
 returns c = all_rows c.args.width c.args.height c.loop-row.row (bits_of c.args.bits.now) c.loop-row.rows (omega (arith, c.from-row-end.ensures)) c.loop-row.invariant.front

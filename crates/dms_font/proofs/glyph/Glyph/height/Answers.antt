@@ -1,13 +1,11 @@
-use Rattle.std.proofs.Common.{◌≡◌, ◌∙◌, ℕ, ◌<◌, true, length, take, sym, ap, subst, arith}
+use Rattle.std.proofs.Common.{◌≡◌, ◌∙◌, ℕ, ◌<◌, true, take, subst, arith}
 use Rattle.std.proofs.lemmas.List.{length-map}
-use Rattle.dms_font.specs.Glyph.{GlyphModel, lit_at, row_bits}
+use Rattle.dms_font.specs.Glyph.{GlyphModel, lit_at}
 use Rattle.dms_font.proofs.RowNumbers.{lit_within}
 use Rattle.dms_font.proofs.glyph.Glyph.height.Goals as goal
 
 pub returns-clause-rows : goal.returns-clause-rows
-returns-clause-rows c =
-    let glyph = c.self.inside in
-    sym c.self.invariant.height_is ∙ sym (length-map (take glyph.height glyph.rows) (row_bits glyph.width)) ∙ ap (λ (g : GlyphModel). length g.rows) c.self.view_is
+returns-clause-rows c = grind (arith, length-map)
 
 pub returns-clause-inside : goal.returns-clause-inside
 returns-clause-inside c =
