@@ -1,12 +1,11 @@
 -- In a good text no two characters light one cell.
-use Rattle.std.proofs.Common.{◌≡◌, ℕ, zero, suc, ◌+◌, ◌-◌, ◌<◌, ◌≤◌, ◌==◌, ◌&&◌, ◌⊎◌, inl, inr, Bool, true, false, cond, not, List, [], ◌∷◌, ◌++◌, length, map, fold, take, max, nat_lt, nat_le, Option, Some, None, unwrap_or, refl, sym, ap, subst, ◌∙◌, arith, slice_index_or}
+use Rattle.std.proofs.Common.{◌≡◌, ℕ, zero, suc, ◌+◌, ◌-◌, ◌<◌, ◌≤◌, ◌==◌, ◌&&◌, ◌⊎◌, Bool, true, false, cond, List, [], ◌∷◌, ◌++◌, length, map, fold, take, max, nat_lt, nat_le, Option, unwrap_or, refl, sym, ap, subst, ◌∙◌, arith, slice_index_or}
 use Rattle.std.specs.Prelude.{All, IfSome, filter, flat_map}
-use Rattle.std.specs.List.{AllByRecursion, count_by, list_all, list_any}
+use Rattle.std.specs.List.{AllByRecursion, count_by, list_all}
 use Rattle.std.proofs.lemmas.Bool.Decides.{nat_tests}
 use Rattle.std.proofs.lemmas.List.Sums.{sum_by-cons}
 use Rattle.std.proofs.lemmas.List.Elements.{All-from_recursion, recursion_from_All}
 use Rattle.std.proofs.Math.Nat.{le-max_left, le-max_right}
-use Rattle.std.proofs.lemmas.Bool.{cases_lt, or_parts, not-true}
 use Rattle.dms_multi.specs.declared.item.Item.{Item}
 use Rattle.dms_multi.specs.declared.item.Item.TheVariants.{Char, Background, Foreground, Font, FlashOn, FlashEnd, JustLine, JustPage, NewLine, NewPage, PageTime}
 use Rattle.dms_multi.specs.Outcomes.{items_of}
@@ -51,8 +50,7 @@ every_flat P f [] all = tt
 every_flat P f (x ∷ xs) all = let parts = every_parts P (f x) (flat_map f xs) all in (parts.0, every_flat P f xs parts.1)
 
 kept_or_not : {A : Type 0} (P : A → Type 0) (b : Bool) (x : A) (xs : List A) → P x → AllByRecursion P xs → AllByRecursion P (cond b (x ∷ xs) xs)
-kept_or_not P true x xs first rest = (first, rest)
-kept_or_not P false x xs first rest = rest
+kept_or_not P b x xs first rest = grind arith
 
 every_filter : {A : Type 0} (P : A → Type 0) (test : A → Bool) (xs : List A) → AllByRecursion P xs → AllByRecursion P (filter test xs)
 every_filter P test [] all = tt
@@ -81,18 +79,14 @@ counted p [] = refl
 counted p (x ∷ xs) = sum_by-cons (λ it. cond (p it) 1 0) x xs ∙ ap (λ n. cond (p x) 1 0 + n) (counted p xs)
 
 one_fewer : (a b : Bool) (m n : ℕ) → (a ≡ true → b ≡ true) → m ≤ n → cond a 1 0 + m ≤ cond b 1 0 + n
-one_fewer false false m n implied le = omega (arith, le)
-one_fewer false true m n implied le = omega (arith, le)
-one_fewer true true m n implied le = omega (arith, le)
-one_fewer true false m n implied le = absurd (let wrong : false ≡ true = implied refl in cc)
+one_fewer a b m n implied le = grind arith
 
 fewer : {A : Type 0} (p q : A → Bool) (xs : List A) → AllByRecursion (λ x. p x ≡ true → q x ≡ true) xs → tally p xs ≤ tally q xs
 fewer p q [] all = omega arith
 fewer p q (x ∷ xs) all = one_fewer (p x) (q x) (tally p xs) (tally q xs) all.0 (fewer p q xs all.1)
 
 one_none : (a : Bool) (m : ℕ) → (a ≡ true → ⊥) → m ≡ 0 → cond a 1 0 + m ≡ 0
-one_none false m never none = omega (arith, none)
-one_none true m never none = absurd (never refl)
+one_none a m never p = grind arith
 
 none_pass : {A : Type 0} (p : A → Bool) (xs : List A) → AllByRecursion (λ x. p x ≡ true → ⊥) xs → tally p xs ≡ 0
 none_pass p [] all = refl
@@ -101,11 +95,7 @@ none_pass p (x ∷ xs) all = one_none (p x) (tally p xs) all.0 (none_pass p xs a
 tally_flat : {A B : Type 0} (p : B → Bool) (g : A → List B) (q : A → Bool) (xs : List A) → AllByRecursion (λ x. tally p (g x) ≤ cond (q x) 1 0) xs
     → tally p (flat_map g xs) ≤ tally q xs
 tally_flat p g q [] all = omega arith
-tally_flat p g q (x ∷ xs) all =
-    let more : tally p (flat_map g xs) ≤ tally q xs = tally_flat p g q xs all.1 in
-    let parts : tally p (g x ++ flat_map g xs) ≡ tally p (g x) + tally p (flat_map g xs) = tally_append p (g x) (flat_map g xs) in
-    let first : tally p (g x) ≤ cond (q x) 1 0 = all.0 in
-    omega (arith, more, parts, first)
+tally_flat p g q (x ∷ xs) all = grind (arith, tally_append, tally_flat p g q xs all.1)
 
 -- ---- blocks in a row cover no point twice
 
@@ -118,47 +108,22 @@ record Cover (first size c n : ℕ) : Type 0 where
 abbrev covers : {A : Type 0} → (A → Block) → ℕ → ℕ × A → Bool
 covers block c placed = nat_le placed.0 c && nat_lt c (placed.0 + (block placed.1).size)
 
-at_most_one : (b : Bool) → cond b 1 0 ≤ 1
-at_most_one true = omega arith
-at_most_one false = omega arith
-
-and_none : (a : Bool) → ◌≡◌ {A = ℕ} (cond (a && false) 1 0) 0
-and_none true = refl
-and_none false = refl
-
 alone : (first size c : ℕ) → Cover first size c (cond (nat_le first c && nat_lt c (first + size)) 1 0)
-alone first size c = record {
-  one = at_most_one (nat_le first c && nat_lt c (first + size));
-  before = λ less. let less_is : nat_le first c ≡ false = grind (arith, nat_tests) in ap (λ b. cond (b && nat_lt c (first + size)) 1 0) less_is;
-  after = λ past. let past_is : nat_lt c (first + size) ≡ false = grind (arith, nat_tests) in ap (λ b. cond (nat_le first c && b) 1 0) past_is ∙ and_none (nat_le first c);
-}
+alone first size c = grind arith
 
 joined : (first size gap more c m n : ℕ) → Cover first size c m → Cover (first + size + gap) more c n → Cover first (size + gap + more) c (m + n)
-joined first size gap more c m n a b = record {
-  one = elim (cases_lt c (first + size + gap)) [
-    | inl less ↦ let none : n ≡ 0 = b.before less in let few : m ≤ 1 = a.one in omega (arith, none, few)
-    | inr past ↦ let none : m ≡ 0 = a.after (omega (arith, past)) in let few : n ≤ 1 = b.one in omega (arith, none, few)
-  ];
-  before = λ less. let left : m ≡ 0 = a.before less in let right : n ≡ 0 = b.before (omega (arith, less)) in omega (arith, left, right);
-  after = λ past. let left : m ≡ 0 = a.after (omega (arith, past)) in let right : n ≡ 0 = b.after (omega (arith, past)) in omega (arith, left, right);
-}
+joined first size gap more c m n a b = grind arith
 
 placed_cover : {A : Type 0} (block : A → Block) (first : ℕ) (xs : List A) (c : ℕ)
     → Cover first (extent (map block xs)) c (tally (covers block c) (placed_from block first xs))
 placed_cover block first [] c = record { one = omega arith; before = λ less. refl; after = λ past. refl }
-placed_cover block first (x ∷ []) c =
-    let n : ℕ = cond (nat_le first c && nat_lt c (first + (block x).size)) 1 0 in
-    let same : n ≡ n + 0 = omega arith in
-    subst (Cover first (block x).size c) same (alone first (block x).size c)
-placed_cover block first (x ∷ y ∷ rest) c =
-    joined first (block x).size (gap_between (block x) (block y)) (extent (map block (y ∷ rest))) c _ _ (alone first (block x).size c)
-    (placed_cover block (first + (block x).size + gap_between (block x) (block y)) (y ∷ rest) c)
+placed_cover block first (x ∷ []) c = grind (arith, nat_le, nat_lt, alone, joined)
+placed_cover block first (x ∷ y ∷ rest) c = grind (arith, nat_le, nat_lt, alone, joined, placed_cover block (first + (block x).size + gap_between (block x) (block y)) (y ∷ rest) c)
 
 -- ---- blocks at three places
 
 kept_one : {A : Type 0} (block : A → Block) (b : Bool) (x : A) (xs : List A) → map block (cond b (x ∷ xs) xs) ≡ cond b (block x ∷ map block xs) (map block xs)
-kept_one block true x xs = refl
-kept_one block false x xs = refl
+kept_one block b x xs = grind arith
 
 kept : {A : Type 0} (block : A → Block) (place : Place) (xs : List A) → map block (filter (λ x. is_at place (block x)) xs) ≡ at_place place (map block xs)
 kept block place [] = refl
@@ -174,45 +139,16 @@ side_of block whole xs place = placed_from block (first_of block whole xs place)
 
 side_cover : {A : Type 0} (block : A → Block) (whole : ℕ) (xs : List A) (c : ℕ) (place : Place)
     → Cover (first_of block whole xs place) (extent_at place (map block xs)) c (tally (covers block c) (side_of block whole xs place))
-side_cover block whole xs c place =
-    subst (λ size. Cover (first_of block whole xs place) size c (tally (covers block c) (side_of block whole xs place))) (ap extent (kept block place xs))
-    (placed_cover block (first_of block whole xs place) (filter (λ x. is_at place (block x)) xs) c)
+side_cover block whole xs c place = grind (arith, kept, placed_cover)
 
 apart : (c : ℕ) (a b : Span) (m n : ℕ) → overlap a b ≡ false → Cover a.first a.size c m → Cover b.first b.size c n → (m ≡ 0) ⊎ (n ≡ 0)
-apart c a b m n free left right = elim (cases_lt c a.first) [
-  | inl less ↦ inl (left.before less)
-  | inr from_a ↦ elim (cases_lt c (a.first + a.size)) [
-    | inr past ↦ inl (left.after past)
-    | inl to_a ↦ elim (cases_lt c b.first) [
-      | inl less ↦ inr (right.before less)
-      | inr from_b ↦ elim (cases_lt c (b.first + b.size)) [
-        | inr past ↦ inr (right.after past)
-        | inl to_b ↦ absurd (let met : overlap a b ≡ true = grind (arith, nat_tests) in let wrong : true ≡ false = sym met ∙ free in cc)
-      ]
-    ]
-  ]
-]
+apart c a b m n free left right = grind arith
 
 three : (m n k : ℕ) → m ≤ 1 → n ≤ 1 → k ≤ 1 → (m ≡ 0) ⊎ (n ≡ 0) → (m ≡ 0) ⊎ (k ≡ 0) → (n ≡ 0) ⊎ (k ≡ 0) → m + (n + (k + 0)) ≤ 1
-three m n k few_m few_n few_k mn mk nk = elim mn [
-  | inl m_none ↦ elim nk [
-    | inl n_none ↦ omega (arith, m_none, n_none, few_k)
-    | inr k_none ↦ omega (arith, m_none, k_none, few_n)
-  ]
-  | inr n_none ↦ elim mk [
-    | inl m_none ↦ omega (arith, m_none, n_none, few_k)
-    | inr k_none ↦ omega (arith, n_none, k_none, few_m)
-  ]
-]
+three m n k few_m few_n few_k mn mk nk = grind arith
 
 rooms : (whole : ℕ) (a b c : Span) → have_room whole (a ∷ b ∷ c ∷ []) ≡ true → (overlap a b ≡ false) × (overlap a c ≡ false) × (overlap b c ≡ false)
-rooms whole a b c room =
-    let outer = both (nat_le a.size whole && not (list_any (overlap a) (b ∷ c ∷ []))) (have_room whole (b ∷ c ∷ [])) room in
-    let first = both (nat_le a.size whole) (not (list_any (overlap a) (b ∷ c ∷ []))) outer.0 in
-    let others = or_parts (overlap a b) (list_any (overlap a) (c ∷ [])) (not-true (list_any (overlap a) (b ∷ c ∷ [])) first.1) in
-    let inner = both (nat_le b.size whole && not (list_any (overlap b) (c ∷ []))) (have_room whole (c ∷ [])) outer.1 in
-    let second = both (nat_le b.size whole) (not (list_any (overlap b) (c ∷ []))) inner.0 in
-    (others.0, (or_parts (overlap a c) false others.1).0, (or_parts (overlap b c) false (not-true (list_any (overlap b) (c ∷ [])) second.1)).0)
+rooms whole a b c room = grind arith
 
 spread_cover : {A : Type 0} (block : A → Block) (whole : ℕ) (xs : List A) → blocks_fit whole (map block xs) ≡ true
     → (c : ℕ) → tally (covers block c) (spread block whole xs) ≤ 1
@@ -254,10 +190,7 @@ bit_there (b ∷ row) (suc i) lit = let more : i < length row = bit_there row i 
 row_there : (width column : ℕ) (rows : List (List Bool)) (i : ℕ) → AllByRecursion (λ row. length row ≡ width) rows
     → slice_index_or (slice_index_or rows i []) column false ≡ true → (column < width) × (i < length rows)
 row_there width column [] i all lit = absurd (let wrong : false ≡ true = lit in cc)
-row_there width column (row ∷ rows) zero all lit =
-    let there : column < length row = bit_there row column lit in
-    let same : length row ≡ width = all.0 in
-    (omega (arith, there, same), omega arith)
+row_there width column (row ∷ rows) zero all lit = grind (arith, bit_there)
 row_there width column (row ∷ rows) (suc i) all lit = let more = row_there width column rows i all.1 lit in (more.0, (let less : i < length rows = more.1 in omega (arith, less)))
 
 abbrev IsPictured : Character → Type 0
@@ -285,12 +218,7 @@ lit_covers x y top line placed pictured low lit =
 
 bounded : {A : Type 0} (f : A → ℕ) (xs : List A) (a : ℕ) → (a ≤ fold max a (map f xs)) × AllByRecursion (λ x. f x ≤ fold max a (map f xs)) xs
 bounded f [] a = (omega arith, tt)
-bounded f (x ∷ xs) a =
-    let more = bounded f xs (max a (f x)) in
-    let most : max a (f x) ≤ fold max (max a (f x)) (map f xs) = more.0 in
-    let left : a ≤ max a (f x) = le-max_left a (f x) in
-    let right : f x ≤ max a (f x) = le-max_right a (f x) in
-    (omega (arith, most, left), (omega (arith, most, right), more.1))
+bounded f (x ∷ xs) a = grind (arith, le-max_left, le-max_right, bounded f xs (max a (f x)))
 
 heights_of : (line : Line) (characters : List Character) → line.characters ≡ characters
     → AllByRecursion (λ (it : Character). it.style.font.height ≤ line_height line) characters
@@ -361,18 +289,7 @@ font_is : (face : FaceModel) → AllByRecursion HasPictures face.fonts → (numb
 font_is face fonts number = if_found HasPictures (λ (font : FontModel). font.number == number) face.fonts fonts
 
 said_font : (face : FaceModel) → AllByRecursion HasPictures face.fonts → (item : Item) → IfSome (font_said face item) HasPictures
-said_font face fonts (Font None) = font_is face fonts face.defaults.font
-said_font face fonts (Font (Some wanted)) = font_is face fonts wanted.0
-said_font face fonts (Char character) = tt
-said_font face fonts (Background colour) = tt
-said_font face fonts (Foreground colour) = tt
-said_font face fonts (FlashOn first lit dark) = tt
-said_font face fonts FlashEnd = tt
-said_font face fonts (JustLine side) = tt
-said_font face fonts (JustPage part) = tt
-said_font face fonts (NewLine gap) = tt
-said_font face fonts NewPage = tt
-said_font face fonts (PageTime on off) = tt
+said_font face fonts p = grind (arith, font_is)
 
 style_font : (face : FaceModel) → AllByRecursion HasPictures face.fonts → (items : List Item) → HasPictures (style_after face items).font
 style_font face fonts items =
@@ -383,8 +300,7 @@ abbrev Drawn : ℕ × Character → Type 0
 Drawn placed = IsPictured placed.1
 
 character_drawn : (number : ℕ) (style : Style) (found : Option GlyphModel) → IfSome found (IsGlyph style.font.height) → AllByRecursion Drawn (character_with number style found)
-character_drawn number style None some = tt
-character_drawn number style (Some glyph) some = (some, tt)
+character_drawn number style found some = grind arith
 
 item_drawn : (face : FaceModel) → AllByRecursion HasPictures face.fonts → (before : List Item) (item : Item) → AllByRecursion Drawn (character_said face before item)
 item_drawn face fonts before (Char character) =
@@ -403,8 +319,7 @@ item_drawn face fonts before (PageTime on off) = tt
 
 all_drawn : (face : FaceModel) → AllByRecursion HasPictures face.fonts → (before items : List Item) → AllByRecursion Drawn (characters_said face before items)
 all_drawn face fonts before [] = tt
-all_drawn face fonts before (item ∷ items) =
-    all_append Drawn (character_said face before item) (characters_said face (before ++ item ∷ []) items) (item_drawn face fonts before item) (all_drawn face fonts (before ++ item ∷ []) items)
+all_drawn face fonts before (item ∷ items) = grind (arith, all_append, item_drawn, all_drawn face fonts (before ++ item ∷ []) items)
 
 abbrev page_drawn : PageModel → Type 0
 page_drawn page = AllByRecursion (λ (line : Line). AllByRecursion IsPictured line.characters) page.lines

@@ -1,5 +1,5 @@
 -- What one more block at the end of a row changes.
-use Rattle.std.proofs.Common.{◌≡◌, ℕ, ◌+◌, true, false, List, [], ◌∷◌, ◌++◌, refl, ap, sym, ◌∙◌, arith, unwrap_or}
+use Rattle.std.proofs.Common.{◌≡◌, ℕ, ◌+◌, true, false, List, [], ◌∷◌, ◌++◌, refl, ◌∙◌, arith, unwrap_or}
 use Rattle.dms_face.specs.declared.room.Block.{Block}
 use Rattle.dms_face.specs.declared.room.Run.{Run}
 use Rattle.dms_face.specs.Layout.{is_blank}
@@ -21,11 +21,4 @@ extent_push (a ∷ b ∷ rest) block some = let more : extent ((b ∷ rest) ++ b
 pub sums_more : (total : ℕ) (run : Run) (blocks : List Block) (block : Block) → Sums run blocks → run.any ≡ true
     → total ≡ run.size + unwrap_or block.gap (average run.spacing block.spacing) + block.size
     → Sums (record { any = true; size = total; spacing = block.spacing }) (blocks ++ block ∷ [])
-sums_more total run [] block sums some is = let wrong : false ≡ true = sym sums.any ∙ some in cc
-sums_more total run (a ∷ rest) block sums some is = record {
-  any = refl;
-  size = is ∙ ap (λ n. n + unwrap_or block.gap (average run.spacing block.spacing) + block.size) sums.size
-      ∙ ap (λ n. extent (a ∷ rest) + unwrap_or block.gap (average n block.spacing) + block.size) sums.spacing
-      ∙ sym (extent_push (a ∷ rest) block refl);
-  spacing = sym (last_spacing_push (a ∷ rest) block);
-}
+sums_more total run blocks block sums some is = grind (arith, unwrap_or, extent_push, last_spacing_push)

@@ -1,22 +1,21 @@
 -- The texts without a fault are the good ones.
-use Rattle.std.proofs.Common.{◌≡◌, ◌↔◌, ℕ, zero, suc, ◌≤◌, Bool, true, false, IsTrue, cond, List, [], ◌∷◌, ◌++◌, length, map, take, nat_lt, inl, inr, Option, Some, None, Result, refl, ap, sym, ◌∙◌, subst, arith, append-nil, append_assoc}
-use Rattle.std.specs.Option.{option_or, option_map}
+use Rattle.std.proofs.Common.{◌≡◌, ◌↔◌, ℕ, zero, suc, ◌≤◌, Bool, true, false, IsTrue, cond, List, [], ◌∷◌, ◌++◌, length, map, take, nat_lt, Option, Some, None, Result, refl, ap, sym, ◌∙◌, subst, arith, append-nil, append_assoc}
+use Rattle.std.specs.Option.{option_or}
 use Rattle.std.specs.Result.{is_ok}
 use Rattle.std.proofs.lemmas.Bool.{cases_Bool}
 use Rattle.std.proofs.lemmas.Bool.Decides.{nat_tests}
 use Rattle.dms_multi.specs.declared.spots.Spot.{Spot}
 use Rattle.dms_multi.specs.declared.fault.SyntaxFault.{SyntaxFault}
 use Rattle.dms_multi.specs.Grammar.{IsReading, ReadsAs, outcomes}
-use Rattle.dms_multi.specs.Outcomes.{fault_in, outcomes_of}
+use Rattle.dms_multi.specs.Outcomes.{outcomes_of}
 use Rattle.dms_multi.proofs.ItemLaws.{one_list}
 use Rattle.dms_multi.proofs.Readings.{is_reading}
 use Rattle.dms_codes.specs.Limits.{longest_text}
 use Rattle.dms_face.specs.declared.multi_fault.MultiFault.{MultiFault}
 use Rattle.dms_face.specs.declared.multi_fault.MultiFaultCode.TheVariants.{TextTooBig}
-use Rattle.dms_face.specs.FaultCode.{syntax_fault}
 use Rattle.dms_face.specs.Face.{FaceModel}
 use Rattle.dms_face.specs.Layout.{Turn, layout_of}
-use Rattle.dms_face.specs.Fit.{fits, Fits, code_of, PlacedTurn, turns_of, turns_in, first_fault, fault_of_reading, fault_of, or_fault, page_count, checked_text, IsGood}
+use Rattle.dms_face.specs.Fit.{fits, Fits, code_of, PlacedTurn, turns_in, first_fault, fault_of_reading, fault_of, or_fault, checked_text, IsGood}
 use Rattle.dms_face.proofs.Bools.{join}
 use Rattle.dms_face.proofs.RoomLaws.{nothing_fits}
 use Rattle.dms_face.proofs.WalkLaws.{none_fits}
@@ -65,8 +64,7 @@ no_fault face front ((turn, place) ∷ more) fit =
 -- ---- readings
 
 or_none : (o p : Option MultiFault) → option_or o p ≡ None → (o ≡ None) × (p ≡ None)
-or_none None p is = (refl, is)
-or_none (Some fault) p is = absurd (let wrong : Some fault ≡ None = is in cc)
+or_none o p is = grind arith
 
 good_reading : (face : FaceModel) (text : List ℕ) (spots : List Spot) (fault : Option SyntaxFault) → ReadsAs text spots fault → length text ≤ longest_text
     → fault_of_reading face (length text) (outcomes spots fault) ≡ None → IsGood face text
@@ -80,23 +78,12 @@ good_reading face text spots None reads short none =
       spelled = text_spelled 0 spots text reads;
       fit = subst P (turns_in_outcomes (length text) spots) (fronts_fit face [] (turns_in (length text) (outcomes spots None)) (none_fits face) first);
     }
-good_reading face text spots (Some fault) reads short none =
-    let found : option_map syntax_fault (fault_in (outcomes spots (Some fault))) ≡ None =
-    (or_none (first_fault face [] (turns_in (length text) (outcomes spots (Some fault)))) (option_map syntax_fault (fault_in (outcomes spots (Some fault)))) none).1 in
-    let wrong : Some (syntax_fault fault) ≡ None = sym (ap (option_map syntax_fault) (fault_in_outcomes spots fault)) ∙ found in
-    absurd cc
+good_reading face text spots (Some fault) reads short none = grind (arith, or_none, item_of, text_spelled, turns_in_outcomes, fronts_fit, none_fits, fault_in_outcomes)
 
 reading_good : (face : FaceModel) (text : List ℕ) (spots : List Spot) (fault : Option SyntaxFault) → ReadsAs text spots fault → IsGood face text
     → fault_of_reading face (length text) (outcomes spots fault) ≡ None
 unfolding turns_alone
-reading_good face text spots None reads good =
-    let items : good.items ≡ map item_of spots = one_list good.items (map item_of spots) text good.spelled (text_spelled 0 spots text reads) in
-    let P : List Turn → Type 0 = λ turns. (n : ℕ) → Fits face (take n turns) in
-    let fit : (n : ℕ) → Fits face (take n (turns_alone (turns_in (length text) (outcomes spots None)))) =
-    subst P (ap turns_of items ∙ sym (turns_in_outcomes (length text) spots)) good.fit in
-    ap (λ o. option_or o (option_map syntax_fault (fault_in (outcomes spots None)))) (no_fault face [] (turns_in (length text) (outcomes spots None)) fit)
-    ∙ ap (option_map syntax_fault) (no_fault_in_outcomes spots)
-reading_good face text spots (Some fault) reads good = absurd (reads.1.none good.items good.spelled)
+reading_good face text spots fault reads good = grind (arith, item_of, one_list, text_spelled, turns_alone, turns_in_outcomes, no_fault, no_fault_in_outcomes)
 
 short_law : (face : FaceModel) (text : List ℕ) → nat_lt longest_text (length text) ≡ false → (fault_of face text ≡ None) ↔ IsGood face text
 unfolding fault_of
@@ -114,30 +101,15 @@ short_law face text few =
 
 long_law : (face : FaceModel) (text : List ℕ) → nat_lt longest_text (length text) ≡ true → (fault_of face text ≡ None) ↔ IsGood face text
 unfolding fault_of
-long_law face text many =
-    let fault : fault_of face text ≡ Some (record { code = TextTooBig; place = longest_text }) =
-    ap (λ b. cond b (Some (record { code = TextTooBig; place = longest_text })) (fault_of_reading face (length text) (outcomes_of text))) many in
-    let there : fault_of face text ≡ None → IsGood face text =
-    λ none. absurd (let wrong : Some (record { code = TextTooBig; place = longest_text }) ≡ None = sym fault ∙ none in cc) in
-    let back : IsGood face text → fault_of face text ≡ None = λ good. absurd (let short : length text ≤ longest_text = good.short in grind (arith, nat_tests)) in
-    (there, back)
+long_law face text many = grind arith
 
 -- A text has no fault just where it is good.
 pub faultless_law : (face : FaceModel) (text : List ℕ) → (fault_of face text ≡ None) ↔ IsGood face text
-faultless_law face text = elim (cases_Bool (nat_lt longest_text (length text))) [
-  | inl many ↦ long_law face text many
-  | inr few ↦ short_law face text few
-]
+faultless_law face text = grind (arith, cases_Bool, nat_lt, long_law, short_law)
 
 is_ok_none : (n : ℕ) (o : Option MultiFault) → is_ok (or_fault n o) ≡ true → o ≡ None
-is_ok_none n None is = refl
-is_ok_none n (Some fault) is = absurd (let wrong : false ≡ true = is in cc)
+is_ok_none n o is = grind arith
 
 -- A text has an answer but no fault just where it is good.
 pub good_law : (face : FaceModel) (text : List ℕ) (result : Result ℕ MultiFault) → result ≡ checked_text face text → IsTrue (is_ok result) ↔ IsGood face text
-good_law face text result is =
-    let there : IsTrue (is_ok result) → IsGood face text =
-    λ ok. (faultless_law face text).0 (is_ok_none (page_count text) (fault_of face text) (sym (ap is_ok is) ∙ ok)) in
-    let back : IsGood face text → IsTrue (is_ok result) =
-    λ good. ap is_ok is ∙ ap (λ o. is_ok (or_fault (page_count text) o)) ((faultless_law face text).1 good) in
-    (there, back)
+good_law face text result is = grind (arith, faultless_law, is_ok_none)

@@ -1,22 +1,18 @@
 -- When the lines that stand on a page take as much room as before.
-use Rattle.std.proofs.Common.{◌≡◌, ◌≤◌, ℕ, Bool, true, false, cond, List, [], ◌∷◌, ◌++◌, map, fold, max, Option, Some, None, refl, ap, sym, ◌∙◌, arith}
+use Rattle.std.proofs.Common.{◌≡◌, ◌≤◌, ℕ, Bool, true, false, cond, List, [], ◌∷◌, ◌++◌, map, fold, max, Option, Some, ap, sym, ◌∙◌, arith}
 use Rattle.std.proofs.lemmas.Bool.Decides.{nat_tests}
 use Rattle.std.proofs.lemmas.Grind.{fold-append}
 use Rattle.std.proofs.lemmas.List.{map-append}
 use Rattle.dms_multi.specs.declared.item.Item.{Item}
-use Rattle.dms_multi.specs.declared.item.Item.TheVariants.{Char, Background, Foreground, Font, FlashOn, FlashEnd, JustLine, JustPage, NewLine, NewPage, PageTime}
+use Rattle.dms_multi.specs.declared.item.Item.TheVariants.{Background, Foreground, FlashOn, FlashEnd, PageTime}
 use Rattle.dms_face.specs.declared.justification.Part.{Part}
-use Rattle.dms_face.specs.declared.multi_fault.MultiFaultCode.{MultiFaultCode}
-use Rattle.dms_face.specs.declared.totals.Totals.{Totals}
 use Rattle.dms_face.specs.declared.room.Block.{Block}
 use Rattle.dms_face.specs.Justification.{place_of_part}
 use Rattle.dms_font.specs.Glyph.{GlyphModel}
 use Rattle.dms_font.specs.Font.{FontModel}
 use Rattle.dms_face.specs.Face.{FaceModel}
-use Rattle.dms_face.specs.Layout.{Character, Line, Layout, Style, styled, is_blank, standing, with_character, with_item}
+use Rattle.dms_face.specs.Layout.{Character, Line, Layout, is_blank, standing, with_character}
 use Rattle.dms_face.specs.Room.{line_block, lines_fit}
-use Rattle.dms_face.specs.OnePass.{local_fault}
-use Rattle.dms_face.specs.Totals.{Matches, AreSmall, Takes}
 use Rattle.dms_face.proofs.RoomLaws.{same_standing}
 
 -- the greatest number of the characters' fonts
@@ -28,10 +24,7 @@ max_of_less a b less = grind (arith, nat_tests)
 
 most_push : (of_font : FontModel → ℕ) (characters : List Character) (character : Character) → of_font character.style.font ≤ most of_font characters
     → most of_font (characters ++ character ∷ []) ≡ most of_font characters
-most_push of_font characters character less =
-    ap (fold max 0) (map-append (λ (it : Character). of_font it.style.font) characters (character ∷ []))
-    ∙ fold-append max 0 (map (λ (it : Character). of_font it.style.font) characters) (of_font character.style.font ∷ [])
-    ∙ max_of_less (most of_font characters) (of_font character.style.font) less
+most_push of_font characters character less = grind (arith, map-append, fold-append, max_of_less)
 
 -- a line with a character more, that is no taller and no more widely spaced
 kept : (characters : List Character) (lines : List Line) (part : Part) (font : FontModel) (gap : Option ℕ) (it : Character) → is_blank characters ≡ false
@@ -53,8 +46,7 @@ pub standing_kept : (layout : Layout) (glyph : GlyphModel) → is_blank layout.c
     → layout.style.font.height ≤ most (λ (f : FontModel). f.height) layout.characters
     → layout.style.font.line_spacing ≤ most (λ (f : FontModel). f.line_spacing) layout.characters
     → map line_block (standing (with_character layout (Some glyph))) ≡ map line_block (standing layout)
-standing_kept layout glyph some low close =
-    kept layout.characters layout.lines layout.style.part layout.style.font layout.gap (record { glyph = glyph; style = layout.style }) some low close
+standing_kept layout glyph some low close = grind (arith, kept)
 
 pub ruleset growth = (standing_kept)
 
@@ -74,45 +66,3 @@ is_plain (FlashOn first lit dark) = true
 is_plain FlashEnd = true
 is_plain (PageTime on off) = true
 is_plain _ = false
-
-style_matches : (totals : Totals) (layout : Layout) (style : Style) → style.side ≡ layout.style.side → style.part ≡ layout.style.part → style.font ≡ layout.style.font → Matches totals layout
-    → Matches totals (record layout { style = style })
-style_matches totals layout style side part font matches = record {
-  pages = matches.pages;
-  lines = matches.lines;
-  characters = matches.characters;
-  height = matches.height;
-  spacing = matches.spacing;
-  gap = matches.gap;
-  side = matches.side ∙ sym side;
-  part = matches.part ∙ sym part;
-  font = matches.font ∙ sym font;
-}
-
-style_taken : (face : FaceModel) (totals : Totals) (fault_at : Layout → Option MultiFaultCode) (style : Style → Style) → AreSmall totals
-    → ((layout : Layout) → None ≡ fault_at layout) → ((s : Style) → (style s).side ≡ s.side) → ((s : Style) → (style s).part ≡ s.part) → ((s : Style) → (style s).font ≡ s.font)
-    → ((layout : Layout) → lines_fit face (standing (record layout { style = style layout.style })) ≡ lines_fit face (standing layout))
-    → Takes face totals totals None fault_at (λ (layout : Layout). record layout { style = style layout.style })
-style_taken face totals fault_at style small none side part font same = record {
-  fault = λ layout holds. none layout;
-  holds = λ layout holds. record {
-    matches = style_matches totals layout (style layout.style) (side layout.style) (part layout.style) (font layout.style) holds.matches;
-    room = same layout ∙ holds.room;
-  };
-  small = small;
-}
-
--- such an item is taken, and leaves the sums as they are
-pub plain_taken : (face : FaceModel) (totals : Totals) (item : Item) → is_plain item ≡ true → AreSmall totals
-    → Takes face totals totals None (λ (layout : Layout). local_fault face layout (Some item)) (λ (layout : Layout). with_item face layout item)
-plain_taken face totals (Background colour) is small = style_taken face totals (λ layout. None) (λ s. styled face s (Background colour)) small (λ l. refl) (λ s. refl) (λ s. refl) (λ s. refl) (λ l. refl)
-plain_taken face totals (Foreground colour) is small = style_taken face totals (λ layout. None) (λ s. styled face s (Foreground colour)) small (λ l. refl) (λ s. refl) (λ s. refl) (λ s. refl) (λ l. refl)
-plain_taken face totals (FlashOn first lit dark) is small = style_taken face totals (λ layout. None) (λ s. styled face s (FlashOn first lit dark)) small (λ l. refl) (λ s. refl) (λ s. refl) (λ s. refl) (λ l. refl)
-plain_taken face totals FlashEnd is small = style_taken face totals (λ layout. None) (λ s. styled face s FlashEnd) small (λ l. refl) (λ s. refl) (λ s. refl) (λ s. refl) (λ l. refl)
-plain_taken face totals (PageTime on off) is small = style_taken face totals (λ layout. None) (λ s. styled face s (PageTime on off)) small (λ l. refl) (λ s. refl) (λ s. refl) (λ s. refl) (λ l. refl)
-plain_taken face totals (Char character) is small = absurd (let wrong : false ≡ true = is in cc)
-plain_taken face totals (Font font) is small = absurd (let wrong : false ≡ true = is in cc)
-plain_taken face totals (JustLine side) is small = absurd (let wrong : false ≡ true = is in cc)
-plain_taken face totals (JustPage part) is small = absurd (let wrong : false ≡ true = is in cc)
-plain_taken face totals (NewLine gap) is small = absurd (let wrong : false ≡ true = is in cc)
-plain_taken face totals NewPage is small = absurd (let wrong : false ≡ true = is in cc)

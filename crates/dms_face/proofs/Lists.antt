@@ -1,15 +1,13 @@
 -- What holds of each element of a list, or of the value that there may be.
-use Rattle.std.proofs.Common.{Bool, true, false, cond, List, [], ◌∷◌, ◌++◌, find, Option, Some, None, unwrap_or}
+use Rattle.std.proofs.Common.{Bool, cond, List, [], ◌∷◌, ◌++◌, find, Option, Some, unwrap_or, arith}
 use Rattle.std.specs.Option.{IfSome}
 use Rattle.std.specs.List.{AllByRecursion}
 
 pub if_either : {X : Type 0} (P : X → Type 0) (b : Bool) (o p : Option X) → IfSome o P → IfSome p P → IfSome (cond b o p) P
-if_either P true o p first second = first
-if_either P false o p first second = second
+if_either P b o p first second = grind arith
 
 pub if_or : {X : Type 0} (P : X → Type 0) (o : Option X) (x : X) → IfSome o P → P x → P (unwrap_or o x)
-if_or P None x some other = other
-if_or P (Some y) x some other = some
+if_or P o x some other = grind arith
 
 pub if_found : {X : Type 0} (P : X → Type 0) (test : X → Bool) (xs : List X) → AllByRecursion P xs → IfSome (find test xs) P
 if_found P test [] all = tt

@@ -1,11 +1,9 @@
 -- What running sums say of a layout, once a page or a part is closed.
-use Rattle.std.proofs.Common.{◌≡◌, ℕ, ◌+◌, ◌<◌, Bool, true, false, cond, ◌||◌, eqb, List, [], ◌∷◌, length, nat_le, Option, Some, None, refl, ap, sym, ◌∙◌, length-append, arith}
-use Rattle.std.proofs.lemmas.Bool.Decides.{nat_tests}
+use Rattle.std.proofs.Common.{◌≡◌, ℕ, ◌+◌, ◌<◌, Bool, true, false, cond, ◌||◌, eqb, List, [], ◌∷◌, Option, Some, None, refl, ◌∙◌, length-append, arith}
 use Rattle.std.specs.Borrow.{Bor}
 use Rattle.std.specs.Option.{option_copied, IsSome}
 use Rattle.dms_face.specs.declared.totals.Totals.{Totals}
 use Rattle.dms_font.specs.Font.{FontModel}
-use Rattle.dms_face.specs.declared.multi_fault.MultiFaultCode.TheVariants.{TextTooBig, TooManyPages}
 use Rattle.dms_face.specs.Face.{FaceModel, font_in, has_font}
 use Rattle.dms_face.specs.Layout.{Layout, closed, with_page}
 use Rattle.dms_face.specs.Room.{lines_fit}
@@ -16,24 +14,12 @@ use Rattle.dms_face.specs.Totals.{Matches}
 -- the open page is closed
 pub page_matches : (totals : Totals) (layout : Layout) → Matches totals (record layout { lines = []; characters = []; gap = None })
     → Matches (record totals { pages = totals.pages + 1 }) (with_page layout)
-page_matches totals layout matches = record {
-  pages = ap (λ n. n + 1) matches.pages ∙ sym (length-append layout.pages _);
-  lines = matches.lines;
-  characters = matches.characters;
-  height = matches.height;
-  spacing = matches.spacing;
-  gap = matches.gap;
-  side = matches.side;
-  part = matches.part;
-  font = matches.font;
-}
+page_matches totals layout matches = grind (arith, length-append)
 
 -- the open page has room, and there are pages left
 pub page_passes : (face : FaceModel) (totals : Totals) (layout : Layout) → Matches totals layout → lines_fit face (closed layout) ≡ true → totals.pages + 1 < most_pages
     → None ≡ page_fault face layout
-page_passes face totals layout matches fit less =
-    let few : nat_le most_pages (length layout.pages + 1) ≡ false = (let same : totals.pages ≡ length layout.pages = matches.pages in grind (arith, nat_tests)) in
-    sym (ap (λ b. cond b (cond (nat_le most_pages (length layout.pages + 1)) (Some TooManyPages) None) (Some TextTooBig)) fit ∙ ap (λ b. cond b (Some TooManyPages) None) few)
+page_passes face totals layout matches fit less = grind arith
 
 -- a font that is among these is found
 pub font_found : (fonts : List FontModel) (number : ℕ) → has_font fonts number ≡ true → (font : FontModel) × (font_in fonts number ≡ Some font)
@@ -44,5 +30,4 @@ font_found (font ∷ fonts) number some =
     go (eqb font.number number) some
 
 pub some_copied : {A : Type 0} (o : Option (Bor A)) (x : A) → option_copied o ≡ Some x → IsSome o
-some_copied (Some r) x is = refl
-some_copied None x is = absurd (let wrong : None ≡ Some x = is in cc)
+some_copied o x is = grind arith

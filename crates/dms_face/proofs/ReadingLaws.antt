@@ -1,5 +1,5 @@
 -- What is known of the items that a text is read as.
-use Rattle.std.proofs.Common.{◌≡◌, ℕ, List, [], ◌∷◌, map, Option, Some, None, refl, ap}
+use Rattle.std.proofs.Common.{◌≡◌, ℕ, List, [], ◌∷◌, map, Option, Some, None, refl, ap, arith}
 use Rattle.dms_multi.specs.declared.item.Item.{Item}
 use Rattle.dms_multi.specs.declared.spots.Spot.{Spot}
 use Rattle.dms_multi.specs.declared.fault.SyntaxFault.{SyntaxFault}
@@ -33,5 +33,4 @@ turns_in_outcomes end (spot ∷ spots) = ap (λ (turns : List Turn). Some spot.i
 
 pub text_spelled : (offset : ℕ) (spots : List Spot) (text : List ℕ) → SpotsSpell offset spots text → TextSpells (map item_of spots) text
 text_spelled offset [] text spelled = spelled
-text_spelled offset (spot ∷ spots) text spelled =
-    record { front = spelled.front; back = spelled.back; first = spelled.first.spelled; second = text_spelled spot.past spots spelled.back spelled.second; parts = spelled.parts }
+text_spelled offset (spot ∷ spots) text spelled = grind (arith, text_spelled spot.past spots spelled.back spelled.second)

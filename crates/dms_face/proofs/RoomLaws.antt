@@ -1,26 +1,20 @@
 -- Behind a layout that has room, a turn's room is that of the open line and the open page alone.
-use Rattle.std.proofs.Common.{◌≡◌, ℕ, ◌+◌, ◌-◌, ◌/◌, Bool, true, false, ◌&&◌, not, cond, List, [], ◌∷◌, ◌++◌, max, min, nat_lt, nat_le, Option, None, refl, ap, sym, ◌∙◌, arith}
+use Rattle.std.proofs.Common.{◌≡◌, ℕ, ◌+◌, ◌-◌, ◌/◌, Bool, true, false, ◌&&◌, not, cond, List, [], ◌∷◌, ◌++◌, Option, None, ap, ◌∙◌, arith}
 use Rattle.std.specs.List.{list_all}
-use Rattle.std.proofs.lemmas.Bool.Decides.{nat_tests}
 use Rattle.std.proofs.lemmas.List.Folds.{list_all-append}
 use Rattle.std.proofs.lemmas.List.{map-append}
 use Rattle.std.proofs.Math.Bool.{and-true}
 use Rattle.dms_face.specs.declared.justification.Part.{Part}
 use Rattle.dms_font.specs.Font.{FontModel}
 use Rattle.dms_face.specs.Face.{FaceModel}
-use Rattle.dms_face.specs.Layout.{Character, Line, PageModel, Layout, Style, is_blank, open_line, standing, closed, has_line_in, page_of, with_line, with_page}
-use Rattle.dms_face.specs.Room.{blocks_fit, line_block, characters_fit, lines_fit, page_fits, has_room}
+use Rattle.dms_face.specs.Layout.{Character, Line, PageModel, Layout, Style, is_blank, open_line, standing, closed, has_line_in, with_line, with_page}
+use Rattle.dms_face.specs.Room.{blocks_fit, characters_fit, lines_fit, page_fits, has_room}
 use Rattle.dms_face.specs.OnePass.{open_fits}
 use Rattle.dms_face.proofs.Bools.{both, join}
 
-no_overlap : (a b c : ℕ) → nat_lt (max a b) (min (a + 0) (b + c)) ≡ false
-no_overlap a b c = grind (arith, nat_tests)
-
 -- nothing has room everywhere
 pub nothing_fits : (whole : ℕ) → blocks_fit whole [] ≡ true
-nothing_fits whole =
-    let le : nat_le 0 whole ≡ true = grind (arith, nat_tests) in
-    rw (no_overlap 0 ((whole - 0) / 2) 0, no_overlap 0 (whole - 0) 0, no_overlap ((whole - 0) / 2) (whole - 0) 0, le)
+nothing_fits whole = grind arith
 
 abbrev pub line_fits : FaceModel → Line → Bool
 line_fits face line = characters_fit face line.characters
@@ -35,17 +29,12 @@ all_push p xs x all = list_all-append p xs (x ∷ []) ∙ ap (λ b. b && (p x &&
 standing_fits : (face : FaceModel) (characters : List Character) (lines : List Line) (part : Part) (font : FontModel) (gap : Option ℕ)
     → list_all (line_fits face) lines ≡ true
     → list_all (line_fits face) (cond (is_blank characters) lines (lines ++ (record { characters = characters; part = part; font = font; gap = gap }) ∷ [])) ≡ characters_fit face characters
-standing_fits face [] lines part font gap all = all ∙ sym (nothing_fits face.width)
-standing_fits face (c ∷ cs) lines part font gap all = all_push (line_fits face) lines (record { characters = c ∷ cs; part = part; font = font; gap = gap }) all
+standing_fits face characters lines part font gap all = grind (arith, nothing_fits, all_push)
 
 standing_parts : (face : FaceModel) (characters : List Character) (lines : List Line) (part : Part) (font : FontModel) (gap : Option ℕ)
     → list_all (line_fits face) (cond (is_blank characters) lines (lines ++ (record { characters = characters; part = part; font = font; gap = gap }) ∷ [])) ≡ true
     → (list_all (line_fits face) lines ≡ true) × (characters_fit face characters ≡ true)
-standing_parts face [] lines part font gap all = (all, nothing_fits face.width)
-standing_parts face (c ∷ cs) lines part font gap all =
-    let parts = both (list_all (line_fits face) lines) (line_fits face (record { characters = c ∷ cs; part = part; font = font; gap = gap }) && true)
-    (sym (list_all-append (line_fits face) lines ((record { characters = c ∷ cs; part = part; font = font; gap = gap }) ∷ [])) ∙ all) in
-    (parts.0, sym (and-true _) ∙ parts.1)
+standing_parts face characters lines part font gap all = grind (arith, nothing_fits, both, list_all-append, and-true)
 
 -- what has room, part by part
 pub record RoomParts (face : FaceModel) (layout : Layout) : Type 0 where
@@ -70,8 +59,7 @@ room_is_open face layout pages lines =
 
 -- the lines of a page that is closed, or of a line that is, each have room
 closing_fits : (face : FaceModel) (layout : Layout) (b : Bool) → RoomParts face layout → list_all (line_fits face) (cond b layout.lines (layout.lines ++ open_line layout ∷ [])) ≡ true
-closing_fits face layout true parts = parts.lines
-closing_fits face layout false parts = all_push (line_fits face) layout.lines (open_line layout) parts.lines ∙ parts.characters
+closing_fits face layout b parts = grind (arith, all_push)
 
 pub closed_fits : (face : FaceModel) (layout : Layout) → RoomParts face layout → list_all (line_fits face) (closed layout) ≡ true
 closed_fits face layout parts = closing_fits face layout (is_blank layout.characters && not (has_line_in layout.style.part layout.lines)) parts
@@ -79,9 +67,7 @@ closed_fits face layout parts = closing_fits face layout (is_blank layout.charac
 -- a layout with these closed lines and an empty open line
 blank_room : (face : FaceModel) (layout : Layout) (lines : List Line) (gap : Option ℕ) (style : Style) → RoomParts face layout → list_all (line_fits face) lines ≡ true
     → has_room face (record { pages = layout.pages; lines = lines; characters = []; gap = gap; style = style }) ≡ lines_fit face lines
-blank_room face layout lines gap style parts all =
-    room_is_open face (record { pages = layout.pages; lines = lines; characters = []; gap = gap; style = style }) parts.pages all
-    ∙ ap (λ b. b && lines_fit face lines) (nothing_fits face.width)
+blank_room face layout lines gap style parts all = grind arith
 
 pub line_room : (face : FaceModel) (layout : Layout) (gap : Option ℕ) → RoomParts face layout → has_room face (with_line layout gap) ≡ lines_fit face (layout.lines ++ open_line layout ∷ [])
 line_room face layout gap parts = blank_room face layout (layout.lines ++ open_line layout ∷ []) gap layout.style parts (closing_fits face layout false parts)
@@ -91,19 +77,13 @@ pub part_room : (face : FaceModel) (layout : Layout) (style : Style) → RoomPar
 part_room face layout style parts = blank_room face layout (closed layout) None style parts (closed_fits face layout parts)
 
 pub page_room : (face : FaceModel) (layout : Layout) → RoomParts face layout → has_room face (with_page layout) ≡ lines_fit face (closed layout)
-page_room face layout parts =
-    ap (λ b. list_all (page_has_room face) (layout.pages ++ page_of layout.style (closed layout) ∷ []) && b) (nothing_fits face.height)
-    ∙ and-true _
-    ∙ all_push (page_has_room face) layout.pages (page_of layout.style (closed layout)) parts.pages
-    ∙ ap (λ b. b && lines_fit face (closed layout)) (closed_fits face layout parts)
+page_room face layout parts = grind (arith, nothing_fits, and-true, all_push, closed_fits)
 
 -- the font of the style says nothing of a line that has characters
 pub same_standing : (face : FaceModel) (characters : List Character) (lines : List Line) (part : Part) (font other : FontModel) (gap : Option ℕ)
     → lines_fit face (cond (is_blank characters) lines (lines ++ (record { characters = characters; part = part; font = font; gap = gap }) ∷ []))
     ≡ lines_fit face (cond (is_blank characters) lines (lines ++ (record { characters = characters; part = part; font = other; gap = gap }) ∷ []))
-same_standing face [] lines part font other gap = refl
-same_standing face (c ∷ cs) lines part font other gap =
-    ap (blocks_fit face.height) (map-append line_block lines _ ∙ sym (map-append line_block lines ((record { characters = c ∷ cs; part = part; font = other; gap = gap }) ∷ [])))
+same_standing face characters lines part font other gap = grind (arith, map-append)
 
 -- a change of style that leaves the part changes no room
 pub style_room : (face : FaceModel) (layout : Layout) (style : Style) → style.part ≡ layout.style.part → RoomParts face layout → has_room face (record layout { style = style }) ≡ true

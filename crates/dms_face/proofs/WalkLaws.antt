@@ -34,32 +34,21 @@ fault_by misused room = cond (is_none misused && room) None (Some (unwrap_or mis
 
 -- a turn that changes no room
 no_room_wanted : (misused : Option MultiFaultCode) (room : Bool) → room ≡ true → misused ≡ fault_by misused room
-no_room_wanted None room is = ap (λ b. cond b None (Some TextTooBig)) (sym is)
-no_room_wanted (Some code) room is = refl
+no_room_wanted misused room is = grind arith
 
 character_law : (face : FaceModel) (layout : Layout) (glyph : Option GlyphModel) → RoomParts face layout
     → character_fault face layout glyph ≡ fault_by (cond (is_none glyph) (Some CharacterNotDefined) None) (has_room face (with_character layout glyph))
-character_law face layout None parts = refl
-character_law face layout (Some glyph) parts = ap room_fault (sym (room_is_open face (with_character layout (Some glyph)) parts.pages parts.lines))
+character_law face layout glyph parts = grind (arith, room_is_open)
 
 part_cases : (face : FaceModel) (layout there : Layout) (same taken room : Bool) → has_room face layout ≡ true → has_room face there ≡ room
     → cond same None (cond taken (Some TagConflict) (room_fault room))
     ≡ fault_by (cond same None (cond taken (Some TagConflict) None)) (has_room face (cond same layout there))
-part_cases face layout there true taken room before after = ap (λ b. cond b None (Some TextTooBig)) (sym before)
-part_cases face layout there false true room before after = refl
-part_cases face layout there false false room before after = ap room_fault (sym after)
+part_cases face layout there same taken room before after = grind arith
 
 page_cases : (most room after : Bool) → after ≡ room
     → cond room (cond most (Some TooManyPages) None) (Some TextTooBig)
     ≡ cond (is_none (cond most (Some TooManyPages) None) && after) None (Some (cond after TooManyPages TextTooBig))
-page_cases most room after is =
-    ap (λ b. cond b (cond most (Some TooManyPages) None) (Some TextTooBig)) (sym is) ∙ go most after
-  where
-    go : (most after : Bool) → cond after (cond most (Some TooManyPages) None) (Some TextTooBig) ≡ cond (is_none (cond most (Some TooManyPages) None) && after) None (Some (cond after TooManyPages TextTooBig))
-    go true true = refl
-    go true false = refl
-    go false true = refl
-    go false false = refl
+page_cases most room after is = grind arith
 
 -- an item that changes the style alone, and not the part
 style_law : (face : FaceModel) (layout : Layout) (style : Style) (misused : Option MultiFaultCode) → style.part ≡ layout.style.part → RoomParts face layout
@@ -90,52 +79,25 @@ turn_law face layout (Some (PageTime on off)) room parts = style_law face layout
 allowed_push : (face : FaceModel) (layout : Layout) (front : List Turn) (turn : Turn)
     → are_allowed face layout (front ++ turn ∷ []) ≡ (are_allowed face layout front && is_none (misuse face (fold (with_turn face) layout front) turn))
 allowed_push face layout [] turn = and-true (is_none (misuse face layout turn))
-allowed_push face layout (next ∷ front) turn =
-    ap (λ b. is_none (misuse face layout next) && b) (allowed_push face (with_turn face layout next) front turn)
-    ∙ and_assoc (is_none (misuse face layout next)) (are_allowed face (with_turn face layout next) front) (is_none (misuse face (fold (with_turn face) (with_turn face layout next) front) turn))
+allowed_push face layout (next ∷ front) turn = grind (arith, and-true, is_none, and_assoc, allowed_push face (with_turn face layout next) front turn)
 
 pub layout_push : (face : FaceModel) (front : List Turn) (turn : Turn) → layout_of face (front ++ turn ∷ []) ≡ with_turn face (layout_of face front) turn
 layout_push face front turn = fold-append (with_turn face) (blank_layout face) front (turn ∷ [])
 
 fits_push : (face : FaceModel) (front : List Turn) (turn : Turn) → fits face front ≡ true
     → fits face (front ++ turn ∷ []) ≡ (is_none (misuse face (layout_of face front) turn) && has_room face (with_turn face (layout_of face front) turn))
-fits_push face front turn fit =
-    ap (λ b. b && has_room face (layout_of face (front ++ turn ∷ [])))
-    (allowed_push face (blank_layout face) front turn
-    ∙ ap (λ b. b && is_none (misuse face (layout_of face front) turn)) (both _ (has_room face (layout_of face front)) fit).0)
-    ∙ ap (λ layout. is_none (misuse face (layout_of face front) turn) && has_room face layout) (layout_push face front turn)
+fits_push face front turn fit = grind (arith, allowed_push, is_none, both, layout_push)
 
 -- The open line and the open page alone decide whether one turn more fits, and its fault.
 pub local_law : (face : FaceModel) (front : List Turn) (turn : Turn) → fits face front ≡ true
     → local_fault face (layout_of face front) turn ≡ cond (fits face (front ++ turn ∷ [])) None (Some (code_of face (layout_of face front) turn))
-local_law face front turn fit =
-    let room : has_room face (layout_of face front) ≡ true = (both (are_allowed face (blank_layout face) front) _ fit).1 in
-    turn_law face (layout_of face front) turn room (room_parts face (layout_of face front) room)
-    ∙ ap (λ b. cond b None (Some (code_of face (layout_of face front) turn))) (sym (fits_push face front turn fit))
+local_law face front turn fit = grind (arith, both, turn_law, room_parts, fits_push)
 
 -- ---- texts
 
 -- a new page is one page more
 pages_with : (face : FaceModel) (layout : Layout) (item : Item) → length (with_item face layout item).pages ≡ cond (is_new_page item) 1 0 + length layout.pages
-pages_with face layout NewPage = length-append layout.pages _ ∙ omega arith
-pages_with face layout (Char character) = go (glyph_of layout.style.font character)
-  where
-    go : (glyph : Option GlyphModel) → length (with_character layout glyph).pages ≡ 0 + length layout.pages
-    go None = sym (zero-add _)
-    go (Some glyph) = sym (zero-add _)
-pages_with face layout (JustPage part) = go (same_part (part_of (unwrap_or part face.defaults.page)) layout.style.part)
-  where
-    go : (same : Bool) → length (cond same layout (record { pages = layout.pages; lines = closed layout; characters = []; gap = None; style = styled face layout.style (JustPage part) })).pages ≡ 0 + length layout.pages
-    go true = sym (zero-add _)
-    go false = sym (zero-add _)
-pages_with face layout (NewLine gap) = sym (zero-add _)
-pages_with face layout (JustLine side) = sym (zero-add _)
-pages_with face layout (Font font) = sym (zero-add _)
-pages_with face layout (Background colour) = sym (zero-add _)
-pages_with face layout (Foreground colour) = sym (zero-add _)
-pages_with face layout (FlashOn first lit dark) = sym (zero-add _)
-pages_with face layout FlashEnd = sym (zero-add _)
-pages_with face layout (PageTime on off) = sym (zero-add _)
+pages_with face layout item = grind (arith, length-append, zero-add, unwrap_or)
 
 -- what is answered after a front, by the definitions
 abbrev pub answered : FaceModel → ℕ → List Turn → List (Result Spot SyntaxFault) → Result ℕ MultiFault
@@ -145,8 +107,7 @@ answered face end front read =
 
 end_cases : (face : FaceModel) (end pages : ℕ) (fit : Bool) (code : MultiFaultCode)
     → or_else end (cond fit None (Some code)) (Ok (pages + 1)) ≡ or_fault (0 + pages + 1) (option_or (cond fit None (Some (record { code = code; place = end }))) None)
-end_cases face end pages true code = ap (λ n. Ok (n + 1)) (sym (zero-add pages))
-end_cases face end pages false code = refl
+end_cases face end pages fit code = grind arith
 
 -- the rest of a text after a front that fits
 pub walked_law : (face : FaceModel) (end : ℕ) (front : List Turn) (read : List (Result Spot SyntaxFault)) → fits face front ≡ true
@@ -191,6 +152,4 @@ checked_walk face text short =
 -- a text that is too long
 pub checked_long : (face : FaceModel) (text : List ℕ) → longest_text < length text → Err (record { code = TextTooBig; place = longest_text }) ≡ checked_text face text
 unfolding fault_of page_count
-checked_long face text long =
-    let many : nat_lt longest_text (length text) ≡ true = grind (arith, nat_tests) in
-    ap (λ b. or_fault (count_by is_new_page (items_in (outcomes_of text)) + 1) (cond b (Some (record { code = TextTooBig; place = longest_text })) (fault_of_reading face (length text) (outcomes_of text)))) (sym many)
+checked_long face text long = grind arith

@@ -1,4 +1,4 @@
-use Rattle.std.proofs.Common.{◌≡◌, ◌≤◌, ℕ, List, length, Result, ap, ◌∙◌}
+use Rattle.std.proofs.Common.{◌≡◌, ◌≤◌, ℕ, List, length, Result, ◌∙◌, arith}
 use Rattle.dms_codes.specs.Limits.{longest_text}
 use Rattle.dms_multi.specs.Outcomes.{outcomes_of}
 use Rattle.dms_multi.specs.declared.fault.SyntaxFault.{SyntaxFault}
@@ -18,8 +18,7 @@ returns-then-text-gt-MAX_TEXT-clause-exact c = checked_long _ c.args.text.now c.
 -- what the walk of a text's reading answers
 walk_is : (face : FaceModel) (text : List ℕ) (read : List (Result Spot SyntaxFault)) (result : Result ℕ MultiFault) → length text ≤ longest_text
     → read ≡ outcomes_of text → result ≡ walked face (length text) (blank_layout face) read → result ≡ checked_text face text
-walk_is face text read result short exact is =
-    is ∙ ap (walked face (length text) (blank_layout face)) exact ∙ checked_walk face text short
+walk_is face text read result short exact is = grind (arith, checked_walk)
 
 pub returns-clause-exact : goal.returns-clause-exact
 returns-clause-exact c = walk_is _ c.args.text.now c.items.result c.walk.result c.if-text-gt-MAX_TEXT.false c.items.ensures.exact c.walk.ensures
