@@ -1,5 +1,5 @@
 -- Each input keeps the numbers in order.
-use Rattle.std.proofs.Common.{◌≡◌, ℕ, ℤ, pos, ◌+◌, ◌<◌, ◌≤◌, not, Bool, true, false, if◌then◌else◌, List, [], ◌∷◌, ◌++◌, length, Option, Some, None, slice_get, refl, sym, subst, arith, nat_le, nat_lt, append-nil}
+use Rattle.std.proofs.Common.{◌≡◌, ℕ, ℤ, pos, ◌+◌, ◌<◌, ◌≤◌, not, Bool, true, if◌then◌else◌, List, [], ◌∷◌, ◌++◌, length, Option, Some, None, slice_get, refl, subst, arith, nat_le, nat_lt, append-nil}
 use Rattle.std.specs.Ordering.{int_eq}
 use Rattle.std.specs.List.{AllByRecursion}
 use Rattle.std.proofs.lemmas.Bool.Decides.{nat_tests}
@@ -16,17 +16,17 @@ use Rattle.dms_centre.specs.declared.outcome.Outcome.TheVariants as outcomes
 use Rattle.dms_requests.specs.declared.step.Step.{Step}
 use Rattle.dms_requests.specs.declared.step.Step.TheVariants.{Opening, Opened, Filling, Validating, Polling, Comparing, Activating, Explaining}
 use Rattle.dms_requests.specs.Job.{SettingsModel, Job}
-use Rattle.dms_centre.specs.State.{Pending, Phase, Idle, Awaits, Due, CentreState, is_busy}
+use Rattle.dms_centre.specs.State.{Pending, Phase, Idle, Awaits, Due, CentreState}
 use Rattle.dms_requests.specs.Steps.{step_number, is_activating, last_number}
 use Rattle.dms_centre.specs.Sending.{Move, rests, ends, fails, waits, at_step, sends, sends_octets, request_octets}
 use Rattle.dms_centre.specs.Replies.{decided, polled_again, is_status, own_checksum, on_number, number_read, on_read, asked, on_success, on_failure, on_reply, is_answer}
-use Rattle.dms_requests.specs.Commands.{CommandModel, IsCommand, is_good, job_of}
+use Rattle.dms_requests.specs.Commands.{CommandModel, IsCommand, job_of}
 use Rattle.dms_centre.specs.Commands.{refusal_of, begins, commanded}
 use Rattle.dms_centre.specs.Resending.{gives_up, older, sent_again, sends_again, on_silence}
 use Rattle.dms_centre.specs.Inputs.{on_message, on_datagram, received, on_tick, ticked, forgets, restarted}
 use Rattle.dms_requests.specs.Requests.{AreSettings, IsWork, IsRequest}
 use Rattle.dms_centre.specs.History.{Input, IsInput, OfCommand, OfDatagram, OfTick, OfRestart, History, made, move_at, after_input, after_inputs}
-use Rattle.dms_centre_laws.specs.RequestNumbers.{HasNumber, Nothing, Again, New}
+use Rattle.dms_centre_laws.specs.RequestNumbers.{HasNumber, Again, New}
 use Rattle.dms_centre_laws.specs.Numbered.{IsAwaited, IsAtWork, IsNumbered, HistoryIsNumbered, Keeps}
 use Rattle.dms_centre_laws.proofs.Lists.{either_way, by_test, on_left, at_end}
 use Rattle.dms_centre_laws.proofs.Numbers.{request_number, requests_push, rise_push, same_push, few_push, count_more, count_of_none, below_next}
@@ -38,28 +38,14 @@ use Rattle.dms_requests.proofs.JobLaws.{is_job}
 -- nothing goes out, in a phase that waits for nothing new
 numbered_rest : (settings : SettingsModel) (next : ℕ) (phase other : Phase) (sent : List (List ℕ)) → IsNumbered settings next phase sent
     → IsAtWork other → IsAwaited settings next other sent → IsNumbered settings next other sent
-numbered_rest settings next phase other sent n work out = record {
-  settings_fine = n.settings_fine;
-  work = work;
-  requests = n.requests;
-  rise = n.rise;
-  same = n.same;
-  few = n.few;
-  out = out;
-}
+numbered_rest settings next phase other sent n work out = grind arith
 
 abbrev KeepsAt : CentreState → List (List ℕ) → Move → Type 0
 KeepsAt state sent move = Keeps state.settings state.next sent move
 
 keeps_rest : (state : CentreState) (phase : Phase) (sent : List (List ℕ)) → IsNumbered state.settings state.next phase sent
     → IsAtWork state.phase → IsAwaited state.settings state.next state.phase sent → KeepsAt state sent (rests state)
-keeps_rest state phase sent n work out = record {
-  numbered =
-      subst (λ all. IsNumbered state.settings state.next state.phase all) (sym (append-nil sent))
-      (numbered_rest state.settings state.next phase state.phase sent n work out);
-  settings_stay = refl;
-  sends = Nothing refl refl;
-}
+keeps_rest state phase sent n work out = grind (arith, append-nil, numbered_rest)
 
 -- no datagram that was sent has the next number
 pub none_is_next : (settings : SettingsModel) (next : ℕ) (phase : Phase) (sent : List (List ℕ)) → IsNumbered settings next phase sent
@@ -236,15 +222,9 @@ keeps_received state sent octets n = keeps_datagram state sent (message_of octet
 
 -- ---- a command
 
-good_by : (b : Bool) (fault : CommandFault) → (if not b then Some fault else None) ≡ None → b ≡ true
-good_by true fault e = refl
-good_by false fault e = absurd (cc e)
-
 -- no refusal: the command is good
 is_taken : (busy used good : Bool) (a b c : CommandFault) → (if busy then Some a else if used then Some b else if not good then Some c else None) ≡ None → good ≡ true
-is_taken true used good a b c e = absurd (cc e)
-is_taken false true good a b c e = absurd (cc e)
-is_taken false false good a b c e = good_by good c e
+is_taken busy used good a b c e = grind arith
 
 keeps_begun : (state : CentreState) (sent : List (List ℕ)) (job : Job) (o : Option CommandFault) → IsNumbered state.settings state.next state.phase sent
     → (o ≡ None → IsWork job.work) → KeepsAt state sent (begins state job o)
@@ -252,8 +232,7 @@ keeps_begun state sent job None n work = keeps_sends state state.phase sent job 
 keeps_begun state sent job (Some fault) n work = keeps_still state sent n
 
 pub is_begun : (state : CentreState) (command : CommandModel) → IsCommand command → refusal_of state command ≡ None → IsWork (job_of command).work
-is_begun state command is none =
-    is_job command is (is_taken (is_busy state.phase) (nat_lt last_number state.next) (is_good command) faults.Busy faults.NumbersUsedUp faults.BadCommand none)
+is_begun state command is p = grind (arith, is_job, is_taken, nat_lt)
 
 pub keeps_commanded : (state : CentreState) (sent : List (List ℕ)) (command : CommandModel) → IsNumbered state.settings state.next state.phase sent → IsCommand command
     → KeepsAt state sent (commanded state command)
@@ -315,15 +294,7 @@ keeps_input history i n OfTick = keeps_ticked history.state history.sent n
 keeps_input history i n OfRestart = keeps_restarted history.state history.sent n
 
 pub numbered_made : (settings : SettingsModel) (first : ℕ) → AreSettings settings → HistoryIsNumbered (made settings first)
-numbered_made settings first fine = record {
-  settings_fine = fine;
-  work = tt;
-  requests = λ k octets e. absurd (cc e);
-  rise = λ j k m n earlier later le a b p q. absurd (cc a);
-  same = λ j k n one other a b p q. absurd (cc a);
-  few = λ n. omega arith;
-  out = tt;
-}
+numbered_made settings first fine = grind arith
 
 pub numbered_after : (inputs : List Input) (history : History) → HistoryIsNumbered history → AllByRecursion IsInput inputs → HistoryIsNumbered (after_inputs history inputs)
 numbered_after [] history n are = n

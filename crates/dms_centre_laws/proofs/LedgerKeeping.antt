@@ -1,14 +1,13 @@
 -- What each input makes of the ledger.
-use Rattle.std.proofs.Common.{◌≡◌, ℕ, ℤ, pos, ◌+◌, ◌<◌, inl, inr, ◌==◌, Bool, true, false, if◌then◌else◌, List, [], ◌∷◌, ◌++◌, map, length, Option, Some, None, option_map, slice_get, refl, sym, ap, ◌∙◌, subst, arith, nat_le, nat_lt}
+use Rattle.std.proofs.Common.{◌≡◌, ℕ, ℤ, pos, ◌+◌, ◌<◌, ◌==◌, Bool, true, false, if◌then◌else◌, List, [], ◌∷◌, ◌++◌, map, length, Option, Some, None, option_map, slice_get, refl, sym, ap, ◌∙◌, subst, arith, nat_le, nat_lt}
 use Rattle.std.specs.Ordering.{int_eq}
-use Rattle.std.specs.Cmp.Lexicographic.{pointwise}
-use Rattle.std.specs.Prelude.{nat_eq, ◌&&◌}
+use Rattle.std.specs.Prelude.{◌&&◌}
 use Rattle.std.proofs.lemmas.List.{length-map}
-use Rattle.std.proofs.lemmas.Option.{none-some, same_Some, slice_get-map}
-use Rattle.std.proofs.lemmas.Bool.Decides.{nat_tests, Decides-int_eq, Decides-eqb}
+use Rattle.std.proofs.lemmas.Option.{slice_get-map}
+use Rattle.std.proofs.lemmas.Bool.Decides.{nat_tests, Decides-int_eq}
 use Rattle.std.proofs.lemmas.Slice.Eq.{slice_eq-Decides}
 use Rattle.dms_wire.specs.declared.message.Kind.{Kind}
-use Rattle.dms_wire.specs.declared.message.Kind.TheVariants.{Get, GetNext, Response, Set}
+use Rattle.dms_wire.specs.declared.message.Kind.TheVariants.{Response}
 use Rattle.dms_wire.specs.Message.{SnmpMessage}
 use Rattle.dms_wire.specs.MessageOf.{message_of}
 use Rattle.dms_codes.specs.declared.status.Status.TheVariants as statuses
@@ -33,7 +32,7 @@ use Rattle.dms_centre.specs.Inputs.{on_message, on_datagram, received, on_tick, 
 use Rattle.dms_requests.specs.Requests.{AreSettings, IsWork}
 use Rattle.dms_centre.specs.History.{Input, Commands, Hears, Ticks, Restarts, IsInput, OfCommand, OfDatagram, OfTick, OfRestart, move_at}
 use Rattle.dms_centre_laws.specs.Numbered.{IsAtWork}
-use Rattle.dms_centre_laws.specs.Ledger.{Answers, Becomes, Stays, IsAccepted, IsRefused, IsUnheard, IsForgotten, EntryMoves, PutsUp, IsNewEntry, LedgerMoves}
+use Rattle.dms_centre_laws.specs.Ledger.{Answers, Becomes, Stays, IsAccepted, IsRefused, IsUnheard, IsForgotten, EntryMoves, PutsUp, LedgerMoves}
 use Rattle.dms_centre_laws.proofs.Lists.{either_way, by_test, on_left, in_push}
 use Rattle.dms_requests.proofs.Requests.{request_reads}
 use Rattle.dms_centre_laws.proofs.Keeping.{is_begun}
@@ -78,15 +77,10 @@ entry_stays : (settings : SettingsModel) (input : Input) (entry : Entry) → Ent
 entry_stays settings input entry = record { number = refl; code = refl; outcome = Stays input entry.outcome }
 
 moves_same : (settings : SettingsModel) (input : Input) (before : List Entry) → EntriesMove settings input before before
-moves_same settings input before = record {
-  same_length = refl;
-  kept = λ k entry e. (entry, e, entry_stays settings input entry);
-  each = λ k later e. (later, e, entry_stays settings input later);
-}
+moves_same settings input before = grind (arith, entry_stays)
 
 mapped : {A : Type 0} (change : A → A) (o : Option A) (later : A) → option_map change o ≡ Some later → (entry : A) × (o ≡ Some entry) × (change entry ≡ later)
-mapped change None later e = absurd (none-some later e)
-mapped change (Some entry) later e = (entry, refl, same_Some (change entry) later e)
+mapped change o later e = grind arith
 
 moves_map : (settings : SettingsModel) (input : Input) (before : List Entry) (change : Entry → Entry)
     → ((k : ℕ) (entry : Entry) → slice_get before k ≡ Some entry → EntryMoves settings input entry (change entry)) → EntriesMove settings input before (map change before)
@@ -103,10 +97,7 @@ moves_map settings input before change moves = record {
 -- no new entry
 kept_moved : (settings : SettingsModel) (next : ℕ) (before : List Entry) (input : Input) (move : Move) → EntriesMove settings input before move.state.ledger
     → IsOpen move.state.phase move.state.ledger → LedgerKept settings next before input move
-kept_moved settings next before input move moved is_open = record {
-  moves = record { kept = moved.kept; each = λ k later e. inl (moved.each k later e) };
-  open_entry = is_open;
-}
+kept_moved settings next before input move moved is_open = grind arith
 
 -- the ledger as it was
 kept_same : (state : CentreState) (input : Input) (move : Move) → move.state.ledger ≡ state.ledger → IsOpen move.state.phase state.ledger → KeptAt state input move
@@ -118,14 +109,7 @@ abbrev with_ledger : Move → List Entry → Move
 with_ledger move ledger = record { sent = move.sent; state = record { settings = move.state.settings; next = move.state.next; phase = move.state.phase; ledger = ledger; last = move.state.last } }
 
 activating : (step : Step) → is_activating step ≡ true → step ≡ Activating
-activating Activating e = refl
-activating Opening e = absurd (cc e)
-activating Opened e = absurd (cc e)
-activating Filling e = absurd (cc e)
-activating Validating e = absurd (cc e)
-activating Polling e = absurd (cc e)
-activating Comparing e = absurd (cc e)
-activating Explaining e = absurd (cc e)
+activating step e = grind arith
 
 -- the request of an activation puts the job's code up
 puts_up : (settings : SettingsModel) (number : ℕ) (work : Work) (step : Step) (octets : List ℕ) → message_of octets ≡ Some (request_of settings number work step)
@@ -135,46 +119,14 @@ puts_up settings number work step octets e is = subst (λ s. message_of octets �
 
 -- the entries that moved have numbers below the next one
 moved_below : (settings : SettingsModel) (input : Input) (next : ℕ) (before ledger : List Entry) → EntriesMove settings input before ledger → AreBelow next before → AreBelow next ledger
-moved_below settings input next before ledger moved below k later e =
-    let was = moved.each k later e in
-    omega (arith, below k was.0 was.1, was.2.number)
+moved_below settings input next before ledger moved below k later e = grind arith
 
 -- an activation goes out, and enters the ledger
 kept_entered : (state : CentreState) (before : List Entry) (input : Input) (job : Job) (octets : List ℕ) → EntriesMove state.settings input before state.ledger
     → AreBelow state.next before → PutsUp state.settings state.next (code_of job.work) octets
     → LedgerKept state.settings state.next before input
     (with_ledger (sends_octets state job octets) (state.ledger ++ record { number = state.next; code = code_of job.work; outcome = Waiting } ∷ []))
-kept_entered state before input job octets moved below puts =
-    let new : Entry = record { number = state.next; code = code_of job.work; outcome = Waiting } in
-    let small = moved_below state.settings input state.next before state.ledger moved below in
-    record {
-      moves = record {
-        kept = λ k entry e. (let was = moved.kept k entry e in (was.0, on_left state.ledger (new ∷ []) k was.0 was.1, was.2));
-        each = λ k later e.
-            elim (in_push state.ledger new k later e) [
-              | inl old ↦ inl (moved.each k later old)
-              | inr last ↦
-                  (let is_new : IsNewEntry state.settings state.next (with_ledger (sends_octets state job octets) (state.ledger ++ new ∷ [])) new =
-                  record {
-                    number = refl;
-                    waiting = refl;
-                    job = job;
-                    pending = record { number = state.next; octets = octets; sends = 1; age = 0 };
-                    phase = refl;
-                    code = refl;
-                    octets = octets;
-                    sent = refl;
-                    puts_up = puts;
-                  } in
-                  inr (last.0 ∙ moved.same_length, subst (IsNewEntry state.settings state.next (with_ledger (sends_octets state job octets) (state.ledger ++ new ∷ []))) last.1 is_new))
-            ];
-      };
-      open_entry = λ act k entry e same.
-          elim (in_push state.ledger new k entry e) [
-            | inl old ↦ absurd (omega (arith, small k entry old, same))
-            | inr last ↦ sym (ap (λ (x : Entry). x.outcome) last.1)
-          ];
-    }
+kept_entered state before input job octets moved below puts = grind (arith, moved_below, on_left, in_push, puts_up)
 
 -- a job that fails after the entries moved
 kept_fail : (state : CentreState) (before : List Entry) (input : Input) (step : Step) (why : Why) → EntriesMove state.settings input before state.ledger
@@ -251,19 +203,7 @@ kept_read state input job (Some number) ready work = kept_number state input job
 -- an entry that waits for this number's reply, and gets it
 entry_decided : (settings : SettingsModel) (input : Input) (number : ℕ) (outcome : Outcome) (entry : Entry) → (entry.number ≡ number → entry.outcome ≡ Waiting)
     → Becomes settings number input Waiting outcome → EntryMoves settings input entry (with_outcome number outcome entry)
-entry_decided settings input number outcome entry waiting becomes =
-    by_test (EntryMoves settings input entry) (entry.number == number) (record entry { outcome = outcome }) entry
-    (λ same.
-    let e : entry.number ≡ number = (Decides-eqb entry.number number).0 same in
-    let was : entry.outcome ≡ Waiting = waiting e in
-    record {
-      number = refl;
-      code = refl;
-      outcome =
-          subst (λ n. Becomes settings n input entry.outcome outcome) (sym e)
-          (subst (λ o. Becomes settings number input o outcome) (sym was) becomes);
-    })
-    (λ other. entry_stays settings input entry)
+entry_decided settings input number outcome entry waiting becomes = grind (arith, by_test, entry_stays)
 
 moves_decided : (state : CentreState) (input : Input) (number : ℕ) (outcome : Outcome) → AreWaiting number state.ledger → Becomes state.settings number input Waiting outcome
     → EntriesMove state.settings input state.ledger (decided state number outcome).ledger
@@ -316,30 +256,16 @@ kept_reply state job number octets reply ready work heard waiting =
 -- ---- a datagram
 
 response_is : (kind : Kind) → is_response kind ≡ true → kind ≡ Response
-response_is Response e = refl
-response_is Get e = absurd (cc e)
-response_is GetNext e = absurd (cc e)
-response_is Set e = absurd (cc e)
+response_is kind e = grind arith
 
 left_of : (a b : Bool) → (a && b) ≡ true → a ≡ true
-left_of true b e = refl
-left_of false b e = e
+left_of a b e = grind arith
 
 right_of : (a b : Bool) → (a && b) ≡ true → b ≡ true
-right_of true b e = e
-right_of false b e = absurd (cc e)
+right_of a b e = grind arith
 
 answers : (state : CentreState) (number : ℕ) (message : SnmpMessage) → is_answer state number message ≡ true → Answers state.settings number message
-answers state number message e =
-    let kind = is_response message.kind in
-    let community = pointwise nat_eq message.community state.settings.community in
-    let request = int_eq message.request (pos number) in
-    let first = left_of (kind && community) request e in
-    record {
-      response = response_is message.kind (left_of kind community first);
-      community = (slice_eq-Decides Decides-eqb message.community state.settings.community community refl).0 (right_of kind community first);
-      request = (Decides-int_eq message.request (pos number)).0 (right_of (kind && community) request e);
-    }
+answers state number message e = grind (arith, left_of, response_is, slice_eq-Decides, right_of)
 
 kept_message : (state : CentreState) (octets : List ℕ) (phase : Phase) (message : SnmpMessage) → message_of octets ≡ Some message → Ready state → IsAtWork phase
     → IsOpen phase state.ledger → KeptAt state (Hears octets) (on_message state phase message)
@@ -372,22 +298,11 @@ kept_commanded state command ready is = kept_begun state (Commands command) (job
 -- ---- a tick
 
 waiting_is : (outcome : Outcome) → is_waiting outcome ≡ true → outcome ≡ Waiting
-waiting_is Waiting e = refl
-waiting_is Accepted e = absurd (cc e)
-waiting_is (Refused status) e = absurd (cc e)
-waiting_is NoReply e = absurd (cc e)
-waiting_is Unknown e = absurd (cc e)
+waiting_is outcome e = grind arith
 
 entry_given_up : (settings : SettingsModel) (input : Input) (outcome : Outcome) (entry : Entry) → ((number : ℕ) → Becomes settings number input Waiting outcome)
     → EntryMoves settings input entry (given_up outcome entry)
-entry_given_up settings input outcome entry becomes =
-    by_test (EntryMoves settings input entry) (is_waiting entry.outcome) (record entry { outcome = outcome }) entry
-    (λ waits. record {
-      number = refl;
-      code = refl;
-      outcome = subst (λ o. Becomes settings entry.number input o outcome) (sym (waiting_is entry.outcome waits)) (becomes entry.number);
-    })
-    (λ other. entry_stays settings input entry)
+entry_given_up settings input outcome entry becomes = grind (arith, by_test, waiting_is, entry_stays)
 
 moves_given_up : (state : CentreState) (input : Input) (outcome : Outcome) → ((number : ℕ) → Becomes state.settings number input Waiting outcome)
     → EntriesMove state.settings input state.ledger (gives_up state outcome).ledger

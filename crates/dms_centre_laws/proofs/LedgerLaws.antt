@@ -87,12 +87,7 @@ rise_after settings next before sent input move both moves j k earlier later les
 -- an entry whose number and code are as they were
 still_sent : (settings : SettingsModel) (sent more : List (List ℕ)) (input : Input) (entry later : Entry) → EntryMoves settings input entry later → WasSent settings sent entry
     → WasSent settings (sent ++ more) later
-still_sent settings sent more input entry later moves was = record {
-  place = was.place;
-  octets = was.octets;
-  there = on_left sent more was.place was.octets was.there;
-  puts_up = subst (λ n. PutsUp settings n later.code was.octets) (sym moves.number) (subst (λ c. PutsUp settings entry.number c was.octets) (sym moves.code) was.puts_up);
-}
+still_sent settings sent more input entry later moves was = grind (arith, on_left)
 
 newly_sent : (settings : SettingsModel) (next : ℕ) (sent : List (List ℕ)) (move : Move) (entry : Entry) → IsNewEntry settings next move entry
     → WasSent settings (sent ++ option_to_list move.sent) entry
@@ -160,18 +155,12 @@ kept settings first inputs fine are = kept_after inputs (made settings first) (i
 pub ledger_moves : (settings : SettingsModel) (first : ℕ) (inputs : List Input) (input : Input) → AreSettings settings → AllByRecursion IsInput inputs → IsInput input
     → LedgerMoves settings (after_inputs (made settings first) inputs).state.next (after_inputs (made settings first) inputs).state.ledger input
     (move_at (after_inputs (made settings first) inputs).state input)
-ledger_moves settings first inputs input fine are is =
-    let history = after_inputs (made settings first) inputs in
-    subst (λ s. LedgerMoves s history.state.next history.state.ledger input (move_at history.state input))
-    (settings_are settings first inputs fine are) (ledger_move history input (kept settings first inputs fine are) is).moves
+ledger_moves settings first inputs input fine are is = grind (arith, settings_are, ledger_move, kept)
 
 pub ledger_is_sent : (settings : SettingsModel) (first : ℕ) (inputs : List Input) → AreSettings settings → AllByRecursion IsInput inputs
     → LedgerIsSent settings (after_inputs (made settings first) inputs).state.next (after_inputs (made settings first) inputs).state.ledger
     (after_inputs (made settings first) inputs).sent
-ledger_is_sent settings first inputs fine are =
-    let history = after_inputs (made settings first) inputs in
-    subst (λ s. LedgerIsSent s history.state.next history.state.ledger history.sent) (settings_are settings first inputs fine are)
-    (kept settings first inputs fine are).ledger
+ledger_is_sent settings first inputs fine are = grind (arith, settings_are, kept)
 
 -- a datagram of an entry's number is the one that put its code up
 pub put_up_by : (settings : SettingsModel) (next : ℕ) (ledger : List Entry) (sent : List (List ℕ)) → LedgerIsSent settings next ledger sent → EqualNumbersMeanEqualOctets sent

@@ -1,5 +1,5 @@
 -- The laws on numbers, under any list of inputs.
-use Rattle.std.proofs.Common.{◌≡◌, ℕ, List, [], ◌∷◌, refl, ◌∙◌, subst}
+use Rattle.std.proofs.Common.{◌≡◌, ℕ, List, [], ◌∷◌, refl, ◌∙◌, subst, arith}
 use Rattle.std.specs.List.{AllByRecursion}
 use Rattle.dms_requests.specs.Job.{SettingsModel}
 use Rattle.dms_requests.specs.Requests.{AreSettings}
@@ -25,9 +25,7 @@ settings_are settings first inputs fine are = settings_stay inputs (made setting
 
 pub are_requests : (settings : SettingsModel) (first : ℕ) (inputs : List Input) → AreSettings settings → AllByRecursion IsInput inputs
     → AreRequests settings (after_inputs (made settings first) inputs).state.next (after_inputs (made settings first) inputs).sent
-are_requests settings first inputs fine are =
-    subst (λ s. AreRequests s (after_inputs (made settings first) inputs).state.next (after_inputs (made settings first) inputs).sent)
-    (settings_are settings first inputs fine are) (numbered settings first inputs fine are).requests
+are_requests settings first inputs fine are = grind (arith, settings_are, numbered)
 
 pub numbers_rise : (settings : SettingsModel) (first : ℕ) (inputs : List Input) → AreSettings settings → AllByRecursion IsInput inputs
     → NumbersRise (after_inputs (made settings first) inputs).sent

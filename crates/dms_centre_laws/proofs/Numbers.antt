@@ -1,10 +1,8 @@
 -- Request numbers along what is sent.
-use Rattle.std.proofs.Common.{◌≡◌, ℕ, pos, ◌+◌, ◌<◌, ◌≤◌, inl, inr, Bool, true, false, cond, List, [], ◌∷◌, ◌++◌, Option, Some, None, slice_get, refl, sym, ap, ◌∙◌, subst, arith}
+use Rattle.std.proofs.Common.{◌≡◌, ℕ, pos, ◌+◌, ◌<◌, ◌≤◌, inl, inr, Bool, true, false, cond, List, [], ◌∷◌, ◌++◌, Some, slice_get, refl, sym, ap, ◌∙◌, subst, arith}
 use Rattle.std.specs.Prelude.{count_by}
-use Rattle.std.proofs.lemmas.Option.{same_Some, slice_get_within}
+use Rattle.std.proofs.lemmas.Option.{slice_get_within}
 use Rattle.std.proofs.lemmas.Bool.Decides.{Decides-int_eq}
-use Rattle.dms_wire.specs.Message.{SnmpMessage}
-use Rattle.dms_wire.specs.MessageOf.{message_of}
 use Rattle.dms_requests.specs.Job.{SettingsModel}
 use Rattle.dms_requests.specs.Steps.{request_of}
 use Rattle.dms_requests.specs.Requests.{IsRequest}
@@ -14,26 +12,13 @@ use Rattle.dms_centre_laws.proofs.Lists.{in_push, count_push, count_none}
 -- ---- the number of a datagram
 
 pub one_number : (a b : ℕ) (octets : List ℕ) → HasNumber a octets → HasNumber b octets → a ≡ b
-one_number a b octets p q =
-    let same : p.message ≡ q.message = same_Some p.message q.message (sym p.spelled ∙ q.spelled) in
-    let numbers : pos a ≡ pos b = sym p.is ∙ (ap (λ (m : SnmpMessage). m.request) same ∙ q.is) in
-    cc numbers
+one_number a b octets p q = grind arith
 
 number_counts : (number : ℕ) (octets : List ℕ) → HasNumber number octets → has_number number octets ≡ true
 number_counts number octets p = ap (is_number_of number) p.spelled ∙ (Decides-int_eq p.message.request (pos number)).1 p.is
 
-number_by : (number : ℕ) (o : Option SnmpMessage) → is_number_of number o ≡ true → (m : SnmpMessage) × (o ≡ Some m) × (m.request ≡ pos number)
-number_by number None e = absurd (cc e)
-number_by number (Some m) e = (m, refl, (Decides-int_eq m.request (pos number)).0 e)
-
-number_counted : (number : ℕ) (octets : List ℕ) → has_number number octets ≡ true → HasNumber number octets
-number_counted number octets e =
-    let found = number_by number (message_of octets) e in
-    record { message = found.0; spelled = found.1; is = found.2 }
-
 not_counted : (number : ℕ) (octets : List ℕ) (b : Bool) → has_number number octets ≡ b → (HasNumber number octets → ⊥) → b ≡ false
-not_counted number octets true e h = absurd (h (number_counted number octets e))
-not_counted number octets false e h = refl
+not_counted number octets b e h = grind arith
 
 pub request_number : (settings : SettingsModel) (number : ℕ) (octets : List ℕ) → IsRequest settings number octets → HasNumber number octets
 unfolding request_of
@@ -43,11 +28,7 @@ request_number settings number octets r = record { message = request_of settings
 
 pub requests_push : (settings : SettingsModel) (next more number : ℕ) (sent : List (List ℕ)) (octets : List ℕ)
     → IsRequest settings number octets → number < more → next ≤ more → AreRequests settings next sent → AreRequests settings more (sent ++ octets ∷ [])
-requests_push settings next more number sent octets is small grows requests k other e =
-    elim (in_push sent octets k other e) [
-      | inl old ↦ (let r = requests k other old in (r.0, omega (arith, r.1), r.2))
-      | inr new ↦ (number, small, subst (λ o. IsRequest settings number o) new.1 is)
-    ]
+requests_push settings next more number sent octets is small grows requests k other e = grind (arith, in_push)
 
 pub rise_push : (sent : List (List ℕ)) (octets : List ℕ) (number : ℕ) → HasNumber number octets → NumbersRise sent
     → ((k m : ℕ) (other : List ℕ) → slice_get sent k ≡ Some other → HasNumber m other → m ≤ number)
@@ -93,11 +74,7 @@ same_push sent octets number has same alike j k n one other a b p q =
 
 few_by : (number n : ℕ) (sent : List (List ℕ)) (octets : List ℕ) (b : Bool) → has_number n octets ≡ b → HasNumber number octets
     → count_by (has_number n) sent ≤ 3 → count_by (has_number number) sent < 3 → count_by (has_number n) sent + cond {A = ℕ} b 1 0 ≤ 3
-few_by number n sent octets true e has few room =
-    let same = one_number n number octets (number_counted n octets e) has in
-    let there : count_by (has_number n) sent ≡ count_by (has_number number) sent = ap (λ i. count_by (has_number i) sent) same in
-    omega (arith, there, room)
-few_by number n sent octets false e has few room = omega (arith, few)
+few_by number n sent octets b e has few room = grind arith
 
 pub few_push : (sent : List (List ℕ)) (octets : List ℕ) (number : ℕ) → HasNumber number octets → ThreeSendsAtMost sent → count_by (has_number number) sent < 3
     → ThreeSendsAtMost (sent ++ octets ∷ [])
@@ -107,9 +84,7 @@ few_push sent octets number has few room n =
 -- the count of the number of the datagram that is pushed
 pub count_more : (sent : List (List ℕ)) (octets : List ℕ) (number count : ℕ) → HasNumber number octets → count_by (has_number number) sent ≤ count
     → count_by (has_number number) (sent ++ octets ∷ []) ≤ count + 1
-count_more sent octets number count has few =
-    let one : cond {A = ℕ} (has_number number octets) 1 0 ≡ 1 = ap (λ b. cond {A = ℕ} b 1 0) (number_counts number octets has) in
-    omega (arith, few, one, count_push (has_number number) sent octets)
+count_more sent octets number count has few = grind (arith, number_counts, count_push)
 
 -- a number that no datagram has
 pub count_of_none : (sent : List (List ℕ)) (number : ℕ) → ((k : ℕ) (octets : List ℕ) → slice_get sent k ≡ Some octets → HasNumber number octets → ⊥)

@@ -1,12 +1,12 @@
 -- Each code of the ledger is that of a command that was taken.
-use Rattle.std.proofs.Common.{◌≡◌, ℕ, List, [], ◌∷◌, ◌++◌, length, take, Some, None, slice_get, refl, sym, ap, ◌∙◌, subst, append_assoc, append-nil}
+use Rattle.std.proofs.Common.{◌≡◌, ℕ, List, [], ◌∷◌, ◌++◌, length, take, Some, None, slice_get, refl, sym, ap, ◌∙◌, subst, append_assoc, append-nil, arith}
 use Rattle.std.specs.List.{AllByRecursion}
 use Rattle.std.proofs.lemmas.Option.{none-some}
 use Rattle.dms_requests.specs.Job.{SettingsModel}
 use Rattle.dms_requests.specs.Commands.{CommandModel, job_of}
 use Rattle.dms_centre.specs.Commands.{refusal_of}
 use Rattle.dms_requests.specs.Requests.{AreSettings}
-use Rattle.dms_centre.specs.History.{Input, Commands, Hears, Ticks, Restarts, IsInput, History, made, after_input, after_inputs}
+use Rattle.dms_centre.specs.History.{Input, Commands, IsInput, History, made, after_input, after_inputs}
 use Rattle.dms_centre_laws.specs.Ledger.{IsOrdered, CodesAreOrdered}
 use Rattle.dms_centre_laws.proofs.LedgerLaws.{HistoryIsKept, is_kept_input, is_kept_made}
 use Rattle.dms_centre_laws.proofs.Working.{OfTaken, AreOf, are_of_input}
@@ -38,10 +38,7 @@ taken settings first all front rest command e none = record {
 
 of_taken : (settings : SettingsModel) (first : ℕ) (all front rest : List Input) (input : Input) → all ≡ front ++ input ∷ rest
     → OfTaken (IsOrdered settings first all) (after_inputs (made settings first) front).state input
-of_taken settings first all front rest (Commands command) e = λ none. taken settings first all front rest command e none
-of_taken settings first all front rest (Hears octets) e = tt
-of_taken settings first all front rest Ticks e = tt
-of_taken settings first all front rest Restarts e = tt
+of_taken settings first all front rest input e = grind (arith, taken)
 
 record IsSoFar (settings : SettingsModel) (first : ℕ) (all : List Input) (history : History) : Type 0 where
   kept : HistoryIsKept history
