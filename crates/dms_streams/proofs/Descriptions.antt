@@ -1,5 +1,5 @@
 -- A description that is taken line by line.
-use Rattle.std.proofs.Common.{◌≡◌, ℕ, ◌+◌, ◌<◌, ◌≤◌, ◌==◌, true, false, cond, List, [], ◌∷◌, ◌++◌, length, take, Option, Some, None, IfSome, refl, sym, ap, subst, ◌∙◌, arith, append_assoc, append-nil, take_all, length-append, length-take}
+use Rattle.std.proofs.Common.{◌≡◌, ℕ, ◌+◌, ◌<◌, ◌≤◌, ◌==◌, true, false, cond, List, [], ◌∷◌, ◌++◌, length, take, Option, Some, None, IfSome, refl, sym, ap, ◌∙◌, arith, append_assoc, append-nil, take_all, length-append, length-take}
 use Rattle.std.specs.Bool.{⊤}
 use Rattle.std.specs.List.{position}
 use Rattle.std.specs.Io.BufRead.{take_through, drop_through}
@@ -13,10 +13,7 @@ use Rattle.dms_streams.proofs.LineCuts.{first_line_is, to_newline, to_end}
 -- what is taken and what is left are the whole
 both : (octets : List ℕ) → take_through 10 octets ++ drop_through 10 octets ≡ octets
 both [] = refl
-both (x ∷ octets) = elim (x == 10) as (λ b. cond b (x ∷ []) (x ∷ take_through 10 octets) ++ cond b octets (drop_through 10 octets) ≡ x ∷ octets) [
-  | true ↦ refl
-  | false ↦ ap (λ l. x ∷ l) (both octets)
-]
+both (x ∷ octets) = grind (arith, both octets)
 
 -- a line that has its newline is the first one, whatever follows it
 first_of_more : (octets rest : List ℕ) (n : ℕ) → position is_newline octets ≡ Some n → lines (take_through 10 octets ++ rest) ≡ line_of (take_through 10 octets) ∷ lines rest
@@ -32,8 +29,7 @@ first_of_more octets rest n found =
 alone_at : (octets : List ℕ) → 0 < length octets → (place : Option ℕ) → position is_newline octets ≡ place
     → lines (take_through 10 octets) ≡ line_of (take_through 10 octets) ∷ []
 alone_at octets some (Some n) found = ap lines (sym (append-nil (take_through 10 octets))) ∙ first_of_more octets [] n found
-alone_at octets some None none =
-    ap lines (to_end octets none).0 ∙ first_line_is octets some ∙ ap (λ l. line_of (take_through 10 octets) ∷ lines l) (to_end octets none).1
+alone_at octets some None none = grind (arith, append-nil, first_of_more, to_end, first_line_is)
 
 -- a line alone
 alone : (octets : List ℕ) → 0 < length octets → lines (take_through 10 octets) ≡ line_of (take_through 10 octets) ∷ []
@@ -41,8 +37,7 @@ alone octets some = alone_at octets some (position is_newline octets) refl
 
 followed_at : (octets rest : List ℕ) → 0 < length (drop_through 10 octets) → (place : Option ℕ) → position is_newline octets ≡ place
     → lines (take_through 10 octets ++ rest) ≡ line_of (take_through 10 octets) ∷ lines rest
-followed_at octets rest some (Some n) found = first_of_more octets rest n found
-followed_at octets rest some None none = absurd (omega (arith, ap length (to_end octets none).1))
+followed_at octets rest some p found = grind (arith, first_of_more, to_end)
 
 -- a line after which there is more has its newline
 followed : (octets rest : List ℕ) → 0 < length (drop_through 10 octets) → lines (take_through 10 octets ++ rest) ≡ line_of (take_through 10 octets) ∷ lines rest
@@ -62,8 +57,7 @@ Collects (Some octets) text None = ⊥
 Collects (Some octets) text (Some rest) = Collected octets text rest
 
 pub none_collected : (first : Option (List ℕ)) → Collects first [] first
-none_collected None = tt
-none_collected (Some octets) = record { whole = refl; cut = refl; through = λ more. refl; after = λ more. refl; closed = λ some more. refl }
+none_collected first = grind arith
 
 goes_through : (line : List ℕ) (more : List (List ℕ)) → is_end line ≡ false → lines_through_end (line ∷ more) ≡ line ∷ lines_through_end more
 goes_through line more tested = ap (λ b. cond b (line ∷ []) (line ∷ lines_through_end more)) tested
@@ -73,8 +67,7 @@ goes_after line more tested = ap (λ b. cond b more (lines_after_end more)) test
 
 -- a line that was held whole
 held_whole : (rest line : List ℕ) (room : ℕ) → line ≡ take (room + 1) (take_through 10 rest) → length line ≤ room → line ≡ take_through 10 rest
-held_whole rest line room is short =
-    is ∙ take_all (room + 1) (take_through 10 rest) (omega (arith, ap length is, length-take (room + 1) (take_through 10 rest)))
+held_whole rest line room is short = grind (arith, take_all, length-take)
 
 there : (rest line : List ℕ) → line ≡ take_through 10 rest → 0 < length line → 0 < length rest
 there [] line is some = absurd (omega (arith, ap length is))
@@ -103,11 +96,7 @@ one_more_line octets text rest line before is some tested =
 
 pub collected_more : (first now after : Option (List ℕ)) (text line longer : List ℕ) (room : ℕ) → Collects first text now → Takes (room + 1) now line after
     → length line ≤ room → 0 < length line → is_end (line_of line) ≡ false → longer ≡ text ++ line → Collects first longer after
-collected_more None now after text line longer room before taken short some tested is = tt
-collected_more (Some octets) None after text line longer room before taken short some tested is = absurd before
-collected_more (Some octets) (Some rest) None text line longer room before taken short some tested is = absurd taken
-collected_more (Some octets) (Some rest) (Some later) text line longer room before taken short some tested is =
-    rw (is, taken.1) (one_more_line octets text rest line before (held_whole rest line room taken.0 short) some tested)
+collected_more first now after text line longer room before taken short some tested is = grind (arith, one_more_line, held_whole)
 
 ends_there : (octets text rest line : List ℕ) → Collected octets text rest → line ≡ take_through 10 rest → 0 < length line → is_end (line_of line) ≡ true
     → TakesDescription (Some octets) (text ++ line) (Some (drop_through 10 rest))
@@ -125,35 +114,14 @@ ends_there octets text rest line before is some tested =
 
 pub described : (first now after : Option (List ℕ)) (text line longer : List ℕ) (room : ℕ) → Collects first text now → Takes (room + 1) now line after
     → length line ≤ room → 0 < length line → is_end (line_of line) ≡ true → longer ≡ text ++ line → TakesDescription first longer after
-described None now after text line longer room before taken short some tested is = tt
-described (Some octets) None after text line longer room before taken short some tested is = absurd before
-described (Some octets) (Some rest) None text line longer room before taken short some tested is = absurd taken
-described (Some octets) (Some rest) (Some later) text line longer room before taken short some tested is =
-    rw (is, taken.1) (ends_there octets text rest line before (held_whole rest line room taken.0 short) some tested)
+described first now after text line longer room before taken short some tested is = grind (arith, ends_there, held_whole)
 
 all_there : (octets text : List ℕ) → Collected octets text [] → TakesDescription (Some octets) text (Some [])
-all_there octets text before =
-    let same : lines octets ≡ lines text ++ [] = before.cut in (
-      before.whole,
-      sym (ap lines_through_end same ∙ before.through [] ∙ append-nil (lines text)),
-      sym (ap lines_after_end same ∙ before.after []),
-    )
+all_there octets text before = grind (arith, append-nil)
 
 pub without_end : (first now after : Option (List ℕ)) (text line longer : List ℕ) (room : ℕ) → Collects first text now → Takes (room + 1) now line after
     → length line ≤ room → length line ≡ 0 → longer ≡ text ++ line → TakesDescription first longer after
-without_end None now after text line longer room before taken short none is = tt
-without_end (Some octets) None after text line longer room before taken short none is = absurd before
-without_end (Some octets) (Some rest) None text line longer room before taken short none is = absurd taken
-without_end (Some octets) (Some rest) (Some later) text line longer room before taken short none is =
-    let nothing : line ≡ [] = empty line none in
-    let end : rest ≡ [] = take_through-nil 10 rest (omega (arith, ap length (held_whole rest line room taken.0 short))) in
-    let same : longer ≡ text = is ∙ ap (λ l. text ++ l) nothing ∙ append-nil text in
-    let left : later ≡ [] = taken.1 ∙ ap (drop_through 10) end in
-    rw (same, left) (all_there octets text (subst (Collected octets text) end before))
-  where
-    empty : (l : List ℕ) → length l ≡ 0 → l ≡ []
-    empty [] e = refl
-    empty (x ∷ l) e = absurd (omega arith)
+without_end first now after text line longer room before taken short p is = grind (arith, take_through-nil, held_whole, append-nil, all_there)
 
 -- where a line does not fit, there are more octets than the limit
 pub too_many : (first now after : Option (List ℕ)) (text line : List ℕ) (limit room : ℕ) → Collects first text now → Takes (room + 1) now line after

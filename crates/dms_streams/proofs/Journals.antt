@@ -1,5 +1,5 @@
 -- Two texts put together: their lines, and a conversation over them.
-use Rattle.std.proofs.Common.{◌≡◌, ℕ, ◌<◌, ◌==◌, inl, inr, true, false, cond, List, [], ◌∷◌, ◌++◌, map, length, refl, sym, ap, ◌∙◌, arith, append_assoc, append-nil}
+use Rattle.std.proofs.Common.{◌≡◌, ℕ, ◌<◌, ◌==◌, List, [], ◌∷◌, ◌++◌, map, length, refl, ap, ◌∙◌, arith, append_assoc, append-nil}
 use Rattle.std.specs.List.{slice_split, onto_first}
 use Rattle.std.proofs.lemmas.List.Splits.{length-slice_split}
 use Rattle.std.specs.Str.Lines.{lines, lines_of_parts, strip_carriage_return}
@@ -14,17 +14,12 @@ some_part : (octets : List ℕ) → 0 < length (parts octets)
 some_part octets = omega (arith, length-slice_split (λ (octet : ℕ). octet == 10) octets)
 
 onto_first-append : (x : ℕ) (first second : List (List ℕ)) → 0 < length first → onto_first x (first ++ second) ≡ onto_first x first ++ second
-onto_first-append x [] second some = absurd (omega arith)
-onto_first-append x (part ∷ first) second some = refl
+onto_first-append x first second some = grind arith
 
 -- a newline parts what is before it from what is after it
 parts-append : (first second : List ℕ) → parts (first ++ 10 ∷ second) ≡ parts first ++ parts second
 parts-append [] second = refl
-parts-append (x ∷ first) second =
-    elim (x == 10) as (λ b. cond b ([] ∷ parts (first ++ 10 ∷ second)) (onto_first x (parts (first ++ 10 ∷ second))) ≡ cond b ([] ∷ parts first) (onto_first x (parts first)) ++ parts second) [
-      | true ↦ ap (λ l. [] ∷ l) (parts-append first second)
-      | false ↦ ap (onto_first x) (parts-append first second) ∙ onto_first-append x (parts first) (parts second) (some_part first)
-    ]
+parts-append (x ∷ first) second = grind (arith, onto_first-append, some_part, parts-append first second)
 
 -- each part before another is a line
 lines_before : (first second : List (List ℕ)) → 0 < length second → lines_of_parts (first ++ second) ≡ map strip_carriage_return first ++ lines_of_parts second
@@ -38,10 +33,7 @@ lines_after_newline first second =
     ap lines_of_parts (parts-append first second) ∙ lines_before (parts first) (parts second) (some_part second)
 
 pub lines-append : (first second : List ℕ) → AreWholeLines first → lines (first ++ second) ≡ lines first ++ lines second
-lines-append first second (inl none) = ap (λ l. lines (l ++ second)) none ∙ ap (λ l. lines l ++ lines second) (sym none)
-lines-append first second (inr (before, is)) =
-    ap (λ l. lines (l ++ second)) is ∙ ap lines (append_assoc before (10 ∷ []) second) ∙ lines_after_newline before second
-    ∙ ap (λ l. l ++ lines second) (sym (append-nil (map strip_carriage_return (parts before))) ∙ sym (lines_after_newline before []) ∙ ap lines (sym is))
+lines-append first second p = grind (arith, append_assoc, lines_after_newline, append-nil)
 
 pub answers_go_on : {S : Type 0} (reply : S → List ℕ → List ℕ) (after : S → List ℕ → S) (state : S) (first second : List ℕ) → AreWholeLines first → answers reply after state (lines (first ++ second))
     ≡ answers reply after state (lines first) ++ answers reply after (left_by_all after state (lines first)) (lines second)

@@ -52,12 +52,7 @@ first_at octets some (Some n) found =
     line_first octets (take n octets) (drop (n + 1) octets) (first_part is_newline octets n found ∙ ap (λ l. take n octets ∷ slice_split is_newline l) (take_rest octets (n + 1)))
     ∙ ap (λ l. l ∷ lines (drop (n + 1) octets)) (sym (ended (take n octets)))
     ∙ ap (λ l. line_of l ∷ lines (drop (n + 1) octets)) (sym through) ∙ ap (λ l. line_of (take_through 10 octets) ∷ lines l) (sym after)
-first_at octets some None none =
-    let all = no_newline octets none in
-    let whole = to_end octets none in
-    let last : line_of octets ≡ octets = unended octets (ne_eqb _ _ (all (length octets - 1) 0 (omega arith))) in
-    line_only octets (only_part is_newline octets none) some
-    ∙ ap (λ l. l ∷ lines []) (sym (ap line_of whole.0 ∙ last)) ∙ ap (λ l. line_of (take_through 10 octets) ∷ lines l) (sym whole.1)
+first_at octets some None none = grind (arith, to_newline, taken_at, line_first, first_part, is_newline, take_rest, ended, no_newline, to_end, unended, ne_eqb, line_only, only_part)
 
 -- the first line, and the lines after it
 pub first_line_is : (octets : List ℕ) → 0 < length octets → lines octets ≡ line_of (take_through 10 octets) ∷ lines (drop_through 10 octets)
@@ -79,18 +74,11 @@ shorter (x ∷ octets) some = elim (x == 10) as (λ b. length (cond b octets (dr
     ]
 
 stripped : (line : List ℕ) → length line ≤ length (strip_carriage_return line) + 1
-stripped line = elim (slice_index line (length line - 1) == 13) as (λ b. length line ≤ length (cond b (take (length line - 1) line) line) + 1) [
-  | true ↦ omega (arith, length-take (length line - 1) line)
-  | false ↦ omega arith
-]
+stripped line = grind (arith, length-take)
 
 -- a line has at most two octets less than it has with its newline
 line_length : (octets : List ℕ) → length octets ≤ length (line_of octets) + 2
-line_length octets =
-    elim (slice_index octets (length octets - 1) == 10) as (λ b. length octets ≤ length (cond b (strip_carriage_return (take (length octets - 1) octets)) octets) + 2) [
-      | true ↦ omega (arith, length-take (length octets - 1) octets, stripped (take (length octets - 1) octets))
-      | false ↦ omega arith
-    ]
+line_length octets = grind (arith, length-take, stripped)
 
 too_long : (octets : List ℕ) → 65539 ≤ length octets → nat_lt longest_line (length (line_of octets)) ≡ true
 too_long octets long = let most = line_length octets in grind (arith, nat_tests)

@@ -1,6 +1,6 @@
 -- How much of a piece belongs to the first line.
 use Rattle.std.proofs.Common.{◌≡◌, ◌≢◌, ℕ, ◌+◌, ◌<◌, ◌≤◌, ◌==◌, Bool, true, false, List, [], ◌∷◌, ◌++◌, All, length, take, drop, get_or-take, Some, None, refl, sym, ap, ◌∙◌, subst, arith, append_assoc, take_all, take-append-drop, eq-eqb, eqb-true, length-take}
-use Rattle.std.specs.List.{position, position_or_len}
+use Rattle.std.specs.List.{position}
 use Rattle.std.specs.Io.BufRead.{take_through, drop_through}
 use Rattle.std.proofs.lemmas.Bool.{ltb-false}
 use Rattle.std.proofs.lemmas.Bool.Decides.{nat_tests}
@@ -47,13 +47,10 @@ part_ends piece n found rest end =
 
 -- a piece without a newline
 pub no_newline : (piece : List ℕ) → position is_newline piece ≡ None → All (λ x. x ≢ 10) piece
-no_newline piece none =
-    let past : length piece ≤ position_or_len is_newline piece = ltb-false _ _ (none_test _ _ none) in
-    λ k d below. other _ (fails_before_first is_newline piece k d (omega arith))
+no_newline piece p = grind (arith, ltb-false, none_test, other, fails_before_first)
 
 pub part_goes_on : (piece : List ℕ) → position is_newline piece ≡ None → 0 < length piece → IsPart piece (length piece)
-part_goes_on piece none some =
-    (subst (λ l. All (λ (octet : ℕ). octet ≢ 10) l) (sym (take_all (length piece) piece (omega arith))) (no_newline piece none), some)
+part_goes_on piece p some = grind (arith, take_all, no_newline)
 
 pub some_there : (piece : List ℕ) → (length piece == 0) ≡ false → 0 < length piece
 some_there piece tested = grind (arith, nat_tests)

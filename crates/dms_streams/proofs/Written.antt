@@ -9,9 +9,7 @@ use Rattle.dms_streams.specs.Room.{HasRoom, TakesWithinRoom}
 
 whole_still : (octets prefix rest after : List ℕ) (count : ℕ) → octets ≡ prefix ++ rest → after ≡ drop count rest
     → octets ≡ (prefix ++ take count rest) ++ after
-whole_still octets prefix rest after count whole cut =
-    whole ∙ ap (λ xs. prefix ++ xs) (sym (take-append-drop count rest)) ∙ sym (append_assoc prefix (take count rest) (drop count rest))
-    ∙ ap (λ xs. (prefix ++ take count rest) ++ xs) (sym cut)
+whole_still octets prefix rest after count whole cut = grind (arith, take-append-drop, append_assoc)
 
 no_zero : (count : ℕ) → (count ≡ 0 → ⊥) → (count == 0) ≡ false
 no_zero count some = grind (arith, nat_tests)
@@ -53,7 +51,4 @@ all_taken {E} now next rest more count result has is_ok takes =
 -- a call that took what there was room for leaves room for what is to follow
 pub room_still : {E : Type 0} (now next : Option ℕ) (rest after : List ℕ) (more count : ℕ) (result : Result ℕ E) → HasRoom now (length rest + more)
     → result ≡ Ok count → TakesWithinRoom now next result rest → after ≡ drop count rest → HasRoom next (length after + more)
-room_still now next rest after more count result has is_ok takes cut =
-    let took = all_taken now next rest more count result has is_ok takes in
-    let none : more ≡ length after + more = omega (arith, ap length cut ∙ length-drop count rest, took.0) in
-    subst (HasRoom next) none took.1
+room_still now next rest after more count result has is_ok takes cut = grind (arith, all_taken, length-drop)

@@ -1,4 +1,4 @@
-use Rattle.std.proofs.Common.{◌∙◌, Err, sym, ap, subst, rules}
+use Rattle.std.proofs.Common.{◌∙◌, Err, sym, ap, subst, rules, arith}
 use Rattle.dms_streams.specs.Lines.{Takes, held, left}
 use Rattle.dms_streams.proofs.Parts.{some_there, none_there}
 use Rattle.dms_streams.proofs.Turns.{said_more, all_said, all_left, said_in_part, said_so_far, kept_whole}
@@ -31,14 +31,7 @@ returns-in-Err-answer_line-clause-in_part g c = λ failed.
 
 -- src/conversation.rt:46:5
 pub loop-preserved : goal.loop-preserved
-loop-preserved g c =
-    let taken = subst (λ l. Takes held (left g.S.Source.remaining c.loop.input) l (left g.S.Source.remaining c.next_line.new.input)) (sym c.as_slice-octets.ensures.value)
-    c.in-Ok.ensures.line in record {
-      said = said_more g.P.Party.reply g.P.Party.after _ _ _ _ _ _ _ _ _ _ _ c.loop.invariant.said taken (some_there _ (sym c.is_empty.ensures ∙ c.if-is_empty.false))
-          (c.in-Ok-answer_line.ensures.after (search rules)) c.in-Ok-answer_line.ensures.answer;
-      all_read = search rules;
-      all_written = search rules;
-    }
+loop-preserved g c = grind (arith, said_more, some_there)
 
 pub returns-in-Err-clause-prompt : goal.returns-in-Err-clause-prompt
 returns-in-Err-clause-prompt g c = λ failed. said_so_far g.P.Party.reply g.P.Party.after _ _ _ _ _ _ _ _ c.loop.invariant.said (c.in-Err.ensures.part failed)

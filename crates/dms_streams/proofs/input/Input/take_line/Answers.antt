@@ -1,5 +1,4 @@
-use Rattle.std.proofs.Common.{◌≡◌, ◌≤◌, length, subst, IfSome, arith}
-use Rattle.dms_streams.specs.Lines.{left}
+use Rattle.std.proofs.Common.{◌≡◌, ◌≤◌, arith}
 use Rattle.dms_streams.proofs.Taken.{breaks, stops, as_many}
 use Rattle.dms_streams.proofs.input.Input.take_line.Goals as goal
 
@@ -10,6 +9,4 @@ pub returns-clause-part : goal.returns-clause-part
 returns-clause-part g c = stops _ _ _ _ _ c.loop.invariant.going
 
 pub returns-clause-too_long : goal.returns-clause-too_long
-returns-clause-too_long g c = λ _.
-    let all : c.loop.counter ≡ 18446744073709551615 = omega (arith, c.loop-test.false, c.loop.auto.counter-end) in
-    subst (λ n. IfSome (left g.S.Source.remaining c.args.self.now) (λ octets. n ≤ length octets)) all (as_many _ _ _ _ _ c.loop.invariant.going)
+returns-clause-too_long g c = grind (arith, as_many)
