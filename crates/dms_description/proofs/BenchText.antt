@@ -1,5 +1,5 @@
 -- The text of the bench sign spells the bench sign.
-use Rattle.std.proofs.Common.{◌≡◌, ◌≢◌, ℕ, ◌≤◌, List, [], ◌∷◌, ◌++◌, length, Some, refl, ap, arith}
+use Rattle.std.proofs.Common.{◌≡◌, ◌≢◌, ℕ, ◌≤◌, List, [], ◌∷◌, ◌++◌, Some, refl, arith}
 use Rattle.std.specs.Prelude.{codes}
 use Rattle.hex.specs.Hex.{decode_pairs}
 use Rattle.dms_multi.specs.Outcomes.{outcomes_within}
@@ -27,8 +27,7 @@ use Rattle.dms_description.proofs.BenchValue.{bench_sign}
 
 pub spells_decimal : (low high number : ℕ) (word : List ℕ) → number_of 10 5 word ≡ Some number → low ≤ number → number ≤ high
     → SpellsDecimal low high number word
-spells_decimal low high number word found least greatest =
-    record { spelled = number_found 10 5 number word found; least = least; greatest = greatest }
+spells_decimal low high number word found least greatest = grind (arith, number_found)
 
 pub spells_octet : (number : ℕ) (word : List ℕ) → number_of 10 5 word ≡ Some number → number ≤ 255 → SpellsOctet number word
 spells_octet number word found greatest = spells_decimal 0 255 number word found (omega arith) greatest
@@ -53,45 +52,15 @@ spells_small = font_found small_text small_font refl
 
 -- ---- the sign
 
-communities_differ : codes "public" ≢ codes "admin"
-communities_differ same =
-    let sizes : length (codes "public") ≡ length (codes "admin") = ap length same in
-    let wrong : 6 ≡ 5 = sizes in
-    omega (arith, wrong)
-
 -- the bench sign can be made
 pub can_be_made : CanBeMade bench_sign.config bench_sign.table
 unfolding fault_of outcomes_within item_at item_after_opening item_after_closing tag_at body_item name_at letters_name end_name item_of flash_of font_of times_of page_time_of multi.number_of decimal_of value_of cut multi.version_of octet_bits
-can_be_made = record {
-  face = refl;
-  permanent = let few : 1 ≤ 16 = omega arith in few;
-  rows = refl;
-  changeable = let few : 2 ≤ 64 = omega arith in few;
-  changeable_unused = refl;
-  volatile = let few : 1 ≤ 16 = omega arith in few;
-  volatile_unused = refl;
-  reader = refl;
-  writer = refl;
-  differ = communities_differ;
-}
+can_be_made = grind arith
 
 spells_permanent : SpellsPermanent (record { text = codes "B"; owner = []; beacon = 0; pixel = 0; priority = 100; status = Valid })
     (codes "permanent" ∷ codes "42" ∷ codes "-" ∷ codes "0" ∷ codes "0" ∷ codes "100" ∷ [])
 unfolding number_of decode_pairs
-spells_permanent = record {
-  text_word = codes "42";
-  owner_word = codes "-";
-  beacon_word = codes "0";
-  pixel_word = codes "0";
-  priority_word = codes "100";
-  words_are = refl;
-  text = refl;
-  owner = refl;
-  beacon = spells_octet 0 (codes "0") refl (omega arith);
-  pixel = spells_octet 0 (codes "0") refl (omega arith);
-  priority = spells_octet 100 (codes "100") refl (omega arith);
-  status = refl;
-}
+spells_permanent = grind arith
 
 spells_first : SpellsFourOctets 1 (codes "1")
 unfolding number_of
@@ -100,35 +69,7 @@ spells_first = record { spelled = number_found 10 10 1 (codes "1") refl; small =
 spells_defaults : SpellsDefaults bench_sign.config.face.defaults
     (codes "defaults" ∷ codes "0" ∷ codes "9" ∷ codes "5" ∷ codes "5" ∷ codes "1" ∷ codes "3" ∷ codes "2" ∷ codes "30" ∷ codes "0" ∷ [])
 unfolding number_of
-spells_defaults = record {
-  number_words = codes "0" ∷ codes "9" ∷ codes "5" ∷ codes "5" ∷ codes "1" ∷ codes "3" ∷ codes "2" ∷ codes "30" ∷ codes "0" ∷ [];
-  words_are = refl;
-  numbers = (
-    spells_octet 0 (codes "0") refl (omega arith),
-    (
-      spells_octet 9 (codes "9") refl (omega arith),
-      (
-        spells_octet 5 (codes "5") refl (omega arith),
-        (
-          spells_octet 5 (codes "5") refl (omega arith),
-          (
-            spells_octet 1 (codes "1") refl (omega arith),
-            (
-              spells_octet 3 (codes "3") refl (omega arith),
-              (
-                spells_octet 2 (codes "2") refl (omega arith),
-                (
-                  spells_octet 30 (codes "30") refl (omega arith),
-                  (spells_octet 0 (codes "0") refl (omega arith), refl),
-                ),
-              ),
-            ),
-          ),
-        ),
-      ),
-    ),
-  );
-}
+spells_defaults = grind arith
 
 spells_fonts : SpellsFonts (tall_font ∷ small_font ∷ []) (kept_lines tall_text ++ (kept_lines small_text ++ []))
 spells_fonts =

@@ -103,25 +103,7 @@ all_found first words found e =
 
 both_found : (first : ColoursAndFlash) (defaults : Defaults) (words after rest : List (List ℕ)) → words ≡ codes "defaults" ∷ after → FoundFirst after (first, rest)
     → FoundAll first rest defaults → SpellsDefaults defaults words
-both_found first defaults words after rest are begins goes = record {
-  number_words = begins.background_word ∷ begins.foreground_word ∷ begins.flash_on_word ∷ begins.flash_off_word ∷ goes.font_word ∷ goes.line_word ∷ goes.page_word
-      ∷ goes.on_word ∷ goes.off_word ∷ [];
-  words_are = are ∙ ap (λ rest. codes "defaults" ∷ rest) begins.words_are
-      ∙ ap (λ rest. codes "defaults" ∷ begins.background_word ∷ begins.foreground_word ∷ begins.flash_on_word ∷ begins.flash_off_word ∷ rest) goes.words_are;
-  numbers = (
-    subst (λ n. SpellsOctet n begins.background_word) goes.background begins.background,
-    (
-      subst (λ n. SpellsOctet n begins.foreground_word) goes.foreground begins.foreground,
-      (
-        subst (λ n. SpellsOctet n begins.flash_on_word) goes.flash_on begins.flash_on,
-        (
-          subst (λ n. SpellsOctet n begins.flash_off_word) goes.flash_off begins.flash_off,
-          (goes.font, (goes.line, (goes.page, (goes.on, (goes.off, refl))))),
-        ),
-      ),
-    ),
-  );
-}
+both_found first defaults words after rest are begins goes = grind arith
 
 pub defaults_found : (defaults : Defaults) (words : List (List ℕ)) → defaults_of words ≡ Some defaults → SpellsDefaults defaults words
 unfolding defaults_of
@@ -155,36 +137,7 @@ record NineWords (d : Defaults) (words : List (List ℕ)) : Type 0 where
   at_off : SpellsOctet d.off off
 
 nine_words : (d : Defaults) (words : List (List ℕ)) → SpellsEach SpellsOctet (numbers_of d) words → NineWords d words
-nine_words d [] s = absurd s
-nine_words d (a ∷ []) s = absurd s.1
-nine_words d (a ∷ b ∷ []) s = absurd s.1.1
-nine_words d (a ∷ b ∷ c ∷ []) s = absurd s.1.1.1
-nine_words d (a ∷ b ∷ c ∷ e ∷ []) s = absurd s.1.1.1.1
-nine_words d (a ∷ b ∷ c ∷ e ∷ f ∷ []) s = absurd s.1.1.1.1.1
-nine_words d (a ∷ b ∷ c ∷ e ∷ f ∷ g ∷ []) s = absurd s.1.1.1.1.1.1
-nine_words d (a ∷ b ∷ c ∷ e ∷ f ∷ g ∷ h ∷ []) s = absurd s.1.1.1.1.1.1.1
-nine_words d (a ∷ b ∷ c ∷ e ∷ f ∷ g ∷ h ∷ k ∷ []) s = absurd s.1.1.1.1.1.1.1.1
-nine_words d (a ∷ b ∷ c ∷ e ∷ f ∷ g ∷ h ∷ k ∷ l ∷ rest) s = record {
-  background = a;
-  foreground = b;
-  flash_on = c;
-  flash_off = e;
-  font = f;
-  line = g;
-  page = h;
-  on = k;
-  off = l;
-  words_are = ap (λ rest. a ∷ b ∷ c ∷ e ∷ f ∷ g ∷ h ∷ k ∷ l ∷ rest) s.1.1.1.1.1.1.1.1.1;
-  at_background = s.0;
-  at_foreground = s.1.0;
-  at_flash_on = s.1.1.0;
-  at_flash_off = s.1.1.1.0;
-  at_font = s.1.1.1.1.0;
-  at_line = s.1.1.1.1.1.0;
-  at_page = s.1.1.1.1.1.1.0;
-  at_on = s.1.1.1.1.1.1.1.0;
-  at_off = s.1.1.1.1.1.1.1.1.0;
-}
+nine_words d words s = grind arith
 
 abbrev first_of_all : Defaults → ColoursAndFlash
 first_of_all d = record { background = d.background; foreground = d.foreground; flash_on = d.flash_on; flash_off = d.flash_off }
@@ -201,12 +154,7 @@ first_only d a b c e rest at_a at_b at_c at_e =
 all_only : (d : Defaults) (a b c e f : List ℕ) → SpellsOctet d.font a → SpellsOctet d.line b → SpellsOctet d.page c → SpellsOctet d.on e → SpellsOctet d.off f
     → defaults_with (first_of_all d) (a ∷ b ∷ c ∷ e ∷ f ∷ []) ≡ Some d
 unfolding defaults_with
-all_only d a b c e f at_a at_b at_c at_e at_f =
-    goes_on _ _ _ (decimal_only 0 255 d.font a (b ∷ c ∷ e ∷ f ∷ []) at_a)
-    ∙ goes_on _ _ _ (decimal_only 0 255 d.line b (c ∷ e ∷ f ∷ []) at_b)
-    ∙ goes_on _ _ _ (decimal_only 0 255 d.page c (e ∷ f ∷ []) at_c)
-    ∙ goes_on _ _ _ (decimal_only 0 255 d.on e (f ∷ []) at_e)
-    ∙ goes_on _ _ _ (decimal_only 0 255 d.off f [] at_f)
+all_only d a b c e f at_a at_b at_c at_e at_f = grind (arith, goes_on, decimal_only)
 
 by_words : (d : Defaults) (words number_words : List (List ℕ)) → words ≡ codes "defaults" ∷ number_words → NineWords d number_words → defaults_of words ≡ Some d
 unfolding defaults_of

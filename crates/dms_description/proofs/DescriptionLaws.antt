@@ -1,7 +1,6 @@
 -- What the first lines of a text spell is what is read of them, and nothing else.
 use Rattle.std.proofs.Common.{◌≡◌, ◌⊎◌, ℕ, ◌<◌, true, List, [], ◌∷◌, ◌++◌, length, Some, None, refl, sym, ap, subst, ◌∙◌, arith, inl, inr}
-use Rattle.std.specs.Prelude.{codes, replicate, nat_le}
-use Rattle.std.proofs.lemmas.Bool.{and_parts, leb-true}
+use Rattle.std.specs.Prelude.{codes}
 use Rattle.std.proofs.lemmas.Option.{same_Some, cond_some}
 use Rattle.std.proofs.lemmas.List.{append-nil, length-replicate}
 use Rattle.dms_text.specs.Words.{words_of}
@@ -9,7 +8,7 @@ use Rattle.dms_text.specs.Reading.{word_at, keyword_at, ◌>>=◌}
 use Rattle.dms_text.proofs.WordLaws.{begun, goes_on, same_found}
 use Rattle.dms_font.specs.Font.{FontModel}
 use Rattle.dms_font.specs.FontText.{SpellsHeader}
-use Rattle.dms_table.specs.Rows.{RowModel, unused}
+use Rattle.dms_table.specs.Rows.{RowModel}
 use Rattle.dms_sign.specs.Communities.{has_community_size}
 use Rattle.dms_sign.specs.Construction.{CanBeMade}
 use Rattle.dms_description.specs.Fields.{SpellsEach}
@@ -39,9 +38,7 @@ end_found (line ∷ lines) rest e =
 
 counts_alike : (head : HeadModel) (permanent : List RowModel) (fonts : List FontModel)
     → head.beginning.rows ≡ record { changeable = length (described head permanent fonts).table.changeable; volatile = length (described head permanent fonts).table.volatile }
-counts_alike head permanent fonts =
-    ap (λ n. record { changeable = n; volatile = head.beginning.rows.volatile }) (sym (length-replicate head.beginning.rows.changeable unused))
-    ∙ ap (λ n. record { changeable = length (replicate head.beginning.rows.changeable unused); volatile = n }) (sym (length-replicate head.beginning.rows.volatile unused))
+counts_alike head permanent fonts = grind (arith, length-replicate)
 
 assembled : (lines after middle last rest : List (List ℕ)) (head : HeadModel) (permanent : List RowModel) (permanent_lines : List (List ℕ)) (fonts : List FontModel) (font_lines : List (List ℕ))
     → FoundHead lines (head, after) → after ≡ permanent_lines ++ middle → SpellsEach SpellsPermanentLine permanent permanent_lines → middle ≡ font_lines ++ last
@@ -90,11 +87,7 @@ body_found lines after rest head found ends can =
 
 pub read_is_spelled : (lines rest : List (List ℕ)) (it : Description) → description_at lines ≡ Some (it, rest) → CanBeMade it.config it.table → BeginsWith lines rest it
 unfolding description_at
-read_is_spelled lines rest it e can =
-    let head = begun _ _ _ e in
-    let ends = begun _ _ _ head.2 in
-    subst (λ (found : Description × List (List ℕ)). CanBeMade found.0.config found.0.table → BeginsWith lines found.1 found.0) (same_Some _ _ ends.2)
-    (body_found lines head.0.1 ends.0 head.0.0 (head_found lines head.0 head.1) ends.1) can
+read_is_spelled lines rest it e can = grind (arith, begun, same_Some, body_found, head_found)
 
 -- ---- spelled, and so read
 
@@ -112,9 +105,7 @@ head_of it = record {
 }
 
 described_again : (it : Description) → CanBeMade it.config it.table → described (head_of it) it.table.permanent it.config.face.fonts ≡ it
-described_again it can =
-    ap (λ rows. record it { table = record it.table { changeable = rows; volatile = replicate (length it.table.volatile) unused } }) (sym can.changeable_unused)
-    ∙ ap (λ rows. record it { table = record it.table { volatile = rows } }) (sym can.volatile_unused)
+described_again it can = grind arith
 
 -- neither `end` nor the first line of a font is a permanent row
 end_is_no_row : row_of (words_of (codes "end")) ≡ None
@@ -144,10 +135,7 @@ body_only it permanent_lines font_lines rest permanent fonts =
     (font.all_read it.config.face.fonts font_lines rest fonts)
 
 community_some : (community : List ℕ) → has_community_size community ≡ true → 0 < length community
-community_some community e =
-    let parts = and_parts (nat_le 1 (length community)) (nat_le (length community) 32) e in
-    let some = leb-true 1 (length community) parts.0 in
-    omega (arith, some)
+community_some community e = grind arith
 
 pub spelled_is_read : (prefix rest : List (List ℕ)) (it : Description) → SpellsSign prefix it → description_at (prefix ++ rest) ≡ Some (it, rest)
 unfolding description_at

@@ -11,11 +11,7 @@ use Rattle.dms_description.proofs.WordReading.{last_found}
 -- ---- words
 
 pub same_rest : (word other : List ℕ) (words others : List (List ℕ)) → word ∷ words ≡ other ∷ others → words ≡ others
-same_rest word other words others e = ap drop_first e
-  where
-    drop_first : List (List ℕ) → List (List ℕ)
-    drop_first [] = []
-    drop_first (word ∷ words) = words
+same_rest word other words others e = grind arith
 
 pub record FoundOctets (words : List (List ℕ)) (found : List ℕ × List (List ℕ)) : Type 0 where
   pub word : List ℕ
@@ -38,8 +34,7 @@ next_octets_found words found e =
 
 pub next_octets_only : (octets word : List ℕ) (rest : List (List ℕ)) → SpellsOctets octets word → octets_at (word ∷ rest) ≡ Some (octets, rest)
 unfolding octets_at
-next_octets_only octets word rest spelled =
-    goes_on _ _ _ (word_only word rest (octets_some octets word spelled)) ∙ goes_on _ _ _ (octets_only octets word spelled)
+next_octets_only octets word rest spelled = grind (arith, goes_on, word_only, octets_some, octets_only)
 
 -- ---- the last word of a line
 

@@ -1,5 +1,5 @@
 -- The first seven lines of a description, read one after another.
-use Rattle.std.proofs.Common.{◌≡◌, ℕ, List, [], ◌∷◌, Option, Some, None, refl, ap, subst, ◌∙◌}
+use Rattle.std.proofs.Common.{◌≡◌, ℕ, List, [], ◌∷◌, Option, Some, None, refl, ap, subst, ◌∙◌, arith}
 use Rattle.std.proofs.lemmas.Option.{same_Some}
 use Rattle.dms_text.specs.Words.{words_of}
 use Rattle.dms_text.proofs.WordLaws.{begun, goes_on}
@@ -36,38 +36,13 @@ record FoundBeginning (lines : List (List ℕ)) (found : BeginningModel × List 
 
 beginning_found : (lines : List (List ℕ)) (found : BeginningModel × List (List ℕ)) → beginning_at lines ≡ Some found → FoundBeginning lines found
 unfolding beginning_at
-beginning_found lines found e =
-    let size = begun _ _ _ e in
-    let communities = begun _ _ _ size.2 in
-    let rows = begun _ _ _ communities.2 in
-    let order = begun _ _ _ rows.2 in
-    let at_size = line_found size_of lines size.0 size.1 in
-    let at_communities = line_found communities_of size.0.1 communities.0 communities.1 in
-    let at_rows = line_found row_counts_of communities.0.1 rows.0 rows.1 in
-    let at_order = line_found order_of rows.0.1 order.0 order.1 in
-    subst (λ (pair : BeginningModel × List (List ℕ)). FoundBeginning lines pair) (same_Some _ _ order.2) (record {
-      size_line = at_size.line;
-      communities_line = at_communities.line;
-      rows_line = at_rows.line;
-      order_line = at_order.line;
-      lines_are = at_size.lines_are
-          ∙ ap (λ rest. at_size.line ∷ rest) (at_communities.lines_are
-          ∙ ap (λ rest. at_communities.line ∷ rest) (at_rows.lines_are ∙ ap (λ rest. at_rows.line ∷ rest) at_order.lines_are));
-      size = at_size.said;
-      communities = at_communities.said;
-      rows = at_rows.said;
-      order = at_order.said;
-    })
+beginning_found lines found e = grind arith
 
 beginning_only : (it : BeginningModel) (size_line communities_line rows_line order_line : List ℕ) (rest : List (List ℕ)) → size_of (words_of size_line) ≡ Some it.size
     → communities_of (words_of communities_line) ≡ Some it.communities → row_counts_of (words_of rows_line) ≡ Some it.rows → order_of (words_of order_line) ≡ Some it.order
     → beginning_at (size_line ∷ communities_line ∷ rows_line ∷ order_line ∷ rest) ≡ Some (it, rest)
 unfolding beginning_at
-beginning_only it size_line communities_line rows_line order_line rest size communities rows order =
-    goes_on _ _ _ (line_only size_of size_line (communities_line ∷ rows_line ∷ order_line ∷ rest) it.size size)
-    ∙ goes_on _ _ _ (line_only communities_of communities_line (rows_line ∷ order_line ∷ rest) it.communities communities)
-    ∙ goes_on _ _ _ (line_only row_counts_of rows_line (order_line ∷ rest) it.rows rows)
-    ∙ goes_on _ _ _ (line_only order_of order_line rest it.order order)
+beginning_only it size_line communities_line rows_line order_line rest size communities rows order = grind arith
 
 -- ---- seven lines
 
@@ -125,8 +100,4 @@ pub head_only : (head : HeadModel) (size_line communities_line rows_line order_l
     → services_of (words_of has_line) ≡ Some head.services → defaults_of (words_of defaults_line) ≡ Some head.defaults → first_of (words_of first_line) ≡ Some head.first
     → head_at (size_line ∷ communities_line ∷ rows_line ∷ order_line ∷ has_line ∷ defaults_line ∷ first_line ∷ rest) ≡ Some (head, rest)
 unfolding head_at
-head_only head size_line communities_line rows_line order_line has_line defaults_line first_line rest size communities rows order services defaults first =
-    goes_on _ _ _ (beginning_only head.beginning size_line communities_line rows_line order_line (has_line ∷ defaults_line ∷ first_line ∷ rest) size communities rows order)
-    ∙ goes_on _ _ _ (line_only services_of has_line (defaults_line ∷ first_line ∷ rest) head.services services)
-    ∙ goes_on _ _ _ (line_only defaults_of defaults_line (first_line ∷ rest) head.defaults defaults)
-    ∙ goes_on _ _ _ (line_only first_of first_line rest head.first first)
+head_only head size_line communities_line rows_line order_line has_line defaults_line first_line rest size communities rows order services defaults first = grind (arith, goes_on, beginning_only, line_only)

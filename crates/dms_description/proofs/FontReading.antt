@@ -1,5 +1,5 @@
 -- What the lines of fonts spell is what is read of them.
-use Rattle.std.proofs.Common.{◌≡◌, ℕ, List, [], ◌∷◌, ◌++◌, map, length, Option, Some, None, Result, Ok, Err, refl, sym, ap, subst, ◌∙◌, arith, append_assoc, ◌⊎◌, inl, inr}
+use Rattle.std.proofs.Common.{◌≡◌, ℕ, List, [], ◌∷◌, ◌++◌, map, length, Option, Some, None, Result, Ok, Err, refl, sym, ap, subst, ◌∙◌, arith, append_assoc, ◌⊎◌, inl}
 use Rattle.std.specs.Prelude.{codes}
 use Rattle.dms_text.specs.Words.{words_of}
 use Rattle.dms_text.specs.Lines.{NumberedLine}
@@ -203,9 +203,7 @@ font_only lines font spelled = record {
 more_read : (more : List FontModel) (others rest : List (List ℕ)) (fonts : List FontModel) (font : FontModel) → SpellsFonts more others
     → fonts_from fonts font (others ++ codes "end" ∷ rest) ≡ (fonts ++ font ∷ more, codes "end" ∷ rest)
 unfolding fonts_from
-more_read _ _ rest fonts font no_font =
-    ap (λ added. fonts_then (λ closed open_font. fonts_from closed open_font rest) fonts font (codes "end" ∷ rest) added (header_of (words_of (codes "end")))) (no_glyph font (codes "end") end_words)
-    ∙ ap (fonts_then (λ closed open_font. fonts_from closed open_font rest) fonts font (codes "end" ∷ rest) (Err Glyph)) end_header
+more_read _ _ rest fonts font no_font = grind (arith, no_glyph, end_words, end_header, font_only, append_assoc, own_read)
 more_read _ _ rest fonts font (one_more next more lines others spelled after) =
     let read = font_only lines next spelled in
     let begun : FontModel = record next { glyphs = [] } in
@@ -238,9 +236,4 @@ pub record OtherLine (lines : List (List ℕ)) : Type 0 where
 
 pub other_line : (fonts : List FontModel) (lines rest : List (List ℕ)) → SpellsFonts fonts lines → OtherLine (lines ++ codes "end" ∷ rest)
 other_line _ _ rest no_font = record { line = codes "end"; rest = rest; lines_are = refl; words = inl refl }
-other_line _ _ rest (one_more font more lines others spelled after) = record {
-  line = spelled.header_line;
-  rest = spelled.glyph_lines ++ (others ++ codes "end" ∷ rest);
-  lines_are = append_assoc lines others (codes "end" ∷ rest) ∙ ap (λ ls. ls ++ (others ++ codes "end" ∷ rest)) spelled.lines_are;
-  words = inr (font, spelled.header);
-}
+other_line _ _ rest (one_more font more lines others spelled after) = grind (arith, append_assoc)

@@ -55,11 +55,7 @@ communities_found config words e =
 pub communities_only : (config : ConfigModel) (words : List (List ℕ)) → 0 < length config.reader → 0 < length config.writer → SpellsCommunities config words
     → communities_of words ≡ Some (record { reader = config.reader; writer = config.writer })
 unfolding communities_of
-communities_only config words reader writer spelled =
-    ap communities_of spelled
-    ∙ goes_on _ _ _ (keyword_only (codes "communities") (config.reader ∷ config.writer ∷ []) (omega arith))
-    ∙ goes_on _ _ _ (word_only config.reader (config.writer ∷ []) reader)
-    ∙ goes_on _ _ _ (word_only config.writer [] writer)
+communities_only config words reader writer spelled = grind (arith, goes_on, keyword_only, word_only)
 
 -- ---- `rows`
 
@@ -107,12 +103,7 @@ named_some order (octet ∷ octets) e = omega arith
 
 pub order_line_only : (table : TableModel) (words : List (List ℕ)) → SpellsOrderLine table words → order_of words ≡ Some table.order
 unfolding order_of
-order_line_only table words spelled =
-    let named = order_only table.order spelled.order_word spelled.order in
-    ap order_of spelled.words_are
-    ∙ goes_on _ _ _ (keyword_only (codes "order") (spelled.order_word ∷ []) (omega arith))
-    ∙ goes_on _ _ _ (word_only spelled.order_word [] (named_some table.order spelled.order_word named))
-    ∙ goes_on _ _ _ named
+order_line_only table words spelled = grind (arith, order_only, goes_on, keyword_only, word_only, named_some)
 
 -- ---- `has`
 

@@ -1,18 +1,18 @@
 -- A sign that was made is one that can be made, and one that was refused is none.
-use Rattle.std.proofs.Common.{◌≡◌, ◌≢◌, ℕ, ◌+◌, ◌≤◌, ◌&&◌, Bool, true, false, cond, not, List, [], ◌∷◌, length, map, Option, Some, None, Result, Ok, Err, refl, sym, ap, ◌∙◌, arith, inl, inr}
-use Rattle.std.specs.Prelude.{nat_eq, nat_le, option_map, position, replicate}
+use Rattle.std.proofs.Common.{◌≡◌, ◌≢◌, ℕ, ◌+◌, ◌≤◌, ◌&&◌, Bool, true, false, cond, not, List, [], ◌∷◌, length, map, Option, Some, None, Ok, refl, sym, ap, ◌∙◌, arith, inl, inr}
+use Rattle.std.specs.Prelude.{nat_eq, position, replicate}
 use Rattle.std.specs.List.{position_from, list_all}
 use Rattle.std.specs.Cmp.Lexicographic.{pointwise, bytes_decides}
-use Rattle.std.proofs.lemmas.Bool.{and_parts, and_from, cases_Bool, leb-true, le-leb, false_from_ne_true, not-true, iff_false}
+use Rattle.std.proofs.lemmas.Bool.{and_parts, and_from, cases_Bool, le-leb, false_from_ne_true, not-true, iff_false}
 use Rattle.std.proofs.lemmas.List.Folds.{list_all-map}
 use Rattle.std.proofs.lemmas.List.{length-map, length-replicate}
 use Rattle.std.proofs.lemmas.Iterator.Adapters.{position_from-zero}
-use Rattle.dms_face.specs.Face.{FaceModel, is_face, is_matrix, are_fonts, fit, checked}
+use Rattle.dms_face.specs.Face.{FaceModel, is_face, checked}
 use Rattle.dms_face.specs.declared.fault.FaceFault.TheVariants as face_faults
 use Rattle.dms_table.specs.declared.stock.Permanent.{Permanent}
 use Rattle.dms_table.specs.declared.stock.Stock.{Stock}
 use Rattle.dms_table.specs.declared.stock.TableFault.TheVariants as faults
-use Rattle.dms_table.specs.Rows.{RowModel, unused}
+use Rattle.dms_table.specs.Rows.{unused}
 use Rattle.dms_table.specs.Stock.{permanent_row, services_of, may_not_stand, are_counts, permanent_fault, stock_fault, table_of}
 use Rattle.dms_sign.specs.declared.config.Config.{Config}
 use Rattle.dms_sign.specs.declared.config.ConfigFault.{ConfigFault}
@@ -45,8 +45,7 @@ none_fails test i (x ∷ xs) e =
 -- ---- a stock
 
 none_after : {A : Type 0} (b : Bool) (o : Option A) (x : A) → cond b o (Some x) ≡ None → (b ≡ true) × (o ≡ None)
-none_after true o x e = (refl, e)
-none_after false o x e = absurd (let wrong : Some x ≡ None = e in cc)
+none_after b o x e = grind arith
 
 record HasCounts (stock : Stock) : Type 0 where
   permanent : length stock.permanent.now ≤ 16
@@ -54,10 +53,7 @@ record HasCounts (stock : Stock) : Type 0 where
   volatile : stock.volatile ≤ 16
 
 counts_found : (stock : Stock) → are_counts stock ≡ true → HasCounts stock
-counts_found stock e =
-    let both = and_parts (nat_le (length stock.permanent.now) 16 && nat_le stock.changeable 64) (nat_le stock.volatile 16) e in
-    let first = and_parts (nat_le (length stock.permanent.now) 16) (nat_le stock.changeable 64) both.0 in
-    record { permanent = leb-true _ _ first.0; changeable = leb-true _ _ first.1; volatile = leb-true _ _ both.1 }
+counts_found stock e = grind arith
 
 -- the rows of a stock without a fault may all stand
 rows_found : (face : FaceModel) (stock : Stock) → position (may_not_stand (services_of stock) face) stock.permanent.now ≡ None
@@ -107,51 +103,21 @@ faultless_can_be_made config is_made e =
 
 -- what can be made has no fault
 pub can_be_made_is_faultless : (config : Config) → CanBeMade (config_of config) (table_of config.stock) → config_fault config ≡ None
-can_be_made_is_faultless config is =
-    let stock = config.stock in
-    let reader = config.reader.now in
-    let writer = config.writer.now in
-    let communities : are_communities reader writer ≡ true = and_from _ _ (and_from _ _ is.reader is.writer) (differ_only reader writer is.differ) in
-    let permanent : nat_le (length stock.permanent.now) 16 ≡ true = le-leb _ _ (omega (arith, length-map stock.permanent.now permanent_row, is.permanent)) in
-    let changeable : nat_le stock.changeable 64 ≡ true = le-leb _ _ (omega (arith, length-replicate stock.changeable unused, is.changeable)) in
-    let volatile : nat_le stock.volatile 16 ≡ true = le-leb _ _ (omega (arith, length-replicate stock.volatile unused, is.volatile)) in
-    let counts : are_counts stock ≡ true = and_from _ _ (and_from _ _ permanent changeable) volatile in
-    ap (λ b. cond b (option_map config_faults.Table (stock_fault config.face stock)) (Some config_faults.Community)) communities
-    ∙ ap (λ b. option_map config_faults.Table (cond b (option_map permanent_fault (position (may_not_stand (services_of stock) config.face) stock.permanent.now)) (Some faults.Counts))) counts
-    ∙ ap (λ place. option_map config_faults.Table (option_map permanent_fault place)) (rows_only config.face stock is.rows)
+can_be_made_is_faultless config is = grind (arith, and_from, differ_only, le-leb, length-map, length-replicate, rows_only)
 
 -- ---- faces
 
-if_not : {A E : Type 0} (b : Bool) (fault : E) (other : Result A E) (face : A) → cond (not b) (Err fault) other ≡ Ok face → (b ≡ true) × (other ≡ Ok face)
-if_not true fault other face e = (refl, e)
-if_not false fault other face e = absurd (let wrong : Err fault ≡ Ok face = e in cc)
-
-pub checked_is_face : (it face : FaceModel) → Ok face ≡ checked it → (is_face it ≡ true) × (it ≡ face)
-checked_is_face it face e =
-    let size = if_not (is_matrix it.width it.height) face_faults.Size _ face (sym e) in
-    let fonts = if_not (are_fonts it.fonts) face_faults.Fonts _ face size.1 in
-    let defaults = if_not (fit it.fonts it.defaults) face_faults.Default (Ok it) face fonts.1 in
-    (and_from _ _ (and_from _ _ size.0 fonts.0) defaults.0, let same : Ok it ≡ Ok face = defaults.1 in cc)
-
 -- where nothing is wrong, memory ran out
 first_fault_is_memory : (o : Option ConfigFault) (fault : ConfigFault) → o ≡ None → IsFirstConfigFault o fault → is_memory fault ≡ true
-first_fault_is_memory None fault none is = ap is_memory is
-first_fault_is_memory (Some first) fault none is = absurd (let wrong : Some first ≡ None = none in cc)
+first_fault_is_memory o fault p is = grind arith
 
 -- a configuration was refused
 pub refused_is_none : (config : Config) (fault : ConfigFault) → is_memory fault ≡ false → IsFirstConfigFault (config_fault config) fault
     → CanBeMade (config_of config) (table_of config.stock) → ⊥
-refused_is_none config fault other is can =
-    let memory = first_fault_is_memory (config_fault config) fault (can_be_made_is_faultless config can) is in
-    let wrong : false ≡ true = sym other ∙ memory in
-    absurd (cc)
+refused_is_none config fault other is can = grind (arith, first_fault_is_memory, can_be_made_is_faultless)
 
 -- the parts of a description, and what a sign is made of
 pub described_alike : (head : Head) (permanent : List Permanent) (rows : List OwnedRow) (fonts : List FontModel) (face : FaceModel)
     → Ok face ≡ checked (record { width = head.beginning.size.width; height = head.beginning.size.height; fonts = fonts; defaults = head.defaults })
     → map permanent_row permanent ≡ map row_seen rows → described_with head permanent face ≡ described (head_seen head) (map row_seen rows) fonts
-described_alike head permanent rows fonts face checks are =
-    let it : FaceModel = record { width = head.beginning.size.width; height = head.beginning.size.height; fonts = fonts; defaults = head.defaults } in
-    let same : it ≡ face = (checked_is_face it face checks).1 in
-    ap (λ (made : FaceModel). described_with head permanent made) (sym same)
-    ∙ ap (λ (rows : List RowModel). record (described (head_seen head) rows fonts) { first = head.first }) are
+described_alike head permanent rows fonts face checks are = grind arith

@@ -74,20 +74,7 @@ row_found words row e =
 
 row_only : (words : List (List ℕ)) (row : RowModel) → SpellsPermanent row words → row_of words ≡ Some row
 unfolding row_of row_words
-row_only words row spelled =
-    let said : RowWords = record { text = spelled.text_word; owner = spelled.owner_word; beacon = row.beacon; pixel = row.pixel; priority = row.priority } in
-    let line : row_words (codes "permanent" ∷ spelled.text_word ∷ spelled.owner_word ∷ spelled.beacon_word ∷ spelled.pixel_word ∷ spelled.priority_word ∷ []) ≡ Some said =
-    goes_on _ _ _ (keyword_only (codes "permanent") _ (omega arith))
-    ∙ goes_on _ _ _ (word_only spelled.text_word _ (octets_some row.text spelled.text_word spelled.text))
-    ∙ goes_on _ _ _ (word_only spelled.owner_word _ (octets_some row.owner spelled.owner_word spelled.owner))
-    ∙ goes_on _ _ _ (decimal_only 0 255 row.beacon spelled.beacon_word _ spelled.beacon)
-    ∙ goes_on _ _ _ (decimal_only 0 255 row.pixel spelled.pixel_word _ spelled.pixel)
-    ∙ goes_on _ _ _ (decimal_only 0 255 row.priority spelled.priority_word _ spelled.priority) in
-    ap row_of spelled.words_are
-    ∙ goes_on _ _ _ line
-    ∙ goes_on _ _ _ (octets_only row.text spelled.text_word spelled.text)
-    ∙ goes_on _ _ _ (octets_only row.owner spelled.owner_word spelled.owner)
-    ∙ ap (λ status. Some (record row { status = status })) (sym spelled.status)
+row_only words row spelled = grind (arith, goes_on, keyword_only, word_only, octets_some, decimal_only, octets_only)
 
 -- ---- all rows
 

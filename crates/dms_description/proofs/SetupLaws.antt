@@ -1,5 +1,5 @@
 -- Signs that were made of what was read are the signs that the lines spell.
-use Rattle.std.proofs.Common.{◌≡◌, ◌⊎◌, ℕ, List, [], ◌∷◌, ◌++◌, map, Option, Some, None, sym, ap, subst, ◌∙◌, inl, inr}
+use Rattle.std.proofs.Common.{◌≡◌, ◌⊎◌, ℕ, List, [], ◌∷◌, ◌++◌, map, Option, Some, None, sym, ap, subst, ◌∙◌, inl, inr, arith}
 use Rattle.std.specs.Str.Lines.{lines}
 use Rattle.std.proofs.lemmas.List.{append-nil}
 use Rattle.dms_text.specs.Lines.{NumberedLine, TextLeft, lines_left, kept_lines}
@@ -22,9 +22,7 @@ use Rattle.dms_description.proofs.DescriptionLaws.{read_is_spelled, none_begins,
 -- the answer of `made` is about the parts
 pub made_of_parts : (parts : Parts) (rows : List OwnedRow) (made found : Option SignState) → rows ≡ parts.rows.items → made ≡ found
     → MadeOrRefused (described (head_seen parts.head) (map row_seen rows) parts.fonts.items) made → MadeOrRefused (parts_seen parts) found
-made_of_parts parts rows made found are is answer =
-    subst (MadeOrRefused (parts_seen parts)) is
-    (subst (λ (all : List OwnedRow). MadeOrRefused (described (head_seen parts.head) (map row_seen all) parts.fonts.items) made) are answer)
+made_of_parts parts rows made found are is answer = grind arith
 
 pub is_made : (lines rest : List (List ℕ)) (parts : Parts) (sign : SignState) (setup : Setup) → description_at lines ≡ Some (parts_seen parts, rest) → MadeOrRefused (parts_seen parts) (Some sign)
     → setup.sign ≡ sign → setup.first ≡ parts.head.first → (it : Description) × BeginsWith lines rest it × IsMade it setup
@@ -52,18 +50,11 @@ pub whole_begins : (text : List ℕ) (it : Description) → SpellsSign (kept_lin
 whole_begins text it spelled = record { prefix = kept_lines text; lines_are = kept text ∙ sym (append-nil (kept_lines text)); spelled = spelled }
 
 begins_whole : (text : List ℕ) (rest : List (List ℕ)) (it : Description) → rest ≡ [] → BeginsWith (octets_left (from_start text)) rest it → SpellsSign (kept_lines text) it
-begins_whole text rest it none begins =
-    subst (λ (all : List (List ℕ)). SpellsSign all it)
-    (sym (append-nil begins.prefix) ∙ ap (λ others. begins.prefix ++ others) (sym none) ∙ sym begins.lines_are ∙ kept text) begins.spelled
+begins_whole text rest it p begins = grind (arith, append-nil, kept)
 
 pub whole_read : (text : List ℕ) (left rest : TextLeft) (setup : Setup) → left ≡ from_start text → lines_left rest ≡ []
     → (it : Description) × BeginsWith (octets_left left) (octets_left rest) it × IsMade it setup → (it : Description) × SpellsSign (kept_lines text) it × IsMade it setup
-whole_read text left rest setup is none read = (
-  read.0,
-  begins_whole text (octets_left rest) read.0 (ap (map (λ (line : NumberedLine). line.octets)) none)
-      (subst (λ (l : TextLeft). BeginsWith (octets_left l) (octets_left rest) read.0) is read.1),
-  read.2,
-)
+whole_read text left rest setup is it read = grind (arith, begins_whole)
 
 -- a line after the sign's own
 pub line_after : (text : List ℕ) (left rest : TextLeft) (setup : Setup) (line : NumberedLine) (others : List NumberedLine) → left ≡ from_start text → lines_left rest ≡ line ∷ others

@@ -1,5 +1,5 @@
 -- The line of what is shown, which is put in parts.
-use Rattle.std.proofs.Common.{◌≡◌, ℕ, List, ◌++◌, ap, ◌∙◌, append_assoc}
+use Rattle.std.proofs.Common.{◌≡◌, ℕ, List, ◌++◌, ◌∙◌, append_assoc, arith}
 
 regroup : (old source mode_word mode priority_word priority left_word left text_word text end : List ℕ)
     → (((old ++ source) ++ (mode_word ++ mode ++ priority_word ++ priority)) ++ (left_word ++ left)) ++ (text_word ++ text ++ end)
@@ -11,9 +11,4 @@ pub four_parts : (old first second third last source mode_word mode priority_wor
     → first ≡ old ++ source → second ≡ first ++ (mode_word ++ mode ++ priority_word ++ priority) → third ≡ second ++ (left_word ++ left)
     → last ≡ third ++ (text_word ++ text ++ end)
     → last ≡ old ++ (source ++ mode_word ++ mode ++ priority_word ++ priority ++ left_word ++ left ++ text_word ++ text ++ end)
-four_parts old first second third last source mode_word mode priority_word priority left_word left text_word text end one two three four =
-    four
-    ∙ ap (λ xs. xs ++ (text_word ++ text ++ end)) (three
-    ∙ ap (λ xs. xs ++ (left_word ++ left)) (two
-    ∙ ap (λ xs. xs ++ (mode_word ++ mode ++ priority_word ++ priority)) one))
-    ∙ regroup old source mode_word mode priority_word priority left_word left text_word text end
+four_parts old first second third last source mode_word mode priority_word priority left_word left text_word text end one two three four = grind (arith, regroup)

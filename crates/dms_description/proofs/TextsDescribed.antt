@@ -1,5 +1,5 @@
 -- A description that was read or taken, and the sign that it describes.
-use Rattle.std.proofs.Common.{◌≡◌, ◌≤◌, ℕ, List, length, Option, Some, None, ap, sym, subst, ◌∙◌, filter, not}
+use Rattle.std.proofs.Common.{◌≡◌, ◌≤◌, ℕ, List, length, Option, Some, None, ap, sym, subst, ◌∙◌, filter, not, arith}
 use Rattle.std.specs.Prelude.{IfSome}
 use Rattle.std.specs.Str.Lines.{lines}
 use Rattle.dms_text.specs.Lines.{is_skipped, kept_lines}
@@ -14,10 +14,7 @@ kept_same octets text e = ap (λ ls. filter (λ line. not (is_skipped line)) ls)
 
 pub describes : (old new : Option (List ℕ)) (text : List ℕ) (setup : Setup) → TakesDescription old text new
     → (it : Description) × SpellsSign (kept_lines text) it × IsMade it setup → Describes old setup new
-describes None new text setup taken made = tt
-describes (Some octets) None text setup taken made = absurd taken
-describes (Some octets) (Some rest) text setup taken made =
-    ((made.0, subst (λ ls. SpellsSign ls made.0) (kept_same octets text taken.1) made.1, made.2), taken.2)
+describes old new text setup taken made = grind arith
 
 pub describes_not : (old new : Option (List ℕ)) (text : List ℕ) → TakesDescription old text new
     → ((it : Description) → SpellsSign (kept_lines text) it → ⊥) → NotDescribed old

@@ -1,9 +1,9 @@
 -- What single words and whole lines of words spell is what is read of them.
-use Rattle.std.proofs.Common.{◌≡◌, ℕ, ◌<◌, ◌≤◌, ◌==◌, Bool, true, false, cond, List, [], ◌∷◌, length, Option, Some, refl, sym, ap, subst, ◌∙◌, arith, inl, inr}
+use Rattle.std.proofs.Common.{◌≡◌, ℕ, ◌<◌, ◌≤◌, ◌==◌, Bool, true, false, cond, List, [], ◌∷◌, length, Option, Some, sym, ap, subst, ◌∙◌, arith, inl, inr}
 use Rattle.std.specs.Prelude.{codes}
-use Rattle.std.proofs.lemmas.Bool.{eqb-true, eqb-false, eq-eqb, cases_Bool}
+use Rattle.std.proofs.lemmas.Bool.{cases_Bool}
 use Rattle.std.proofs.lemmas.Option.{cond_some, same_Some, none-some}
-use Rattle.dms_text.specs.Numbers.{SpellsNumber, SpellsDecimal}
+use Rattle.dms_text.specs.Numbers.{SpellsDecimal}
 use Rattle.dms_text.specs.Reading.{keyword_at, decimal_at, same_octets, ◌>>=◌}
 use Rattle.dms_text.proofs.WordLaws.{begun, goes_on, same_found, keyword_found, keyword_only, decimal_found, decimal_only, numeral_found, numeral_only}
 use Rattle.dms_codes.specs.declared.codes.Order.{Order}
@@ -77,38 +77,22 @@ two_found keyword high make words found e =
 
 pub two_only : {A : Type 0} (keyword : List ℕ) (high : ℕ) (make : ℕ → ℕ → A) (one other : ℕ) (one_word other_word : List ℕ) → 0 < length keyword
     → SpellsDecimal 0 high one one_word → SpellsDecimal 0 high other other_word → two_at keyword high make (keyword ∷ one_word ∷ other_word ∷ []) ≡ Some (make one other)
-two_only keyword high make one other one_word other_word some at_one at_other =
-    goes_on _ _ _ (keyword_only keyword (one_word ∷ other_word ∷ []) some)
-    ∙ goes_on _ _ _ (decimal_only 0 high one one_word (other_word ∷ []) at_one)
-    ∙ goes_on _ _ _ (decimal_only 0 high other other_word [] at_other)
+two_only keyword high make one other one_word other_word some at_one at_other = grind (arith, goes_on, keyword_only, decimal_only)
 
 -- ---- flags
 
 pub flag_found : (flag : Bool) (number : ℕ) (word : List ℕ) → SpellsDecimal 0 1 number word → (number == 1) ≡ flag → SpellsFlag flag word
-flag_found true number word spelled is =
-    let one : number ≡ 1 = eqb-true number 1 is in
-    record { spelled = subst (λ n. SpellsNumber 10 5 n word) one spelled.spelled; least = omega arith; greatest = omega arith }
-flag_found false number word spelled is =
-    let none : number ≡ 0 = small number spelled.greatest is in
-    record { spelled = subst (λ n. SpellsNumber 10 5 n word) none spelled.spelled; least = omega arith; greatest = omega arith }
-  where
-    small : (n : ℕ) → n ≤ 1 → (n == 1) ≡ false → n ≡ 0
-    small n most is = elim (cases_Bool (n == 0)) [
-      | inl same ↦ eqb-true n 0 same
-      | inr other ↦ let one : n ≡ 1 = omega (arith, most, eqb-false n 0 other) in absurd (let wrong : false ≡ true = sym is ∙ eq-eqb n 1 one in cc)
-    ]
+flag_found flag number word spelled is = grind arith
 
 abbrev pub flag_number : Bool → ℕ
 flag_number true = 1
 flag_number false = 0
 
 pub flag_only : (flag : Bool) (word : List ℕ) → SpellsFlag flag word → SpellsDecimal 0 1 (flag_number flag) word
-flag_only true word spelled = record { spelled = spelled.spelled; least = omega arith; greatest = omega arith }
-flag_only false word spelled = record { spelled = spelled.spelled; least = omega arith; greatest = omega arith }
+flag_only flag word spelled = grind arith
 
 pub flag_is : (flag : Bool) → (flag_number flag == 1) ≡ flag
-flag_is true = refl
-flag_is false = refl
+flag_is flag = grind arith
 
 -- ---- orders
 
@@ -119,8 +103,7 @@ order_found order word e =
     absurd (none-some order e)
 
 pub order_only : (order : Order) (word : List ℕ) → SpellsOrder order word → order_named word ≡ Some order
-order_only High word spelled = ap order_named spelled
-order_only Swapped word spelled = ap order_named spelled
+order_only order word spelled = grind arith
 
 -- ---- a number of four octets
 
