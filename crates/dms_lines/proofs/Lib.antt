@@ -1,2 +1,3 @@
 pub mod TextRuns
+mod Filled
 pub mod CallReading

@@ -1,4 +1,4 @@
-//! What the lines to a live sign and to a live central system have in common, and pages as text.
+//! What the lines to a live sign and to a live central system have in common, and pages as text and as octets.
 //!
 //! ```
 //! let shown = pages(alloc, &face, b"A")?;
@@ -13,7 +13,9 @@
 #![tactic(auto)]
 
 mod answers;
+mod page_octets;
 mod page_text;
 
 pub use answers::{alone, bad_line, ok_line, put, put_digits};
+pub use page_octets::{bits_needed, pages_octets, put_bits};
 pub use page_text::{numbered_page, pages_text, put_pages};

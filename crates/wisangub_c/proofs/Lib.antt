@@ -1,4 +1,3 @@
 mod Entries
-mod Filled
 mod Places
 mod Values

@@ -17,7 +17,6 @@ mod lent_centre;
 mod lent_sign;
 mod loose;
 pub mod page_calls;
-mod page_octets;
 mod placed_centre;
 mod placed_sign;
 pub mod shown_calls;

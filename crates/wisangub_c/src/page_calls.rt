@@ -1,16 +1,17 @@
 //! Pages of what a sign shows and of any text, from C.
 
 ghost use Rattle.std.specs.Prelude.{◌≡◌, length};
+ghost use Rattle.dms_lines.specs.PageOctets.{pages_octets, row_bits};
 ghost use Rattle.dms_pages.specs.Drawn.{drawn_text};
 ghost use Rattle.dms_sign_lines.specs.Answer.{shown_pages};
 ghost use Rattle.wisangub_c.specs.Answers.{no_memory, given_answer, given_buffer, unless_memory};
 ghost use Rattle.wisangub_c.specs.Shown.{fault_after};
-ghost use Rattle.wisangub_c.specs.Pages.{pages_octets, shown_octets, drawn_answer, drawn_size, drawn_buffer, row_bits};
+ghost use Rattle.wisangub_c.specs.Pages.{shown_octets, drawn_answer, drawn_size, drawn_buffer};
 
 use crate::answers::{AT_FAULT, DONE, NO_MEMORY, TOO_SMALL, give};
-use crate::page_octets::{bits_needed, pages_octets, put_bits};
 use crate::shown_calls::{TextFault, text_fault};
 use crate::sign_handle::SignHandle;
+use dms_lines::{bits_needed, pages_octets, put_bits};
 use dms_pages::{Page, PagesFault, pages};
 use dms_sign_lines::answering::shown_pages;
 use std::alloc::Global;

@@ -1,8 +1,8 @@
 use Rattle.std.proofs.Common.{[], ◌∷◌, ◌++◌, ap, ◌∙◌}
 use Rattle.dms_pages.specs.Drawn.{cell_at}
-use Rattle.wisangub_c.specs.Pages.{cell_octet}
+use Rattle.dms_lines.specs.PageOctets.{cell_octet}
 use Rattle.dms_lines.proofs.TextRuns.{number_more}
-use Rattle.wisangub_c.proofs.page_octets.put_row.Goals as goal
+use Rattle.dms_lines.proofs.page_octets.put_row.Goals as goal
 
 pub loop-x-preserved : goal.loop-x-preserved
 loop-x-preserved c =

@@ -1,7 +1,7 @@
 use Rattle.std.proofs.Common.{◌∙◌, ◌<◌, ◌*◌, length, slice_set, ap, arith}
-use Rattle.wisangub_c.specs.Pages.{eight_bits}
-use Rattle.wisangub_c.proofs.Filled.{filled_more}
-use Rattle.wisangub_c.proofs.page_octets.put_bits.Goals as goal
+use Rattle.dms_lines.specs.PageOctets.{eight_bits}
+use Rattle.dms_lines.proofs.Filled.{filled_more}
+use Rattle.dms_lines.proofs.page_octets.put_bits.Goals as goal
 
 pub loop-k-preserved : goal.loop-k-preserved
 loop-k-preserved c =

@@ -1,9 +1,8 @@
 //! Pages as octets: of each page its times, its background, and an octet for each cell.
 
-ghost use Rattle.std.specs.Prelude.{◌≡◌, ◌++◌, ◌∷◌, [], ◌<◌, ◌≤◌, ◌+◌, ◌*◌, ◌/◌, length, flat_map, IfOk, OnOk};
-ghost use Rattle.wisangub_c.specs.Answers.{put_first};
-ghost use Rattle.wisangub_c.specs.Pages.{first_mark, lit_mark, look, lit_time, dark_time, cell_octet, row_octets};
-ghost use Rattle.wisangub_c.specs.Pages.{rows_octets, page_octets, pages_octets, lit_in, eight_bits, row_bits};
+ghost use Rattle.std.specs.Prelude.{◌≡◌, ◌++◌, ◌∷◌, [], ◌<◌, ◌≤◌, ◌+◌, ◌*◌, ◌/◌, length, drop, IfOk, OnOk};
+ghost use Rattle.dms_lines.specs.PageOctets.{first_mark, lit_mark, look, lit_time, dark_time, cell_octet, row_octets};
+ghost use Rattle.dms_lines.specs.PageOctets.{rows_octets, page_octets, pages_octets, lit_in, eight_bits, row_bits};
 
 use dms_face::{Cell, Flash};
 use dms_multi::Lead;
@@ -12,7 +11,7 @@ use std::alloc::{AllocError, Global};
 
 /// Pages as octets. Of each cell they say, by `layer`, its look (0), or how long it is lit (1) or dark (2) while it
 /// flashes.
-pub(crate) fn pages_octets(alloc: Global, layer: u8, pages: &[Page]) -> Result<Vec<u8>, AllocError>
+pub fn pages_octets(alloc: Global, layer: u8, pages: &[Page]) -> Result<Vec<u8>, AllocError>
     ensures { IfOk result (λ octets. octets.items ≡ pages_octets layer pages.now) }
 {
     let mut octets = Vec::new(alloc);
@@ -133,7 +132,7 @@ fn dark_time(flash: Option<Flash>) -> u8
 
 /// The octets of a row's bits.
 #[tactic(auto, using(crate::proofs::Filled::length_made))]
-pub(crate) fn bits_needed(looks: &[u8]) -> usize
+pub fn bits_needed(looks: &[u8]) -> usize
     ensures number { result ≡ (length looks.now + 7) / 8 }
     ensures size { result ≡ length (row_bits looks.now) }
 {
@@ -142,9 +141,9 @@ pub(crate) fn bits_needed(looks: &[u8]) -> usize
 
 /// Which cells of a row are lit, eight an octet from the left, the first in the highest bit: first in a buffer that has
 /// room for them.
-pub(crate) fn put_bits(looks: &[u8], bits: &mut [u8])
+pub fn put_bits(looks: &[u8], bits: &mut [u8])
     requires { (length looks.now + 7) / 8 ≤ length bits.old }
-    ensures { bits.new ≡ put_first (row_bits looks.now) bits.old }
+    ensures { bits.new ≡ row_bits looks.now ++ drop (length (row_bits looks.now)) bits.old }
 {
     for k in 0..looks.len().div_ceil(8) {
         bits[k] = eight_bits(looks, 8 * k);
