@@ -1,5 +1,5 @@
 -- A decision is a judgement, and then what the code puts up.
-use Rattle.std.proofs.Common.{◌≡◌, Bool, true, false, cond, Option, Some, None, Result, Ok, Err, refl, sym, ◌∙◌}
+use Rattle.std.proofs.Common.{◌≡◌, Option, Some, None, Ok, Err, refl, ◌∙◌, arith}
 use Rattle.dms_face.specs.declared.defaults.Defaults.{Defaults}
 use Rattle.dms_face.specs.Face.{FaceModel}
 use Rattle.dms_face.specs.Layout.{under}
@@ -7,44 +7,28 @@ use Rattle.dms_codes.specs.declared.codes.Activation.{Activation}
 use Rattle.dms_table.specs.declared.activation.Cause.{Cause}
 use Rattle.dms_table.specs.declared.activation.Cause.TheVariants as causes
 use Rattle.dms_table.specs.Rows.{TableModel, RowReading}
-use Rattle.dms_table.specs.Activation.{ShownModel, is_memory, named, row_refusal, refusal, put_up_row, shown_by, unless_refused, decided_on, decided}
+use Rattle.dms_table.specs.Activation.{ShownModel, row_refusal, refusal, put_up_row, shown_by, unless_refused, decided_on, decided}
 
 on_row : (face : FaceModel) (defaults : Defaults) (shown : ShownModel) (code : Activation) (o : Option RowReading)
     → decided_on face defaults shown code o ≡ unless_refused (put_up_row defaults shown code o) (row_refusal (under face defaults) shown code o)
-on_row face defaults shown code None = refl
-on_row face defaults shown code (Some message) = refl
-
-by_memory : (b : Bool) (r : Result ShownModel Cause) (shown : ShownModel) (o : Option Cause) → r ≡ unless_refused shown o
-    → cond b r (Err causes.MemoryType) ≡ unless_refused shown (cond b o (Some causes.MemoryType))
-by_memory true r shown o e = e
-by_memory false r shown o e = refl
+on_row face defaults shown code o = grind arith
 
 pub decided_is : (face : FaceModel) (defaults : Defaults) (table : TableModel) (shown : ShownModel) (code : Activation)
     → decided face defaults table shown code ≡ unless_refused (shown_by defaults table shown code) (refusal face defaults table shown code)
-decided_is face defaults table shown code =
-    by_memory (is_memory code.id.memory) (decided_on face defaults shown code (named table shown code.id)) (shown_by defaults table shown code)
-    (row_refusal (under face defaults) shown code (named table shown code.id)) (on_row face defaults shown code (named table shown code.id))
+decided_is face defaults table shown code = grind arith
 
 accepted_by : {A B : Type 0} (a : A) (b : B) (o : Option Cause) → Ok a ≡ unless_refused a o → Ok b ≡ unless_refused b o
-accepted_by a b None e = refl
-accepted_by a b (Some cause) e = cc
-
-refused_by : {A B : Type 0} (a : A) (b : B) (o : Option Cause) (cause : Cause) → Err cause ≡ unless_refused a o → Err cause ≡ unless_refused b o
-refused_by a b None cause e = cc
-refused_by a b (Some other) cause e = cc
+accepted_by a b o e = grind arith
 
 -- a code that is let pass puts its message up
 pub accepted_decision : {A : Type 0} (a : A) (face : FaceModel) (defaults : Defaults) (table : TableModel) (shown : ShownModel) (code : Activation)
     → Ok a ≡ unless_refused a (refusal face defaults table shown code) → Ok (shown_by defaults table shown code) ≡ decided face defaults table shown code
-accepted_decision a face defaults table shown code e =
-    accepted_by a (shown_by defaults table shown code) (refusal face defaults table shown code) e ∙ sym (decided_is face defaults table shown code)
+accepted_decision a face defaults table shown code e = grind arith
 
 -- one that is refused is so for this cause
 pub refused_decision : {A : Type 0} (a : A) (face : FaceModel) (defaults : Defaults) (table : TableModel) (shown : ShownModel) (code : Activation)
     (cause : Cause) → Err cause ≡ unless_refused a (refusal face defaults table shown code) → Err cause ≡ decided face defaults table shown code
-refused_decision a face defaults table shown code cause e =
-    refused_by a (shown_by defaults table shown code) (refusal face defaults table shown code) cause e
-    ∙ sym (decided_is face defaults table shown code)
+refused_decision a face defaults table shown code cause e = grind arith
 
 passed : {x y : ShownModel} (o : Option Cause) → Ok x ≡ unless_refused y o → Ok y ≡ unless_refused y o
 passed None e = refl
@@ -53,5 +37,4 @@ passed (Some cause) e = cc
 -- where it is decided on alike over another table, what that one has is up
 pub accepted_elsewhere : (face : FaceModel) (defaults : Defaults) (shown x : ShownModel) (table : TableModel) (code : Activation)
     → Ok x ≡ decided face defaults table shown code → Ok (shown_by defaults table shown code) ≡ decided face defaults table shown code
-accepted_elsewhere face defaults shown x table code e =
-    passed (refusal face defaults table shown code) (e ∙ decided_is face defaults table shown code) ∙ sym (decided_is face defaults table shown code)
+accepted_elsewhere face defaults shown x table code e = grind arith

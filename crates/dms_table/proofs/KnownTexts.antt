@@ -1,5 +1,5 @@
 -- The row that a code names has a good text where that is known.
-use Rattle.std.proofs.Common.{◌≡◌, ℕ, ◌==◌, ◌&&◌, Bool, true, false, cond, Option, Some, None, nat_le, refl, subst}
+use Rattle.std.proofs.Common.{◌≡◌, ℕ, ◌==◌, ◌&&◌, Bool, true, false, cond, Option, Some, None, nat_le, refl, subst, arith}
 use Rattle.std.specs.Prelude.{option_map}
 use Rattle.std.proofs.lemmas.Bool.{eqb-true}
 use Rattle.dms_face.specs.Face.{FaceModel}
@@ -7,7 +7,7 @@ use Rattle.dms_face.specs.Fit.{IsGood, fault_of}
 use Rattle.dms_face.proofs.GoodLaws.{faultless_law, empty_is_good}
 use Rattle.dms_codes.specs.declared.codes.MessageId.{MessageId}
 use Rattle.dms_codes.specs.declared.status.Status.{Status}
-use Rattle.dms_codes.specs.declared.status.Status.TheVariants.{NotUsed, Modifying, Validating, Valid, Error}
+use Rattle.dms_codes.specs.declared.status.Status.TheVariants.{Valid}
 use Rattle.dms_codes.specs.Status.{is_valid}
 use Rattle.dms_codes.specs.Memory.{current_buffer, blank_memory}
 use Rattle.dms_table.specs.Rows.{RowModel, TableModel, RowReading, rows_of, numbered, blank, blank_at, blank_reading, reading}
@@ -15,21 +15,14 @@ use Rattle.dms_table.specs.Validation.{HasGoodTextWhereValid}
 use Rattle.dms_table.specs.Activation.{ShownModel, shown_reading, named}
 
 pub valid_status : (status : Status) → is_valid status ≡ true → status ≡ Valid
-valid_status NotUsed h = cc
-valid_status Modifying h = cc
-valid_status Validating h = cc
-valid_status Valid h = refl
-valid_status Error h = cc
+valid_status status h = grind arith
 
 abbrev HasGoodReading : FaceModel → RowReading → Type 0
 HasGoodReading face message = is_valid message.row.status ≡ true → IsGood face message.row.text
 
 blank_good : (face : FaceModel) (b : Bool) (number : ℕ) (message : RowReading) → option_map blank_reading (cond b (Some (blank number)) None) ≡ Some message
     → HasGoodReading face message
-blank_good face true number message e =
-    let same : blank_reading (blank number) ≡ message = cc in
-    subst (HasGoodReading face) same (λ valid. empty_is_good face)
-blank_good face false number message e = absurd (cc)
+blank_good face b number message e = grind (arith, empty_is_good)
 
 read_good : (face : FaceModel) (o : Option RowModel) (message : RowReading) → ((row : RowModel) → o ≡ Some row → row.status ≡ Valid → IsGood face row.text)
     → option_map reading o ≡ Some message → HasGoodReading face message

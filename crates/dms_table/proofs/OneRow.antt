@@ -8,14 +8,14 @@ use Rattle.std.proofs.Math.Seq.{take-append_seam}
 use Rattle.std.proofs.lemmas.Option.{slice_get_within, get_or_from_slice_get}
 use Rattle.dms_table.specs.declared.row.Refused.{Refused}
 use Rattle.dms_codes.specs.declared.status.Status.{Status}
-use Rattle.dms_codes.specs.declared.status.Status.TheVariants.{NotUsed, Modifying, Validating, Valid, Error}
+use Rattle.dms_codes.specs.declared.status.Status.TheVariants.{Modifying, Valid, Error}
 use Rattle.dms_codes.specs.declared.status.Ask.{Ask}
 use Rattle.dms_codes.specs.declared.status.Ask.TheVariants as asks
-use Rattle.dms_codes.specs.Status.{next_status, is_validate, is_validating, is_modifying}
+use Rattle.dms_codes.specs.Status.{is_validate, is_validating, is_modifying}
 use Rattle.dms_face.specs.Face.{FaceModel}
 use Rattle.dms_table.specs.declared.row.Services.{Services}
-use Rattle.dms_table.specs.Validation.{passes, verdict_of, settled_row}
-use Rattle.dms_table.specs.Rows.{RowModel, TableModel, FieldModel, Text, Owner, Beacon, Pixel, Priority, row_is_validating, unused, may_ask, changed_in, asked_row, written_row, is_in_range, with_status, with_field, interrupted, released}
+use Rattle.dms_table.specs.Validation.{settled_row}
+use Rattle.dms_table.specs.Rows.{RowModel, TableModel, FieldModel, row_is_validating, unused, may_ask, changed_in, asked_row, written_row, is_in_range, with_field, interrupted, released}
 
 -- how many rows are being validated
 abbrev pub count : List RowModel → ℕ
@@ -81,51 +81,20 @@ record Grows (status : Status) (new : RowModel) (ask : Ask) : Type 0 where
 grown : (status : Status) (ask : Ask) (to new : RowModel) → is_validating status ≡ false → weight to ≡ extra_of ask → Some to ≡ Some new → Grows status new ask
 grown status ask to new before weighs e = record { before = before; now = sym (same_weight to new e) ∙ weighs }
 
-next_weight : (row new : RowModel) (status : Status) (ask : Ask) → option_map (with_status row) (next_status status ask) ≡ Some new → Grows status new ask
-next_weight row new NotUsed asks.Modify e = grown NotUsed asks.Modify (with_status row Modifying) new refl refl e
-next_weight row new NotUsed asks.Validate e = cc
-next_weight row new NotUsed asks.NotUsed e = grown NotUsed asks.NotUsed unused new refl refl e
-next_weight row new Modifying asks.Modify e = grown Modifying asks.Modify (with_status row Modifying) new refl refl e
-next_weight row new Modifying asks.Validate e = grown Modifying asks.Validate (with_status row Validating) new refl refl e
-next_weight row new Modifying asks.NotUsed e = grown Modifying asks.NotUsed unused new refl refl e
-next_weight row new Valid asks.Modify e = grown Valid asks.Modify (with_status row Modifying) new refl refl e
-next_weight row new Valid asks.Validate e = grown Valid asks.Validate (with_status row Validating) new refl refl e
-next_weight row new Valid asks.NotUsed e = grown Valid asks.NotUsed unused new refl refl e
-next_weight row new Error asks.Modify e = grown Error asks.Modify (with_status row Modifying) new refl refl e
-next_weight row new Error asks.Validate e = grown Error asks.Validate (with_status row Validating) new refl refl e
-next_weight row new Error asks.NotUsed e = grown Error asks.NotUsed unused new refl refl e
-next_weight row new Validating ask e = cc
-
 pub asked_weight : (ask : Ask) (row new : RowModel) → asked_row ask row ≡ Some new → weight new ≡ weight row + extra_of ask
-asked_weight ask row new e =
-    let grows = next_weight row new row.status ask e in
-    let before : weight row ≡ 0 = ap (λ b. cond {A = ℕ} b 1 0) grows.before in
-    let now : weight new ≡ extra_of ask = grows.now in
-    omega (arith, before, now)
+asked_weight ask row new e = grind arith
 
 -- what takes what it is asked is not being validated
 pub asked_before : (ask : Ask) (row : RowModel) → is_some (asked_row ask row) ≡ true → row_is_validating row ≡ false
-asked_before ask row taken = by_taken (asked_row ask row) ask row refl taken
-  where
-    by_taken : (o : Option RowModel) (ask : Ask) (row : RowModel) → asked_row ask row ≡ o → is_some o ≡ true → row_is_validating row ≡ false
-    by_taken None ask row e taken = absurd (cc)
-    by_taken (Some new) ask row e taken = (next_weight row new row.status ask e).before
-
-weighs_one : (b : Bool) → cond {A = ℕ} b 1 0 ≡ 1 → b ≡ true
-weighs_one true e = refl
-weighs_one false e = absurd (omega (arith, e))
+asked_before ask row taken = grind arith
 
 -- and is, where it was asked to be
 pub asked_now : (ask : Ask) (row new : RowModel) → is_validate ask ≡ true → asked_row ask row ≡ Some new → row_is_validating new ≡ true
-asked_now ask row new asks e =
-    let one : extra_of ask ≡ 1 = ap (λ b. cond {A = ℕ} b 1 0) asks in
-    weighs_one (row_is_validating new) ((next_weight row new row.status ask e).now ∙ one)
+asked_now ask row new asks e = grind arith
 
 none_in : (b : Bool) (row : RowModel) (rows : List RowModel) → (list_any row_is_validating rows ≡ false → count rows ≡ 0)
     → row_is_validating row ≡ b → (b || list_any row_is_validating rows) ≡ false → count (row ∷ rows) ≡ 0
-none_in true row rows more is h = cc
-none_in false row rows more is h =
-    let none : weight row ≡ 0 = ap (λ b. cond {A = ℕ} b 1 0) is in omega (arith, count-cons row rows, more h)
+none_in b row rows more is h = grind arith
 
 none_validating : (rows : List RowModel) → list_any row_is_validating rows ≡ false → count rows ≡ 0
 none_validating [] h = refl
@@ -137,21 +106,16 @@ changed_or_not : (result : Result Unit Refused) (rows more : List RowModel) (num
     → OnOk result (changed_in rows number change ≡ Some more) → OnErr result (more ≡ rows) → count more ≤ count rows + extra
 changed_or_not (Ok done) rows more number extra change each ok unchanged =
     let grows : count more ≡ count rows + extra = changed_one_row rows more number extra change each ok in omega (arith, grows)
-changed_or_not (Err refused) rows more number extra change each ok unchanged =
-    let same : count more ≡ count rows = ap count unchanged in omega (arith, same)
+changed_or_not (Err refused) rows more number extra change each ok unchanged = grind (arith, changed_one_row)
 
 room_by : (asks one other : Bool) (m n : ℕ) → (one ≡ false → m ≡ 0) → (other ≡ false → n ≡ 0) → m + n ≤ 1
     → not (asks && (one || other)) ≡ true → m + n + cond {A = ℕ} asks 1 0 ≤ 1
-room_by false one other m n no_one no_other most may = omega arith
-room_by true true other m n no_one no_other most may = cc
-room_by true false true m n no_one no_other most may = cc
-room_by true false false m n no_one no_other most may = omega (arith, no_one refl, no_other refl)
+room_by asks one other m n no_one no_other most may = grind arith
 
 -- what may be asked leaves room for it
 room : (ask : Ask) (xs ys : List RowModel) → count xs + count ys ≤ 1
     → not (is_validate ask && (list_any row_is_validating xs || list_any row_is_validating ys)) ≡ true → count xs + count ys + extra_of ask ≤ 1
-room ask xs ys most may =
-    room_by (is_validate ask) (list_any row_is_validating xs) (list_any row_is_validating ys) (count xs) (count ys) (none_validating xs) (none_validating ys) most may
+room ask xs ys most may = grind (arith, room_by, none_validating)
 
 may_of : (table : TableModel) (ask : Ask) (b : Bool) (xs ys : List RowModel) → b ≡ may_ask table ask → b ≡ true → xs ≡ table.changeable → ys ≡ table.volatile
     → not (is_validate ask && (list_any row_is_validating xs || list_any row_is_validating ys)) ≡ true
@@ -173,62 +137,38 @@ one_asked_volatile table ask b xs ys new number result is may changeable volatil
 
 -- ---- whether a row is being validated
 
-not_none : (b : Bool) (n : ℕ) → (b ≡ false → n ≡ 0) → n ≡ 1 → b ≡ true
-not_none true n none one = refl
-not_none false n none one = absurd (let zero_is : n ≡ 0 = none refl in omega (arith, zero_is, one))
-
 some_in : (b : Bool) (row : RowModel) (rows : List RowModel) → (count rows ≡ 0 → list_any row_is_validating rows ≡ false)
     → row_is_validating row ≡ b → count (row ∷ rows) ≡ 0 → (b || list_any row_is_validating rows) ≡ false
-some_in true row rows more is none =
-    absurd (let one : weight row ≡ 1 = ap (λ b. cond {A = ℕ} b 1 0) is in omega (arith, count-cons row rows, one, none))
-some_in false row rows more is none = more (omega (arith, count-cons row rows, none))
+some_in b row rows more is p = grind (arith, count-cons)
 
 pub any_validating : (rows : List RowModel) → count rows ≡ 0 → list_any row_is_validating rows ≡ false
 any_validating [] none = refl
 any_validating (row ∷ rows) none = some_in (row_is_validating row) row rows (any_validating rows) refl none
 
 either_by : (one other : Bool) (m n : ℕ) → (one ≡ false → m ≡ 0) → (other ≡ false → n ≡ 0) → m + n ≡ 1 → (one || other) ≡ true
-either_by true other m n no_one no_other sum = refl
-either_by false other m n no_one no_other sum = not_none other n no_other (let none : m ≡ 0 = no_one refl in omega (arith, none, sum))
+either_by one other m n no_one no_other sum = grind arith
 
 -- so many rows tell whether there is one
 pub settling_is : (b : Bool) (xs ys : List RowModel) → count xs + count ys ≡ cond b 1 0 → (list_any row_is_validating xs || list_any row_is_validating ys) ≡ b
-settling_is true xs ys sum = either_by (list_any row_is_validating xs) (list_any row_is_validating ys) (count xs) (count ys) (none_validating xs) (none_validating ys) sum
-settling_is false xs ys sum =
-    let none : list_any row_is_validating xs ≡ false = any_validating xs (omega (arith, sum)) in
-    ap (λ b. b || list_any row_is_validating ys) none ∙ any_validating ys (omega (arith, sum))
+settling_is b xs ys sum = grind (arith, either_by, none_validating, any_validating)
 
 -- ---- writing
 
 field_weight : (row : RowModel) (field : FieldModel) → weight (with_field row field) ≡ weight row
-field_weight row (Text octets) = refl
-field_weight row (Owner octets) = refl
-field_weight row (Beacon on) = refl
-field_weight row (Pixel on) = refl
-field_weight row (Priority priority) = refl
+field_weight row field = grind arith
 
 written_if : (b : Bool) (row other new : RowModel) → weight other ≡ weight row → (if b then Some other else None) ≡ Some new → weight new ≡ weight row + 0
-written_if true row other new same e = let is : weight other ≡ weight new = (let k : other ≡ new = cc in ap weight k) in omega arith
-written_if false row other new same e = cc
+written_if b row other new same e = grind arith
 
 pub written_weight : (field : FieldModel) (row new : RowModel) → written_row field row ≡ Some new → weight new ≡ weight row + 0
 written_weight field row new e = written_if (is_modifying row.status && is_in_range field) row (with_field row field) new (field_weight row field) e
 
-modifying_free : (status : Status) (b : Bool) → is_some (if is_modifying status && b then Some status else None) ≡ true → is_validating status ≡ false
-modifying_free NotUsed b e = refl
-modifying_free Modifying b e = refl
-modifying_free Validating b e = absurd (cc)
-modifying_free Valid b e = refl
-modifying_free Error b e = refl
-
 some_of : {A B : Type 0} (b : Bool) (x : A) (y : B) → is_some (if b then Some x else None) ≡ true → is_some (if b then Some y else None) ≡ true
-some_of true x y e = refl
-some_of false x y e = absurd (cc)
+some_of b x y e = grind arith
 
 -- what is written is not being validated
 pub written_before : (field : FieldModel) (row : RowModel) → is_some (written_row field row) ≡ true → row_is_validating row ≡ false
-written_before field row taken =
-    modifying_free row.status (is_in_range field) (some_of (is_modifying row.status && is_in_range field) (with_field row field) row.status taken)
+written_before field row taken = grind arith
 
 -- writing a row validates none
 pub none_more_written : (field : FieldModel) (rows new : List RowModel) (number : ℕ) (result : Result Unit Refused)
@@ -239,8 +179,7 @@ none_more_written field rows new number (Err refused) ok unchanged = ap count un
 -- ---- nothing to settle
 
 unsettled_by : (b : Bool) (row settled : RowModel) → b ≡ false → (if b then settled else row) ≡ row
-unsettled_by false row settled is = refl
-unsettled_by true row settled is = cc
+unsettled_by b row settled is = grind arith
 
 -- where no row is being validated, settling leaves all as they are
 pub unsettled : (services : Services) (face : FaceModel) (rows : List RowModel) → list_any row_is_validating rows ≡ false → map (settled_row services face) rows ≡ rows
@@ -256,12 +195,7 @@ unsettled services face (row ∷ rows) none =
 
 pub not_found : (rows : List RowModel) → list_any row_is_validating rows ≡ false → find row_is_validating rows ≡ None
 not_found [] none = refl
-not_found (row ∷ rows) none = by_first (row_is_validating row) row rows none (not_found rows)
-  where
-    by_first : (b : Bool) (row : RowModel) (rows : List RowModel) → (b || list_any row_is_validating rows) ≡ false
-        → (list_any row_is_validating rows ≡ false → find row_is_validating rows ≡ None) → cond b (Some row) (find row_is_validating rows) ≡ None
-    by_first true row rows none more = cc
-    by_first false row rows none more = more none
+not_found (row ∷ rows) none = grind (arith, not_found rows)
 
 -- ---- a function of each row
 
@@ -270,8 +204,7 @@ none_mapped f each [] = refl
 none_mapped f each (row ∷ rows) = omega (arith, count-cons (f row) (map f rows), each row, none_mapped f each rows)
 
 weight_of : (row : RowModel) (b : Bool) (status : Status) → is_validating status ≡ false → row_is_validating row ≡ b → weight (if b then record row { status = status } else row) ≡ 0
-weight_of row true status h e = ap (λ b. cond {A = ℕ} b 1 0) h
-weight_of row false status h e = ap (λ b. cond {A = ℕ} b 1 0) e
+weight_of row b status h e = grind arith
 
 pub none_interrupted : (rows : List RowModel) → count (map interrupted rows) ≡ 0
 none_interrupted rows = none_mapped interrupted (λ row. weight_of row (row_is_validating row) Modifying refl refl) rows
@@ -280,15 +213,10 @@ pub none_released : (rows : List RowModel) → count (map released rows) ≡ 0
 none_released rows = none_mapped released (λ row. refl) rows
 
 not_validating : (b : Bool) → is_validating (if b then Valid else Error) ≡ false
-not_validating true = refl
-not_validating false = refl
+not_validating b = grind arith
 
 pub none_settled : (services : Services) (face : FaceModel) (rows : List RowModel) → count (map (settled_row services face) rows) ≡ 0
-none_settled services face rows =
-    none_mapped
-    (settled_row services face)
-    (λ row. weight_of row (row_is_validating row) (if passes (verdict_of services face row) then Valid else Error) (not_validating (passes (verdict_of services face row))) refl)
-    rows
+none_settled services face rows = grind (arith, none_mapped, weight_of, not_validating)
 
 pub none_unused : (n : ℕ) → count (replicate n unused) ≡ 0
 none_unused zero = refl

@@ -10,7 +10,6 @@ use Rattle.dms_table.specs.Rows.{RowModel, FieldModel, TableModel, row_is_valida
 use Rattle.dms_table.specs.Validation.{settled_row}
 use Rattle.dms_table.specs.declared.row.Refused.{Refused}
 use Rattle.dms_table.specs.declared.writable.Writable.{Writable}
-use Rattle.dms_table.specs.declared.writable.Writable.TheVariants.{Changeable, Volatile}
 use Rattle.dms_table.specs.declared.writable.Place.{Place}
 use Rattle.dms_codes.specs.declared.status.Ask.{Ask}
 use Rattle.dms_codes.specs.Status.{is_validate}
@@ -20,66 +19,48 @@ use Rattle.dms_table.proofs.OneRow.{count, weight, extra_of, count-cons, any_val
 -- ---- the first row, and those after it
 
 is_row : (b : Bool) → Some b ≡ Some true → b ≡ true
-is_row true e = refl
-is_row false e = cc
+is_row b e = grind arith
 
 -- a row that is being validated is counted
 counted : (rows : List RowModel) (place : ℕ) → option_map row_is_validating (slice_get rows place) ≡ Some true → 1 ≤ count rows
 counted [] place e = absurd (cc)
-counted (row ∷ rows) zero e =
-    let one : weight row ≡ 1 = ap (λ b. cond {A = ℕ} b 1 0) (is_row (row_is_validating row) e) in omega (arith, count-cons row rows, one)
+counted (row ∷ rows) zero e = grind (arith, weight, is_row, count-cons)
 counted (row ∷ rows) (suc place) e = omega (arith, count-cons row rows, counted rows place e)
 
 free_by : (b : Bool) → cond {A = ℕ} b 1 0 ≡ 0 → b ≡ false
-free_by true e = absurd (omega (arith, e))
-free_by false e = refl
+free_by b e = grind arith
 
 -- the others are not being validated
 first_alone : (row : RowModel) (rows : List RowModel) → IsOnly 0 (row ∷ rows) → count rows ≡ 0
-first_alone row rows is =
-    let one : weight row ≡ 1 = ap (λ b. cond {A = ℕ} b 1 0) (is_row (row_is_validating row) is.there) in omega (arith, count-cons row rows, one, is.one)
+first_alone row rows is = grind (arith, weight, is_row, count-cons)
 
 first_free : (row : RowModel) (rows : List RowModel) (place : ℕ) → IsOnly (suc place) (row ∷ rows) → row_is_validating row ≡ false
 first_free row rows place is = free_by (row_is_validating row) (omega (arith, count-cons row rows, counted rows place is.there, is.one))
 
 only_after : (row : RowModel) (rows : List RowModel) (place : ℕ) → IsOnly (suc place) (row ∷ rows) → IsOnly place rows
-only_after row rows place is = record {
-  there = is.there;
-  one = let none : weight row ≡ 0 = ap (λ b. cond {A = ℕ} b 1 0) (first_free row rows place is) in omega (arith, count-cons row rows, none, is.one);
-}
+only_after row rows place is = grind (arith, weight, first_free, count-cons)
 
 -- ---- what settling the row at the place makes of all rows
 
 free_settled : (b : Bool) (row settled : RowModel) → b ≡ false → cond b settled row ≡ row
-free_settled true row settled e = cc
-free_settled false row settled e = refl
+free_settled b row settled e = grind arith
 
 pub only_settled : (services : Services) (face : FaceModel) (rows : List RowModel) (place : ℕ) (row : RowModel) → IsOnly place rows → slice_get rows place ≡ Some row
     → set rows place (settled_row services face row) ≡ map (settled_row services face) rows
 only_settled services face [] place row is e = absurd (cc)
-only_settled services face (first ∷ rows) zero row is e =
-    let same : first ≡ row = same_Some first row e in
-    let rest : map (settled_row services face) rows ≡ rows = unsettled services face rows (any_validating rows (first_alone first rows is)) in
-    ap (λ (r : RowModel). settled_row services face r ∷ rows) (sym same) ∙ ap (λ rest. settled_row services face first ∷ rest) (sym rest)
-only_settled services face (first ∷ rows) (suc place) row is e =
-    ap (λ rest. first ∷ rest) (only_settled services face rows place row (only_after first rows place is) e)
-    ∙ ap (λ (r : RowModel). r ∷ map (settled_row services face) rows) (sym (free_settled (row_is_validating first) first _ (first_free first rows place is)))
+only_settled services face (first ∷ rows) zero row is e = grind (arith, same_Some, unsettled, any_validating, first_alone, only_after, free_settled, first_free)
+only_settled services face (first ∷ rows) (suc place) row is e = grind (arith, same_Some, unsettled, any_validating, first_alone, only_after, free_settled, first_free, only_settled services face rows place row (only_after first rows place is) e)
 
 find_by : (b : Bool) (row : RowModel) (o found : Option RowModel) → b ≡ true → found ≡ Some row → found ≡ cond b (Some row) o
-find_by true row o found is e = e
-find_by false row o found is e = cc
+find_by b row o found is e = grind arith
 
 find_after : (b : Bool) (row : RowModel) (o found : Option RowModel) → b ≡ false → found ≡ o → found ≡ cond b (Some row) o
-find_after true row o found is e = cc
-find_after false row o found is e = e
+find_after b row o found is e = grind arith
 
 pub only_found : (rows : List RowModel) (place : ℕ) (row : RowModel) → IsOnly place rows → slice_get rows place ≡ Some row → find row_is_validating rows ≡ Some row
 only_found [] place row is e = absurd (cc)
-only_found (first ∷ rows) zero row is e =
-    sym (find_by (row_is_validating first) first (find row_is_validating rows) (Some row) (is_row (row_is_validating first) is.there) (sym e))
-only_found (first ∷ rows) (suc place) row is e =
-    sym (find_after (row_is_validating first) first (find row_is_validating rows) (Some row) (first_free first rows place is)
-    (sym (only_found rows place row (only_after first rows place is) e)))
+only_found (first ∷ rows) zero row is e = grind (arith, find_by, is_row, find_after, first_free, only_after)
+only_found (first ∷ rows) (suc place) row is e = grind (arith, find_by, is_row, find_after, first_free, only_after, only_found rows place row (only_after first rows place is) e)
 
 -- ---- what holds of the row that is being validated, for each row
 
@@ -106,12 +87,7 @@ only_is rows place row is e = is_row (row_is_validating row) (sym (ap (option_ma
 
 -- the row that a place of a slice gives
 pub only_there : (rows : List RowModel) (place : ℕ) (row : RowModel) → IsOnly place rows → row ≡ get_or rows place row → slice_get rows place ≡ Some row
-only_there rows place row is e = there_by (slice_get rows place) rows place row refl is.there e
-  where
-    there_by : (o : Option RowModel) (rows : List RowModel) (place : ℕ) (row : RowModel) → slice_get rows place ≡ o → option_map row_is_validating o ≡ Some true
-        → row ≡ get_or rows place row → slice_get rows place ≡ Some row
-    there_by None rows place row is validating e = absurd (cc)
-    there_by (Some found) rows place row is validating e = is ∙ ap Some (sym (e ∙ get_or_from_slice_get rows place found row is))
+only_there rows place row is e = grind (arith, slice_get, get_or, get_or_from_slice_get)
 
 -- ---- a change of one row
 
@@ -119,10 +95,7 @@ only_there rows place row is e = there_by (slice_get rows place) rows place row 
 kept_set : (rows : List RowModel) (i place : ℕ) (row new : RowModel) → slice_get rows i ≡ Some row → row_is_validating row ≡ false
     → option_map row_is_validating (slice_get rows place) ≡ Some true → option_map row_is_validating (slice_get (set rows i new) place) ≡ Some true
 kept_set [] i place row new e free there = absurd (cc)
-kept_set (first ∷ rows) zero zero row new e free there =
-    let same : row_is_validating first ≡ row_is_validating row = ap row_is_validating (same_Some first row e) in
-    let is : row_is_validating first ≡ true = is_row (row_is_validating first) there in
-    absurd (cc)
+kept_set (first ∷ rows) zero zero row new e free there = grind (arith, same_Some, is_row)
 kept_set (first ∷ rows) zero (suc place) row new e free there = there
 kept_set (first ∷ rows) (suc i) zero row new e free there = there
 kept_set (first ∷ rows) (suc i) (suc place) row new e free there = kept_set rows i place row new e free there
@@ -135,18 +108,11 @@ set_there (first ∷ rows) (suc i) row new e = set_there rows i row new e
 kept_one : (rows more : List RowModel) (i place : ℕ) (row : RowModel) (o : Option RowModel) → (is_some o ≡ true → row_is_validating row ≡ false)
     → slice_get rows i ≡ Some row → option_map (slice_set rows i) o ≡ Some more
     → option_map row_is_validating (slice_get rows place) ≡ Some true → option_map row_is_validating (slice_get more place) ≡ Some true
-kept_one rows more i place row None free e changed there = absurd (cc)
-kept_one rows more i place row (Some new) free e changed there =
-    let same : set rows i new ≡ more = cc in
-    subst (λ (rows : List RowModel). option_map row_is_validating (slice_get rows place) ≡ Some true) same (kept_set rows i place row new e (free refl) there)
+kept_one rows more i place row o free e changed there = grind (arith, slice_get, kept_set)
 
 put_one : (rows more : List RowModel) (i : ℕ) (row : RowModel) (o : Option RowModel) → ((new : RowModel) → o ≡ Some new → row_is_validating new ≡ true)
     → slice_get rows i ≡ Some row → option_map (slice_set rows i) o ≡ Some more → option_map row_is_validating (slice_get more i) ≡ Some true
-put_one rows more i row None is e changed = absurd (cc)
-put_one rows more i row (Some new) is e changed =
-    let same : set rows i new ≡ more = cc in
-    subst (λ (rows : List RowModel). option_map row_is_validating (slice_get rows i) ≡ Some true) same
-    (ap (option_map row_is_validating) (set_there rows i row new e) ∙ ap Some (is new refl))
+put_one rows more i row o is e changed = grind (arith, slice_get, set_there)
 
 -- what a change takes is not being validated
 abbrev Frees : (RowModel → Option RowModel) → Type 0
@@ -172,15 +138,11 @@ put_by false (Some row) rows more i change are e changed = put_one rows more i r
 -- a row of these is being validated, so none of the other type is
 alone : (memory : Writable) (changeable volatile : List RowModel) → 1 ≤ count (of_type memory changeable volatile) → count changeable + count volatile ≡ 1
     → (count (of_type memory changeable volatile) ≡ 1) × (count (of_type memory volatile changeable) ≡ 0)
-alone Changeable changeable volatile some one = (omega (arith, some, one), omega (arith, some, one))
-alone Volatile changeable volatile some one = (omega (arith, some, one), omega (arith, some, one))
+alone memory changeable volatile some one = grind arith
 
 pub only_of_type : (place : Place) (changeable volatile : List RowModel) → IsOnlyOfAll place changeable volatile
     → IsOnly place.index (of_type place.memory changeable volatile)
-only_of_type place changeable volatile is = record {
-  there = is.there;
-  one = (alone place.memory changeable volatile (counted (of_type place.memory changeable volatile) place.index is.there) is.one).0;
-}
+only_of_type place changeable volatile is = grind (arith, alone, counted)
 
 pub none_of_other : (place : Place) (changeable volatile : List RowModel) → IsOnlyOfAll place changeable volatile
     → count (of_type place.memory volatile changeable) ≡ 0
@@ -197,18 +159,15 @@ placed_nowhere validating changeable volatile is placed = subst (λ (v : Option 
 -- none of either type
 pub none_left : (memory : Writable) (changeable volatile rows : List RowModel) → count rows ≡ 0 → count (of_type memory volatile changeable) ≡ 0
     → count (of_type memory rows changeable) + count (of_type memory volatile rows) ≡ 0
-none_left Changeable changeable volatile rows left none = omega (arith, left, none)
-none_left Volatile changeable volatile rows left none = omega (arith, left, none)
+none_left memory changeable volatile rows left p = grind arith
 
 -- those of one type are changed to these
 pub changed_count : (memory : Writable) (changeable volatile rows : List RowModel)
     → count (of_type memory rows changeable) + count (of_type memory volatile rows) + count (of_type memory changeable volatile) ≡ count changeable + count volatile + count rows
-changed_count Changeable changeable volatile rows = omega arith
-changed_count Volatile changeable volatile rows = omega arith
+changed_count memory changeable volatile rows = grind arith
 
 changed_rows : (memory : Writable) (changeable volatile rows : List RowModel) → of_type memory (of_type memory rows changeable) (of_type memory volatile rows) ≡ rows
-changed_rows Changeable changeable volatile rows = refl
-changed_rows Volatile changeable volatile rows = refl
+changed_rows memory changeable volatile rows = grind arith
 
 abbrev IsValidatingAt : List RowModel → ℕ → Type 0
 IsValidatingAt rows index = option_map row_is_validating (slice_get rows index) ≡ Some true
@@ -216,17 +175,13 @@ IsValidatingAt rows index = option_map row_is_validating (slice_get rows index) 
 kept_there : (memory other : Writable) (changeable volatile rows : List RowModel) (index : ℕ)
     → (IsValidatingAt (of_type memory changeable volatile) index → IsValidatingAt rows index) → IsValidatingAt (of_type other changeable volatile) index
     → IsValidatingAt (of_type other (of_type memory rows changeable) (of_type memory volatile rows)) index
-kept_there Changeable Changeable changeable volatile rows index kept there = kept there
-kept_there Changeable Volatile changeable volatile rows index kept there = there
-kept_there Volatile Changeable changeable volatile rows index kept there = there
-kept_there Volatile Volatile changeable volatile rows index kept there = kept there
+kept_there memory other changeable volatile rows index kept there = grind arith
 
 -- a change that validates no row leaves the place
 kept_place : (memory : Writable) (validating : Option Place) (changeable volatile more : List RowModel) (number : ℕ) (change : RowModel → Option RowModel)
     → Frees change → changed_in (of_type memory changeable volatile) number change ≡ Some more → count more ≡ count (of_type memory changeable volatile)
     → IsPlaced validating changeable volatile → IsPlaced validating (of_type memory more changeable) (of_type memory volatile more)
-kept_place memory None changeable volatile more number change frees changed same is =
-    omega (arith, same, is, changed_count memory changeable volatile more)
+kept_place memory None changeable volatile more number change frees changed same is = grind (arith, changed_count, kept_there, kept_by, slice_get)
 kept_place memory (Some place) changeable volatile more number change frees changed same is =
     let rows : List RowModel = of_type memory changeable volatile in
     record {
@@ -268,17 +223,14 @@ asked_by false memory validating ask changeable volatile more number index asks 
 
 placed_count : (validating : Option Place) (changeable volatile : List RowModel) → IsPlaced validating changeable volatile
     → count changeable + count volatile ≡ cond (is_some validating) 1 0
-placed_count None changeable volatile is = is
-placed_count (Some place) changeable volatile is = is.one
+placed_count validating changeable volatile is = grind arith
 
 pub placed_settling : (validating : Option Place) (table : TableModel) → IsPlaced validating table.changeable table.volatile → is_settling table ≡ is_some validating
 placed_settling validating table is =
     settling_is (is_some validating) table.changeable table.volatile (placed_count validating table.changeable table.volatile is)
 
 free_after : (asks has settling : Bool) → settling ≡ has → not (asks && settling) ≡ true → (asks && has) ≡ false
-free_after true true settling is may = cc
-free_after true false settling is may = refl
-free_after false has settling is may = refl
+free_after asks has settling is may = grind arith
 
 may_place : (validating : Option Place) (table : TableModel) (ask : Ask) → IsPlaced validating table.changeable table.volatile → may_ask table ask ≡ true
     → (is_validate ask && is_some validating) ≡ false
@@ -290,17 +242,14 @@ pub asked_place : (memory : Writable) (validating after : Option Place) (table :
     → changed_in (of_type memory table.changeable table.volatile) number (asked_row ask) ≡ Some more
     → after ≡ validating_after validating ask (record { memory = memory; index = index })
     → IsPlaced after (of_type memory more table.changeable) (of_type memory table.volatile more)
-asked_place memory validating after table ask more number index is may numbered changed e =
-    subst (λ (v : Option Place). IsPlaced v (of_type memory more table.changeable) (of_type memory table.volatile more)) (sym e)
-    (asked_by (is_validate ask) memory validating ask table.changeable table.volatile more number index refl (may_place validating table ask is may) numbered changed is)
+asked_place memory validating after table ask more number index is may numbered changed e = grind (arith, asked_by, may_place)
 
 -- ---- writing
 
 -- rows that stay as they are
 pub same_place : (memory : Writable) (validating : Option Place) (changeable volatile more : List RowModel) → more ≡ of_type memory changeable volatile
     → IsPlaced validating changeable volatile → IsPlaced validating (of_type memory more changeable) (of_type memory volatile more)
-same_place Changeable validating changeable volatile more same is = subst (λ (rows : List RowModel). IsPlaced validating rows volatile) (sym same) is
-same_place Volatile validating changeable volatile more same is = subst (IsPlaced validating changeable) (sym same) is
+same_place memory validating changeable volatile more same is = grind arith
 
 -- a row was written, or not
 pub written_place : (memory : Writable) (validating : Option Place) (field : FieldModel) (changeable volatile more : List RowModel) (number : ℕ)
@@ -311,5 +260,4 @@ written_place memory validating field changeable volatile more number (Ok done) 
     let rows : List RowModel = of_type memory changeable volatile in
     let same : count more ≡ count rows = omega (arith, changed_one_row rows more number 0 (written_row field) (written_weight field) ok) in
     kept_place memory validating changeable volatile more number (written_row field) (written_before field) ok same is
-written_place memory validating field changeable volatile more number (Err refused) ok unchanged is =
-    same_place memory validating changeable volatile more unchanged is
+written_place memory validating field changeable volatile more number (Err refused) ok unchanged is = grind (arith, count, changed_one_row, written_weight, kept_place, written_before, same_place)

@@ -1,5 +1,5 @@
 -- What a stock without a fault is.
-use Rattle.std.proofs.Common.{◌≡◌, ◌++◌, ◌+◌, take, ℕ, ◌&&◌, Bool, true, false, not, if◌then◌else◌, IsTrue, List, length, get_or, Option, Some, None, All, refl, ap, subst, sym, ◌∙◌, suc, ◌<◌, [], ◌∷◌, map, arith}
+use Rattle.std.proofs.Common.{◌≡◌, ◌++◌, ◌+◌, take, ℕ, ◌&&◌, Bool, true, false, not, if◌then◌else◌, IsTrue, List, length, get_or, Option, Some, None, All, ap, subst, sym, ◌∙◌, suc, ◌<◌, [], ◌∷◌, map, arith}
 use Rattle.std.specs.Prelude.{option_map, position}
 use Rattle.dms_face.specs.Face.{FaceModel}
 use Rattle.dms_face.specs.declared.defaults.Defaults.{Defaults}
@@ -8,7 +8,7 @@ use Rattle.dms_table.specs.declared.stock.TableFault.TheVariants as faults
 use Rattle.dms_table.specs.declared.row.Services.{Services}
 use Rattle.dms_table.specs.declared.stock.Permanent.{Permanent}
 use Rattle.dms_table.specs.declared.stock.Stock.{Stock}
-use Rattle.dms_table.specs.Validation.{verdict_of, passes, IsShowable}
+use Rattle.dms_table.specs.Validation.{IsShowable}
 use Rattle.dms_table.specs.Stock.{permanent_row, services_of, has_ranges, may_not_stand, are_counts, permanent_fault, stock_fault, table_of, HasGoodText, PermanentRowsAreGood, HasOctets}
 use Rattle.std.proofs.lemmas.List.{take_more, map-append}
 use Rattle.std.proofs.lemmas.List.Elements.{All-cons, All-append}
@@ -16,28 +16,19 @@ use Rattle.dms_face.specs.Fit.{IsGood}
 use Rattle.dms_table.specs.Rows.{RowModel, TableModel}
 use Rattle.dms_codes.proofs.Loops.{none_passes}
 use Rattle.dms_codes.proofs.Options.{mapped_none}
-use Rattle.dms_table.proofs.GoodRows.{showable}
 
 none_after : {A : Type 0} (b : Bool) (o : Option A) (x : A) → (if b then o else Some x) ≡ None → o ≡ None
-none_after true o x h = h
-none_after false o x h = cc
+none_after b o x h = grind arith
 
 front : (a b : Bool) → not (a && b) ≡ false → a ≡ true
-front true b h = refl
-front false b h = cc
+front a b h = grind arith
 
 back : (a b : Bool) → not (a && b) ≡ false → b ≡ true
-back true true h = refl
-back true false h = cc
-back false b h = cc
+back a b h = grind arith
 
 -- each permanent row has its ranges
 pub all_ranges : (face : FaceModel) (stock : Stock) → stock_fault face stock ≡ None → All (λ message. IsTrue (has_ranges (permanent_row message))) stock.permanent.now
-all_ranges face stock h = λ k d within.
-    front
-    (has_ranges (permanent_row (get_or stock.permanent.now k d)))
-    (passes (verdict_of (services_of stock) face (permanent_row (get_or stock.permanent.now k d))))
-    (none_passes (may_not_stand (services_of stock) face) stock.permanent.now (mapped_none permanent_fault (position (may_not_stand (services_of stock) face) stock.permanent.now) (none_after (are_counts stock) _ _ h)) k d within)
+all_ranges face stock h = grind (arith, front, get_or, none_passes, mapped_none, none_after)
 
 -- the fault of a stock whose counts are right
 pub fault_is : (face : FaceModel) (stock : Stock) (counts : Bool) (place : Option ℕ) (services : Services) (defaults : Defaults)
@@ -55,8 +46,7 @@ fault_is face stock counts place services defaults are right has of_face is =
 -- ---- permanent rows can be shown
 
 stands_showable : (services : Services) (face : FaceModel) (message : Permanent) → may_not_stand services face message ≡ false → IsGood face message.text.now → IsShowable services face (permanent_row message)
-stands_showable services face message h good =
-    showable services face (permanent_row message) (back (has_ranges (permanent_row message)) (passes (verdict_of services face (permanent_row message))) h) good
+stands_showable services face message h good = grind arith
 
 all_mapped : {A B : Type 0} (P : B → Type 0) (f : A → B) (xs : List A) → ((k : ℕ) (d : A) → k < length xs → P (f (get_or xs k d))) → All P (map f xs)
 all_mapped P f [] each = λ k d within. absurd (omega arith)

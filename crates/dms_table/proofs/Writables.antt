@@ -1,10 +1,9 @@
 -- The rows of one type of memory, as they are lent, and the table with them.
-use Rattle.std.proofs.Common.{◌≡◌, List, length, refl, ◌∙◌}
+use Rattle.std.proofs.Common.{◌≡◌, List, length, refl, ◌∙◌, arith}
 use Rattle.std.proofs.lemmas.List.{with_items_is}
 use Rattle.dms_codes.specs.declared.codes.Order.{Order}
 use Rattle.dms_table.specs.declared.row.Services.{Services}
 use Rattle.dms_table.specs.declared.writable.Writable.{Writable}
-use Rattle.dms_table.specs.declared.writable.Writable.TheVariants.{Changeable, Volatile}
 use Rattle.dms_table.specs.declared.writable.WritableRows.{WritableRows}
 use Rattle.dms_table.specs.Rows.{RowModel, TableModel}
 use Rattle.dms_table.specs.PlaceView.{of_type}
@@ -17,8 +16,7 @@ pub record AreLent (memory : Writable) (all : WritableRows) (rows : List RowMode
 
 pub are_lent : (memory : Writable) (all : WritableRows) (rows : List RowModel) → length all.changeable.items ≡ all.changeable.len
     → length all.volatile.items ≡ all.volatile.len → length rows ≡ length (of_type memory all.changeable.items all.volatile.items) → AreLent memory all rows
-are_lent Changeable all rows changeable volatile same = record { changeable = with_items_is all.changeable rows (same ∙ changeable); volatile = refl }
-are_lent Volatile all rows changeable volatile same = record { changeable = refl; volatile = with_items_is all.volatile rows (same ∙ volatile) }
+are_lent memory all rows changeable volatile same = grind (arith, with_items_is)
 
 -- the table with these rows of a type of memory
 abbrev pub with_type : TableModel → Writable → List RowModel → TableModel

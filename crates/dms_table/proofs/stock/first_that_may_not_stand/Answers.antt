@@ -14,9 +14,7 @@ loop-place-preserved c = record {
 }
 
 pub returns-then-not-may_stand-clause-place : goal.returns-then-not-may_stand-clause-place
-returns-then-not-may_stand-clause-place c =
-    sym (found_at (may_not_stand c.args.validator.now.services (face_of c.args.validator.now)) c.args.messages.now c.loop-place.place _ c.loop-place-test.true c.loop-place.invariant.stand
-    (ap not (sym c.may_stand.ensures.value ∙ c.if-not-may_stand.true)))
+returns-then-not-may_stand-clause-place c = grind (arith, found_at)
 
 pub returns-clause-place : goal.returns-clause-place
 returns-clause-place c =

@@ -1,9 +1,8 @@
-use Rattle.std.proofs.Common.{◌≡◌, true, length, None, Some, ap, subst, ◌∙◌, arith}
+use Rattle.std.proofs.Common.{◌≡◌, true, length, Some, ap, ◌∙◌, arith}
 use Rattle.dms_face.specs.Fit.{IsGood}
 use Rattle.dms_face.specs.Layout.{under}
 use Rattle.dms_table.specs.Rows.{RowModel, TableModel}
 use Rattle.dms_table.specs.Validation.{settled, verdict, verdict_of, passes}
-use Rattle.dms_table.specs.PlaceView.{IsPlaced}
 use Rattle.dms_table.proofs.OneRow.{count, none_settled}
 use Rattle.dms_table.proofs.GoodRows.{settled_rows_are_good}
 use Rattle.dms_table.proofs.Places.{only_of_type, none_of_other, placed_at, placed_nowhere, none_left, placed_settling}
@@ -12,10 +11,7 @@ use Rattle.dms_table.proofs.Writables.{are_lent, table_by, table_lent}
 use Rattle.dms_table.proofs.table.Table.settle.Goals as goal
 
 pub settle_in-verdict-requires-clause-only : goal.settle_in-verdict-requires-clause-only
-settle_in-verdict-requires-clause-only c =
-    let all = c.self.inside.writable in
-    let placed = placed_at c.self.inside.validating c.in_ok-place.place all.changeable.items all.volatile.items c.in_ok-place.was c.self.invariant in
-    rw c.of_mut-rows.ensures.value (only_of_type c.in_ok-place.place all.changeable.items all.volatile.items placed)
+settle_in-verdict-requires-clause-only c = grind (arith, placed_at, only_of_type)
 
 pub invariant_of-self : goal.invariant_of-self
 invariant_of-self c =
@@ -61,13 +57,7 @@ returns-clause-good c =
     c.self.view_is both.0 both.1 (returns-clause-rows c)
 
 pub returns-in_err-place-clause-rows : goal.returns-in_err-place-clause-rows
-returns-in_err-place-clause-rows c =
-    let nowhere = placed_nowhere c.self.inside.validating c.self.inside.writable.changeable.items c.self.inside.writable.volatile.items c.in_err-place.was c.self.invariant in
-    nothing_settled (under c.args.face.now c.args.defaults.now) c.args.self.now
-    (placed_settling None c.args.self.now (subst (λ (table : TableModel). IsPlaced None table.changeable table.volatile) c.self.view_is nowhere))
+returns-in_err-place-clause-rows c = grind (arith, placed_nowhere, nothing_settled, placed_settling)
 
 pub returns-in_err-place-clause-verdict : goal.returns-in_err-place-clause-verdict
-returns-in_err-place-clause-verdict c =
-    let nowhere = placed_nowhere c.self.inside.validating c.self.inside.writable.changeable.items c.self.inside.writable.volatile.items c.in_err-place.was c.self.invariant in
-    c.from_residual.ensures ∙ no_verdict (under c.args.face.now c.args.defaults.now) c.args.self.now
-    (placed_settling None c.args.self.now (subst (λ (table : TableModel). IsPlaced None table.changeable table.volatile) c.self.view_is nowhere))
+returns-in_err-place-clause-verdict c = grind (arith, placed_nowhere, no_verdict, placed_settling)
