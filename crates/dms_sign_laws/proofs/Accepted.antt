@@ -1,12 +1,11 @@
 -- An activation is accepted where a SET of it succeeds, and there alone.
-use Rattle.std.proofs.Common.{◌≡◌, ◌↔◌, ℕ, zero, suc, ◌&&◌, ◌||◌, not, Bool, true, false, cond, List, [], ◌∷◌, ◌++◌, length, get_or, Option, Some, None, Result, Ok, Err, refl, sym, ap, subst, ◌∙◌, arith}
-use Rattle.std.specs.Prelude.{nat_le, option_map, option_and_then, is_none, unwrap_or, filter_map, find}
+use Rattle.std.proofs.Common.{◌≡◌, ◌↔◌, ℕ, suc, ◌&&◌, ◌||◌, Bool, true, false, cond, List, [], ◌∷◌, ◌++◌, length, Option, Some, None, Result, refl, sym, ap, subst, ◌∙◌, arith}
+use Rattle.std.specs.Prelude.{nat_le, option_map, option_and_then, is_none, unwrap_or, find}
 use Rattle.std.specs.List.{cons_option, list_any, AllByRecursion, Contains}
-use Rattle.std.proofs.lemmas.Bool.{and_parts, leb-true}
 use Rattle.dms_wire.specs.declared.message.Kind.{Kind}
 use Rattle.dms_wire.specs.declared.message.Kind.TheVariants.{Get, GetNext, Response, Set}
 use Rattle.dms_wire.specs.declared.error_status.ErrorStatus.{ErrorStatus}
-use Rattle.dms_wire.specs.declared.error_status.ErrorStatus.TheVariants.{NoError, NoSuchName, BadValue, GenErr}
+use Rattle.dms_wire.specs.declared.error_status.ErrorStatus.TheVariants.{NoError, GenErr}
 use Rattle.dms_wire.specs.Message.{ObjectValue, octet_string, VarBind, SnmpMessage}
 use Rattle.dms_face.specs.Face.{FaceModel}
 use Rattle.dms_table.specs.declared.activation.Cause.{Cause}
@@ -15,17 +14,17 @@ use Rattle.dms_objects.specs.declared.column.Column.TheVariants as columns
 use Rattle.dms_objects.specs.Names.{activate_message}
 use Rattle.dms_table.specs.Rows.{TableModel, asked}
 use Rattle.dms_codes.specs.Codes.{activation_of}
-use Rattle.dms_table.specs.Activation.{ShownModel, decided}
+use Rattle.dms_table.specs.Activation.{ShownModel}
 use Rattle.dms_objects.specs.declared.scalar.Scalar.{Scalar}
-use Rattle.dms_objects.specs.declared.scalar.Scalar.TheVariants.{DefaultBackgroundColor, DefaultForegroundColor, DefaultFlashOn, DefaultFlashOff, DefaultFont, DefaultJustificationLine, DefaultJustificationPage, DefaultPageOnTime, DefaultPageOffTime, ActivateMessage, MessageTimeRemaining, ShortPowerRecoveryMessage, LongPowerRecoveryMessage, ShortPowerLossTime, CommunicationsLossMessage, TimeCommLoss, PowerLossMessage, EndDurationMessage}
+use Rattle.dms_objects.specs.declared.scalar.Scalar.TheVariants.{ActivateMessage}
 use Rattle.dms_objects.specs.declared.instance.Instance.{Instance}
 use Rattle.dms_objects.specs.declared.instance.Instance.TheVariants as kinds
-use Rattle.dms_objects.specs.Names.{scalar_number, name_of}
+use Rattle.dms_objects.specs.Names.{name_of}
 use Rattle.dms_instances.specs.Objects.{instance_named}
 use Rattle.dms_sign.specs.State.{SignState}
 use Rattle.dms_access.specs.Access.{Write, SetNumber, SetCode, SetField, AskRow, Activate, SetRemaining, is_command, is_settable, octets_in, object_write, cell_write, write_of}
 use Rattle.dms_access.specs.MetNames.{is_among}
-use Rattle.dms_sign.specs.SetRequest.{SetCause, if_settable, settable_instance, write_at, is_command_at, is_refused_field, cause_if, causes, assigned}
+use Rattle.dms_sign.specs.SetRequest.{SetCause, if_settable, settable_instance, write_at, is_command_at, is_refused_field, causes, assigned}
 use Rattle.dms_sign.specs.Requests.{found_unless, as_decided, as_asked, commanded, commanded_if, writes_of, set_unless, set, may_write, answer_by, answer_of_any_size}
 use Rattle.dms_sign.specs.Promises.{activates, AsksFor}
 use Rattle.dms_instances.proofs.InOrder.{named_is}
@@ -33,21 +32,12 @@ use Rattle.dms_sign.proofs.Replies.{IsCause, are_causes}
 
 -- ---- what writes an activation
 
--- a value that is read as something of another kind writes no activation
-no_activation : {A : Type 0} (f : A → Write) (o : Option A) (octets : List ℕ) → ((x : A) → f x ≡ Activate octets → ⊥)
-    → option_map f o ≡ Some (Activate octets) → ⊥
-no_activation f None octets other e = cc
-no_activation f (Some x) octets other e = other x (cc)
-
 octets_if : (b : Bool) (given octets : List ℕ) → (b ≡ true → length given ≡ 12)
     → option_map Activate (cond b (Some given) None) ≡ Some (Activate octets) → (given ≡ octets) × (length octets ≡ 12)
-octets_if false given octets size e = absurd (cc)
-octets_if true given octets size e = let same : given ≡ octets = cc in (same, ap length (sym same) ∙ size refl)
+octets_if b given octets size e = grind arith
 
 is_twelve : (octets : List ℕ) → (nat_le 12 (length octets) && nat_le (length octets) 12) ≡ true → length octets ≡ 12
-is_twelve octets h =
-    let parts = and_parts (nat_le 12 (length octets)) (nat_le (length octets) 12) h in
-    omega (arith, leb-true 12 (length octets) parts.0, leb-true (length octets) 12 parts.1)
+is_twelve octets h = grind arith
 
 -- a value that is the twelve octets of an activation
 pub record IsActivating (i : Instance) (value : ObjectValue) (octets : List ℕ) : Type 0 where
@@ -57,39 +47,12 @@ pub record IsActivating (i : Instance) (value : ObjectValue) (octets : List ℕ)
 
 twelve : (value : ObjectValue) (octets : List ℕ) → option_map Activate (octets_in 12 12 value) ≡ Some (Activate octets)
     → (value ≡ octet_string octets) × (length octets ≡ 12)
-twelve (octet_string given) octets e =
-    let both = octets_if (nat_le 12 (length given) && nat_le (length given) 12) given octets (is_twelve given) e in (ap octet_string both.0, both.1)
-twelve _ octets e = absurd (cc)
+twelve value octets e = grind arith
 
 activating : (face : FaceModel) (i : Instance) (value : ObjectValue) (octets : List ℕ) → write_of face i value ≡ Some (Activate octets)
     → IsActivating i value octets
 unfolding write_of object_write cell_write
-activating face (kinds.Scalar ActivateMessage) value octets e = let both = twelve value octets e in record { object = refl; value_is = both.0; size = both.1 }
-activating face (kinds.Scalar MessageTimeRemaining) value octets e = absurd (no_activation _ _ octets (λ x h. cc) e)
-activating face (kinds.Scalar ShortPowerRecoveryMessage) value octets e = absurd (no_activation _ _ octets (λ x h. cc) e)
-activating face (kinds.Scalar LongPowerRecoveryMessage) value octets e = absurd (no_activation _ _ octets (λ x h. cc) e)
-activating face (kinds.Scalar CommunicationsLossMessage) value octets e = absurd (no_activation _ _ octets (λ x h. cc) e)
-activating face (kinds.Scalar PowerLossMessage) value octets e = absurd (no_activation _ _ octets (λ x h. cc) e)
-activating face (kinds.Scalar EndDurationMessage) value octets e = absurd (no_activation _ _ octets (λ x h. cc) e)
-activating face (kinds.Scalar ShortPowerLossTime) value octets e = absurd (no_activation _ _ octets (λ x h. cc) e)
-activating face (kinds.Scalar TimeCommLoss) value octets e = absurd (no_activation _ _ octets (λ x h. cc) e)
-activating face (kinds.Scalar DefaultBackgroundColor) value octets e = absurd (no_activation _ _ octets (λ x h. cc) e)
-activating face (kinds.Scalar DefaultForegroundColor) value octets e = absurd (no_activation _ _ octets (λ x h. cc) e)
-activating face (kinds.Scalar DefaultFlashOn) value octets e = absurd (no_activation _ _ octets (λ x h. cc) e)
-activating face (kinds.Scalar DefaultFlashOff) value octets e = absurd (no_activation _ _ octets (λ x h. cc) e)
-activating face (kinds.Scalar DefaultFont) value octets e = absurd (no_activation _ _ octets (λ x h. cc) e)
-activating face (kinds.Scalar DefaultJustificationLine) value octets e = absurd (no_activation _ _ octets (λ x h. cc) e)
-activating face (kinds.Scalar DefaultJustificationPage) value octets e = absurd (no_activation _ _ octets (λ x h. cc) e)
-activating face (kinds.Scalar DefaultPageOnTime) value octets e = absurd (no_activation _ _ octets (λ x h. cc) e)
-activating face (kinds.Scalar DefaultPageOffTime) value octets e = absurd (no_activation _ _ octets (λ x h. cc) e)
-activating face (kinds.Scalar _) value octets e = absurd (cc)
-activating face (kinds.Cell columns.MultiString id) value octets e = absurd (no_activation _ _ octets (λ x h. cc) e)
-activating face (kinds.Cell columns.Owner id) value octets e = absurd (no_activation _ _ octets (λ x h. cc) e)
-activating face (kinds.Cell columns.Beacon id) value octets e = absurd (no_activation _ _ octets (λ x h. cc) e)
-activating face (kinds.Cell columns.PixelService id) value octets e = absurd (no_activation _ _ octets (λ x h. cc) e)
-activating face (kinds.Cell columns.RunTimePriority id) value octets e = absurd (no_activation _ _ octets (λ x h. cc) e)
-activating face (kinds.Cell columns.Status id) value octets e = absurd (no_activation _ _ octets (λ x h. cc) e)
-activating face (kinds.Cell _ id) value octets e = absurd (cc)
+activating face i value octets e = grind arith
 
 -- the instance of a name that can be set
 settable_if : (b : Bool) (j i : Instance) → cond b (Some j) None ≡ Some i → j ≡ i
@@ -112,8 +75,7 @@ record WritesAt (s : SignState) (binding : VarBind) (write : Write) : Type 0 whe
 
 writes_by : (s : SignState) (binding : VarBind) (write : Write) (o : Option Instance) → settable_instance s binding.name ≡ o
     → option_and_then (λ i. write_of s.config.face i binding.value) o ≡ Some write → WritesAt s binding write
-writes_by s binding write None is e = absurd (cc)
-writes_by s binding write (Some i) is e = record { instance = i; named = settable_named s binding.name i is; writes = e }
+writes_by s binding write o is e = grind (arith, settable_named)
 
 writes_at : (s : SignState) (binding : VarBind) (write : Write) → write_at s binding ≡ Some write → WritesAt s binding write
 unfolding write_at
@@ -125,10 +87,7 @@ activate_name = refl
 
 same_binding : (binding : VarBind) (octets : List ℕ) → binding.name ≡ activate_message → binding.value ≡ octet_string octets
     → binding ≡ activates octets
-same_binding binding octets name value =
-    let named : binding ≡ record { name = activate_message; value = binding.value } = ap (λ n. record { name = n; value = binding.value }) name in
-    let valued : record { name = activate_message; value = binding.value } ≡ activates octets = ap (λ v. record { name = activate_message; value = v }) value in
-    named ∙ valued
+same_binding binding octets name value = grind arith
 
 -- a binding that writes an activation sets dmsActivateMessage to it
 activates_at : (s : SignState) (binding : VarBind) (octets : List ℕ) → write_at s binding ≡ Some (Activate octets)
@@ -148,8 +107,7 @@ record IsAccepting (s : SignState) (activation : Activation) (write : Write) : T
 decided_accepts : (old new : SignState) (bindings : List VarBind) (index : ℕ) (octets : List ℕ) (r : Result ShownModel Cause) (a : Activation)
     → (as_decided old new bindings index octets r).accepted ≡ Some a
     → ((as_decided old new bindings index octets r).status ≡ NoError) × IsAccepting old a (Activate octets)
-decided_accepts old new bindings index octets (Ok shown) a e = (refl, record { octets = octets; write_is = refl; is = cc })
-decided_accepts old new bindings index octets (Err cause) a e = absurd (cc)
+decided_accepts old new bindings index octets r a e = grind arith
 
 pub asked_accepts : (old new : SignState) (bindings : List VarBind) (index : ℕ) (o : Option TableModel) (a : Activation)
     → (as_asked old new bindings index o).accepted ≡ Some a → ⊥
@@ -159,8 +117,7 @@ asked_accepts old new bindings index (Some table) a e = cc
 commanded_accepts : (old new : SignState) (bindings : List VarBind) (index : ℕ) (write : Write) (a : Activation)
     → (commanded old new bindings index write).accepted ≡ Some a → ((commanded old new bindings index write).status ≡ NoError) × IsAccepting old a write
 commanded_accepts old new bindings index (AskRow id ask) a e = absurd (asked_accepts old new bindings index (asked new.table id ask) a e)
-commanded_accepts old new bindings index (Activate octets) a e =
-    decided_accepts old new bindings index octets (decided new.config.face new.defaults new.table new.shown (activation_of old.table.order octets)) a e
+commanded_accepts old new bindings index (Activate octets) a e = grind (arith, asked_accepts, decided_accepts)
 commanded_accepts old new bindings index (SetRemaining minutes) a e = absurd (cc)
 commanded_accepts old new bindings index (SetNumber object number) a e = absurd (cc)
 commanded_accepts old new bindings index (SetCode object octets) a e = absurd (cc)
@@ -197,15 +154,12 @@ comes_later s first bindings write c = record { binding = c.binding; there = (su
 comes_if : (s : SignState) (first : VarBind) (bindings : List VarBind) (write other : Write) (b : Bool) (o : Option Write)
     → write_at s first ≡ Some other
     → (o ≡ Some write → ComesFrom s bindings write) → cond b (Some other) o ≡ Some write → ComesFrom s (first ∷ bindings) write
-comes_if s first bindings write other true o is later e = record { binding = first; there = (zero, omega arith, refl); writes = is ∙ e }
-comes_if s first bindings write other false o is later e = comes_later s first bindings write (later e)
+comes_if s first bindings write other b o is later e = grind (arith, comes_later)
 
 comes_by : (s : SignState) (first : VarBind) (bindings : List VarBind) (write : Write) (o : Option Write) → write_at s first ≡ o
     → (find is_command (writes_of s bindings) ≡ Some write → ComesFrom s bindings write)
     → find is_command (cons_option o (writes_of s bindings)) ≡ Some write → ComesFrom s (first ∷ bindings) write
-comes_by s first bindings write None is later e = comes_later s first bindings write (later e)
-comes_by s first bindings write (Some other) is later e =
-    comes_if s first bindings write other (is_command other) (find is_command (writes_of s bindings)) is later e
+comes_by s first bindings write o is later e = grind (arith, comes_later, comes_if)
 
 comes_from : (s : SignState) (bindings : List VarBind) (write : Write) → find is_command (writes_of s bindings) ≡ Some write
     → ComesFrom s bindings write
@@ -238,21 +192,12 @@ accepted_was_asked_for s m a e = answer_accepts s m m.kind a e
 
 -- ---- a SET of one activation that succeeds
 
-only_object : (object : Scalar) → (scalar_number object).0 ≡ 6 → (scalar_number object).1 ≡ 3 → object ≡ ActivateMessage
-only_object ActivateMessage group number = refl
-only_object _ group number = absurd (omega arith)
-
-other_group : (group : ℕ) → group ≡ 5 → group ≡ 6 → ⊥
-other_group group five six = omega arith
-
 only_activate : (i : Instance) → name_of i ≡ activate_message → i ≡ kinds.Scalar ActivateMessage
 unfolding name_of
-only_activate (kinds.Scalar object) e = ap kinds.Scalar (only_object object (ap (λ name. get_or name 10 0) e) (ap (λ name. get_or name 11 0) e))
-only_activate (kinds.Cell column id) e = absurd (other_group 5 refl (ap (λ name. get_or name 10 0) e))
+only_activate i e = grind arith
 
 writes_twelve : (b : Bool) (octets : List ℕ) (write : Write) → option_map Activate (cond b (Some octets) None) ≡ Some write → write ≡ Activate octets
-writes_twelve true octets write e = cc
-writes_twelve false octets write e = absurd (cc)
+writes_twelve b octets write e = grind arith
 
 activate_writes : (face : FaceModel) (octets : List ℕ) (write : Write)
     → write_of face (kinds.Scalar ActivateMessage) (octet_string octets) ≡ Some write → write ≡ Activate octets
@@ -267,12 +212,6 @@ what_is_written s octets (Some write) is some =
     let object : at.instance ≡ kinds.Scalar ActivateMessage = only_activate at.instance at.named in
     ap Some (activate_writes s.config.face octets write (rw object at at.writes))
 
-second_passes : (one two : Bool) (m n : ErrorStatus) (index : ℕ) (tests : List (Bool × ErrorStatus)) (more : List SetCause)
-    → filter_map (cause_if index) ((one, m) ∷ (two, n) ∷ tests) ++ more ≡ [] → two ≡ false
-second_passes true two m n index tests more e = absurd (cc)
-second_passes false true m n index tests more e = absurd (cc)
-second_passes false false m n index tests more e = refl
-
 -- the tests after the first two, of a binding that stands first
 abbrev later_tests : SignState → VarBind → List (Bool × ErrorStatus)
 later_tests s binding =
@@ -282,23 +221,17 @@ later_tests s binding =
 writes_without_cause : (s : SignState) (writing : Bool) (binding : VarBind) → causes s writing (binding ∷ []) ≡ []
     → is_none (write_at s binding) ≡ false
 unfolding causes
-writes_without_cause s writing binding e =
-    second_passes (not writing || is_none (settable_instance s binding.name)) (is_none (write_at s binding)) NoSuchName BadValue 1 (later_tests s binding) [] e
+writes_without_cause s writing binding e = grind arith
 
 decided_succeeds : (old new : SignState) (bindings : List VarBind) (index : ℕ) (octets : List ℕ) (r : Result ShownModel Cause)
     → (as_decided old new bindings index octets r).status ≡ NoError
     → (as_decided old new bindings index octets r).accepted ≡ Some (activation_of old.table.order octets)
-decided_succeeds old new bindings index octets (Ok shown) e = refl
-decided_succeeds old new bindings index octets (Err cause) e = absurd (cc)
+decided_succeeds old new bindings index octets r e = grind arith
 
 pub if_succeeds : (old new : SignState) (bindings : List VarBind) (index : ℕ) (octets : List ℕ) (o : Option Write) → o ≡ Some (Activate octets)
     → (commanded_if old new bindings index o).status ≡ NoError
     → (commanded_if old new bindings index o).accepted ≡ Some (activation_of old.table.order octets)
-if_succeeds old new bindings index octets o is =
-    subst
-    (λ x. (commanded_if old new bindings index x).status ≡ NoError → (commanded_if old new bindings index x).accepted ≡ Some (activation_of old.table.order octets))
-    (sym is)
-    (decided_succeeds old new bindings index octets (decided new.config.face new.defaults new.table new.shown (activation_of old.table.order octets)))
+if_succeeds old new bindings index octets o is = grind (arith, decided_succeeds)
 
 one_succeeds : (s : SignState) (writing : Bool) (octets : List ℕ) (found : List SetCause)
     → causes s writing (activates octets ∷ []) ≡ found → AllByRecursion (IsCause 1) found
@@ -313,18 +246,11 @@ one_succeeds s writing octets [] are each e =
 
 set_succeeds : (s : SignState) (writing : Bool) (octets : List ℕ) (bindings : List VarBind) → bindings ≡ activates octets ∷ []
     → (set s writing bindings).status ≡ NoError → (set s writing bindings).accepted ≡ Some (activation_of s.table.order octets)
-set_succeeds s writing octets bindings is =
-    subst
-    (λ x. (set s writing x).status ≡ NoError → (set s writing x).accepted ≡ Some (activation_of s.table.order octets))
-    (sym is)
-    (one_succeeds s writing octets (causes s writing (activates octets ∷ [])) refl (are_causes s writing (activates octets ∷ [])))
+set_succeeds s writing octets bindings is = grind (arith, one_succeeds, are_causes)
 
 answer_succeeds : (s : SignState) (m : SnmpMessage) (octets : List ℕ) (kind : Kind) → kind ≡ Set → m.bindings ≡ activates octets ∷ []
     → (answer_by s m kind).status ≡ NoError → (answer_by s m kind).accepted ≡ Some (activation_of s.table.order octets)
-answer_succeeds s m octets Set is one e = set_succeeds s (may_write s m) octets m.bindings one e
-answer_succeeds s m octets Get is one e = absurd (cc)
-answer_succeeds s m octets GetNext is one e = absurd (cc)
-answer_succeeds s m octets Response is one e = absurd (cc)
+answer_succeeds s m octets kind is one e = grind (arith, set_succeeds)
 
 success_is_accepted : (s : SignState) (m : SnmpMessage) (octets : List ℕ) → m.kind ≡ Set → m.bindings ≡ activates octets ∷ []
     → (answer_of_any_size s m).status ≡ NoError → (answer_of_any_size s m).accepted ≡ Some (activation_of s.table.order octets)

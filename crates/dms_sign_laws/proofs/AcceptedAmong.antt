@@ -1,19 +1,18 @@
 -- An activation among the bindings of a SET that succeeds was accepted.
-use Rattle.std.proofs.Common.{◌≡◌, ℕ, zero, suc, ◌+◌, ◌&&◌, ◌||◌, not, Bool, true, false, cond, List, [], ◌∷◌, ◌++◌, length, Option, Some, None, refl, sym, ap, subst, ◌∙◌, arith}
+use Rattle.std.proofs.Common.{◌≡◌, ℕ, zero, suc, ◌+◌, ◌&&◌, ◌||◌, Bool, true, false, List, [], ◌∷◌, ◌++◌, length, Option, Some, refl, sym, ap, subst, ◌∙◌, arith}
 use Rattle.std.specs.Prelude.{option_map, is_none, unwrap_or, filter_map, find}
 use Rattle.std.specs.List.{cons_option, list_any, AllByRecursion, Contains}
 use Rattle.std.proofs.lemmas.Bool.{false_from_ne_true, or_left, or_right}
 use Rattle.dms_wire.specs.declared.message.Kind.{Kind}
-use Rattle.dms_wire.specs.declared.message.Kind.TheVariants.{Get, GetNext, Response, Set}
+use Rattle.dms_wire.specs.declared.message.Kind.TheVariants.{Set}
 use Rattle.dms_wire.specs.declared.error_status.ErrorStatus.{ErrorStatus}
-use Rattle.dms_wire.specs.declared.error_status.ErrorStatus.TheVariants.{NoError, NoSuchName, BadValue, GenErr}
+use Rattle.dms_wire.specs.declared.error_status.ErrorStatus.TheVariants.{NoError}
 use Rattle.dms_wire.specs.Message.{VarBind, SnmpMessage}
 use Rattle.dms_codes.specs.Codes.{activation_of}
 use Rattle.dms_access.specs.Access.{Write, Activate, is_command}
-use Rattle.dms_access.specs.MetNames.{is_among}
 use Rattle.dms_sign.specs.State.{SignState}
-use Rattle.dms_sign.specs.SetRequest.{SetCause, settable_instance, write_at, is_command_at, is_refused_field, cause_if, causes_after, causes, assigned}
-use Rattle.dms_sign.specs.Requests.{writes_of, set_unless, may_write, answer_by, answer_of_any_size}
+use Rattle.dms_sign.specs.SetRequest.{SetCause, write_at, is_command_at, cause_if, causes_after, causes, assigned}
+use Rattle.dms_sign.specs.Requests.{writes_of, set_unless, answer_by, answer_of_any_size}
 use Rattle.dms_sign.specs.Promises.{activates}
 use Rattle.dms_sign.proofs.Replies.{IsCause, are_causes}
 use Rattle.dms_sign_laws.proofs.Accepted.{what_is_written, if_succeeds}
@@ -21,12 +20,10 @@ use Rattle.dms_sign_laws.proofs.Accepted.{what_is_written, if_succeeds}
 -- ---- tests
 
 not_both : (a b : Bool) → (a && b) ≡ false → b ≡ true → a ≡ false
-not_both true b e passed = absurd (cc)
-not_both false b e passed = refl
+not_both a b e passed = grind arith
 
 or_later : (a b c : Bool) → (a || b) ≡ true → (b ≡ true → c ≡ true) → (a || c) ≡ true
-or_later true b c e more = refl
-or_later false b c e more = more e
+or_later a b c e more = grind arith
 
 still_any : (p : VarBind → Bool) (xs : List VarBind) (x : VarBind) → list_any p xs ≡ true → list_any p (xs ++ x ∷ []) ≡ true
 still_any p [] x e = absurd (cc)
@@ -39,12 +36,7 @@ last_any p (y ∷ xs) x e = or_right (p y) (list_any p (xs ++ x ∷ [])) (last_a
 -- the tests of a binding, none of which fails
 all_pass : (a b c d e : Bool) (k l m n o : ErrorStatus) (index : ℕ) (more : List SetCause)
     → filter_map (cause_if index) ((a, k) ∷ (b, l) ∷ (c, m) ∷ (d, n) ∷ (e, o) ∷ []) ++ more ≡ [] → (b ≡ false) × (d ≡ false) × (more ≡ [])
-all_pass true b c d e k l m n o index more none = absurd (cc)
-all_pass false true c d e k l m n o index more none = absurd (cc)
-all_pass false false true d e k l m n o index more none = absurd (cc)
-all_pass false false false true e k l m n o index more none = absurd (cc)
-all_pass false false false false true k l m n o index more none = absurd (cc)
-all_pass false false false false false k l m n o index more none = (refl, refl, none)
+all_pass a b c d e k l m n o index more p = grind arith
 
 -- ---- a SET without a cause
 
@@ -56,44 +48,29 @@ record Passes (s : SignState) (may : Bool) (before : List VarBind) (first : VarB
 
 passes : (s : SignState) (may : Bool) (before : List VarBind) (first : VarBind) (more : List VarBind) → causes_after s may before (first ∷ more) ≡ []
     → Passes s may before first more
-passes s may before first more none =
-    let all = all_pass (not may || is_none (settable_instance s first.name)) (is_none (write_at s first)) (is_among first.name before)
-    (is_command_at s first && list_any (is_command_at s) before) (unwrap_or (option_map (is_refused_field s.table) (write_at s first)) false)
-    NoSuchName BadValue GenErr GenErr GenErr (length before + 1) (causes_after s may (before ++ first ∷ []) more) none in
-    record { writes = all.0; no_second = all.1; later = all.2 }
+passes s may before first more p = grind arith
 
 all_write : (s : SignState) (may : Bool) (before bindings : List VarBind) (binding : VarBind) → causes_after s may before bindings ≡ []
     → Contains bindings binding → is_none (write_at s binding) ≡ false
 all_write s may before [] binding none there = absurd (omega (arith, there.1))
-all_write s may before (first ∷ more) binding none (zero, within, same) =
-    subst (λ b. is_none (write_at s b) ≡ false) same (passes s may before first more none).writes
-all_write s may before (first ∷ more) binding none (suc place, within, same) =
-    all_write s may (before ++ first ∷ []) more binding (passes s may before first more none).later (place, omega (arith, within), same)
+all_write s may before (first ∷ more) binding none (zero, within, same) = grind (arith, passes)
+all_write s may before (first ∷ more) binding none (suc place, within, same) = grind (arith, passes, all_write s may (before ++ first ∷ []) more binding (passes s may before first more none).later (place, omega (arith, within), same))
 
 -- none is a command after one
 none_after : (s : SignState) (may : Bool) (before bindings : List VarBind) (binding : VarBind) → causes_after s may before bindings ≡ []
     → list_any (is_command_at s) before ≡ true → Contains bindings binding → is_command_at s binding ≡ false
 none_after s may before [] binding none any there = absurd (omega (arith, there.1))
-none_after s may before (first ∷ more) binding none any (zero, within, same) =
-    subst (λ b. is_command_at s b ≡ false) same
-    (not_both (is_command_at s first) (list_any (is_command_at s) before) (passes s may before first more none).no_second any)
-none_after s may before (first ∷ more) binding none any (suc place, within, same) =
-    none_after s may (before ++ first ∷ []) more binding (passes s may before first more none).later
-    (still_any (is_command_at s) before first any) (place, omega (arith, within), same)
+none_after s may before (first ∷ more) binding none any (zero, within, same) = grind (arith, not_both, passes, still_any)
+none_after s may before (first ∷ more) binding none any (suc place, within, same) = grind (arith, not_both, passes, still_any, none_after s may (before ++ first ∷ []) more binding (passes s may before first more none).later)
 
 -- ---- the command of a SET
 
 writes_it : (s : SignState) (octets : List ℕ) → is_none (write_at s (activates octets)) ≡ false → write_at s (activates octets) ≡ Some (Activate octets)
 writes_it s octets some = what_is_written s octets (write_at s (activates octets)) refl some
 
-skip_test : (b : Bool) (write : Write) (rest goal : Option Write) → b ≡ false → rest ≡ goal → cond b (Some write) rest ≡ goal
-skip_test true write rest goal fails e = absurd (cc)
-skip_test false write rest goal fails e = e
-
 skip : (o : Option Write) (rest : List Write) (goal : Option Write) → unwrap_or (option_map is_command o) false ≡ false
     → find is_command rest ≡ goal → find is_command (cons_option o rest) ≡ goal
-skip None rest goal fails e = e
-skip (Some write) rest goal fails e = skip_test (is_command write) write (find is_command rest) goal fails e
+skip o rest goal fails e = grind arith
 
 found : (s : SignState) (may : Bool) (before bindings : List VarBind) (octets : List ℕ) → causes_after s may before bindings ≡ []
     → Contains bindings (activates octets) → find is_command (writes_of s bindings) ≡ Some (Activate octets)
@@ -127,11 +104,7 @@ set_among s may bindings octets [] are each there e =
 
 answer_among : (s : SignState) (m : SnmpMessage) (octets : List ℕ) (kind : Kind) → kind ≡ Set → Contains m.bindings (activates octets)
     → (answer_by s m kind).status ≡ NoError → (answer_by s m kind).accepted ≡ Some (activation_of s.table.order octets)
-answer_among s m octets Set is there e =
-    set_among s (may_write s m) m.bindings octets (causes s (may_write s m) m.bindings) refl (are_causes s (may_write s m) m.bindings) there e
-answer_among s m octets Get is there e = absurd (cc)
-answer_among s m octets GetNext is there e = absurd (cc)
-answer_among s m octets Response is there e = absurd (cc)
+answer_among s m octets kind is there e = grind (arith, set_among, are_causes)
 
 pub accepted_among : (s : SignState) (m : SnmpMessage) (octets : List ℕ) → m.kind ≡ Set → Contains m.bindings (activates octets)
     → (answer_of_any_size s m).status ≡ NoError → (answer_of_any_size s m).accepted ≡ Some (activation_of s.table.order octets)

@@ -1,5 +1,5 @@
 -- A sign in range replies with octets that spell the Response that was meant.
-use Rattle.std.proofs.Common.{◌≡◌, ℕ, ◌+◌, ◌*◌, ◌^◌, ◌<◌, ◌≤◌, Bool, true, false, cond, List, [], ◌∷◌, ◌++◌, length, map, find, Option, Some, None, Result, Ok, Err, refl, subst, arith, lt-ltb, length-append, leb-true}
+use Rattle.std.proofs.Common.{◌≡◌, ℕ, ◌+◌, ◌*◌, ◌^◌, ◌<◌, ◌≤◌, Bool, true, false, cond, List, [], ◌∷◌, ◌++◌, length, map, find, Option, Some, None, Result, refl, arith, length-append, leb-true}
 use Rattle.std.specs.Prelude.{nat_le}
 use Rattle.std.specs.Option.{IfSome}
 use Rattle.std.specs.List.{AllByRecursion, position_from}
@@ -7,7 +7,6 @@ use Rattle.dms_face.proofs.Lists.{if_or, all_append}
 use Rattle.dms_wire.specs.declared.message.Kind.{Kind}
 use Rattle.dms_wire.specs.declared.message.Kind.TheVariants.{Get, GetNext, Response, Set}
 use Rattle.dms_wire.specs.declared.error_status.ErrorStatus.{ErrorStatus}
-use Rattle.dms_wire.specs.declared.error_status.ErrorStatus.TheVariants.{NoSuchName, GenErr}
 use Rattle.dms_wire.specs.ErrorStatus.{error_status_number}
 use Rattle.dms_wire.specs.Message.{VarBind, SnmpMessage}
 use Rattle.dms_wire.specs.MessageOf.{message_of}
@@ -27,12 +26,12 @@ use Rattle.dms_table.specs.Activation.{ShownModel, decided}
 use Rattle.dms_sign.specs.State.{SignState}
 use Rattle.dms_sign.specs.Values.{value_of, value_after}
 use Rattle.dms_access.specs.Access.{Write, SetNumber, SetCode, SetField, AskRow, Activate, SetRemaining, is_command}
-use Rattle.dms_sign.specs.SetRequest.{SetCause, is_command_at, tests_at, cause_if, causes_at, causes_after, causes, assigned}
+use Rattle.dms_sign.specs.SetRequest.{SetCause, is_command_at, cause_if, causes_at, causes_after, causes, assigned}
 use Rattle.dms_sign.specs.Reply.{too_big}
 use Rattle.dms_sign.specs.Requests.{Answer, refused, granted, found_unless, has_no_value, with_value, get, is_last, next_after, get_next, as_decided, as_asked, with_remaining, commanded, commanded_if, writes_of, command_index, set_unless, may_write, answer_by, answer_of_any_size}
-use Rattle.dms_sign.specs.Reply.{response_of, most_octets, reply_to, is_heard, dropped, heard, on_message_if, received}
+use Rattle.dms_sign.specs.Reply.{response_of, most_octets, reply_to, dropped, heard, on_message_if, received}
 use Rattle.dms_sign.specs.InRange.{IsSignInRange, IsBindingInLimits, response_sent, IsSpelledReply}
-use Rattle.dms_sign.proofs.InRangeLists.{if_position, all_filtered}
+use Rattle.dms_sign.proofs.InRangeLists.{if_position}
 use Rattle.dms_sign.proofs.InRangeValues.{value_of_within, value_after_within}
 
 -- an answer to these bindings that can be said in a message
@@ -52,8 +51,7 @@ refused_within s bindings status index small few within = record { status = smal
 
 found_within : (s : SignState) (bindings found : List VarBind) (o : Option ℕ) → IfSome o (λ place. place < 1 + length bindings)
     → AreBindingsInLimits bindings → AreBindingsInLimits found → IsAnswerInLimits bindings (found_unless s bindings found o)
-found_within s bindings found None few within values = granted_within s bindings found values
-found_within s bindings found (Some index) few within values = refused_within s bindings NoSuchName index (omega arith) (omega arith) within
+found_within s bindings found o few within values = grind arith
 
 values_within : (s : SignState) (bindings : List VarBind) → IsSignInRange s → AreBindingsInLimits bindings
     → AreBindingsInLimits (map (with_value s) bindings)
@@ -85,13 +83,11 @@ get_next_within s bindings is within =
 as_decided_within : (old new : SignState) (bindings : List VarBind) (index : ℕ) (octets : List ℕ) (r : Result ShownModel Cause)
     → index ≤ length bindings
     → AreBindingsInLimits bindings → IsAnswerInLimits bindings (as_decided old new bindings index octets r)
-as_decided_within old new bindings index octets (Ok shown) few within = record { status = omega arith; index = omega arith; within = within }
-as_decided_within old new bindings index octets (Err cause) few within = record { status = omega arith; index = few; within = within }
+as_decided_within old new bindings index octets r few within = grind arith
 
 as_asked_within : (old new : SignState) (bindings : List VarBind) (index : ℕ) (o : Option TableModel) → index ≤ length bindings
     → AreBindingsInLimits bindings → IsAnswerInLimits bindings (as_asked old new bindings index o)
-as_asked_within old new bindings index None few within = refused_within old bindings GenErr index (omega arith) few within
-as_asked_within old new bindings index (Some table) few within = granted_within (record new { table = table }) bindings bindings within
+as_asked_within old new bindings index o few within = grind arith
 
 commanded_within : (old new : SignState) (bindings : List VarBind) (index : ℕ) (w : Write) → index ≤ length bindings
     → AreBindingsInLimits bindings → IsAnswerInLimits bindings (commanded old new bindings index w)
@@ -117,15 +113,11 @@ pub record IsSmallCause (most : ℕ) (cause : SetCause) : Type 0 where
   pub status : error_status_number cause.status < 128
 
 cause_small : (most place : ℕ) (test : Bool × ErrorStatus) → place ≤ most → error_status_number test.1 < 128 → IfSome (cause_if place test) (IsSmallCause most)
-cause_small most place (true, status) few small = record { index = few; status = small }
-cause_small most place (false, status) few small = tt
+cause_small most place test few small = grind arith
 
 causes_at_small : (s : SignState) (may : Bool) (before : List VarBind) (binding : VarBind) (most : ℕ) → length before + 1 ≤ most
     → AllByRecursion (IsSmallCause most) (causes_at s may before binding)
-causes_at_small s may before binding most few =
-    all_filtered (λ (test : Bool × ErrorStatus). error_status_number test.1 < 128) (IsSmallCause most) (cause_if (length before + 1)) (tests_at s may before binding)
-    (λ test small. cause_small most (length before + 1) test few small)
-    (omega arith, (omega arith, (omega arith, (omega arith, (omega arith, tt)))))
+causes_at_small s may before binding most few = grind arith
 
 causes_after_small : (s : SignState) (may : Bool) (before bindings : List VarBind) (most : ℕ) → length before + length bindings ≤ most
     → AllByRecursion (IsSmallCause most) (causes_after s may before bindings)
@@ -170,16 +162,7 @@ answer_within s m is within = answer_by_within s m m.kind is within
 
 pub response_within : (m : SnmpMessage) (a : Answer) → IsMessageInLimits m → length m.bindings ≤ 210 → IsAnswerInLimits m.bindings a
     → IsMessageInLimits (response_of m a)
-response_within m a is few within =
-    let index : a.index ≤ length m.bindings = within.index in
-    let status : error_status_number a.status < 128 = within.status in
-    record {
-      community = is.community;
-      request = is.request;
-      status = lt-ltb (error_status_number a.status) (2 ^ 32) (omega arith);
-      index = lt-ltb a.index (2 ^ 32) (omega arith);
-      bindings = within.within;
-    }
+response_within m a is few within = grind arith
 
 pub spelled_response_within : (s : SignState) (m : SnmpMessage) (octets : List ℕ) → IsSignInRange s → Spells m octets
     → IsMessageInLimits (response_of m (answer_of_any_size s m))
@@ -219,8 +202,7 @@ record IsResponse (m response : SnmpMessage) : Type 0 where
   number : response.request ≡ m.request
 
 sent_is : (m : SnmpMessage) (a : Answer) (b : Bool) → IsResponse m (cond b (response_of m a) (response_to m too_big 0))
-sent_is m a true = record { kind = refl; community = refl; number = refl }
-sent_is m a false = record { kind = refl; community = refl; number = refl }
+sent_is m a b = grind arith
 
 spelled_reply : (s : SignState) (m : SnmpMessage) (octets : List ℕ) → message_of octets ≡ Some m
     → Spells (response_sent m (answer_of_any_size s m)) (reply_to m (answer_of_any_size s m))
@@ -242,16 +224,11 @@ spelled_reply s m octets asked spells =
 heard_reply : (s : SignState) (m : SnmpMessage) (octets reply : List ℕ) (b : Bool) → IsSignInRange s → message_of octets ≡ Some m
     → (cond b (heard s m) (dropped s)).reply ≡ Some reply → IsSpelledReply s octets reply
 heard_reply s m octets reply false is asked e = absurd (cc)
-heard_reply s m octets reply true is asked e =
-    let same : reply_to m (answer_of_any_size s m) ≡ reply = cc in
-    let spells = (read_is_spelled octets m).0 asked in
-    let within = answer_within s m is (spelled_in_limits m octets spells).bindings in
-    subst (IsSpelledReply s octets) same (spelled_reply s m octets asked (reply_spells m (answer_of_any_size s m) octets spells within))
+heard_reply s m octets reply true is asked e = grind (arith, read_is_spelled, answer_within, spelled_in_limits, spelled_reply, reply_spells)
 
 message_reply : (s : SignState) (o : Option SnmpMessage) (octets reply : List ℕ) → IsSignInRange s → message_of octets ≡ o
     → (on_message_if s o).reply ≡ Some reply → IsSpelledReply s octets reply
-message_reply s None octets reply is asked e = absurd (cc)
-message_reply s (Some m) octets reply is asked e = heard_reply s m octets reply (is_heard s m) is asked e
+message_reply s o octets reply is asked e = grind (arith, heard_reply)
 
 pub replies_spell_their_response : (s : SignState) (octets reply : List ℕ) → IsSignInRange s → (received s octets).reply ≡ Some reply
     → IsSpelledReply s octets reply

@@ -1,14 +1,12 @@
 -- At most one row is being validated, whatever comes.
-use Rattle.std.proofs.Common.{◌≡◌, ℕ, ◌+◌, ◌≤◌, ◌==◌, Bool, true, false, cond, List, [], ◌∷◌, Option, Some, None, Result, Ok, Err, refl, sym, subst, arith}
-use Rattle.std.specs.Prelude.{nat_le, nat_lt, option_map, unwrap_or, find}
+use Rattle.std.proofs.Common.{◌≡◌, ℕ, ◌+◌, ◌≤◌, ◌==◌, Bool, true, false, cond, List, [], ◌∷◌, Option, Some, None, Result, Ok, refl, sym, subst, arith}
+use Rattle.std.specs.Prelude.{option_map, unwrap_or}
 use Rattle.dms_wire.specs.declared.message.Kind.{Kind}
-use Rattle.dms_wire.specs.declared.message.Kind.TheVariants.{Get, GetNext, Response, Set}
 use Rattle.dms_wire.specs.Message.{VarBind, SnmpMessage}
 use Rattle.dms_wire.specs.MessageOf.{message_of}
 use Rattle.dms_face.specs.Face.{FaceModel}
 use Rattle.dms_face.specs.Layout.{under}
 use Rattle.dms_table.specs.declared.activation.Cause.{Cause}
-use Rattle.dms_codes.specs.declared.codes.MessageId.{MessageId}
 use Rattle.dms_codes.specs.declared.row_id.RowId.{RowId}
 use Rattle.dms_codes.specs.declared.status.Ask.{Ask}
 use Rattle.dms_table.specs.declared.stock.Stock.{Stock}
@@ -16,30 +14,17 @@ use Rattle.dms_table.specs.Rows.{RowModel, TableModel, FieldModel, with_changeab
 use Rattle.dms_codes.specs.Memory.{changeable_memory, volatile_memory}
 use Rattle.dms_table.specs.Validation.{settled}
 use Rattle.dms_table.specs.Stock.{table_of}
-use Rattle.dms_codes.specs.Codes.{activation_of, id_of}
-use Rattle.dms_table.specs.Activation.{ShownModel, decided}
+use Rattle.dms_table.specs.Activation.{ShownModel}
 use Rattle.dms_table.proofs.OneRow.{count, one_asked_changeable, one_asked_volatile, none_more_written, none_settled, none_interrupted, none_released, none_unused}
 use Rattle.dms_sign.specs.State.{ConfigModel, SignState, start}
-use Rattle.dms_sign.specs.OwnCodes.{put_up_as_decided, staying, own_activation, put_up_code}
-use Rattle.dms_access.specs.Access.{Write, SetNumber, SetCode, SetField, AskRow, Activate, SetRemaining, is_command}
-use Rattle.dms_sign.specs.SetRequest.{SetCause, with_write, with_writes, causes, assigned}
-use Rattle.dms_sign.specs.Requests.{found_unless, as_decided, as_asked, with_remaining, commanded, commanded_if, writes_of, set_unless, may_write, answer_by, answer_of_any_size}
-use Rattle.dms_sign.specs.Reply.{is_heard, heard, dropped, on_message_if, received}
-use Rattle.dms_sign.specs.Events.{after_settling, counted_down, after_duration, longest_silence, quieter, after_silence, after_tick, recovery_code, restored, after_power_loss, after_power_return}
+use Rattle.dms_sign.specs.OwnCodes.{put_up_code}
+use Rattle.dms_access.specs.Access.{Write}
+use Rattle.dms_sign.specs.SetRequest.{SetCause, with_write, with_writes, assigned}
+use Rattle.dms_sign.specs.Requests.{found_unless, as_decided, as_asked, with_remaining, commanded, commanded_if, set_unless, answer_by, answer_of_any_size}
+use Rattle.dms_sign.specs.Reply.{heard, dropped, on_message_if, received}
+use Rattle.dms_sign.specs.Events.{after_settling, counted_down, after_duration, quieter, after_silence, after_tick, recovery_code, restored, after_power_loss, after_power_return}
 
 -- ---- tables
-
-one_changeable : (table new : TableModel) (o : Option (List RowModel))
-    → ((rows : List RowModel) → o ≡ Some rows → count rows + count table.volatile ≤ 1)
-    → option_map (with_changeable table) o ≡ Some new → IsTable new
-one_changeable table new None each e = absurd (cc)
-one_changeable table new (Some rows) each e = let same : with_changeable table rows ≡ new = cc in subst IsTable same (record { one = each rows refl })
-
-one_volatile : (table new : TableModel) (o : Option (List RowModel))
-    → ((rows : List RowModel) → o ≡ Some rows → count table.changeable + count rows ≤ 1)
-    → option_map (with_volatile table) o ≡ Some new → IsTable new
-one_volatile table new None each e = absurd (cc)
-one_volatile table new (Some rows) each e = let same : with_volatile table rows ≡ new = cc in subst IsTable same (record { one = each rows refl })
 
 -- a change that leaves one row validating in either memory
 one_changed : (table new : TableModel) (id : RowId) (change : RowModel → Option RowModel) (is_changeable is_volatile : Bool)
@@ -48,9 +33,7 @@ one_changed : (table new : TableModel) (id : RowId) (change : RowModel → Optio
     → cond is_changeable (option_map (with_changeable table) (changed_in table.changeable id.number change))
     (cond is_volatile (option_map (with_volatile table) (changed_in table.volatile id.number change)) None) ≡ Some new
     → IsTable new
-one_changed table new id change true is_volatile first second e = one_changeable table new (changed_in table.changeable id.number change) first e
-one_changed table new id change false true first second e = one_volatile table new (changed_in table.volatile id.number change) second e
-one_changed table new id change false false first second e = absurd (cc)
+one_changed table new id change is_changeable is_volatile first second e = grind arith
 
 one_asked_if : (b : Bool) (table new : TableModel) (id : RowId) (ask : Ask) → IsTable table → b ≡ may_ask table ask
     → cond b (changed table id (asked_row ask)) None ≡ Some new → IsTable new
@@ -85,24 +68,17 @@ one_written table new id field is e =
 
 one_or_old : (table : TableModel) (o : Option TableModel) → IsTable table → ((new : TableModel) → o ≡ Some new → IsTable new)
     → IsTable (unwrap_or o table)
-one_or_old table None is each = is
-one_or_old table (Some new) is each = each new refl
+one_or_old table o is each = grind arith
 
 one_with_write : (table : TableModel) (write : Write) → IsTable table → IsTable (with_write table write)
-one_with_write table (SetField id field) is = one_or_old table (written table id field) is (λ new e. one_written table new id field is e)
-one_with_write table (SetNumber object number) is = is
-one_with_write table (SetCode object octets) is = is
-one_with_write table (AskRow id ask) is = is
-one_with_write table (Activate octets) is = is
-one_with_write table (SetRemaining minutes) is = is
+one_with_write table write is = grind (arith, one_or_old, one_written)
 
 one_with_writes : (table : TableModel) (writes : List Write) → IsTable table → IsTable (with_writes table writes)
 one_with_writes table [] is = is
 one_with_writes table (write ∷ writes) is = one_with_writes (with_write table write) writes (one_with_write table write is)
 
 one_settled : (face : FaceModel) (table : TableModel) → IsTable (settled face table)
-one_settled face table =
-    record { one = omega (arith, none_settled table.services face table.changeable, none_settled table.services face table.volatile) }
+one_settled face table = grind (arith, none_settled)
 
 one_after_power : (table : TableModel) → IsTable (after_power table)
 one_after_power table = record { one = omega (arith, none_interrupted table.changeable, none_released table.volatile) }
@@ -115,19 +91,9 @@ one_at_start config stock = record { one = omega (arith, none_unused stock.chang
 abbrev Keeps : SignState → SignState → Type 0
 Keeps old new = new.table ≡ old.table
 
-keeps_put_up : (s : SignState) (id : MessageId) (mode : ℕ) (r : Result ShownModel Cause) → Keeps s (put_up_as_decided s id mode r)
-keeps_put_up s id mode (Ok shown) = refl
-keeps_put_up s id mode (Err cause) = refl
-
-keeps_code_if : (s other : SignState) (mode : ℕ) (b : Bool) → Keeps s other → Keeps s (cond b (staying s mode) other)
-keeps_code_if s other mode true keeps = refl
-keeps_code_if s other mode false keeps = keeps
-
 keeps_code : (s : SignState) (octets : List ℕ) (mode : ℕ) → Keeps s (put_up_code s octets mode)
 unfolding put_up_code
-keeps_code s octets mode =
-    let id = id_of s.table.order octets in
-    keeps_code_if s _ mode _ (keeps_put_up s id mode (decided s.config.face s.defaults s.table s.shown (own_activation id)))
+keeps_code s octets mode = grind arith
 
 one_kept : (old new : SignState) → Keeps old new → IsTable old.table → IsTable new.table
 one_kept old new keeps is = subst IsTable (sym keeps) is
@@ -144,65 +110,46 @@ one_assigned s writes is = one_with_writes s.table writes is
 one_decided : (old new : SignState) (bindings : List VarBind) (index : ℕ) (octets : List ℕ) (r : Result ShownModel Cause)
     → IsTable old.table → IsTable new.table
     → IsTable (as_decided old new bindings index octets r).after.table
-one_decided old new bindings index octets (Ok shown) is is_new = is_new
-one_decided old new bindings index octets (Err cause) is is_new = is
+one_decided old new bindings index octets r is is_new = grind arith
 
 one_as_asked : (old new : SignState) (bindings : List VarBind) (index : ℕ) (o : Option TableModel) → IsTable old.table
     → ((table : TableModel) → o ≡ Some table → IsTable table)
     → IsTable (as_asked old new bindings index o).after.table
-one_as_asked old new bindings index None is each = is
-one_as_asked old new bindings index (Some table) is each = each table refl
+one_as_asked old new bindings index o is each = grind arith
 
 one_remaining_if : (b : Bool) (s other : SignState) (octets : List ℕ) (mode : ℕ) → Keeps s other → IsTable s.table
     → IsTable (cond b (put_up_code s octets mode) other).table
-one_remaining_if true s other octets mode keeps is = one_code s octets mode is
-one_remaining_if false s other octets mode keeps is = one_kept s other keeps is
+one_remaining_if b s other octets mode keeps is = grind (arith, one_code, one_kept)
 
 one_remaining : (s : SignState) (minutes : ℕ) → IsTable s.table → IsTable (with_remaining s minutes).table
 one_remaining s minutes is = one_remaining_if (minutes == 0) s _ s.fallbacks.end_duration _ refl is
 
 one_commanded : (old new : SignState) (bindings : List VarBind) (index : ℕ) (write : Write) → IsTable old.table → IsTable new.table
     → IsTable (commanded old new bindings index write).after.table
-one_commanded old new bindings index (AskRow id ask) is is_new =
-    one_as_asked old new bindings index (asked new.table id ask) is (λ table e. one_asked new.table table id ask is_new e)
-one_commanded old new bindings index (Activate octets) is is_new =
-    one_decided old new bindings index octets (decided new.config.face new.defaults new.table new.shown (activation_of old.table.order octets)) is is_new
-one_commanded old new bindings index (SetRemaining minutes) is is_new = one_remaining new minutes is_new
-one_commanded old new bindings index (SetNumber object number) is is_new = is_new
-one_commanded old new bindings index (SetCode object octets) is is_new = is_new
-one_commanded old new bindings index (SetField id field) is is_new = is_new
+one_commanded old new bindings index write is is_new = grind (arith, one_as_asked, one_asked, one_decided, one_remaining)
 
 one_commanded_if : (old new : SignState) (bindings : List VarBind) (index : ℕ) (o : Option Write) → IsTable old.table → IsTable new.table
     → IsTable (commanded_if old new bindings index o).after.table
-one_commanded_if old new bindings index None is is_new = is_new
-one_commanded_if old new bindings index (Some write) is is_new = one_commanded old new bindings index write is is_new
+one_commanded_if old new bindings index o is is_new = grind (arith, one_commanded)
 
 one_set : (s : SignState) (bindings : List VarBind) (found : List SetCause) → IsTable s.table → IsTable (set_unless s bindings found).after.table
-one_set s bindings [] is =
-    one_commanded_if s (assigned s (writes_of s bindings)) bindings _ (find is_command (writes_of s bindings)) is (one_assigned s (writes_of s bindings) is)
-one_set s bindings (cause ∷ more) is = is
+one_set s bindings found is = grind (arith, one_commanded_if, one_assigned)
 
 one_found : (s : SignState) (bindings found : List VarBind) (o : Option ℕ) → IsTable s.table → IsTable (found_unless s bindings found o).after.table
-one_found s bindings found None is = is
-one_found s bindings found (Some index) is = is
+one_found s bindings found o is = grind arith
 
 one_answer_by : (s : SignState) (m : SnmpMessage) (kind : Kind) → IsTable s.table → IsTable (answer_by s m kind).after.table
-one_answer_by s m Get is = one_found s m.bindings _ _ is
-one_answer_by s m GetNext is = one_found s m.bindings _ _ is
-one_answer_by s m Response is = is
-one_answer_by s m Set is = one_set s m.bindings (causes s (may_write s m) m.bindings) is
+one_answer_by s m kind is = grind (arith, one_found, one_set)
 
 one_answer : (s : SignState) (m : SnmpMessage) → IsTable s.table → IsTable (answer_of_any_size s m).after.table
 unfolding answer_of_any_size
 one_answer s m is = one_answer_by s m m.kind is
 
 one_heard : (s : SignState) (m : SnmpMessage) (b : Bool) → IsTable s.table → IsTable (cond b (heard s m) (dropped s)).after.table
-one_heard s m true is = one_answer s m is
-one_heard s m false is = is
+one_heard s m b is = grind (arith, one_answer)
 
 one_message : (s : SignState) (o : Option SnmpMessage) → IsTable s.table → IsTable (on_message_if s o).after.table
-one_message s None is = is
-one_message s (Some m) is = one_heard s m (is_heard s m) is
+one_message s o is = grind (arith, one_heard)
 
 pub one_received : (s : SignState) (datagram : List ℕ) → IsTable s.table → IsTable (received s datagram).after.table
 unfolding received
@@ -215,8 +162,7 @@ unfolding after_settling
 one_after_settling s = one_settled (under s.config.face s.defaults) s.table
 
 one_counted_down : (s : SignState) (o : Option ℕ) → IsTable s.table → IsTable (counted_down s o).table
-one_counted_down s None is = is
-one_counted_down s (Some seconds) is = one_remaining_if (nat_le seconds 1) s _ s.fallbacks.end_duration _ refl is
+one_counted_down s o is = grind (arith, one_remaining_if)
 
 one_after_duration : (s : SignState) → IsTable s.table → IsTable (after_duration s).table
 unfolding after_duration
@@ -224,24 +170,18 @@ one_after_duration s is = one_counted_down s s.shown.remaining is
 
 one_silence_if : (s : SignState) (counts ends : Bool) (octets : List ℕ) (mode : ℕ) → IsTable s.table
     → IsTable (cond counts (cond ends (put_up_code (quieter s) octets mode) (quieter s)) s).table
-one_silence_if s true true octets mode is = one_code (quieter s) octets mode is
-one_silence_if s true false octets mode is = is
-one_silence_if s false ends octets mode is = is
+one_silence_if s counts ends octets mode is = grind (arith, one_code)
 
 one_after_silence : (s : SignState) → IsTable s.table → IsTable (after_silence s).table
 unfolding after_silence
-one_after_silence s is =
-    one_silence_if s (nat_lt s.silent_seconds (longest_silence s)) (s.silent_seconds + 1 == longest_silence s) s.fallbacks.communications_loss _ is
+one_after_silence s is = grind (arith, one_silence_if)
 
 one_if : (b : Bool) (x y : SignState) → IsTable x.table → IsTable y.table → IsTable (cond b x y).table
-one_if true x y is_x is_y = is_x
-one_if false x y is_x is_y = is_y
+one_if b x y is_x is_y = grind arith
 
 pub one_after_tick : (s : SignState) → IsTable s.table → IsTable (after_tick s).table
 unfolding after_tick
-one_after_tick s is =
-    one_if s.powered (after_silence (after_duration (after_settling s))) s
-    (one_after_silence (after_duration (after_settling s)) (one_after_duration (after_settling s) (one_after_settling s))) is
+one_after_tick s is = grind (arith, one_if, one_after_silence, one_after_duration, one_after_settling)
 
 pub one_after_power_loss : (s : SignState) → IsTable s.table → IsTable (after_power_loss s).table
 unfolding after_power_loss

@@ -1,5 +1,5 @@
 -- What comes to a sign makes one step of it.
-use Rattle.std.proofs.Common.{◌≡◌, ◌⊎◌, inl, inr, ℕ, ◌+◌, ◌==◌, ◌&&◌, Bool, true, false, cond, List, [], ◌∷◌, find, Option, Some, None, Result, Ok, Err, refl, sym, subst, ◌∙◌}
+use Rattle.std.proofs.Common.{◌≡◌, ◌⊎◌, inl, inr, ℕ, ◌+◌, ◌==◌, ◌&&◌, Bool, true, false, cond, List, [], ◌∷◌, Option, Some, None, Result, Ok, Err, refl, sym, subst, ◌∙◌, arith}
 use Rattle.std.specs.Prelude.{nat_lt, nat_le}
 use Rattle.dms_wire.specs.declared.message.Kind.{Kind}
 use Rattle.dms_wire.specs.declared.message.Kind.TheVariants.{Get, GetNext, Response, Set}
@@ -13,53 +13,38 @@ use Rattle.dms_codes.specs.declared.codes.Activation.{Activation}
 use Rattle.dms_codes.specs.Codes.{activation_of, id_of}
 use Rattle.dms_table.specs.Rows.{TableModel, asked, after_power}
 use Rattle.dms_table.specs.Activation.{ShownModel, seconds_of, decided}
-use Rattle.dms_access.specs.declared.settings.Fallbacks.{Fallbacks}
 use Rattle.dms_sign.specs.State.{ConfigModel, SignState, power_recovery_mode, communications_loss_mode, power_loss_mode, end_duration_mode}
 use Rattle.dms_sign.specs.OwnCodes.{showing, put_up_code}
-use Rattle.dms_access.specs.Access.{Write, SetNumber, SetCode, SetField, AskRow, Activate, SetRemaining, is_command}
+use Rattle.dms_access.specs.Access.{Write, SetNumber, SetCode, SetField, AskRow, Activate, SetRemaining}
 use Rattle.dms_sign.specs.SetRequest.{SetCause, causes, assigned}
-use Rattle.dms_sign.specs.Requests.{Answer, found_unless, as_decided, as_asked, with_remaining, commanded, commanded_if, writes_of, set_unless, may_write, answer_by, answer_of_any_size}
+use Rattle.dms_sign.specs.Requests.{Answer, found_unless, as_decided, as_asked, with_remaining, commanded, commanded_if, set_unless, may_write, answer_by, answer_of_any_size}
 use Rattle.dms_sign.specs.Reply.{is_heard, heard, dropped, on_message_if, received}
 use Rattle.dms_sign.specs.Events.{after_settling, counted_down, after_duration, longest_silence, quieter, after_silence, after_tick, recovery_code, restored, after_power_loss, after_power_return}
-use Rattle.dms_sign.specs.Transitions.{TableStep, IsSameMessage, IsBlankedUnder, IsRowOf, IsOwnCode, ShowsNow, stayed, came_back, blanked, activated, fell_back, IsSignStep}
-use Rattle.dms_sign.proofs.StepRows.{KeepsRows, rows_same, rows_then, step_kept, asked_keeps, writes_keep, after_power_keeps, settled_step}
-use Rattle.dms_sign.proofs.StepShown.{same_as, same_then, blank_as, row_as, Displays, still, empty, of_row, decided_displays, KeepsRest, PutsUp, code_puts_up}
+use Rattle.dms_sign.specs.Transitions.{IsSameMessage, IsBlankedUnder, IsRowOf, IsOwnCode, ShowsNow, stayed, came_back, blanked, activated, fell_back, IsSignStep}
+use Rattle.dms_sign.proofs.StepRows.{KeepsRows, rows_then, step_kept, asked_keeps, writes_keep, after_power_keeps, settled_step}
+use Rattle.dms_sign.proofs.StepShown.{same_as, same_then, blank_as, row_as, Displays, still, empty, of_row, decided_displays, KeepsRest, code_puts_up}
 
 -- ---- a step, and then one that leaves all but what is shown
 
 row_moved : (mid new : SignState) (shown : ShownModel) → KeepsRest mid new → IsRowOf mid.config.face mid.defaults mid.table shown
     → IsRowOf new.config.face new.defaults new.table shown
-row_moved mid new shown kept_rest is =
-    subst (λ (c : ConfigModel). IsRowOf c.face new.defaults new.table shown) (sym kept_rest.config)
-    (subst (λ (d : Defaults). IsRowOf mid.config.face d new.table shown) (sym kept_rest.defaults)
-    (subst (λ (t : TableModel). IsRowOf mid.config.face mid.defaults t shown) (sym kept_rest.table) is))
+row_moved mid new shown kept_rest is = grind arith
 
 code_moved : (mid new : SignState) (a b : MessageId) → KeepsRest mid new → b ≡ a → IsOwnCode mid.table.order mid.fallbacks a
     → IsOwnCode new.table.order new.fallbacks b
-code_moved mid new a b kept_rest same own =
-    subst (λ (t : TableModel). IsOwnCode t.order new.fallbacks b) (sym kept_rest.table)
-    (subst (λ (f : Fallbacks). IsOwnCode mid.table.order f b) (sym kept_rest.fallbacks)
-    (subst (IsOwnCode mid.table.order mid.fallbacks) (sym same) own))
+code_moved mid new a b kept_rest same own = grind arith
 
 shows_on : (old mid new : SignState) (a : Option Activation) → KeepsRest mid new → IsSameMessage mid.shown new.shown → ShowsNow old mid a → ShowsNow old new a
 shows_on old mid new a kept_rest same (stayed is) = stayed (same_then old.shown mid.shown new.shown is same)
 shows_on old mid new a kept_rest same (came_back is) = came_back (same_then old.shown_at_power_loss mid.shown new.shown is same)
-shows_on old mid new a kept_rest same (blanked is) =
-    blanked (subst (λ d. IsBlankedUnder d new.shown) (sym kept_rest.defaults) (blank_as mid.defaults mid.shown new.shown same is))
+shows_on old mid new a kept_rest same (blanked is) = grind (arith, same_then, blank_as, row_moved, row_as, code_moved)
 shows_on old mid new a kept_rest same (activated code accepted source is) =
     activated code accepted (same.source ∙ source)
     (row_moved mid new new.shown kept_rest (row_as mid.config.face mid.defaults mid.table mid.shown new.shown same is))
-shows_on old mid new a kept_rest same (fell_back own is) =
-    fell_back (code_moved mid new mid.shown.source new.shown.source kept_rest same.source own)
-    (row_moved mid new new.shown kept_rest (row_as mid.config.face mid.defaults mid.table mid.shown new.shown same is))
+shows_on old mid new a kept_rest same (fell_back own is) = grind (arith, same_then, blank_as, row_moved, row_as, code_moved)
 
 step_with : (old mid new : SignState) (a : Option Activation) → IsSignStep old mid a → KeepsRest mid new → ShowsNow old new a → IsSignStep old new a
-step_with old mid new a step kept_rest shows = record {
-  config = kept_rest.config ∙ step.config;
-  table = subst (TableStep (under old.config.face old.defaults) old.table) (sym kept_rest.table) step.table;
-  shown = shows;
-  shown_at_power_loss = subst (λ k. (k ≡ old.shown_at_power_loss) ⊎ (k ≡ old.shown)) (sym kept_rest.shown_at_power_loss) step.shown_at_power_loss;
-}
+step_with old mid new a step kept_rest shows = grind arith
 
 -- the message stays
 step_on : (old mid new : SignState) (a : Option Activation) → IsSignStep old mid a → KeepsRest mid new → IsSameMessage mid.shown new.shown → IsSignStep old new a
@@ -67,28 +52,16 @@ step_on old mid new a step kept_rest same = step_with old mid new a step kept_re
 
 shows_code : (old mid new : SignState) (id : MessageId) → ShowsNow old mid None → IsOwnCode mid.table.order mid.fallbacks id → KeepsRest mid new
     → Displays mid.config.face mid.defaults mid.table mid.shown id new.shown → ShowsNow old new None
-shows_code old mid new id shows own kept_rest (still same) = shows_on old mid new None kept_rest same shows
-shows_code old mid new id shows own kept_rest (empty is) = blanked (subst (λ d. IsBlankedUnder d new.shown) (sym kept_rest.defaults) is)
-shows_code old mid new id shows own kept_rest (of_row source is) =
-    fell_back (code_moved mid new id new.shown.source kept_rest source own) (row_moved mid new new.shown kept_rest is)
+shows_code old mid new id shows own kept_rest p = grind arith
 
 -- a code of the sign's own is put up
 step_code : (old mid : SignState) (octets : List ℕ) (mode : ℕ) → IsSignStep old mid None
     → IsOwnCode mid.table.order mid.fallbacks (id_of mid.table.order octets) → IsSignStep old (put_up_code mid octets mode) None
-step_code old mid octets mode step own =
-    let id = id_of mid.table.order octets in
-    let puts : PutsUp mid id (put_up_code mid octets mode) = code_puts_up mid octets mode in
-    step_with old mid (put_up_code mid octets mode) None step puts.kept_rest
-    (shows_code old mid (put_up_code mid octets mode) id step.shown own puts.kept_rest puts.shown)
+step_code old mid octets mode step own = grind (arith, code_puts_up, step_with, shows_code)
 
 -- nothing happens
 pub step_none : (s : SignState) → IsSignStep s s None
-step_none s = record {
-  config = refl;
-  table = step_kept (under s.config.face s.defaults) s.table s.table (rows_same s.table);
-  shown = stayed (same_as s.shown);
-  shown_at_power_loss = inl refl;
-}
+step_none s = grind arith
 
 -- ---- what a SET assigns
 
@@ -103,12 +76,7 @@ unfolding assigned
 assigned_is s writes = record { config = refl; rows = writes_keep s.table writes; shown = refl; shown_at_power_loss = refl }
 
 step_written : (s new : SignState) → IsWritten s new → IsSignStep s new None
-step_written s new is = record {
-  config = is.config;
-  table = step_kept (under s.config.face s.defaults) s.table new.table is.rows;
-  shown = stayed (subst (IsSameMessage s.shown) (sym is.shown) (same_as s.shown));
-  shown_at_power_loss = inl is.shown_at_power_loss;
-}
+step_written s new is = grind arith
 
 -- what an answer makes of the sign
 abbrev Answers : SignState → Answer → Type 0
@@ -136,9 +104,7 @@ answers_decided s new bindings index octets (Ok shown) is e =
       shown = shows_decided s new (as_decided s new bindings index octets (Ok shown)).after code is.shown refl refl refl displays;
       shown_at_power_loss = inl is.shown_at_power_loss;
     }
-answers_decided s new bindings index octets (Err cause) is e =
-    step_on s s (as_decided s new bindings index octets (Err cause)).after None (step_none s)
-    (record { config = refl; table = refl; fallbacks = refl; defaults = refl; shown_at_power_loss = refl }) (same_as s.shown)
+answers_decided s new bindings index octets (Err cause) is e = grind (arith, decided_displays, step_kept, shows_decided, step_on, step_none, same_as)
 
 answers_asked : (s new : SignState) (bindings : List VarBind) (index : ℕ) (o : Option TableModel) → IsWritten s new
     → ((table : TableModel) → o ≡ Some table → KeepsRows new.table table)
@@ -151,10 +117,7 @@ answers_asked s new bindings index (Some table) is each =
 step_remaining_if : (b : Bool) (s new : SignState) (minutes : ℕ) → IsSignStep s new None
     → IsSignStep s (cond b (put_up_code new new.fallbacks.end_duration end_duration_mode) (showing new (record new.shown { remaining = seconds_of minutes }))) None
 step_remaining_if true s new minutes step = step_code s new new.fallbacks.end_duration end_duration_mode step (inr (inr (inr (inl refl))))
-step_remaining_if false s new minutes step =
-    step_on s new (showing new (record new.shown { remaining = seconds_of minutes })) None step
-    (record { config = refl; table = refl; fallbacks = refl; defaults = refl; shown_at_power_loss = refl })
-    (record { text = refl; owner = refl; beacon = refl; pixel = refl; priority = refl; source = refl; defaults = refl })
+step_remaining_if false s new minutes step = grind (arith, step_code, step_on)
 
 step_remaining : (s new : SignState) (minutes : ℕ) → IsSignStep s new None → IsSignStep s (with_remaining new minutes) None
 step_remaining s new minutes step = step_remaining_if (minutes == 0) s new minutes step
@@ -162,8 +125,7 @@ step_remaining s new minutes step = step_remaining_if (minutes == 0) s new minut
 answers_commanded : (s new : SignState) (bindings : List VarBind) (index : ℕ) (write : Write) → IsWritten s new → Answers s (commanded s new bindings index write)
 answers_commanded s new bindings index (AskRow id ask) is =
     answers_asked s new bindings index (asked new.table id ask) is (λ table e. asked_keeps new.table table id ask e)
-answers_commanded s new bindings index (Activate octets) is =
-    answers_decided s new bindings index octets (decided new.config.face new.defaults new.table new.shown (activation_of s.table.order octets)) is refl
+answers_commanded s new bindings index (Activate octets) is = grind (arith, answers_asked, asked_keeps, answers_decided, step_remaining, step_written)
 answers_commanded s new bindings index (SetRemaining minutes) is = step_remaining s new minutes (step_written s new is)
 answers_commanded s new bindings index (SetNumber object number) is = step_written s new is
 answers_commanded s new bindings index (SetCode object octets) is = step_written s new is
@@ -174,13 +136,11 @@ answers_commanded_if s new bindings index None is = step_written s new is
 answers_commanded_if s new bindings index (Some write) is = answers_commanded s new bindings index write is
 
 answers_set : (s : SignState) (bindings : List VarBind) (found : List SetCause) → Answers s (set_unless s bindings found)
-answers_set s bindings [] =
-    answers_commanded_if s (assigned s (writes_of s bindings)) bindings _ (find is_command (writes_of s bindings)) (assigned_is s (writes_of s bindings))
+answers_set s bindings [] = grind (arith, answers_commanded_if, assigned_is, step_none)
 answers_set s bindings (cause ∷ more) = step_none s
 
 answers_found : (s : SignState) (bindings found : List VarBind) (o : Option ℕ) → Answers s (found_unless s bindings found o)
-answers_found s bindings found None = step_none s
-answers_found s bindings found (Some index) = step_none s
+answers_found s bindings found o = grind arith
 
 answers_kind : (s : SignState) (m : SnmpMessage) (kind : Kind) → Answers s (answer_by s m kind)
 answers_kind s m Get = answers_found s m.bindings _ _
@@ -220,10 +180,7 @@ step_settling s = record {
 step_down_if : (b : Bool) (s mid : SignState) (remaining : Option ℕ) → IsSignStep s mid None
     → IsSignStep s (cond b (put_up_code mid mid.fallbacks.end_duration end_duration_mode) (showing mid (record mid.shown { remaining = remaining }))) None
 step_down_if true s mid remaining step = step_code s mid mid.fallbacks.end_duration end_duration_mode step (inr (inr (inr (inl refl))))
-step_down_if false s mid remaining step =
-    step_on s mid (showing mid (record mid.shown { remaining = remaining })) None step
-    (record { config = refl; table = refl; fallbacks = refl; defaults = refl; shown_at_power_loss = refl })
-    (record { text = refl; owner = refl; beacon = refl; pixel = refl; priority = refl; source = refl; defaults = refl })
+step_down_if false s mid remaining step = grind (arith, step_code, step_on)
 
 step_down : (s mid : SignState) (o : Option ℕ) → IsSignStep s mid None → IsSignStep s (counted_down mid o) None
 step_down s mid None step = step
@@ -234,8 +191,7 @@ unfolding after_duration
 step_duration s mid step = step_down s mid mid.shown.remaining step
 
 step_quieter : (s mid : SignState) → IsSignStep s mid None → IsSignStep s (quieter mid) None
-step_quieter s mid step =
-    step_on s mid (quieter mid) None step (record { config = refl; table = refl; fallbacks = refl; defaults = refl; shown_at_power_loss = refl }) (same_as mid.shown)
+step_quieter s mid step = grind arith
 
 step_silence_if : (counts ends : Bool) (s mid : SignState) → IsSignStep s mid None
     → IsSignStep s (cond counts (cond ends (put_up_code (quieter mid) mid.fallbacks.communications_loss communications_loss_mode) (quieter mid)) mid) None
@@ -249,8 +205,7 @@ unfolding after_silence
 step_silence s mid step = step_silence_if (nat_lt mid.silent_seconds (longest_silence mid)) (mid.silent_seconds + 1 == longest_silence mid) s mid step
 
 step_if : (b : Bool) (s x y : SignState) → IsSignStep s x None → IsSignStep s y None → IsSignStep s (cond b x y) None
-step_if true s x y first second = first
-step_if false s x y first second = second
+step_if b s x y first second = grind arith
 
 pub step_tick : (s : SignState) → IsSignStep s (after_tick s) None
 unfolding after_tick
@@ -261,17 +216,10 @@ step_tick s =
 -- ---- power
 
 step_keeping : (s : SignState) → IsSignStep s (record s { shown_at_power_loss = s.shown }) None
-step_keeping s = record {
-  config = refl;
-  table = step_kept (under s.config.face s.defaults) s.table s.table (rows_same s.table);
-  shown = stayed (same_as s.shown);
-  shown_at_power_loss = inr refl;
-}
+step_keeping s = grind arith
 
 step_off : (s mid : SignState) → IsSignStep s mid None → IsSignStep s (record mid { powered = false }) None
-step_off s mid step =
-    step_on s mid (record mid { powered = false }) None step (record { config = refl; table = refl; fallbacks = refl; defaults = refl; shown_at_power_loss = refl })
-    (same_as mid.shown)
+step_off s mid step = grind arith
 
 pub step_power_loss : (s : SignState) → IsSignStep s (after_power_loss s) None
 unfolding after_power_loss
@@ -291,8 +239,7 @@ step_restored s = record {
 
 recovery_is_own : (b : Bool) (s : SignState)
     → IsOwnCode s.table.order s.fallbacks (id_of s.table.order (cond b s.fallbacks.short_power_recovery s.fallbacks.long_power_recovery))
-recovery_is_own true s = inl refl
-recovery_is_own false s = inr (inl refl)
+recovery_is_own b s = grind arith
 
 pub step_power_return : (s : SignState) (seconds : ℕ) → IsSignStep s (after_power_return s seconds) None
 unfolding after_power_return

@@ -1,11 +1,10 @@
 -- Replies of the bench sign that are too big for a datagram, computed.
-use Rattle.std.proofs.Common.{◌≡◌, ◌∙◌, ℕ, ℤ, zero, suc, ◌+◌, ◌/◌, ◌≤◌, ◌<◌, List, [], ◌∷◌, ◌++◌, Some, refl, ap, ap₂, replicate, length, length-append, arith}
+use Rattle.std.proofs.Common.{◌≡◌, ◌∙◌, ℕ, ℤ, zero, suc, ◌+◌, ◌/◌, ◌≤◌, ◌<◌, List, [], ◌∷◌, ◌++◌, Some, refl, ap, replicate, length, length-append, arith}
 use Rattle.std.specs.Prelude.{pos, codes}
 use Rattle.std.specs.List.{flat_map}
 use Rattle.dms_wire.specs.declared.error_status.ErrorStatus.TheVariants.{NoSuchName}
 use Rattle.dms_wire.specs.declared.message.Kind.TheVariants.{GetNext}
 use Rattle.dms_wire.specs.Message.{null, VarBind, SnmpMessage}
-use Rattle.dms_wire.specs.Spelling.{tag_of}
 use Rattle.dms_ber.specs.Length.{short_length}
 use Rattle.dms_ber.specs.Element.{element}
 use Rattle.dms_ber.specs.Integer.{integer_octets}
@@ -53,9 +52,7 @@ added (suc count) n last = n + added count n last
 equal_bindings : (count : ℕ) (binding : VarBind) (more : List VarBind)
     → length (flat_map binding_octets (replicate count binding ++ more)) ≡ added count (length (binding_octets binding)) (length (flat_map binding_octets more))
 equal_bindings zero binding more = refl
-equal_bindings (suc count) binding more =
-    length-append (binding_octets binding) (flat_map binding_octets (replicate count binding ++ more))
-    ∙ ap (λ n. length (binding_octets binding) + n) (equal_bindings count binding more)
+equal_bindings (suc count) binding more = grind (arith, length-append, equal_bindings count binding more)
 
 -- the size of an element whose content has this size
 abbrev element_size : ℕ → ℕ
@@ -68,42 +65,18 @@ message_size m numbers bindings = element_size (length (element 2 (0 ∷ []) ++ 
 numbers_size : (m : SnmpMessage) (request status index : ℕ) → length (integer_octets m.request) ≡ request → length (integer_octets m.status) ≡ status
     → length (integer_octets m.index) ≡ index → length (numbers_octets m) ≡ element_size request + element_size status + element_size index
 unfolding numbers_octets
-numbers_size m request status index first second third =
-    let sized : (z : ℤ) (n : ℕ) → length (integer_octets z) ≡ n → length (element 2 (integer_octets z)) ≡ element_size n =
-    λ z n size. element_length 2 (integer_octets z) ∙ ap element_size size in
-    length-append (element 2 (integer_octets m.request) ++ element 2 (integer_octets m.status)) (element 2 (integer_octets m.index))
-    ∙ ap₂ (λ a b. a + b)
-    (length-append (element 2 (integer_octets m.request)) (element 2 (integer_octets m.status))
-    ∙ ap₂ (λ a b. a + b) (sized m.request request first) (sized m.status status second))
-    (sized m.index index third)
+numbers_size m request status index first second third = grind (arith, element_length, length-append)
 
 -- four octets spell a number up to 2147483647
 four_octets : (n : ℕ) → 8388608 ≤ n → n < 2147483648 → length (integer_octets (pos n)) ≡ 4
 unfolding integer_octets
-four_octets n large small =
-    omega (
-      arith,
-      length-positive_more n (omega arith),
-      length-positive_more (n / 256) (omega arith),
-      length-positive_more (n / 256 / 256) (omega arith),
-      length-positive_small (n / 256 / 256 / 256) (omega arith),
-    )
+four_octets n large small = grind (arith, length-positive_more, length-positive_small)
 
 -- the size of a message, by those of its numbers and of its bindings
 size_of : (m : SnmpMessage) (numbers bindings : ℕ) → length (numbers_octets m) ≡ numbers → length (flat_map binding_octets m.bindings) ≡ bindings
     → length (canonical m) ≡ message_size m numbers bindings
 unfolding canonical pdu_octets
-size_of m numbers bindings these those =
-    let head = element 2 (0 ∷ []) ++ element 4 m.community in
-    let list : length (element 48 (flat_map binding_octets m.bindings)) ≡ element_size bindings =
-    element_length 48 (flat_map binding_octets m.bindings) ∙ ap element_size those in
-    let pdu : length (pdu_octets m) ≡ numbers + element_size bindings =
-    length-append (numbers_octets m) (element 48 (flat_map binding_octets m.bindings)) ∙ ap₂ (λ a b. a + b) these list in
-    let tagged : length (element (tag_of m.kind) (pdu_octets m)) ≡ element_size (numbers + element_size bindings) =
-    element_length (tag_of m.kind) (pdu_octets m) ∙ ap element_size pdu in
-    let whole : length (head ++ element (tag_of m.kind) (pdu_octets m)) ≡ length head + element_size (numbers + element_size bindings) =
-    length-append head (element (tag_of m.kind) (pdu_octets m)) ∙ ap (λ n. length head + n) tagged in
-    element_length 48 (head ++ element (tag_of m.kind) (pdu_octets m)) ∙ ap element_size whole
+size_of m numbers bindings these those = grind (arith, element_length, length-append)
 
 abbrev named : List ℕ → VarBind
 named name = record { name = name; value = null }
