@@ -1,5 +1,5 @@
 -- An element with its length in the shortest form.
-use Rattle.std.proofs.Common.{ℕ, ◌+◌, ◌^◌, ◌<◌, ◌≤◌, List, ◌∷◌, ◌++◌, length, ltb, refl, sym, arith, inl, inr, length-append, ltb-true, ltb-false}
+use Rattle.std.proofs.Common.{ℕ, ◌+◌, ◌^◌, ◌<◌, ◌≤◌, List, ◌∷◌, ◌++◌, length, refl, sym, arith, inr, length-append, ltb-true, ltb-false}
 use Rattle.std.proofs.lemmas.Bool.{cases_Bool}
 use Rattle.std.specs.Int.Digits.{digits_of, AllBelowBase}
 use Rattle.std.proofs.lemmas.Int.Digits.{number_digits_of, all_below_base_digits_of, length-digits_of_step, length-digits_of-le}
@@ -21,11 +21,7 @@ long_spelled n some small =
     (inr (refl, omega arith, most, sym (number_digits_of 256 n (omega arith))), (omega arith, all_below_base_digits_of 256 n (omega arith)))
 
 length_spelled : (n : ℕ) → n < 2 ^ 32 → IsLengthOf n (short_length n)
-length_spelled n small =
-    elim (cases_Bool (ltb n 128)) [
-      | inl short ↦ rw short (inl (ltb-true n 128 short, refl, refl), (omega (arith, ltb-true n 128 short), tt))
-      | inr long ↦ rw long (long_spelled n (omega (arith, ltb-false n 128 long)) small)
-    ]
+length_spelled n small = grind (arith, cases_Bool, ltb-true, long_spelled, ltb-false)
 
 -- octets that spell what P says if a datagram has room for them
 abbrev pub Fits : (List ℕ → Type 0) → List ℕ → Type 0
@@ -42,7 +38,4 @@ fits_element tag P content octet fits room =
     )
 
 pub fits_both : (P Q : List ℕ → Type 0) (xs ys : List ℕ) → Fits P xs → Fits Q ys → Fits (P ⨾ Q) (xs ++ ys)
-fits_both P Q xs ys first second room =
-    let f = first (omega (arith, length-append xs ys)) in
-    let s = second (omega (arith, length-append xs ys)) in
-    (record { front = xs; back = ys; first = f.0; second = s.0; parts = refl }, below-append 256 xs ys f.1 s.1)
+fits_both P Q xs ys first second room = grind (arith, length-append, below-append)

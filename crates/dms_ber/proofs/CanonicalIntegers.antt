@@ -1,8 +1,6 @@
 -- The shortest octets of a number in range are its content.
 use Rattle.std.specs.Prelude.{IsTrue, if◌then◌else◌, slice_index_or, nat_lt}
-use Rattle.std.proofs.Common.{◌≡◌, ℕ, zero, suc, ℤ, pos, negsuc, ◌-◌, ◌<◌, true, false, List, [], ◌∷◌, length, get_or, ltb, refl, sym, ap, ◌∙◌, arith, le-leb, ltb-true, ltb-false, leb-false, ap₂, inl, inr, subst}
-use Rattle.std.proofs.lemmas.Bool.{cases_Bool, lt-leb}
-use Rattle.std.proofs.lemmas.Bool.Decides.{nat_tests}
+use Rattle.std.proofs.Common.{◌≡◌, ℕ, ℤ, pos, negsuc, ◌-◌, ◌<◌, true, false, List, [], ◌∷◌, length, get_or, refl, sym, ap, ◌∙◌, arith, ap₂}
 use Rattle.std.specs.Int.Digits.{number_from_digits, digits_of, AllBelowBase}
 use Rattle.std.proofs.lemmas.Int.Digits.{number_digits_of, all_below_base_digits_of, first_digits_of}
 use Rattle.dms_ber.specs.Integer.{is_shortest, is_negative, inverted, in_range, IsInteger}
@@ -16,35 +14,18 @@ record IsPlain (n : ℕ) (octets : List ℕ) : Type 0 where
   value : number_from_digits 256 octets ≡ n
   below : AllBelowBase 256 octets
 
-shortest_small : (d : ℕ) (ds : List ℕ) → 0 < d → d < 128 → is_shortest (d ∷ ds) ≡ true
-shortest_small d [] some small = refl
-shortest_small d (c ∷ ds) some small = grind (arith, nat_tests)
-
 -- a 0 before digits of which the first is 128 or more, or of which there is none
 abbrev padded : List ℕ → List ℕ
 padded ds = (if nat_lt (slice_index_or ds 0 128) 128 then ds else 0 ∷ ds)
 
 padded_plain : (ds : List ℕ) → (0 < length ds → 0 < get_or ds 0 0) → AllBelowBase 256 ds → IsPlain (number_from_digits 256 ds) (padded ds)
-padded_plain [] first below = record { shortest = refl; plain = refl; value = refl; below = (omega arith, tt) }
-padded_plain (d ∷ ds) first below =
-    elim (cases_Bool (ltb d 128)) [
-      | inl small ↦ rw small record {
-        shortest = shortest_small d ds (first (omega arith)) (ltb-true d 128 small);
-        plain = lt-leb 128 d (ltb-true d 128 small);
-        value = refl;
-        below = below;
-      }
-      | inr large ↦ rw large record { shortest = le-leb 128 d (ltb-false d 128 large); plain = refl; value = refl; below = (omega arith, below) }
-    ]
+padded_plain ds first below = grind arith
 
 first_positive : (n : ℕ) → 0 < length (digits_of 256 n) → 0 < get_or (digits_of 256 n) 0 0
-first_positive zero some = absurd (omega arith)
-first_positive (suc n) some = first_digits_of 256 (suc n) (omega arith) (omega arith)
+first_positive n some = grind (arith, first_digits_of)
 
 positive_plain : (n : ℕ) → IsPlain n (positive_octets n)
-positive_plain n =
-    let P : ℕ → Type 0 = λ k. IsPlain k (positive_octets n) in
-    subst P (number_digits_of 256 n (omega arith)) (padded_plain (digits_of 256 n) (first_positive n) (all_below_base_digits_of 256 n (omega arith)))
+positive_plain n = grind (arith, number_digits_of, padded_plain, first_positive, all_below_base_digits_of)
 
 -- inverted twice
 pub inverted_back : (octets : List ℕ) → AllBelowBase 256 octets → inverted (inverted octets) ≡ octets
@@ -52,24 +33,16 @@ inverted_back [] below = refl
 inverted_back (b ∷ bs) below = ap₂ (λ c cs. c ∷ cs) (omega (arith, below.0)) (inverted_back bs below.1)
 
 shortest_inverted : (octets : List ℕ) → is_shortest octets ≡ true → is_negative octets ≡ false → is_shortest (inverted octets) ≡ true
-shortest_inverted [] short plain = short
-shortest_inverted (b ∷ []) short plain = refl
-shortest_inverted (b ∷ c ∷ bs) short plain = grind (arith, nat_tests)
+shortest_inverted octets short plain = grind arith
 
 negative_inverted : (octets : List ℕ) → is_shortest octets ≡ true → is_negative octets ≡ false → is_negative (inverted octets) ≡ true
-negative_inverted [] short plain = short
-negative_inverted (b ∷ bs) short plain = le-leb 128 (255 - b) (omega (arith, leb-false 128 b plain))
+negative_inverted octets short plain = grind arith
 
 positive_spelled : (n : ℕ) (octets : List ℕ) → IsPlain n octets → IsTrue (in_range (pos n)) → IsInteger (pos n) octets
 positive_spelled n octets is range = record { shortest = is.shortest; range = range; value = rw is.plain (ap pos (sym is.value)) }
 
 negative_spelled : (n : ℕ) (octets : List ℕ) → IsPlain n octets → IsTrue (in_range (negsuc n)) → IsInteger (negsuc n) (inverted octets)
-negative_spelled n octets is range = record {
-  shortest = shortest_inverted octets is.shortest is.plain;
-  range = range;
-  value = rw (negative_inverted octets is.shortest is.plain)
-      (ap negsuc (sym (ap (λ bs. number_from_digits 256 bs) (inverted_back octets is.below) ∙ is.value)));
-}
+negative_spelled n octets is range = grind (arith, shortest_inverted, negative_inverted, inverted_back)
 
 pub integer_spelled : (z : ℤ) → IsTrue (in_range z) → IsInteger z (integer_octets z)
 unfolding integer_octets

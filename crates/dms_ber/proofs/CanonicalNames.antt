@@ -1,5 +1,5 @@
 -- The octets of a name in the limits are its content.
-use Rattle.std.proofs.Common.{◌≡◌, ◌≢◌, ℕ, zero, suc, ◌+◌, ◌*◌, ◌/◌, ◌%◌, ◌^◌, ◌<◌, ◌≤◌, List, [], ◌∷◌, ◌++◌, map, get_or, refl, sym, ◌∙◌, arith, flat_map}
+use Rattle.std.proofs.Common.{◌≡◌, ◌≢◌, ℕ, zero, suc, ◌+◌, ◌*◌, ◌/◌, ◌%◌, ◌^◌, ◌<◌, ◌≤◌, List, [], ◌∷◌, ◌++◌, map, get_or, refl, ◌∙◌, arith, flat_map}
 use Rattle.std.proofs.lemmas.Bool.Decides.{nat_tests}
 use Rattle.std.specs.Int.Digits.{number_from_digits, digits_of, AllBelowBase}
 use Rattle.std.proofs.lemmas.Int.Digits.{number_digits_of, all_below_base_digits_of, first_digits_of, number_push}
@@ -21,20 +21,11 @@ digits_parts : (n : ℕ) → number_from_digits 128 (digits_of 128 (n / 128) ++ 
 digits_parts n = number_push 128 (digits_of 128 (n / 128)) (n % 128) ∙ omega (arith, number_digits_of 128 (n / 128) (omega arith))
 
 sub_identifier_spelled : (n : ℕ) → IsSubIdentifier n (sub_identifier_octets n)
-sub_identifier_spelled n = record {
-  high = digits_of 128 (n / 128);
-  low = n % 128;
-  parts = refl;
-  digits = all_below_base_digits_of 128 (n / 128) (omega arith);
-  last = omega arith;
-  first = first_not_zero (n / 128);
-  value = sym (digits_parts n);
-}
+sub_identifier_spelled n = grind (arith, all_below_base_digits_of, first_not_zero, digits_parts)
 
 sub_identifiers_spelled : (ns : List ℕ) → AllBelowBase (2 ^ 32) ns → AreSubIdentifiers ns (flat_map sub_identifier_octets ns)
 sub_identifiers_spelled [] small = refl
-sub_identifiers_spelled (n ∷ ns) small =
-    (sub_identifier_octets n, flat_map sub_identifier_octets ns, small.0, sub_identifier_spelled n, sub_identifiers_spelled ns small.1, refl)
+sub_identifiers_spelled (n ∷ ns) small = grind (arith, flat_map, sub_identifier_spelled, sub_identifiers_spelled ns small.1)
 
 -- the first two numbers come back from 40a + b
 numbers_back : (a b : ℕ) (ns : List ℕ) → a ≤ 2 → (a < 2 → b < 40) → a ∷ b ∷ ns ≡ numbers_from ((40 * a + b) ∷ ns)
@@ -60,8 +51,7 @@ sub_identifier_below n =
 
 sub_identifiers_below : (ns : List ℕ) → AllBelowBase 256 (flat_map sub_identifier_octets ns)
 sub_identifiers_below [] = tt
-sub_identifiers_below (n ∷ ns) =
-    below-append 256 (sub_identifier_octets n) (flat_map sub_identifier_octets ns) (sub_identifier_below n) (sub_identifiers_below ns)
+sub_identifiers_below (n ∷ ns) = grind (arith, below-append, flat_map, sub_identifier_below, sub_identifiers_below ns)
 
 pub name_below : (numbers : List ℕ) → AllBelowBase 256 (name_octets numbers)
 unfolding name_octets

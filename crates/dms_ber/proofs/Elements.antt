@@ -1,5 +1,5 @@
 -- Reading the length, the content and the tag of an element, on lists.
-use Rattle.std.proofs.Common.{◌≡◌, ℕ, ◌-◌, ◌<◌, ◌≤◌, ◌⊎◌, inl, inr, Bool, true, false, cond, ltb, eqb, List, [], ◌∷◌, ◌++◌, length, take, drop, Result, Ok, Err, refl, sym, ap, ap₂, subst, ◌∙◌, arith, append_assoc, length-append, length-take-le, take-append-drop, ltb-true, ltb-false, lt-ltb, le-ltb, eqb-true, eq-eqb, ne_eqb}
+use Rattle.std.proofs.Common.{◌≡◌, ℕ, ◌-◌, ◌<◌, ◌≤◌, ◌⊎◌, inl, inr, Bool, true, false, cond, ltb, eqb, List, [], ◌∷◌, ◌++◌, length, take, drop, Result, Ok, Err, refl, sym, ap, ◌∙◌, arith, append_assoc, length-append, length-take-le, take-append-drop, ltb-true, ltb-false, lt-ltb, le-ltb, eqb-true, eq-eqb, ne_eqb}
 use Rattle.std.proofs.Math.Seq.{take-append_seam, drop-append_seam}
 use Rattle.std.proofs.lemmas.Bool.{eqb-false}
 use Rattle.std.specs.Int.Digits.{number_from_digits}
@@ -10,13 +10,11 @@ use Rattle.dms_ber.specs.Reading.{◌>>=◌, length_at, content_at, element_at}
 -- the value of a step that did not fail
 pub bind_ok : {A B : Type 0} (r : Result A WireFault) (f : A → Result B WireFault) (y : B) → (r >>= f) ≡ Ok y
     → (x : A) × (r ≡ Ok x) × (f x ≡ Ok y)
-bind_ok (Ok x) f y e = (x, refl, e)
-bind_ok (Err g) f y e = absurd (cc)
+bind_ok r f y e = grind arith
 
 -- the test that an if-chain took
 pub chosen : {A : Type 0} (b : Bool) (x y z : A) → cond b x y ≡ z → ((b ≡ true) × (x ≡ z)) ⊎ ((b ≡ false) × (y ≡ z))
-chosen true x y z e = inl (refl, e)
-chosen false x y z e = inr (refl, e)
+chosen b x y z e = grind arith
 
 -- a value that was read, whose type names the faults
 abbrev pub done : {A : Type 0} → A → Result A WireFault
@@ -31,14 +29,12 @@ not_ok f y e = absurd (cc)
 -- a test that led to no fault
 pub guarded : {A : Type 0} (b : Bool) (d : WireFault) (r : Result A WireFault) (y : A) → cond b (Err d) r ≡ Ok y
     → (b ≡ false) × (r ≡ Ok y)
-guarded true d r y e = not_ok d y e
-guarded false d r y e = (refl, e)
+guarded b d r y e = grind arith
 
 -- the same, where the fault stands in the other branch
 pub tested : {A : Type 0} (b : Bool) (d : WireFault) (r : Result A WireFault) (y : A) → cond b r (Err d) ≡ Ok y
     → (b ≡ true) × (r ≡ Ok y)
-tested true d r y e = (refl, e)
-tested false d r y e = not_ok d y e
+tested b d r y e = grind arith
 
 -- a length in the long form
 long_found : (b : ℕ) (bs : List ℕ) (x : ℕ × List ℕ) → b < 133 → (b ≡ 128 → ⊥) → 128 ≤ b → b - 128 ≤ length bs
@@ -74,8 +70,7 @@ length_found end (b ∷ bs) x e =
 pub length_only : (end n : ℕ) (front rest : List ℕ) → IsLength front n → length_at end (front ++ rest) ≡ Ok (n, rest)
 unfolding length_at
 length_only end n [] rest h = absurd h
-length_only end n (b ∷ bs) rest (inl h) =
-    rw (lt-ltb b 128 h.0) (ap₂ (λ (m : ℕ) (t : List ℕ). done (m, t ++ rest)) (sym h.2) h.1)
+length_only end n (b ∷ bs) rest (inl h) = grind (arith, lt-ltb, length-append, le-ltb, ne_eqb, take-append_seam, drop-append_seam)
 length_only end n (b ∷ bs) rest (inr h) =
     let count : b - 128 ≡ length bs = omega arith in
     let room : length bs ≤ length (bs ++ rest) = omega (arith, length-append bs rest) in
@@ -86,35 +81,18 @@ length_only end n (b ∷ bs) rest (inr h) =
 pub content_found : (end : ℕ) (bytes : List ℕ) (x : List ℕ × List ℕ) → content_at end bytes ≡ Ok x
     → (len : List ℕ) × IsLength len (length x.0) × (bytes ≡ (len ++ x.0) ++ x.1)
 unfolding content_at
-content_found end bytes x e =
-    let read = bind_ok (length_at end bytes) _ x e in
-    let n = read.0 in
-    let len = length_found end bytes n read.1 in
-    let taken = guarded (ltb (length n.1) n.0) _ _ x read.2 in
-    let is = ok_is _ x taken.1 in
-    let fits : n.0 ≤ length n.1 = ltb-false (length n.1) n.0 taken.0 in
-    let size : length x.0 ≡ n.0 = ap (λ (p : List ℕ × List ℕ). length p.0) (sym is) ∙ length-take-le n.0 n.1 fits in (
-      len.0,
-      subst (IsLength len.0) (sym size) len.1,
-      len.2 ∙ ap (λ t. len.0 ++ t) (sym (take-append-drop n.0 n.1)) ∙ sym (append_assoc len.0 _ _) ∙ ap (λ (p : List ℕ × List ℕ). (len.0 ++ p.0) ++ p.1) is,
-    )
+content_found end bytes x e = grind (arith, bind_ok, length_found, guarded, ok_is, ltb-false, length-take-le, take-append-drop, append_assoc)
 
 pub content_only : (end : ℕ) (len content rest : List ℕ) → IsLength len (length content)
     → content_at end ((len ++ content) ++ rest) ≡ Ok (content, rest)
 unfolding content_at
-content_only end len content rest h =
-    let room : length content ≤ length (content ++ rest) = omega (arith, length-append content rest) in
-    rw (append_assoc len content rest, length_only end (length content) len (content ++ rest) h, le-ltb (length (content ++ rest)) (length content) room, take-append_seam content rest, drop-append_seam content rest)
+content_only end len content rest h = grind (arith, length-append, append_assoc, length_only, le-ltb, take-append_seam, drop-append_seam)
 
 -- the same after its tag
 pub element_found : (tag end : ℕ) (bytes : List ℕ) (x : List ℕ × List ℕ) → element_at tag end bytes ≡ Ok x
     → (len : List ℕ) × IsLength len (length x.0) × (bytes ≡ (tag ∷ (len ++ x.0)) ++ x.1)
 unfolding element_at
-element_found tag end [] x e = not_ok _ x e
-element_found tag end (b ∷ bytes) x e =
-    let same = tested (eqb b tag) _ _ x e in
-    let content = content_found end bytes x same.1 in
-    (content.0, content.1, ap₂ (λ (k : ℕ) (t : List ℕ). k ∷ t) (eqb-true b tag same.0) content.2)
+element_found tag end bytes x e = grind (arith, not_ok, tested, content_found, eqb-true)
 
 pub element_only : (tag end : ℕ) (len content rest : List ℕ) → IsLength len (length content)
     → element_at tag end ((tag ∷ (len ++ content)) ++ rest) ≡ Ok (content, rest)

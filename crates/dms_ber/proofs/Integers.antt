@@ -1,5 +1,5 @@
 -- A whole number's octets: how large the number is, and what reading it gives.
-use Rattle.std.proofs.Common.{◌≡◌, ℕ, suc, ◌+◌, ◌-◌, ◌*◌, ◌^◌, ◌<◌, ◌≤◌, inl, inr, Bool, true, false, cond, ltb, ℤ, pos, negsuc, List, [], ◌∷◌, length, get_or, Option, Some, None, refl, sym, ap, subst, ◌∙◌, arith, mul-le-mul, le-ltb, le-leb}
+use Rattle.std.proofs.Common.{◌≡◌, ℕ, suc, ◌+◌, ◌-◌, ◌*◌, ◌^◌, ◌<◌, ◌≤◌, Bool, true, false, cond, ℤ, pos, negsuc, List, [], ◌∷◌, length, get_or, Option, Some, None, ap, ◌∙◌, arith, mul-le-mul, le-ltb, le-leb}
 use Rattle.std.proofs.Math.Pow.{pow_mono}
 use Rattle.std.proofs.lemmas.Nat.{pow-add}
 use Rattle.std.proofs.lemmas.List.{length-map}
@@ -56,39 +56,18 @@ inverted_first b c bs high short = grind (arith, nat_tests)
 
 -- a number of six octets or more is out of range, where it is the shortest
 pub out_of_range : (bs : List ℕ) → is_shortest bs ≡ true → 6 ≤ length bs → in_range (signed_value bs) ≡ false
-out_of_range [] short long = absurd (omega arith)
-out_of_range (b ∷ []) short long = absurd (omega arith)
-out_of_range (b ∷ c ∷ bs) short long =
-    elim (cases_lt b 128) [
-      | inl low ↦ rw (lt-leb 128 b low) (too_large _ (first_two b c bs (omega arith) (plain_first b c bs short)))
-      | inr high ↦
-          let first = first_two (255 - b) (255 - c) (inverted bs) (omega (arith, length-map bs (λ d. 255 - d))) (inverted_first b c bs high short) in
-          rw (le-leb 128 b high) (too_small _ (omega (arith, first)))
-    ]
+out_of_range bs short long = grind (arith, cases_lt, lt-leb, too_large, first_two, plain_first, length-map, inverted_first, le-leb, too_small)
 
 pub short_integer : (bs : List ℕ) → is_shortest bs ≡ true → in_range (signed_value bs) ≡ true → length bs ≤ 5
-short_integer bs short range =
-    elim (cases_lt 5 (length bs)) [ inl long ↦ let out = out_of_range bs short long in absurd (cc) | inr h ↦ h ]
-
-none_else : (b : Bool) (o : Option ℤ) (z : ℤ) → cond b None o ≡ Some z → (b ≡ false) × (o ≡ Some z)
-none_else true o z e = absurd (cc)
-none_else false o z e = (refl, e)
+short_integer bs short range = grind (arith, cases_lt, out_of_range)
 
 some_of : (b : Bool) (o : Option ℤ) (z : ℤ) → cond b o None ≡ Some z → (b ≡ true) × (o ≡ Some z)
-some_of true o z e = (refl, e)
-some_of false o z e = absurd (cc)
+some_of b o z e = grind arith
 
 pub integer_found : (bs : List ℕ) (z : ℤ) → integer_value bs ≡ Some z → IsInteger z bs
 unfolding integer_value
-integer_found bs z e =
-    let some = none_else (ltb 5 (length bs)) _ z e in
-    let short = some_of (is_shortest bs) _ z some.1 in
-    let range = some_of (in_range (signed_value bs)) _ z short.1 in
-    let is : signed_value bs ≡ z = let h = range.1 in cc in
-    record { shortest = short.0; range = subst (λ (k : ℤ). in_range k ≡ true) is range.0; value = sym is }
+integer_found bs z e = grind arith
 
 pub integer_only : (bs : List ℕ) (z : ℤ) → IsInteger z bs → integer_value bs ≡ Some z
 unfolding integer_value
-integer_only bs z h =
-    let range : in_range (signed_value bs) ≡ true = subst (λ (k : ℤ). in_range k ≡ true) h.value h.range in
-    rw (le-ltb 5 (length bs) (short_integer bs h.shortest range), h.shortest, range) (ap Some (sym h.value))
+integer_only bs z h = grind (arith, le-ltb, short_integer)

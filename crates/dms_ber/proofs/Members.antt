@@ -1,15 +1,14 @@
 -- Members of an element, one after the other: what reading gives is spelled, and what is spelled is read.
-use Rattle.std.proofs.Common.{◌≡◌, ℕ, ℤ, pos, negsuc, ◌++◌, List, [], ◌∷◌, length, Ok, Some, None, Result, Option, ok_or, option_and_then, refl, sym, ap, ◌∙◌, subst, append-nil}
+use Rattle.std.proofs.Common.{◌≡◌, ℕ, ℤ, pos, ◌++◌, List, [], ◌∷◌, length, Ok, Some, Result, Option, ok_or, option_and_then, refl, sym, ap, ◌∙◌, subst, append-nil, arith}
 use Rattle.std.proofs.lemmas.Option.{same_Some}
 use Rattle.dms_ber.specs.declared.fault.WireFault.{WireFault}
-use Rattle.dms_ber.specs.declared.fault.FaultKind.TheVariants.{BadInteger, BadName}
+use Rattle.dms_ber.specs.declared.fault.FaultKind.TheVariants.{BadInteger}
 use Rattle.dms_ber.specs.Length.{IsLength}
 use Rattle.dms_ber.specs.Integer.{IsInteger}
 use Rattle.dms_ber.specs.ObjectIdentifier.{IsName}
-use Rattle.dms_ber.specs.NameReading.{is_name, numbers_of}
 use Rattle.dms_ber.specs.Element.{IsElement, ◌⨾◌}
 use Rattle.dms_ber.specs.Reading.{◌>>=◌, fault, offset_of_content, element_at, integer_value, integer_at, name_of, name_at, natural, natural_value}
-use Rattle.dms_ber.proofs.Elements.{bind_ok, done, ok_is, not_ok, tested, element_found, element_only}
+use Rattle.dms_ber.proofs.Elements.{bind_ok, done, ok_is, tested, element_found, element_only}
 use Rattle.dms_ber.proofs.Integers.{integer_found, integer_only}
 use Rattle.dms_ber.proofs.Names.{name_found, name_only}
 
@@ -20,8 +19,7 @@ pub record Front (P : List ℕ → Type 0) (bytes rest : List ℕ) : Type 0 wher
   pub parts : bytes ≡ front ++ rest
 
 pub joined : (P Q : List ℕ → Type 0) (bytes rest : List ℕ) → Front P bytes rest → Q rest → (P ⨾ Q) bytes
-joined P Q bytes rest first second =
-    record { front = first.front; back = rest; first = first.spelled; second = second; parts = first.parts }
+joined P Q bytes rest first second = grind arith
 
 -- where nothing follows
 pub last : (P : List ℕ → Type 0) (bytes rest : List ℕ) → Front P bytes rest → rest ≡ [] → P bytes
@@ -31,13 +29,10 @@ last P bytes rest first nil =
 -- what follows from a step that did not fail, and from the step after it
 pub after : {A B : Type 0} {P : Type 0} (r : Result A WireFault) (f : A → Result B WireFault) (y : B) → (r >>= f) ≡ Ok y
     → ((x : A) → r ≡ Ok x → f x ≡ Ok y → P) → P
-after r f y h then =
-    let x = bind_ok r f y h in
-    then x.0 x.1 x.2
+after r f y h then = grind arith
 
 pub ok_or_found : {A : Type 0} (o : Option A) (f : WireFault) (x : A) → ok_or o f ≡ Ok x → o ≡ Some x
-ok_or_found (Some a) f x h = ap Some (ok_is a x h)
-ok_or_found None f x h = not_ok f x h
+ok_or_found o f x h = grind arith
 
 -- an element of which the content is read by parse
 abbrev pub with_content : {A : Type 0} → (List ℕ × List ℕ → Result A WireFault) → ℕ → ℕ → List ℕ → Result (A × List ℕ) WireFault
@@ -81,9 +76,7 @@ integer_at_only end z front rest e =
     (λ c z h. ap (λ o. ok_or o (fault BadInteger (offset_of_content end c.0 c.1))) (integer_only c.0 z h)) 2 end z front rest e
 
 pub name_of_found : (place : ℕ) (content numbers : List ℕ) → name_of place content ≡ Ok numbers → IsName numbers content
-name_of_found place content numbers h =
-    let t = tested (is_name content) (fault BadName place) (Ok (numbers_of content)) numbers h in
-    subst (λ ns. IsName ns content) (ok_is (numbers_of content) numbers t.1) (name_found content t.0)
+name_of_found place content numbers h = grind (arith, tested, ok_is, name_found)
 
 name_of_only : (place : ℕ) (content numbers : List ℕ) → IsName numbers content → name_of place content ≡ Ok numbers
 name_of_only place content numbers h =
@@ -103,9 +96,7 @@ name_at_only end numbers front rest e =
 
 natural_from : (content : List ℕ) (o : Option ℤ) (n : ℕ) → integer_value content ≡ o → option_and_then natural o ≡ Some n
     → IsInteger (pos n) content
-natural_from content (Some (pos k)) n is h = integer_found content (pos n) (is ∙ ap (λ k. Some (pos k)) (same_Some k n h))
-natural_from content (Some (negsuc k)) n is h = cc h
-natural_from content None n is h = cc h
+natural_from content o n is h = grind (arith, integer_found, same_Some)
 
 pub natural_found : (content : List ℕ) (n : ℕ) → natural_value content ≡ Some n → IsInteger (pos n) content
 natural_found content n h = natural_from content (integer_value content) n refl h
@@ -115,5 +106,4 @@ natural_only content n h = ap (option_and_then natural) (integer_only content (p
 
 pub made : (k tag : ℕ) (P : List ℕ → Type 0) (len content : List ℕ) → tag ≡ k → IsLength len (length content) → P content
     → IsElement k P (tag ∷ (len ++ content))
-made k tag P len content is form spelled =
-    record { len = len; content = content; form = form; spelled = spelled; parts = ap (λ t. t ∷ (len ++ content)) is }
+made k tag P len content is form spelled = grind arith

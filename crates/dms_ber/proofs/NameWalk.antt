@@ -18,8 +18,7 @@ fits_more f count n b last more h l m = grind (arith, nat_tests)
 pub fits : (bs : List ℕ) (count n : ℕ) → goes_on count n bs ≡ true → fits_after n bs ≡ true
 unfolding goes_on
 fits [] count n h = refl
-fits (b ∷ bs) count n h =
-    fits_more (λ p. goes_on p.0 p.1 bs) count n b _ _ h (fits bs (count + 1) 0) (fits bs count (n * 128 + b % 128))
+fits (b ∷ bs) count n h = grind (arith, fits_more, fits bs (count + 1) 0, fits bs count (n * 128 + b % 128))
 
 -- the octets of dms are nine sub-identifiers
 pub below_dms : (octets rest : List ℕ) → octets ≡ 43 ∷ 6 ∷ 1 ∷ 4 ∷ 1 ∷ 137 ∷ 54 ∷ 4 ∷ 2 ∷ 3 ∷ rest
@@ -32,7 +31,4 @@ first_order m n ms ns = grind (arith, nat_tests)
 
 -- the order of the sub-identifiers is that of the numbers
 pub same_order : (ms ns : List ℕ) → numbers_cmp ms ns ≡ numbers_cmp (numbers_from ms) (numbers_from ns)
-same_order [] [] = refl
-same_order [] (n ∷ ns) = grind (arith, nat_tests)
-same_order (m ∷ ms) [] = grind (arith, nat_tests)
-same_order (m ∷ ms) (n ∷ ns) = first_order m n ms ns
+same_order ms ns = grind (arith, first_order)

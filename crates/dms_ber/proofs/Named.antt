@@ -1,5 +1,5 @@
 -- Contents of names, and the names.
-use Rattle.std.proofs.Common.{◌≡◌, ℕ, List, IsTrue, IfSome, IsSome, IfNone, true, Option, Some, None, refl, sym, ap, subst, ◌∙◌}
+use Rattle.std.proofs.Common.{◌≡◌, ℕ, List, IsTrue, IfSome, IsSome, IfNone, true, Option, Some, None, sym, ap, ◌∙◌, arith}
 use Rattle.std.specs.Prelude.{◌↔◌}
 use Rattle.std.specs.Prelude.{nat_eq}
 use Rattle.std.specs.Cmp.{both_ways}
@@ -11,8 +11,7 @@ use Rattle.dms_ber.proofs.Names.{name_found, name_only}
 use Rattle.dms_ber.proofs.Unique.{content_is}
 
 pub named : (o : Option (List ℕ)) (bytes : List ℕ) → IfSome o (λ n. n ≡ numbers_of bytes) → IsSome o ↔ IsTrue (is_name bytes) → IfSome o (λ n. IsName n bytes)
-named None bytes same exact = tt
-named (Some n) bytes same exact = subst (λ m. IsName m bytes) (sym same) (name_found bytes (exact.0 refl))
+named o bytes same exact = grind (arith, name_found)
 
 pub named_only : (o : Option (List ℕ)) (bytes : List ℕ) → IfSome o (λ n. n ≡ numbers_of bytes) → IsSome o ↔ IsTrue (is_name bytes)
     → (numbers : List ℕ) → IsName numbers bytes → o ≡ Some numbers

@@ -1,7 +1,7 @@
 -- An object identifier's octets, read one by one: each step, and what the walk gives.
-use Rattle.std.proofs.Common.{◌≡◌, ◌≢◌, ℕ, ◌+◌, ◌*◌, ◌%◌, ◌^◌, ◌<◌, ◌≤◌, ◌⊎◌, inl, inr, Bool, true, false, cond, ◌&&◌, ◌||◌, ltb, leb, eqb, List, [], ◌∷◌, ◌++◌, map, length, get_or, Option, Some, None, refl, sym, ap, ap₂, subst, ◌∙◌, arith, append_assoc, ltb-true, lt-ltb, le-ltb, eqb-true, eq-eqb, leb-true, leb-false}
+use Rattle.std.proofs.Common.{◌≡◌, ◌≢◌, ℕ, ◌+◌, ◌*◌, ◌%◌, ◌^◌, ◌<◌, ◌≤◌, ◌⊎◌, inl, inr, Bool, true, false, ◌&&◌, ◌||◌, ltb, eqb, List, [], ◌∷◌, ◌++◌, map, length, get_or, Option, Some, refl, sym, ap, ap₂, ◌∙◌, arith, append_assoc, ltb-true, lt-ltb, le-ltb, eqb-true}
 use Rattle.std.proofs.ByRecursion.{All-append}
-use Rattle.std.proofs.lemmas.Bool.{and_parts, and_from, or_parts, both_ways}
+use Rattle.std.proofs.lemmas.Bool.{and_parts}
 use Rattle.std.proofs.lemmas.Bool.Decides.{nat_tests}
 use Rattle.std.proofs.lemmas.List.{map-append}
 use Rattle.std.proofs.lemmas.Int.Digits.{number_push, number_after_ge}
@@ -21,42 +21,16 @@ pub record IsPart (n : ℕ) (high : List ℕ) : Type 0 where
 pub no_part : IsPart 0 []
 no_part = record { digits = tt; first = λ e. omega arith; value = refl }
 
--- which tests a step passed
-three_tests : (f : ℕ × ℕ → Bool) (t1 t2 t3 : Bool) (p q : ℕ × ℕ)
-    → option_map_or f (cond t1 None (cond t2 (Some p) (cond t3 (Some q) None))) false ≡ true
-    → (t1 ≡ false) × (((t2 ≡ true) × (f p ≡ true)) ⊎ ((t2 ≡ false) × (t3 ≡ true) × (f q ≡ true)))
-three_tests f true t2 t3 p q e = absurd (cc)
-three_tests f false true t3 p q e = (refl, inl (refl, e))
-three_tests f false false true p q e = (refl, inr (refl, refl, e))
-three_tests f false false false p q e = absurd (cc)
-
--- no sub-identifier begins with the digit 0, unless it is the last
-not_first : (b n : ℕ) → (eqb b 128 && eqb n 0) ≡ false → b ≡ 128 → n ≡ 0 → ⊥
-not_first b n e first none = both_ways _ e (and_from _ _ (eq-eqb b 128 first) (eq-eqb n 0 none))
-
 -- what a step that the walk goes on from says of its octet
 part_ok : (f : ℕ × ℕ → Bool) (count n b : ℕ) → option_map_or f (part_after count n b) false ≡ true
     → (b < 256) × (n * 128 + b % 128 < 2 ^ 32) × (b ≡ 128 → n ≡ 0 → ⊥)
     × (((128 ≤ b) × (f (count, n * 128 + b % 128) ≡ true)) ⊎ ((b < 128) × (count < most_sub_identifiers) × (f (count + 1, 0) ≡ true)))
-part_ok f count n b e =
-    let tests = three_tests f _ (leb 128 b) (ltb count most_sub_identifiers) (count, n * 128 + b % 128) (count + 1, 0) e in
-    let none = or_parts (leb 256 b || leb (2 ^ 32) (n * 128 + b % 128)) _ tests.0 in
-    let small = or_parts (leb 256 b) _ none.0 in (
-      leb-false 256 b small.0,
-      leb-false (2 ^ 32) (n * 128 + b % 128) small.1,
-      not_first b n none.1,
-      elim tests.1 [
-        | inl h ↦ inl (leb-true 128 b h.0, h.1)
-        | inr h ↦ inr (leb-false 128 b h.0, ltb-true count most_sub_identifiers h.1, h.2)
-      ],
-    )
+part_ok f count n b e = grind arith
 
 -- nothing but no digit comes to 0
 part_zero : (n : ℕ) (high : List ℕ) → IsPart n high → n ≡ 0 → high ≡ []
 part_zero n [] part e = refl
-part_zero n (d ∷ ds) part e =
-    let least = number_after_ge 128 (0 * 128 + d) ds (omega arith) in
-    absurd (part.first (omega (arith, part.value)))
+part_zero n (d ∷ ds) part e = grind (arith, number_after_ge)
 
 -- the first digit of one more is not 0
 first_push : (n b : ℕ) (high : List ℕ) → IsPart n high → 128 ≤ b → b < 256 → (b ≡ 128 → n ≡ 0 → ⊥)
@@ -82,25 +56,12 @@ IsWalk count n high bs =
 -- an octet of 128 or more, and the walk after it
 names_more : (b : ℕ) (bs : List ℕ) (count n : ℕ) (high : List ℕ) → 128 ≤ b → b < 256
     → IsWalk count (n * 128 + b % 128) (high ++ b % 128 ∷ []) bs → IsWalk count n high (b ∷ bs)
-names_more b bs count n high more octet walk =
-    let same : 128 + b % 128 ≡ b = omega arith in
-    let push = ap (λ t. t ++ bs) (map-append (λ d. 128 + d) high (b % 128 ∷ [])) in
-    let front : List ℕ = map (λ d. 128 + d) high in
-    let is = push ∙ append_assoc front ((128 + b % 128) ∷ []) bs ∙ ap (λ k. front ++ k ∷ bs) same in
-    rw (le-ltb b 128 more) (subst (AreSubIdentifiers (sub_identifiers_after (n * 128 + b % 128) bs)) is walk.0, walk.1, walk.2)
+names_more b bs count n high more octet walk = grind (arith, map-append, append_assoc, le-ltb)
 
 -- the last octet ends the sub-identifier
 part_ends : (n b : ℕ) (high : List ℕ) → IsPart n high → b < 128
     → IsSubIdentifier (n * 128 + b) (map (λ d. 128 + d) high ++ b ∷ [])
-part_ends n b high part last = record {
-  high = high;
-  low = b;
-  parts = refl;
-  digits = part.digits;
-  last = last;
-  first = part.first;
-  value = ap (λ k. k * 128 + b) part.value ∙ sym (number_push 128 high b);
-}
+part_ends n b high part last = grind (arith, number_push)
 
 -- an octet below 128, and the walk after it
 names_last : (b : ℕ) (bs : List ℕ) (count n : ℕ) (high : List ℕ) → IsPart n high → b < 128 → n * 128 + b < 2 ^ 32
@@ -154,10 +115,7 @@ sub_only : (high : List ℕ) (count n low : ℕ) (rest : List ℕ) → AllBelowB
     → (goes_on count n ((map (λ d. 128 + d) high ++ low ∷ []) ++ rest) ≡ goes_on (count + 1) 0 rest)
     × (sub_identifiers_after n ((map (λ d. 128 + d) high ++ low ∷ []) ++ rest) ≡ number_from_digits_after 128 n (high ++ low ∷ []) ∷ sub_identifiers_after 0 rest)
 unfolding goes_on
-sub_only [] count n low rest digits digit some small room = (
-  option_at _ _ _ (last_octet count n low digit small room),
-  rw (lt-ltb low 128 digit),
-)
+sub_only [] count n low rest digits digit some small room = grind (arith, option_at, last_octet, lt-ltb, number_after_ge, octet_more, le-ltb)
 sub_only (d ∷ ds) count n low rest digits digit some small room =
     let below : d < 128 = digits.0 in
     let bound : n * 128 + d < 2 ^ 32 = omega (arith, number_after_ge 128 (n * 128 + d) (ds ++ low ∷ [])) in

@@ -1,8 +1,7 @@
 -- Which contents are no shorter than the canonical ones: of lengths, numbers and names.
-use Rattle.std.proofs.Common.{◌≡◌, ℕ, ℤ, pos, negsuc, suc, ◌+◌, ◌-◌, ◌*◌, ◌^◌, ◌<◌, ◌≤◌, Bool, true, false, cond, nat_lt, nat_le, List, [], ◌∷◌, length, refl, ap, ◌∙◌, ⊎_elim, inl, inr, arith, lt-ltb, le-ltb, leb-true, leb-false, le_trans}
+use Rattle.std.proofs.Common.{◌≡◌, ℕ, ℤ, pos, negsuc, suc, ◌+◌, ◌-◌, ◌*◌, ◌^◌, ◌<◌, ◌≤◌, Bool, cond, nat_lt, nat_le, List, [], ◌∷◌, length, ap, ◌∙◌, ⊎_elim, arith, lt-ltb, le-ltb, leb-true, leb-false, le_trans}
 use Rattle.std.specs.Int.Digits.{digits_of, number_from_digits, AllBelowBase}
-use Rattle.std.specs.List.{slice_index_or}
-use Rattle.std.proofs.lemmas.Bool.{cond-true, cond-false, cond_both, cases_lt, cases_eq, false≢true}
+use Rattle.std.proofs.lemmas.Bool.{cond-true, cond-false, cases_lt, cases_eq, false≢true}
 use Rattle.std.proofs.lemmas.List.{length-map}
 use Rattle.std.proofs.lemmas.Int.Digits.{number_lt, number_digits_of, all_below_base_digits_of, length-digits_of-le}
 use Rattle.dms_ber.specs.Length.{IsLength}
@@ -34,32 +33,21 @@ long_form : (n : ℕ) → 128 ≤ n → length (short_length n) ≡ suc (length 
 long_form n large = ap length (cond-false (nat_lt n 128) (n ∷ []) ((128 + length (digits_of 256 n)) ∷ digits_of 256 n) (le-ltb n 128 large))
 
 short_length_at_most : (n k : ℕ) → length (digits_of 256 n) ≤ k → length (short_length n) ≤ suc k
-short_length_at_most n k few =
-    ⊎_elim (λ small. omega (arith, short_form n small)) (λ large. omega (arith, long_form n large)) (cases_lt n 128)
+short_length_at_most n k few = grind arith
 
 pub short_length_monotone : (m n : ℕ) → m ≤ n → length (short_length m) ≤ length (short_length n)
-short_length_monotone m n le =
-    ⊎_elim
-    (λ small. omega (arith, short_form m (omega arith), short_form n small))
-    (λ large. rw (long_form n large) (short_length_at_most m (length (digits_of 256 n)) (digits_monotone m n le)))
-    (cases_lt n 128)
+short_length_monotone m n le = grind (arith, short_form, long_form, short_length_at_most, digits_monotone, cases_lt)
 
 pub length_no_longer : (len : List ℕ) (n : ℕ) → AllBelowBase 256 len → IsLength len n → length (short_length n) ≤ length len
-length_no_longer [] n below form = elim form [ ]
-length_no_longer (b ∷ bs) n below (inl short) = omega (arith, short_form n (omega (arith, short.0, short.2)))
-length_no_longer (b ∷ bs) n below (inr long) = short_length_at_most n (length bs) (rw long.3 (digits_fit bs below.1))
+length_no_longer len n below form = grind (arith, short_form, short_length_at_most, digits_fit)
 
 -- at most one octet stands before the digits
 positive_at_most : (n : ℕ) → length (positive_octets n) ≤ suc (length (digits_of 256 n))
-positive_at_most n =
-    cond_both (nat_lt (slice_index_or (digits_of 256 n) 0 128) 128) (digits_of 256 n) (0 ∷ digits_of 256 n) (λ xs. length xs ≤ suc (length (digits_of 256 n)))
-    (λ _. omega arith)
-    (λ _. omega arith)
+positive_at_most n = grind arith
 
 -- no octet stands before digits of which the first is below 128
 pub positive_whole : (n d : ℕ) (ds : List ℕ) → digits_of 256 n ≡ d ∷ ds → d < 128 → positive_octets n ≡ d ∷ ds
-positive_whole n d ds e free =
-    ap (λ xs. cond (nat_lt (slice_index_or xs 0 128) 128) xs (0 ∷ xs)) e ∙ cond-true (nat_lt d 128) (d ∷ ds) (0 ∷ (d ∷ ds)) (lt-ltb d 128 free)
+positive_whole n d ds e free = grind arith
 
 -- leading zeros only make a number's octets more
 positive_no_longer : (b : ℕ) (bs : List ℕ) → AllBelowBase 256 (b ∷ bs) → b < 128 → length (positive_octets (number_from_digits 256 (b ∷ bs))) ≤ length (b ∷ bs)
@@ -75,23 +63,17 @@ positive_no_longer b bs below free =
 signed_no_longer : (b : ℕ) (bs : List ℕ) (negative : Bool) → nat_le 128 b ≡ negative → AllBelowBase 256 (b ∷ bs)
     → length (integer_octets (cond negative (negsuc (number_from_digits 256 (inverted (b ∷ bs)))) (pos (number_from_digits 256 (b ∷ bs))))) ≤ length (b ∷ bs)
 unfolding integer_octets
-signed_no_longer b bs true sign below =
-    let large : 128 ≤ b = leb-true 128 b sign in
-    let shorter = positive_no_longer (255 - b) (inverted bs) (below_inverted (b ∷ bs)) (omega arith) in
-    omega (arith, shorter, length-map (positive_octets (number_from_digits 256 (inverted (b ∷ bs)))) (λ d. 255 - d), length-map bs (λ d. 255 - d))
-signed_no_longer b bs false sign below = positive_no_longer b bs below (leb-false 128 b sign)
+signed_no_longer b bs negative sign below = grind (arith, leb-true, positive_no_longer, below_inverted, length-map, leb-false)
 
 integer_length : (z : ℤ) (bytes : List ℕ) → AllBelowBase 256 bytes → IsInteger z bytes → length (integer_octets z) ≤ length bytes
-integer_length z [] below i = absurd (false≢true i.shortest)
-integer_length z (b ∷ bs) below i = rw i.value (signed_no_longer b bs (nat_le 128 b) refl below)
+integer_length z bytes below i = grind (arith, signed_no_longer, nat_le)
 
 pub integer_no_longer : (z : ℤ) → NoLonger (integer_octets z) (IsInteger z)
 integer_no_longer z = record { than = integer_length z }
 
 -- a number's content is not empty
 pub some_octet : (z : ℤ) (bytes : List ℕ) → IsInteger z bytes → 1 ≤ length bytes
-some_octet z [] i = absurd (false≢true i.shortest)
-some_octet z (b ∷ bs) i = omega arith
+some_octet z bytes i = grind arith
 
 one_octet : (n : ℕ) → n < 128 → length (integer_octets (pos n)) ≤ 1
 unfolding integer_octets

@@ -1,5 +1,5 @@
 -- The shortest lengths and numbers, an octet at a time.
-use Rattle.std.proofs.Common.{◌≡◌, ℕ, zero, suc, ◌+◌, ◌-◌, ◌*◌, ◌/◌, ◌%◌, ◌^◌, ◌<◌, ◌≤◌, cond, Bool, true, false, List, [], ◌∷◌, ◌++◌, length, map, get_or, refl, sym, ap, ◌∙◌, arith, inl, inr, length-append, append_assoc}
+use Rattle.std.proofs.Common.{◌≡◌, ℕ, zero, suc, ◌+◌, ◌-◌, ◌*◌, ◌/◌, ◌%◌, ◌^◌, ◌<◌, ◌≤◌, cond, Bool, List, [], ◌∷◌, ◌++◌, length, get_or, refl, sym, ap, ◌∙◌, arith, inl, inr, length-append, append_assoc}
 use Rattle.std.proofs.lemmas.List.{map-append, length-map}
 use Rattle.std.proofs.Math.Nat.{pow-le-pow_right}
 use Rattle.std.proofs.lemmas.Nat.{pow-add, pow_pos, leading_length}
@@ -18,10 +18,7 @@ digits_more : (n : ℕ) → 0 < n → digits_of 256 n ≡ digits_of 256 (n / 256
 digits_more n some = digits_of_step 256 n (omega arith) some
 
 pub digits_small : (n : ℕ) → 0 < n → n < 256 → digits_of 256 n ≡ n ∷ []
-digits_small n some small =
-    let none : n / 256 ≡ 0 = omega arith in
-    let all : n % 256 ≡ n = omega arith in
-    digits_more n some ∙ (ap (λ q. digits_of 256 q ++ (n % 256) ∷ []) none ∙ ap (λ r. r ∷ []) all)
+digits_small n some small = grind (arith, digits_more)
 
 pub length-digits_more : (n : ℕ) → 0 < n → length (digits_of 256 n) ≡ length (digits_of 256 (n / 256)) + 1
 length-digits_more n some = ap length (digits_more n some) ∙ length-append (digits_of 256 (n / 256)) ((n % 256) ∷ [])
@@ -37,22 +34,14 @@ pub short_length_small : (n : ℕ) → n < 128 → short_length n ≡ n ∷ []
 short_length_small n small = grind (arith, nat_tests)
 
 pub short_length_one : (n : ℕ) → 128 ≤ n → n < 256 → short_length n ≡ 129 ∷ (n ∷ [])
-short_length_one n large small =
-    let e : digits_of 256 n ≡ n ∷ [] = digits_small n (omega arith) small in
-    rw e (grind (arith, nat_tests))
+short_length_one n large small = grind (arith, digits_small)
 
 pub short_length_two : (n : ℕ) → 256 ≤ n → n < 65536 → short_length n ≡ 130 ∷ ((n / 256) ∷ ((n % 256) ∷ []))
-short_length_two n large small =
-    let e : digits_of 256 (n / 256) ≡ (n / 256) ∷ [] = digits_small (n / 256) (omega arith) (omega arith) in
-    let f : digits_of 256 n ≡ (n / 256) ∷ ((n % 256) ∷ []) = digits_more n (omega arith) ∙ ap (λ ds. ds ++ (n % 256) ∷ []) e in
-    rw f (grind (arith, nat_tests))
+short_length_two n large small = grind (arith, digits_small, digits_more)
 
 -- a number that fits seven bits is its octet
 pub positive_small : (n : ℕ) → n < 128 → positive_octets n ≡ n ∷ []
-positive_small zero small = refl
-positive_small (suc n) small =
-    let e : digits_of 256 (suc n) ≡ suc n ∷ [] = digits_small (suc n) (omega arith) (omega arith) in
-    rw e (grind (arith, nat_tests))
+positive_small n small = grind (arith, digits_small)
 
 -- an octet more at the end keeps the first one
 first_kept : (ds : List ℕ) (b : ℕ) → 0 < length ds → get_or (ds ++ b ∷ []) 0 128 ≡ get_or ds 0 128
@@ -60,35 +49,22 @@ first_kept (d ∷ ds) b some = refl
 first_kept [] b some = absurd (omega arith)
 
 cond_append : (t : Bool) (xs ys zs : List ℕ) → cond t xs ys ++ zs ≡ cond t (xs ++ zs) (ys ++ zs)
-cond_append true xs ys zs = refl
-cond_append false xs ys zs = refl
+cond_append t xs ys zs = grind arith
 
 digits_some : (n : ℕ) → 0 < n → 0 < length (digits_of 256 n)
 digits_some n some = omega (arith, length-digits_more n some)
 
 -- an octet more after digits
 positive_long : (n : ℕ) → 0 < n / 256 → positive_octets n ≡ positive_octets (n / 256) ++ (n % 256) ∷ []
-positive_long n some =
-    let e = digits_more n (omega arith) in
-    let f = first_kept (digits_of 256 (n / 256)) (n % 256) (digits_some (n / 256) some) in
-    rw (e, f, cond_append) refl
+positive_long n some = grind (arith, digits_more, first_kept, digits_some, cond_append)
 
 -- one octet that does not fit seven bits has a 0 before it
 positive_short : (n : ℕ) → 128 ≤ n → n < 256 → positive_octets n ≡ 0 ∷ (n ∷ [])
-positive_short n large small =
-    let e : digits_of 256 n ≡ n ∷ [] = digits_small n (omega arith) small in
-    rw e (grind (arith, nat_tests))
+positive_short n large small = grind (arith, digits_small)
 
 -- an octet more
 pub positive_more : (n : ℕ) → 128 ≤ n → positive_octets n ≡ positive_octets (n / 256) ++ (n % 256) ∷ []
-positive_more n large =
-    elim (cases_lt n 256) [
-      | inl short ↦
-          (let none : n / 256 ≡ 0 = omega arith in
-          let all : n % 256 ≡ n = omega arith in
-          positive_short n large short ∙ sym (rw (none, all) refl))
-      | inr long ↦ positive_long n (omega arith)
-    ]
+positive_more n large = grind (arith, cases_lt, positive_short, positive_long)
 
 pub length-positive_more : (n : ℕ) → 128 ≤ n → length (positive_octets n) ≡ length (positive_octets (n / 256)) + 1
 length-positive_more n large = ap length (positive_more n large) ∙ length-append (positive_octets (n / 256)) ((n % 256) ∷ [])
@@ -97,14 +73,11 @@ pub length-positive_small : (n : ℕ) → n < 128 → length (positive_octets n)
 length-positive_small n small = ap length (positive_small n small)
 
 length-cond : (t : Bool) (xs ys : List ℕ) (n : ℕ) → length xs ≤ n → length ys ≤ n → length (cond t xs ys) ≤ n
-length-cond true xs ys n p q = p
-length-cond false xs ys n p q = q
+length-cond t xs ys n p q = grind arith
 
 -- a number of at most eight octets, and a 0 before them
 pub length-positive_le : (n : ℕ) → n < 2 ^ 64 → length (positive_octets n) ≤ 9
-length-positive_le n h =
-    let e = length-digits_le n h in
-    length-cond _ (digits_of 256 n) (0 ∷ digits_of 256 n) 9 (omega (arith, e)) (omega (arith, e))
+length-positive_le n h = grind (arith, length-digits_le, length-cond)
 
 pub inverted_more : (n : ℕ) → 128 ≤ n → inverted (positive_octets n) ≡ inverted (positive_octets (n / 256)) ++ (255 - n % 256) ∷ []
 inverted_more n large = ap inverted (positive_more n large) ∙ map-append (λ b. 255 - b) (positive_octets (n / 256)) ((n % 256) ∷ [])
@@ -126,10 +99,7 @@ element_put before tag size content e = rw e (append_assoc before (tag ∷ short
 
 -- a number of m bits, of which there are at most 8 * k + 7
 bits_size : (k m n : ℕ) → m < 8 * k + 8 → n < 2 ^ m → 2 ^ m ≤ 2 * n + 1 → length (positive_octets n) ≡ m / 8 + 1
-bits_size zero m n few below above =
-    let power : 2 ^ m ≤ 2 ^ 7 = pow-le-pow_right {n = 2} (omega arith) {i = m} {j = 7} (omega arith) in
-    let one = length-positive_small n (omega arith) in
-    omega arith
+bits_size zero m n few below above = grind (arith, pow-le-pow_right, length-positive_small, cases_lt, pow-add, pow_pos, length-positive_more)
 bits_size (suc k) m n few below above =
     elim (cases_lt m 8) [
       | inl small ↦
@@ -154,23 +124,14 @@ number_size n fits =
 
 -- the octets of numbers of two, three and four octets
 positive_two : (n : ℕ) → 2 ^ 7 ≤ n → n < 2 ^ 15 → positive_octets n ≡ (n / 256 % 256) ∷ ((n % 256) ∷ [])
-positive_two n large small =
-    let high : n / 256 ≡ n / 256 % 256 = omega arith in
-    positive_more n (omega arith) ∙ ap (λ bs. bs ++ (n % 256) ∷ []) (positive_small (n / 256) (omega arith) ∙ ap (λ b. b ∷ []) high)
+positive_two n large small = grind (arith, positive_more, positive_small)
 
 positive_three : (n : ℕ) → 2 ^ 15 ≤ n → n < 2 ^ 23 → positive_octets n ≡ (n / 65536 % 256) ∷ ((n / 256 % 256) ∷ ((n % 256) ∷ []))
-positive_three n large small =
-    let high : n / 256 / 256 ≡ n / 65536 = omega arith in
-    positive_more n (omega arith)
-    ∙ ap (λ bs. bs ++ (n % 256) ∷ []) (positive_two (n / 256) (omega arith) (omega arith) ∙ ap (λ b. (b % 256) ∷ ((n / 256 % 256) ∷ [])) high)
+positive_three n large small = grind (arith, positive_more, positive_two)
 
 positive_four : (n : ℕ) → 2 ^ 23 ≤ n → n < 2 ^ 31
     → positive_octets n ≡ (n / 16777216 % 256) ∷ ((n / 65536 % 256) ∷ ((n / 256 % 256) ∷ ((n % 256) ∷ [])))
-positive_four n large small =
-    let high : n / 256 / 65536 ≡ n / 16777216 = omega arith in
-    let third : n / 256 / 256 ≡ n / 65536 = omega arith in
-    let shorter = positive_three (n / 256) (omega arith) (omega arith) in
-    positive_more n (omega arith) ∙ ap (λ bs. bs ++ (n % 256) ∷ []) (rw (high, third) at shorter)
+positive_four n large small = grind (arith, positive_three, positive_more)
 
 positive_one : (n : ℕ) → n < 2 ^ 7 → positive_octets n ≡ (n % 256) ∷ []
 positive_one n small = let all : n ≡ n % 256 = omega arith in positive_small n (omega arith) ∙ ap (λ b. b ∷ []) all
