@@ -25,16 +25,16 @@ use Rattle.dms_centre.specs.Invariant.{AllBelow, IsState, IsPhase, IsPending}
 pub begins : (next : ℕ) → AllBelow next []
 begins next = λ k d h. absurd (omega arith)
 
-number_given_up : (b : Bool) (outcome : Outcome) (entry : Entry) → (if b then record entry { outcome = outcome } else entry).number ≡ entry.number
-number_given_up true outcome entry = refl
-number_given_up false outcome entry = refl
+same_number : (b : Bool) (outcome : Outcome) (entry : Entry) → (if b then record entry { outcome = outcome } else entry).number ≡ entry.number
+same_number true outcome entry = refl
+same_number false outcome entry = refl
 
 pub given_up_below : (next : ℕ) (outcome : Outcome) (ledger : List Entry) → AllBelow next ledger → AllBelow next (map (given_up outcome) ledger)
 given_up_below next outcome [] below = below
 given_up_below next outcome (entry ∷ ledger) below =
     let first = All-head (λ (e : Entry). e.number < next) entry ledger below in
     let rest = given_up_below next outcome ledger (All-tail (λ (e : Entry). e.number < next) entry ledger below) in
-    All-cons (λ (e : Entry). e.number < next) (given_up outcome entry) (map (given_up outcome) ledger) (omega (arith, first, number_given_up (is_waiting entry.outcome) outcome entry)) rest
+    All-cons (λ (e : Entry). e.number < next) (given_up outcome entry) (map (given_up outcome) ledger) (omega (arith, first, same_number (is_waiting entry.outcome) outcome entry)) rest
 
 below_more : (next : ℕ) (ledger : List Entry) → AllBelow next ledger → AllBelow (next + 1) ledger
 below_more next ledger below = λ k d within. omega (arith, below k d within)
@@ -75,13 +75,9 @@ awaiting_again state job pending ledger octets m is work pending_is octets_is le
 
 -- ---- a reply
 
-number_decided : (b : Bool) (outcome : Outcome) (entry : Entry) → (if b then record entry { outcome = outcome } else entry).number ≡ entry.number
-number_decided true outcome entry = refl
-number_decided false outcome entry = refl
-
 pub decided_below : (next number : ℕ) (outcome : Outcome) (ledger : List Entry) → AllBelow next ledger → AllBelow next (map (with_outcome number outcome) ledger)
 decided_below next number outcome [] below = below
 decided_below next number outcome (entry ∷ ledger) below =
     let first = All-head (λ (e : Entry). e.number < next) entry ledger below in
     let rest = decided_below next number outcome ledger (All-tail (λ (e : Entry). e.number < next) entry ledger below) in
-    All-cons (λ (e : Entry). e.number < next) (with_outcome number outcome entry) (map (with_outcome number outcome) ledger) (omega (arith, first, number_decided (entry.number == number) outcome entry)) rest
+    All-cons (λ (e : Entry). e.number < next) (with_outcome number outcome entry) (map (with_outcome number outcome) ledger) (omega (arith, first, same_number (entry.number == number) outcome entry)) rest

@@ -1,5 +1,6 @@
 -- How many octets a message takes at most.
-use Rattle.std.proofs.Common.{◌≡◌, ℕ, pos, ◌+◌, ◌*◌, ◌/◌, ◌%◌, ◌^◌, ◌<◌, ◌≤◌, Bool, true, false, cond, List, [], ◌∷◌, ◌++◌, map, length, arith, flat_map, length-append}
+use Rattle.std.proofs.Common.{◌≡◌, ℕ, pos, ◌+◌, ◌*◌, ◌/◌, ◌%◌, ◌^◌, ◌<◌, ◌≤◌, List, [], ◌∷◌, ◌++◌, map, length, arith, flat_map, length-append}
+use Rattle.std.proofs.lemmas.Bool.{cond_both}
 use Rattle.std.proofs.lemmas.List.{length-map}
 use Rattle.std.specs.Int.Digits.{digits_of, AllBelowBase}
 use Rattle.std.proofs.lemmas.Int.Digits.{length-digits_of-le}
@@ -14,14 +15,10 @@ use Rattle.dms_wire.specs.Canonical.{value_octets, binding_octets, numbers_octet
 use Rattle.dms_ber.proofs.Shortest.{element_length, length-positive_le}
 use Rattle.dms_ber.specs.Limits.{longest_datagram}
 
-length-cond : (t : Bool) (xs ys : List ℕ) (n : ℕ) → length xs ≤ n → length ys ≤ n → length (cond t xs ys) ≤ n
-length-cond true xs ys n p q = p
-length-cond false xs ys n p q = q
-
 length-short_length : (n : ℕ) → n < 65536 → length (short_length n) ≤ 3
 length-short_length n small =
     let digits = length-digits_of-le 256 2 n (omega arith) small in
-    length-cond _ (n ∷ []) ((128 + length (digits_of 256 n)) ∷ digits_of 256 n) 3 (omega arith) (omega (arith, digits))
+    cond_both _ (n ∷ []) ((128 + length (digits_of 256 n)) ∷ digits_of 256 n) (λ xs. length xs ≤ 3) (λ short. omega arith) (λ long. omega (arith, digits))
 
 pub length-element : (tag : ℕ) (content : List ℕ) → length content < 65536 → length (element tag content) ≤ 4 + length content
 length-element tag content small = omega (arith, element_length tag content, length-short_length (length content) small)
