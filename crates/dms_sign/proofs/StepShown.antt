@@ -13,7 +13,6 @@ use Rattle.dms_table.specs.declared.activation.Cause.TheVariants as causes
 use Rattle.dms_codes.specs.declared.codes.MessageId.{MessageId}
 use Rattle.dms_codes.specs.declared.codes.Activation.{Activation}
 use Rattle.dms_codes.specs.Status.{is_valid}
-use Rattle.dms_codes.specs.Checksum.{message_checksum}
 use Rattle.dms_codes.specs.Codes.{id_of}
 use Rattle.dms_table.specs.Rows.{RowModel, TableModel, RowReading, blank, rows_of, numbered, blank_at, reading, blank_reading, row_checksum}
 use Rattle.dms_codes.specs.Memory.{current_buffer, blank_memory}
@@ -35,9 +34,6 @@ same_then a b c one other = grind arith
 
 pub blank_as : (defaults : Defaults) (a b : ShownModel) → IsSameMessage a b → IsBlankedUnder defaults a → IsBlankedUnder defaults b
 blank_as defaults a b same is = grind arith
-
-pub checksum_as : (a b : ShownModel) → IsSameMessage a b → message_checksum a.text a.beacon a.pixel ≡ a.source.crc → message_checksum b.text b.beacon b.pixel ≡ b.source.crc
-checksum_as a b same is = rw (same.text, same.beacon, same.pixel, same.source) is
 
 pub row_as : (face : FaceModel) (defaults : Defaults) (table : TableModel) (a b : ShownModel) → IsSameMessage a b → IsRowOf face defaults table a
     → IsRowOf face defaults table b
