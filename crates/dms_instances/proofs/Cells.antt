@@ -1,5 +1,5 @@
 -- The cell that comes next in a column, and what comes after its last.
-use Rattle.std.proofs.Common.{◌≡◌, ◌⊎◌, inl, inr, ℕ, ◌+◌, ◌<◌, ◌≤◌, true, List, [], ◌∷◌, Some, None, refl, sym, ap, subst, ◌∙◌, arith}
+use Rattle.std.proofs.Common.{◌≡◌, ◌⊎◌, inl, inr, ℕ, ◌+◌, ◌<◌, ◌≤◌, true, List, [], ◌∷◌, Some, None, sym, subst, ◌∙◌, arith}
 use Rattle.std.proofs.lemmas.Bool.Decides.{nat_tests}
 use Rattle.dms_codes.specs.declared.row_id.RowId.{RowId}
 use Rattle.dms_objects.specs.declared.column.Column.{Column}
@@ -9,31 +9,14 @@ use Rattle.dms_objects.specs.Names.{below_dms, column_number, name_of, cell_name
 use Rattle.dms_table.specs.Rows.{TableModel}
 use Rattle.dms_instances.specs.declared.counts.Counts.{Counts}
 use Rattle.dms_instances.specs.Objects.{is_before, comes_after, next_instance, IsInstance}
-use Rattle.dms_instances.specs.Places.{HasCounts, last_number, row_place, IsRow, IsFirstRow}
+use Rattle.dms_instances.specs.Places.{HasCounts, AreOctets, row_place, IsRow, IsFirstRow}
 use Rattle.dms_instances.specs.NameReading.{column_at, octets_below, row_number_of}
 use Rattle.dms_instances.proofs.InOrder.{alike_is, smaller, larger}
-use Rattle.dms_instances.proofs.WhichInstances.{AreOctets, Counted, counted_there, there_counted, last_few}
+use Rattle.dms_instances.proofs.WhichInstances.{number_few, memory_within, counted_there, there_counted}
 use Rattle.dms_instances.proofs.Beginnings.{Begins, begins}
 use Rattle.dms_instances.proofs.Following.{first_is, same_below, objects_alike, before_cells, past_cells, in_column}
 
--- ---- rows
-
-pub as_row : (n : Counts) (row : RowId) → Counted n row → IsRow n row
-as_row n row counted = record { from_1 = counted.from_1; to = counted.to }
-
-pub number_few : (n : Counts) → AreOctets n → (row : RowId) → IsRow n row → row.number < 256
-number_few n few row is = omega (arith, is.to, last_few n few row.memory)
-
--- a type of memory without rows is no row's
-pub kept_out : (n : Counts) (row : RowId) → IsRow n row → (kind : ℕ) → last_number n kind ≡ 0 → row.memory ≡ kind → ⊥
-kept_out n row is kind none e =
-    let last : last_number n row.memory ≡ 0 = ap (last_number n) e ∙ none in
-    absurd (omega (arith, is.from_1, is.to, last))
-
-pub memory_from : (n : Counts) (row : RowId) → IsRow n row → 2 ≤ row.memory
-memory_from n row is = omega (arith, kept_out n row is 0 refl, kept_out n row is 1 refl)
-
--- ---- their names
+-- ---- the names of rows
 
 pair_before : (m x g y : ℕ) → x < 256 → y < 256 → row_place m x < row_place g y → is_before (m ∷ x ∷ []) (g ∷ y ∷ []) ≡ true
 pair_before m x g y few most h = grind (arith, nat_tests)
@@ -49,7 +32,7 @@ unfolding name_of
 cell_next table n has few c m x most row is =
     sym (first_is table (below_dms (5 ∷ 8 ∷ 1 ∷ column_number c ∷ m ∷ x ∷ [])) (Cell c row)
     (record {
-      there = counted_there table n c row has is.there.from_1 is.there.to;
+      there = counted_there table n c row has is.there;
       after = alike_is (column_number c) (m ∷ x ∷ []) (row.memory ∷ row.number ∷ []) ∙ pair_before m x row.memory row.number most number is.after;
       first = each;
     }))
@@ -62,7 +45,7 @@ cell_next table n has few c m x most row is =
     each (Scalar object) there e =
         inr (objects_alike (column_number c ∷ row.memory ∷ row.number ∷ []) (column_number c ∷ m ∷ x ∷ []) object ∙ e)
     each (Cell d r) there e =
-        let counted = as_row n r (there_counted table n d r has there) in
+        let counted = there_counted table n d r has there in
         let first = is.first r counted in
         let small = number_few n few r counted in
         let same = same_column c d in
@@ -74,8 +57,7 @@ pub past_rows : (table : TableModel) (n : Counts) → HasCounts table n → AreO
     → next_instance table (below_dms (5 ∷ 8 ∷ 1 ∷ c ∷ m ∷ x ∷ [])) ≡ next_instance table (below_dms (5 ∷ 8 ∷ 1 ∷ (c + 1) ∷ []))
 past_rows table n has few c m x most last =
     same_below table n has (5 ∷ 8 ∷ 1 ∷ c ∷ m ∷ x ∷ []) (5 ∷ 8 ∷ 1 ∷ (c + 1) ∷ []) (λ object. objects_alike (c ∷ m ∷ x ∷ []) ((c + 1) ∷ []) object)
-    λ column row counted.
-    let is = as_row n row counted in
+    λ column row is.
     let small = number_few n few row is in
     let to = last row is in
     grind (arith, nat_tests)
@@ -84,8 +66,8 @@ past_rows table n has few c m x most last =
 pub column_itself : (table : TableModel) (n : Counts) → HasCounts table n → (c x : ℕ)
     → next_instance table (below_dms (5 ∷ 8 ∷ 1 ∷ c ∷ 0 ∷ x ∷ [])) ≡ next_instance table (below_dms (5 ∷ 8 ∷ 1 ∷ c ∷ []))
 column_itself table n has c x =
-    in_column table n has c (0 ∷ x ∷ []) [] λ row counted.
-    smaller 0 row.memory (x ∷ []) (row.number ∷ []) (omega (arith, memory_from n row (as_row n row counted)))
+    in_column table n has c (0 ∷ x ∷ []) [] λ row is.
+    smaller 0 row.memory (x ∷ []) (row.number ∷ []) (omega (arith, (memory_within n row is).0))
 
 of_number : (others : List ℕ) (y : ℕ) → 1 ≤ y → y < 256 → is_before (row_number_of others ∷ []) (y ∷ []) ≡ is_before others (y ∷ [])
 of_number [] y some few = grind (arith, nat_tests)
@@ -99,17 +81,17 @@ pub of_row : (table : TableModel) (n : Counts) → HasCounts table n → AreOcte
 of_row table n has few c m x numbers rest e number =
     let from = begins numbers m rest e in
     subst (λ ns. next_instance table (below_dms (5 ∷ 8 ∷ 1 ∷ c ∷ m ∷ x ∷ [])) ≡ next_instance table (below_dms (5 ∷ 8 ∷ 1 ∷ c ∷ ns))) (sym from.are)
-    (in_column table n has c (m ∷ x ∷ []) (from.first ∷ from.others) λ row counted. each from row counted)
+    (in_column table n has c (m ∷ x ∷ []) (from.first ∷ from.others) λ row is. each from row is)
   where
-    each : (from : Begins numbers m rest) (row : RowId) → Counted n row
+    each : (from : Begins numbers m rest) (row : RowId) → IsRow n row
         → is_before (m ∷ x ∷ []) (row.memory ∷ row.number ∷ []) ≡ is_before (from.first ∷ from.others) (row.memory ∷ row.number ∷ [])
-    each from row counted =
-        let small = number_few n few row (as_row n row counted) in
-        let memory = counted.memory in
+    each from row is =
+        let small = number_few n few row is in
+        let memory = memory_within n row is in
         elim from.is [
           | inl one ↦
-              let is = number from.others one.2 in
-              let same = of_number from.others row.number counted.from_1 small in
+              let last = number from.others one.2 in
+              let same = of_number from.others row.number is.from_1 small in
               grind (arith, nat_tests)
           | inr high ↦ grind (arith, nat_tests)
         ]
@@ -129,7 +111,7 @@ column_past k none some = grind arith
 pub past_high : (table : TableModel) (n : Counts) → HasCounts table n → (k : ℕ) (a : List ℕ) → 9 < k
     → next_instance table (below_dms (5 ∷ 8 ∷ 1 ∷ k ∷ a)) ≡ next_instance table (below_dms (5 ∷ 9 ∷ []))
 past_high table n has k a past =
-    past_cells table n has 1 (k ∷ a) λ column row counted.
+    past_cells table n has 1 (k ∷ a) λ column row is.
     larger k (column_number column) a (row.memory ∷ row.number ∷ []) (omega (arith, past, column_to column))
 
 -- so where the number is no column's

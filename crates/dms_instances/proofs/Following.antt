@@ -12,11 +12,11 @@ use Rattle.dms_objects.specs.Names.{below_dms, column_number, scalar_number, nam
 use Rattle.dms_table.specs.Rows.{TableModel}
 use Rattle.dms_instances.specs.declared.counts.Counts.{Counts}
 use Rattle.dms_instances.specs.Objects.{instances, is_before, comes_after, next_instance, IsInstance, IsFirstAfter, FirstAfter}
-use Rattle.dms_instances.specs.Places.{HasCounts}
+use Rattle.dms_instances.specs.Places.{HasCounts, IsRow}
 use Rattle.dms_instances.specs.NameReading.{scalar_at}
 use Rattle.dms_instances.proofs.InOrder.{smaller, larger, before_trans, not_before_itself, next_is_first}
 use Rattle.dms_instances.proofs.Inverses.{scalar_back}
-use Rattle.dms_instances.proofs.WhichInstances.{Counted, object_there, there_counted}
+use Rattle.dms_instances.proofs.WhichInstances.{object_there, there_counted}
 
 -- ---- names with the same instances after them
 
@@ -85,7 +85,7 @@ cell_key column row = 5 ∷ 8 ∷ 1 ∷ column_number column ∷ row.memory ∷ 
 
 pub same_below : (table : TableModel) (n : Counts) → HasCounts table n → (a b : List ℕ)
     → ((object : Scalar) → is_before a (object_key object) ≡ is_before b (object_key object))
-    → ((column : Column) (row : RowId) → Counted n row → is_before a (cell_key column row) ≡ is_before b (cell_key column row))
+    → ((column : Column) (row : RowId) → IsRow n row → is_before a (cell_key column row) ≡ is_before b (cell_key column row))
     → next_instance table (below_dms a) ≡ next_instance table (below_dms b)
 unfolding name_of
 same_below table n has a b objects cells = same_next table (below_dms a) (below_dms b) each
@@ -101,7 +101,7 @@ by_pairs : (table : TableModel) (n : Counts) → HasCounts table n → (a b : Li
 by_pairs table n has a b same =
     same_below table n has a b
     (λ object. let is = object_within object in same (scalar_number object).0 (scalar_number object).1 0 [] (is.group_from, is.group_to, is.from, is.to))
-    (λ column row counted. same 5 8 1 (column_number column ∷ row.memory ∷ row.number ∷ []) (omega arith, omega arith, omega arith, omega arith))
+    (λ column row is. same 5 8 1 (column_number column ∷ row.memory ∷ row.number ∷ []) (omega arith, omega arith, omega arith, omega arith))
 
 -- dms itself
 pub of_nothing : (table : TableModel) (n : Counts) → HasCounts table n → next_instance table (below_dms []) ≡ next_instance table (below_dms (0 ∷ 0 ∷ []))
@@ -137,7 +137,7 @@ pub past_object : (table : TableModel) (n : Counts) → HasCounts table n → (o
     → next_instance table (below_dms (o ∷ p ∷ z ∷ zs)) ≡ next_instance table (below_dms (o ∷ (p + 1) ∷ []))
 past_object table n has o p z zs other =
     let none = none_before_0 z zs in
-    same_below table n has (o ∷ p ∷ z ∷ zs) (o ∷ (p + 1) ∷ []) (λ object. grind (arith, nat_tests)) (λ column row counted. grind (arith, nat_tests))
+    same_below table n has (o ∷ p ∷ z ∷ zs) (o ∷ (p + 1) ∷ []) (λ object. grind (arith, nat_tests)) (λ column row is. grind (arith, nat_tests))
 
 -- ---- names below dmsMessageTable
 
@@ -147,7 +147,7 @@ pub before_cells : (table : TableModel) (n : Counts) → HasCounts table n → (
     → next_instance table (below_dms (5 ∷ 8 ∷ a)) ≡ next_instance table (below_dms (5 ∷ 8 ∷ []))
 before_cells table n has a first =
     same_below table n has (5 ∷ 8 ∷ a) (5 ∷ 8 ∷ []) (λ object. let other = not_table object in grind (arith, nat_tests))
-    (λ column row counted. first row.memory row.number column)
+    (λ column row is. first row.memory row.number column)
 
 -- the table's numbers or others
 pub is_table : (g x : ℕ) → ((g == 5) && (x == 8)) ≡ true → (g ≡ 5) × (x ≡ 8)
@@ -166,7 +166,7 @@ table_first table n has g x e =
 
 -- after all cells
 pub past_cells : (table : TableModel) (n : Counts) → HasCounts table n → (z : ℕ) (a : List ℕ)
-    → ((column : Column) (row : RowId) → Counted n row → is_before (z ∷ a) (1 ∷ column_number column ∷ row.memory ∷ row.number ∷ []) ≡ false)
+    → ((column : Column) (row : RowId) → IsRow n row → is_before (z ∷ a) (1 ∷ column_number column ∷ row.memory ∷ row.number ∷ []) ≡ false)
     → next_instance table (below_dms (5 ∷ 8 ∷ z ∷ a)) ≡ next_instance table (below_dms (5 ∷ 9 ∷ []))
 past_cells table n has z a last =
     let none = none_before_0 z a in
@@ -177,11 +177,11 @@ objects_alike a b object = grind (arith, nat_tests)
 
 -- within a column
 pub in_column : (table : TableModel) (n : Counts) → HasCounts table n → (k : ℕ) (a b : List ℕ)
-    → ((row : RowId) → Counted n row → is_before a (row.memory ∷ row.number ∷ []) ≡ is_before b (row.memory ∷ row.number ∷ []))
+    → ((row : RowId) → IsRow n row → is_before a (row.memory ∷ row.number ∷ []) ≡ is_before b (row.memory ∷ row.number ∷ []))
     → next_instance table (below_dms (5 ∷ 8 ∷ 1 ∷ k ∷ a)) ≡ next_instance table (below_dms (5 ∷ 8 ∷ 1 ∷ k ∷ b))
 in_column table n has k a b same =
     same_below table n has (5 ∷ 8 ∷ 1 ∷ k ∷ a) (5 ∷ 8 ∷ 1 ∷ k ∷ b) (λ object. objects_alike (k ∷ a) (k ∷ b) object)
-    (λ column row counted. same_head k a b (column_number column) (row.memory ∷ row.number ∷ []) λ e. same row counted)
+    (λ column row is. same_head k a b (column_number column) (row.memory ∷ row.number ∷ []) λ e. same row is)
 
 -- ---- the objects from a group and number on
 
@@ -210,7 +210,7 @@ pub next_number : (table : TableModel) (n : Counts) → HasCounts table n → (g
     → next_instance table (below_dms (g ∷ x ∷ [])) ≡ next_instance table (below_dms (g ∷ (x + 1) ∷ []))
 next_number table n has g x none other =
     same_below table n has (g ∷ x ∷ []) (g ∷ (x + 1) ∷ []) (λ object. let no = no_object object g x none in grind (arith, nat_tests))
-    (λ column row counted. grind (arith, nat_tests))
+    (λ column row is. grind (arith, nat_tests))
 
 -- nor has one a greater number in the group
 pub next_group : (table : TableModel) (n : Counts) → HasCounts table n → (g x : ℕ) → scalar_at g x ≡ None → (g ≡ 5 → x ≡ 8 → ⊥)
@@ -220,7 +220,7 @@ next_group table n has g x none other last =
     let table_is = last scalars.ValidateMessageError in
     same_below table n has (g ∷ x ∷ []) ((g + 1) ∷ 0 ∷ [])
     (λ object. let is = object_within object in let no = no_object object g x none in let most = last object in grind (arith, nat_tests))
-    (λ column row counted. grind (arith, nat_tests))
+    (λ column row is. grind (arith, nat_tests))
 
 pub past_groups : (table : TableModel) (g : ℕ) (a : List ℕ) → 6 < g → None ≡ next_instance table (below_dms (g ∷ a))
 unfolding name_of

@@ -10,7 +10,9 @@ use Rattle.std.proofs.lemmas.Cmp.{nat_list_cmp_total, tied_itself}
 use Rattle.std.proofs.lemmas.Option.{same_Some}
 use Rattle.dms_ber.specs.NameOrder.{numbers_cmp}
 use Rattle.dms_objects.specs.declared.column.Column.{Column}
+use Rattle.dms_codes.specs.declared.memory.Memory.{Memory}
 use Rattle.dms_codes.specs.declared.row_id.RowId.{RowId}
+use Rattle.dms_codes.specs.Memory.{memory_number}
 use Rattle.dms_objects.specs.declared.objects.Instances.{Instances}
 use Rattle.dms_objects.specs.declared.objects.Instances.TheVariants.{One, EachRow}
 use Rattle.dms_objects.specs.Objects.{every_object}
@@ -19,7 +21,7 @@ use Rattle.dms_table.specs.Rows.{TableModel}
 use Rattle.dms_objects.specs.declared.instance.Instance.{Instance}
 use Rattle.dms_objects.specs.declared.instance.Instance.TheVariants.{Cell}
 use Rattle.dms_objects.specs.Names.{name_of}
-use Rattle.dms_instances.specs.Objects.{memories, rows_in, row_ids, cells, instances_of, instances, is_before, has_name, comes_after, instance_named, next_instance, IsInstance, FirstAfter}
+use Rattle.dms_instances.specs.Objects.{every_memory, count_in, rows_in, row_ids, cells, instances_of, instances, is_before, has_name, comes_after, instance_named, next_instance, IsInstance, FirstAfter}
 
 -- ---- the order of names
 
@@ -119,17 +121,18 @@ numbers_rise k (suc n) low high h g =
 abbrev index : RowId → List ℕ
 index row = row.memory ∷ row.number ∷ []
 
-abbrev past : ℕ × ℕ → List ℕ
-past memory = memory.0 ∷ (memory.1 + 2) ∷ []
+abbrev past : TableModel → Memory → List ℕ
+past table memory = memory_number memory ∷ (count_in table memory + 2) ∷ []
 
-rows_rise : (memory : ℕ × ℕ) → rises index (memory.0 ∷ []) (rows_in memory) (past memory) ≡ true
-rows_rise memory =
-    let numbers = numbers_rise 1 memory.1 [] (memory.1 + 2) refl (omega arith) in
-    mapped index (λ number. record { memory = memory.0; number = number }) (memory.0 ∷ []) (range_with_len 1 memory.1) (past memory)
-    ∙ under (λ (j : ℕ). j ∷ []) memory.0 [] (range_with_len 1 memory.1) ((memory.1 + 2) ∷ []) numbers
+rows_rise : (table : TableModel) (memory : Memory) → rises index (memory_number memory ∷ []) (rows_in table memory) (past table memory) ≡ true
+rows_rise table memory =
+    let count = count_in table memory in
+    mapped index (λ number. record { memory = memory_number memory; number = number }) (memory_number memory ∷ []) (range_with_len 1 count) (past table memory)
+    ∙ under (λ (j : ℕ). j ∷ []) (memory_number memory) [] (range_with_len 1 count) ((count + 2) ∷ []) (numbers_rise 1 count [] (count + 2) refl (omega arith))
 
 all_rows_rise : (table : TableModel) → rises index [] (row_ids table) (8 ∷ []) ≡ true
-all_rows_rise table = pieces index rows_in (λ memory. memory.0 ∷ []) past rows_rise [] (memories table) (8 ∷ []) refl
+all_rows_rise table =
+    pieces index (rows_in table) (λ memory. memory_number memory ∷ []) (past table) (rows_rise table) [] every_memory (8 ∷ []) refl
 
 -- below dmsMessageEntry
 abbrev entry : List ℕ → List ℕ

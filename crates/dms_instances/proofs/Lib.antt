@@ -8,5 +8,6 @@ pub mod NamesFound
 pub mod Inverses
 pub mod Beginnings
 pub mod Following
+pub mod Rows
 pub mod Cells
 pub mod Stops

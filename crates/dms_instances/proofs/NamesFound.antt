@@ -14,11 +14,11 @@ use Rattle.dms_objects.proofs.NameLaws.{object_named}
 use Rattle.dms_table.specs.Rows.{TableModel}
 use Rattle.dms_instances.specs.declared.counts.Counts.{Counts}
 use Rattle.dms_instances.specs.Objects.{has_name, instance_named, IsInstance}
-use Rattle.dms_instances.specs.Places.{HasCounts}
+use Rattle.dms_instances.specs.Places.{HasCounts, AreOctets}
 use Rattle.dms_instances.specs.NameReading.{IsFoundBy}
 use Rattle.dms_instances.proofs.CellOctets.{short_named, long_named}
 use Rattle.dms_instances.proofs.InOrder.{named_is}
-use Rattle.dms_instances.proofs.WhichInstances.{AreOctets, Counted, there_counted, last_few}
+use Rattle.dms_instances.proofs.WhichInstances.{there_counted, number_few, memory_within}
 
 -- a name that is an instance's has its octets
 octets_of : (name : List ℕ) (i : Instance) (octets : List ℕ) → has_name name i ≡ true → IsNamed i octets → name_octets name ≡ octets
@@ -49,8 +49,9 @@ pub there_found : (table : TableModel) (n : Counts) (name : List ℕ) (found : O
 there_found table n name found has few is (Scalar object) there e =
     is.object object (octets_of name (Scalar object) _ e (object_named object _ _ refl refl))
 there_found table n name found has few is (Cell column row) there e =
-    let counted : Counted n row = there_counted table n column row has there in
-    cell_found name found column row is counted.memory (omega (arith, counted.to, last_few n few row.memory)) e
+    let row_is = there_counted table n column row has there in
+    let memory = memory_within n row row_is in
+    cell_found name found column row is (omega arith) (number_few n few row row_is) e
 
 -- a name that none has is not found
 pub none_named : (table : TableModel) (name : List ℕ) → ((i : Instance) → IsInstance table i → has_name name i ≡ true → ⊥)

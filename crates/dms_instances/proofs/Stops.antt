@@ -86,7 +86,7 @@ pub behind_entry : (table : TableModel) (n : Counts) → HasCounts table n → (
     → next_instance table (below_dms (5 ∷ 9 ∷ [])) ≡ next_instance table (below_dms (5 ∷ 8 ∷ numbers))
 behind_entry table n has numbers o more e many =
     let from = begins numbers o more e in
-    sym (past_cells table n has from.first from.others λ column row counted. each from (column_number column ∷ row.memory ∷ row.number ∷ []))
+    sym (past_cells table n has from.first from.others λ column row is. each from (column_number column ∷ row.memory ∷ row.number ∷ []))
     ∙ ap (λ ns. next_instance table (below_dms (5 ∷ 8 ∷ ns))) (sym from.are)
   where
     each : (from : Begins numbers o more) (c : List ℕ) → is_before (from.first ∷ from.others) (1 ∷ c) ≡ false

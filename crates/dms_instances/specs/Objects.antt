@@ -12,7 +12,9 @@ use Rattle.dms_objects.specs.declared.objects.Instances.TheVariants.{One, EachRo
 use Rattle.dms_objects.specs.Objects.{every_object}
 use Rattle.dms_objects.specs.Names.{name_of}
 use Rattle.dms_table.specs.Rows.{TableModel}
-use Rattle.dms_codes.specs.Memory.{permanent_memory, changeable_memory, volatile_memory, current_buffer, blank_memory}
+use Rattle.dms_codes.specs.declared.memory.Memory.{Memory}
+use Rattle.dms_codes.specs.declared.memory.Memory.TheVariants.{Permanent, Changeable, Volatile, CurrentBuffer, Blank}
+use Rattle.dms_codes.specs.Memory.{memory_number}
 use Rattle.dms_objects.specs.declared.instance.Instance.{Instance}
 use Rattle.dms_objects.specs.declared.instance.Instance.TheVariants as kinds
 
@@ -22,17 +24,25 @@ use Rattle.dms_objects.specs.declared.instance.Instance.TheVariants as kinds
 abbrev pub numbers_to : ℕ → List ℕ
 numbers_to n = range_with_len 1 n
 
--- each type of memory with how many rows it has; what is shown is one, and blank messages have the numbers 1 to 255
-abbrev pub memories : TableModel → List (ℕ × ℕ)
-memories table = (permanent_memory, length table.permanent) ∷ (changeable_memory, length table.changeable)
-    ∷ (volatile_memory, length table.volatile) ∷ (current_buffer, 1) ∷ (blank_memory, 255) ∷ []
+-- the types of memory, in the order of their numbers
+abbrev pub every_memory : List Memory
+every_memory = Permanent ∷ Changeable ∷ Volatile ∷ CurrentBuffer ∷ Blank ∷ []
+
+-- how many rows a type of memory has; what is shown is one, and blank messages have the numbers 1 to 255
+abbrev pub count_in : TableModel → Memory → ℕ
+count_in table Permanent = length table.permanent
+count_in table Changeable = length table.changeable
+count_in table Volatile = length table.volatile
+count_in table CurrentBuffer = 1
+count_in table Blank = 255
 
 -- the rows of a type of memory, from number 1
-abbrev pub rows_in : ℕ × ℕ → List RowId
-rows_in memory = map (λ number. record { memory = memory.0; number = number }) (numbers_to memory.1)
+abbrev pub rows_in : TableModel → Memory → List RowId
+rows_in table memory =
+    map (λ number. record { memory = memory_number memory; number = number }) (numbers_to (count_in table memory))
 
 abbrev pub row_ids : TableModel → List RowId
-row_ids table = flat_map rows_in (memories table)
+row_ids table = flat_map (rows_in table) every_memory
 
 -- a column's instances, one for each row
 abbrev pub cells : TableModel → Column → List Instance

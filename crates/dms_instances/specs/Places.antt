@@ -1,7 +1,9 @@
 -- The rows of a sign by how many each type of memory has, and their places in the order of names (this profile).
-use Rattle.std.specs.Prelude.{◌≡◌, ◌<◌, ◌≤◌, length, ℕ, ◌+◌, ◌*◌, ◌==◌, if◌then◌else◌}
+use Rattle.std.specs.Prelude.{◌≡◌, ◌<◌, ◌≤◌, length, ℕ, ◌+◌, ◌*◌, nat_lt, ◌&&◌, Bool, Some}
 use Rattle.dms_codes.specs.declared.row_id.RowId.{RowId}
-use Rattle.dms_codes.specs.Memory.{permanent_memory, changeable_memory, volatile_memory, current_buffer, blank_memory}
+use Rattle.dms_codes.specs.declared.memory.Memory.{Memory}
+use Rattle.dms_codes.specs.declared.memory.Memory.TheVariants.{Permanent, Changeable, Volatile, CurrentBuffer, Blank}
+use Rattle.dms_codes.specs.Memory.{memory_number, memory_of}
 use Rattle.dms_table.specs.Rows.{TableModel}
 use Rattle.dms_instances.specs.declared.counts.Counts.{Counts}
 
@@ -11,20 +13,30 @@ pub record HasCounts (table : TableModel) (n : Counts) : Type 0 where
   pub changeable : length table.changeable ≡ n.changeable
   pub volatile : length table.volatile ≡ n.volatile
 
--- the last number of a row of a type of memory, or 0 where it has no row
-abbrev pub last_number : Counts → ℕ → ℕ
-last_number n memory =
-    if memory == permanent_memory then n.permanent
-    else if memory == changeable_memory then n.changeable
-    else if memory == volatile_memory then n.volatile
-    else if memory == current_buffer then 1
-    else if memory == blank_memory then 255
-    else 0
+-- each is one of an octet
+pub record AreOctets (n : Counts) : Type 0 where
+  pub permanent : n.permanent < 256
+  pub changeable : n.changeable < 256
+  pub volatile : n.volatile < 256
 
--- there is the row
+-- the last number of a row of a type of memory, or 0 where it has no row
+abbrev pub last_number : Counts → Memory → ℕ
+last_number n Permanent = n.permanent
+last_number n Changeable = n.changeable
+last_number n Volatile = n.volatile
+last_number n CurrentBuffer = 1
+last_number n Blank = 255
+
+-- there is the row: it is of a type of memory, and its number is from 1 to the last one there
 pub record IsRow (n : Counts) (row : RowId) : Type 0 where
+  pub memory : Memory
+  pub of_memory : memory_of row.memory ≡ Some memory
   pub from_1 : 1 ≤ row.number
-  pub to : row.number ≤ last_number n row.memory
+  pub to : row.number ≤ last_number n memory
+
+-- the type of memory is above this number, and has a row
+abbrev pub is_past : Counts → ℕ → Memory → Bool
+is_past n number memory = nat_lt number (memory_number memory) && nat_lt 0 (last_number n memory)
 
 -- A row's place in the order of names: rows come by their type of memory, and then by their number, which is below 256.
 abbrev pub row_place : (memory number : ℕ) → ℕ

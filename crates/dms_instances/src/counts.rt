@@ -2,12 +2,16 @@
 //! comes next, follows from where the octets of the name first differ from those of names that there are; nothing is
 //! searched for.
 
-ghost use Rattle.std.specs.Prelude.{◌≡◌, ◌≤◌, ◌<◌, ◌+◌, ◌==◌, ◌&&◌, ◌∷◌, [], ℕ, List, true, length, IfSome, IfNone};
+ghost use Rattle.std.specs.Prelude.{◌≡◌, ◌≤◌, ◌<◌, ◌+◌, ◌==◌, ◌&&◌, ◌∷◌, [], ℕ, List, length};
+ghost use Rattle.std.specs.Prelude.{true, false, IfSome, IfNone};
+ghost use Rattle.std.specs.List.{find};
+ghost use Rattle.dms_codes.specs.Memory.{memory_number};
 ghost use Rattle.dms_codes.specs.declared.row_id.RowId.{RowId};
 ghost use Rattle.dms_table.specs.Rows.{TableModel};
 ghost use Rattle.dms_objects.specs.Names.{below_dms, cell_name, column_number};
-ghost use Rattle.dms_instances.specs.Objects.{instance_named, next_instance, IsInstance};
-ghost use Rattle.dms_instances.specs.Places.{HasCounts, last_number, row_place, IsRow, IsFirstRow};
+ghost use Rattle.dms_instances.specs.Objects.{every_memory, instance_named, next_instance, IsInstance};
+ghost use Rattle.dms_instances.specs.Places.{HasCounts, AreOctets, IsRow, IsFirstRow};
+ghost use Rattle.dms_instances.specs.Places.{last_number, is_past, row_place};
 ghost use Rattle.dms_instances.specs.NameReading.{octets_below};
 
 use crate::names::{comes_before_dms, known_below_dms, known_by_octets};
@@ -15,18 +19,27 @@ use crate::octets::{
     self, below_dms, column_of, first_octet, last_object, number_after, row_number, scalar_of,
 };
 use dms_ber::Oid;
-use dms_codes::{RowId, memory};
+use dms_codes::{Memory, RowId, memory};
 use dms_objects::{Column, Instance};
 use dms_table::Table;
+
+/// The types of memory, in the order of their numbers.
+const EVERY_MEMORY: [Memory; 5] = [
+    Memory::Permanent,
+    Memory::Changeable,
+    Memory::Volatile,
+    Memory::CurrentBuffer,
+    Memory::Blank,
+];
 
 /// How many rows a sign has of each type of memory that it stores. They say which instances it has.
 #[derive(Clone, Copy, Debug, PartialEq, Eq)]
 pub struct Counts {
-    /// Rows of memory type 2.
+    /// Permanent rows.
     pub permanent: u8,
-    /// Rows of memory type 3.
+    /// Changeable rows.
     pub changeable: u8,
-    /// Rows of memory type 4.
+    /// Volatile rows.
     pub volatile: u8,
 }
 
@@ -66,21 +79,34 @@ impl Counts {
     {
         match instance {
             Instance::Scalar(_) => true,
-            Instance::Cell(_, row) => 1 <= row.number && row.number <= self.last_number(row.memory),
+            Instance::Cell(_, row) => self.has_row(row),
         }
     }
 
-    /// The last number of a row of a type of memory, or 0 where it has no row.
-    fn last_number(&self, kind: u8) -> u16
-        ensures { result ≡ last_number self.now kind }
+    /// Whether there is the row.
+    fn has_row(&self, row: RowId) -> bool
+        ensures is { result ≡ true → IsRow self.now row }
+        ensures each { IsRow self.now row → result ≡ true }
+        ensures past { result ≡ false → 1 ≤ row.number → (other : RowId) → IsRow self.now other
+            → other.memory ≡ row.memory → other.number < row.number }
     {
-        match kind {
-            memory::PERMANENT => u16::from(self.permanent),
-            memory::CHANGEABLE => u16::from(self.changeable),
-            memory::VOLATILE => u16::from(self.volatile),
-            memory::CURRENT_BUFFER => 1,
-            memory::BLANK => 255,
-            _ => 0,
+        1 <= row.number
+            && match row.memory() {
+                Some(memory) => row.number <= self.last_number(memory),
+                None => false,
+            }
+    }
+
+    /// The last number of a row of a type of memory, or 0 where it has no row.
+    fn last_number(&self, memory: Memory) -> u16
+        ensures { result ≡ last_number self.now memory }
+    {
+        match memory {
+            Memory::Permanent => u16::from(self.permanent),
+            Memory::Changeable => u16::from(self.changeable),
+            Memory::Volatile => u16::from(self.volatile),
+            Memory::CurrentBuffer => 1,
+            Memory::Blank => 255,
         }
     }
 
@@ -240,34 +266,44 @@ impl Counts {
             ((row : RowId) → IsRow self.now row → row_place row.memory row.number ≤ row_place memory number) }
     {
         are_octets(self.permanent, self.changeable, self.volatile);
-        let number = u16::from(number);
-        if number < self.last_number(memory) {
-            let number = number + 1;
-            Some(RowId { memory, number })
+        let number = u16::from(number) + 1;
+        let next = RowId { memory, number };
+        if self.has_row(next) {
+            Some(next)
         } else {
             self.row_past(memory)
         }
     }
 
-    /// The first row of a type of memory above this one.
-    fn row_past(&self, kind: u8) -> Option<RowId>
-        ensures some { IfSome result (λ row. IsFirstRow self.now (row_place kind 255) row) }
-        ensures none { IfNone result ((row : RowId) → IsRow self.now row → row.memory ≤ kind) }
+    /// The first row of a type of memory above this number.
+    fn row_past(&self, number: u8) -> Option<RowId>
+        ensures some { IfSome result (λ row. IsFirstRow self.now (row_place number 255) row) }
+        ensures none { IfNone result ((row : RowId) → IsRow self.now row → row.memory ≤ number) }
     {
         are_octets(self.permanent, self.changeable, self.volatile);
-        if kind < memory::PERMANENT && self.permanent != 0 {
-            Some(first_row(memory::PERMANENT))
-        } else if kind < memory::CHANGEABLE && self.changeable != 0 {
-            Some(first_row(memory::CHANGEABLE))
-        } else if kind < memory::VOLATILE && self.volatile != 0 {
-            Some(first_row(memory::VOLATILE))
-        } else if kind < memory::CURRENT_BUFFER {
-            Some(first_row(memory::CURRENT_BUFFER))
-        } else if kind < memory::BLANK {
-            Some(first_row(memory::BLANK))
-        } else {
-            None
+        let memory = self.memory_past(number)?;
+        Some(first_row(memory))
+    }
+
+    /// The first type of memory that is above this number and has a row.
+    #[inline]
+    fn memory_past(&self, number: u8) -> Option<Memory>
+        ensures { result ≡ find (is_past self.now number) every_memory }
+    {
+        for memory in EVERY_MEMORY {
+            if self.is_past(memory, number) {
+                return Some(memory);
+            }
         }
+        None
+    }
+
+    /// Whether the type of memory is above this number and has a row.
+    #[inline]
+    fn is_past(&self, memory: Memory, number: u8) -> bool
+        ensures { result ≡ is_past self.now number memory }
+    {
+        number < memory.number() && self.last_number(memory) != 0
     }
 
     /// The first instance of an object, or of the table, that does not come before this group and number: at most six
@@ -296,19 +332,21 @@ impl Counts {
     }
 }
 
+/// The first row of a type of memory.
+fn first_row(memory: Memory) -> RowId
+    ensures { result ≡ record { memory = memory_number memory; number = 1 } }
+{
+    RowId {
+        memory: memory.number(),
+        number: 1,
+    }
+}
+
 /// The numbers of rows are below 256: for the proof alone, nothing runs.
 #[inline]
 fn are_octets(permanent: u8, changeable: u8, volatile: u8)
-    ensures permanent { permanent < 256 }
-    ensures changeable { changeable < 256 }
-    ensures volatile { volatile < 256 }
+    ensures { AreOctets (record { permanent = permanent; changeable = changeable; volatile = volatile }) }
 {}
-
-fn first_row(memory: u8) -> RowId
-    ensures { result ≡ record { memory = memory; number = 1 } }
-{
-    RowId { memory, number: 1 }
-}
 
 /// Whether these are the numbers of dmsMessageTable below dms.
 #[inline]

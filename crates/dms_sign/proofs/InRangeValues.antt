@@ -19,7 +19,8 @@ use Rattle.dms_codes.specs.Codes.{octets_of_id, in_order, IsMessageId}
 use Rattle.dms_objects.specs.Names.{below_dms, object_name, cell_name, column_number}
 use Rattle.dms_table.specs.Rows.{RowModel, TableModel, RowReading, reading, blank_reading, blank, blank_at, numbered, rows_of, row_read, row_checksum}
 use Rattle.dms_codes.specs.Limits.{longest_text}
-use Rattle.dms_codes.specs.Memory.{blank_memory}
+use Rattle.dms_codes.specs.declared.memory.Memory.{Memory}
+use Rattle.dms_codes.specs.Memory.{blank_memory, memory_number}
 use Rattle.dms_table.specs.Activation.{ShownModel, shown_row, shown_reading, message_at}
 use Rattle.dms_codes.proofs.Division.{length-divided}
 use Rattle.dms_objects.specs.declared.scalar.Scalar.{Scalar}
@@ -29,7 +30,7 @@ use Rattle.dms_objects.specs.Names.{scalar_number, name_of}
 use Rattle.dms_objects.specs.declared.objects.Instances.{Instances}
 use Rattle.dms_objects.specs.declared.objects.Instances.TheVariants.{One, EachRow}
 use Rattle.dms_objects.specs.Objects.{every_object}
-use Rattle.dms_instances.specs.Objects.{numbers_to, memories, rows_in, row_ids, instances_of, instances, instance_named, next_instance, IsInstance}
+use Rattle.dms_instances.specs.Objects.{numbers_to, every_memory, count_in, rows_in, row_ids, instances_of, instances, instance_named, next_instance, IsInstance}
 use Rattle.dms_face.proofs.Lists.{if_either, if_found}
 use Rattle.dms_sign.specs.State.{SignState}
 use Rattle.dms_access.specs.Cells.{number_value, cell_value}
@@ -152,22 +153,22 @@ numbers_small : (from count most : ℕ) → from + count ≤ most → AllByRecur
 numbers_small from zero most few = tt
 numbers_small from (suc count) most few = (omega arith, numbers_small (from + 1) count most (omega arith))
 
-abbrev IsSmallMemory : ℕ × ℕ → Type 0
-IsSmallMemory memory = (memory.0 < 2 ^ 8) × (memory.1 ≤ 255)
+memory_small : (memory : Memory) → memory_number memory < 2 ^ 8
+memory_small memory = grind arith
 
-rows_small : (memory : ℕ × ℕ) → IsSmallMemory memory → AllByRecursion IsSmallId (rows_in memory)
-rows_small memory small =
-    let few : memory.1 ≤ 255 = small.1 in
-    all_mapped (λ n. n < 2 ^ 16) IsSmallId (λ number. record { memory = memory.0; number = number }) (numbers_to memory.1)
-    (λ n h. record { memory = small.0; number = h }) (numbers_small 1 memory.1 (2 ^ 16) (omega arith))
+count_small : (table : TableModel) → IsTableInRange table → (memory : Memory) → count_in table memory ≤ 255
+count_small table is memory = grind arith
+
+rows_small : (table : TableModel) → IsTableInRange table → (memory : Memory) → AllByRecursion IsSmallId (rows_in table memory)
+rows_small table is memory =
+    let few = count_small table is memory in
+    all_mapped (λ n. n < 2 ^ 16) IsSmallId (λ number. record { memory = memory_number memory; number = number }) (numbers_to (count_in table memory))
+    (λ n h. record { memory = memory_small memory; number = h }) (numbers_small 1 (count_in table memory) (2 ^ 16) (omega arith))
 
 ids_small : (table : TableModel) → IsTableInRange table → AllByRecursion IsSmallId (row_ids table)
 ids_small table is =
-    let permanent : length table.permanent ≤ 255 = omega (arith, is.permanent_count) in
-    let changeable : length table.changeable ≤ 255 = omega (arith, is.changeable_count) in
-    let volatile : length table.volatile ≤ 255 = omega (arith, is.volatile_count) in
-    all_flat IsSmallMemory IsSmallId rows_in (memories table) rows_small
-    ((omega arith, permanent), ((omega arith, changeable), ((omega arith, volatile), ((omega arith, omega arith), ((omega arith, omega arith), tt)))))
+    all_flat (λ (memory : Memory). ⊤) IsSmallId (rows_in table) every_memory (λ memory h. rows_small table is memory)
+    (all_any (λ (memory : Memory). ⊤) every_memory (λ memory. tt))
 
 object_instances_small : (table : TableModel) → IsTableInRange table → (which : Instances)
     → AllByRecursion IsSmallInstance (instances_of table which)

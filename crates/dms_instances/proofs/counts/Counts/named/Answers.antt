@@ -7,16 +7,14 @@ use Rattle.dms_instances.specs.Objects.{instance_named, IsInstance}
 use Rattle.dms_instances.specs.NameReading.{IsFoundBy}
 use Rattle.dms_instances.proofs.InOrder.{named_back}
 use Rattle.dms_instances.proofs.NamesFound.{there_found, none_named}
-use Rattle.dms_instances.proofs.WhichInstances.{AreOctets}
 use Rattle.dms_instances.proofs.counts.Counts.named.Goals as goal
 
 pub returns-in_err-instance : goal.returns-in_err-instance
 returns-in_err-instance c = λ table has.
-    let few : AreOctets c.args.self.now = (c.are_octets.ensures.permanent, c.are_octets.ensures.changeable, c.are_octets.ensures.volatile) in
     let found = subst (λ (octets : List ℕ). IsFoundBy octets None) c.content.ensures c.in_err-instance.ensures.found in
     c.from_residual.ensures ∙ none_named table c.args.name.now λ i there e.
     let none : None ≡ Some i =
-    there_found table c.args.self.now c.args.name.now None has few found i there e in
+    there_found table c.args.self.now c.args.name.now None has c.are_octets.ensures found i there e in
     absurd (cc)
 
 pub returns-then-has : goal.returns-then-has
@@ -26,11 +24,10 @@ returns-then-has c = λ table has.
 
 pub returns-else-has : goal.returns-else-has
 returns-else-has c = λ table has.
-    let few : AreOctets c.args.self.now = (c.are_octets.ensures.permanent, c.are_octets.ensures.changeable, c.are_octets.ensures.volatile) in
     let found = subst (λ (octets : List ℕ). IsFoundBy octets (Some c.in_ok-instance.instance)) c.content.ensures c.in_ok-instance.ensures.found in
     none_named table c.args.name.now λ i there e.
     let same =
     same_Some c.in_ok-instance.instance i
-    (there_found table c.args.self.now c.args.name.now (Some c.in_ok-instance.instance) has few found i there e)
+    (there_found table c.args.self.now c.args.name.now (Some c.in_ok-instance.instance) has c.are_octets.ensures found i there e)
     in
     both_ways c.has.result c.if-has.false (c.has.ensures.each table has (subst (IsInstance table) (sym same) there))

@@ -14,5 +14,5 @@ returns-in-None c = λ numbers e table has.
 pub returns-in-Some : goal.returns-in-Some
 returns-in-Some c = λ numbers e table has.
     c.after_cell.ensures table has
-    ∙ of_row table c.args.self.now has (c.are_octets.ensures.permanent, c.are_octets.ensures.changeable, c.are_octets.ensures.volatile)
+    ∙ of_row table c.args.self.now has c.are_octets.ensures
     (column_number c.args.column) c.in-Some.memory c.row_number.result numbers c.in-Some.rest.now (e ∙ c.in-Some.ensures.some) c.row_number.ensures
