@@ -90,11 +90,11 @@ impl Counts {
         ensures past { result ≡ false → 1 ≤ row.number → (other : RowId) → IsRow self.now other
             → other.memory ≡ row.memory → other.number < row.number }
     {
-        1 <= row.number
-            && match row.memory() {
-                Some(memory) => row.number <= self.last_number(memory),
-                None => false,
-            }
+        let last = match row.memory() {
+            Some(memory) => self.last_number(memory),
+            None => 0,
+        };
+        1 <= row.number && row.number <= last
     }
 
     /// The last number of a row of a type of memory, or 0 where it has no row.
