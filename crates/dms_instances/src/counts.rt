@@ -59,6 +59,7 @@ impl Counts {
     }
 
     /// The instance of this name, where a table of as many rows has it: its octets say which.
+    #[inline(always)]
     pub fn named(&self, name: &Oid<'_>) -> Option<Instance>
         ensures { (table : TableModel) → HasCounts table self.now → result ≡ instance_named table name.now }
     {
