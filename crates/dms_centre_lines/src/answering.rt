@@ -31,7 +31,8 @@ use std::alloc::{AllocError, Global};
 /// - `status`: `busy` or `idle`, `last` and how the last job ended, the ledger's lines of a report, and `ok`.
 /// - Any other line is a `bad line`, and changes nothing.
 ///
-/// Where memory is wanting, nothing has changed: what an answer needs is reserved before the central system is called.
+/// Where it runs out of memory, nothing has changed: what an answer needs is reserved before the central system is
+/// called.
 #[tactic(auto, unfolding(crate::specs::CallReading::call_of))]
 pub fn answer(alloc: Global, centre: &mut Centre, line: &[u8]) -> Result<Vec<u8>, AllocError>
     ensures text { IfOk result (λ text. text.items ≡ answer_text centre.old.state line.now) }

@@ -69,7 +69,7 @@ stock_fault face stock =
     then option_map permanent_fault (position (may_not_stand (services_of stock) face) stock.permanent.now)
     else Some faults.Counts
 
--- Where there is nothing wrong with a stock, memory may be wanting.
+-- Where there is nothing wrong with a stock, there may be too little memory for its table.
 abbrev pub IsFirstFault : Option TableFault → TableFault → Type 0
 IsFirstFault None fault = fault ≡ faults.Memory
 IsFirstFault (Some first) fault = fault ≡ first

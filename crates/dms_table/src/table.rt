@@ -56,7 +56,7 @@ impl Model for Table {
 }
 
 impl Table {
-    /// The table of a stock, or the first thing that is wrong with the stock; memory is wanting only where nothing is.
+    /// The table of a stock, or the first thing that is wrong with it; it runs out of memory only where nothing is.
     pub fn new(alloc: Global, stock: Stock<'_>, face: &Face) -> Result<Table, TableFault>
         ensures made { IfOk result (λ table. table ≡ table_of stock.entry) }
         ensures faultless { OnOk result (stock_fault face.now stock.entry ≡ None) }

@@ -59,7 +59,7 @@ impl World {
         }
     }
 
-    /// The event of this number happens. Where memory is wanting, nothing changes: what its lists need is reserved
+    /// The event of this number happens. Where it runs out of memory, nothing changes: what its lists need is reserved
     /// before either end is called.
     pub(crate) fn happen(&mut self, number: usize, event: &Event<'_>) -> Result<(), AllocError>
         ensures world { OnOk result (seen self.new ≡ happens number (seen self.old) (event_model event.now)) }

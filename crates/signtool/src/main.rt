@@ -42,7 +42,7 @@
 //! binding 1.3.6.1.4.1.1206.4.2.3.5.8.1.9.3.1 (dmsMessageStatus.3.1): NULL
 //! ```
 //!
-//! Octets that spell no message have their first fault and the offset of the octet at which it is told:
+//! Octets that spell no message have their first fault and the offset of the octet at which it is reported:
 //! `signtool decode 300a` prints `fault truncated at octet 2`. `decode --spaced HEX` takes octets with spaces and
 //! colons between them, as Wireshark copies them: `signtool decode --spaced 30:0a` prints the same.
 //!
