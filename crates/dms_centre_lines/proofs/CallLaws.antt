@@ -9,10 +9,10 @@ use Rattle.dms_text.proofs.WordLaws.{begun, word_found}
 use Rattle.dms_codes.specs.declared.codes.Order.{Order}
 use Rattle.dms_codes.proofs.Options.{mapped_some}
 use Rattle.dms_requests.specs.Commands.{CommandModel, Publish, Blank, Activate}
-use Rattle.dms_description.specs.Fields.{SpellsOne}
-use Rattle.dms_description.specs.FieldsReading.{last_octets_at}
-use Rattle.dms_description.proofs.WordReading.{by_keyword}
-use Rattle.dms_description.proofs.FieldLaws.{last_octets_found, last_octets_only}
+use Rattle.dms_forms.specs.Fields.{SpellsOne}
+use Rattle.dms_forms.specs.FieldsReading.{last_octets_at}
+use Rattle.dms_forms.proofs.WordReading.{by_keyword}
+use Rattle.dms_forms.proofs.FieldLaws.{last_octets_found, last_octets_only}
 use Rattle.dms_commands.specs.CommandLine.{SpellsCommand}
 use Rattle.dms_commands.specs.CommandReading.{command_of}
 use Rattle.dms_commands.proofs.CommandLaws.{command_found, command_only}

@@ -10,7 +10,7 @@ use Rattle.dms_requests.specs.Commands.{CommandModel}
 use Rattle.dms_centre.specs.Commands.{refusal_of, commanded}
 use Rattle.dms_centre.specs.Inputs.{received, ticked, restarted}
 use Rattle.dms_centre.specs.Texts.{command_fault_text, ended_text}
-use Rattle.dms_description.specs.ShownLine.{ended}
+use Rattle.dms_forms.specs.LineText.{ended}
 use Rattle.dms_commands.specs.LedgerLine.{ledger_line}
 use Rattle.dms_lines.specs.AnswerLines.{ok_line, bad_line}
 use Rattle.dms_centre_lines.specs.Calls.{CentreCall, command, datagram, tick, restart, status}

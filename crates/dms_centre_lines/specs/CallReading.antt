@@ -4,7 +4,7 @@ use Rattle.dms_text.specs.Words.{words_of}
 use Rattle.dms_text.specs.Reading.{same_octets, word_at, ◌>>=◌}
 use Rattle.dms_codes.specs.declared.codes.Order.{Order}
 use Rattle.dms_requests.specs.Commands.{CommandModel}
-use Rattle.dms_description.specs.FieldsReading.{if_last, last_octets_at}
+use Rattle.dms_forms.specs.FieldsReading.{if_last, last_octets_at}
 use Rattle.dms_commands.specs.CommandReading.{command_of}
 use Rattle.dms_centre_lines.specs.Calls.{CentreCall, command, datagram, tick, restart, status}
 

@@ -3,7 +3,7 @@ use Rattle.std.specs.Prelude.{◌≡◌, ℕ, List, [], ◌∷◌, codes}
 use Rattle.dms_text.specs.Words.{words_of}
 use Rattle.dms_text.specs.Octets.{SpellsOctets}
 use Rattle.dms_codes.specs.declared.codes.Order.{Order}
-use Rattle.dms_description.specs.Fields.{SpellsOne}
+use Rattle.dms_forms.specs.Fields.{SpellsOne}
 use Rattle.dms_commands.specs.CommandLine.{SpellsCommand}
 use Rattle.dms_centre_lines.specs.Calls.{CentreCall, command, datagram, tick, restart, status}
 

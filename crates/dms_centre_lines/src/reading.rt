@@ -5,7 +5,7 @@ ghost use Rattle.dms_text.specs.Words.{words_of};
 ghost use Rattle.dms_centre_lines.specs.CallReading.{plain_call_at};
 ghost use Rattle.dms_centre_lines.specs.CodeView.{call_model};
 
-use dms_description::fields::{are_same, last_octets};
+use dms_forms::fields::{are_same, last_octets};
 use dms_lines::alone;
 use dms_text::Words;
 use std::alloc::{AllocError, Global};

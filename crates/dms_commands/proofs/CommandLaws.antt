@@ -22,10 +22,10 @@ use Rattle.dms_requests.specs.declared.publication.Attributes.{Attributes}
 use Rattle.dms_requests.specs.declared.publication.Terms.{Terms}
 use Rattle.dms_requests.specs.Job.{PublicationModel}
 use Rattle.dms_requests.specs.Commands.{CommandModel, Publish, Blank, Activate}
-use Rattle.dms_description.specs.Fields.{SpellsEach, SpellsOctet, SpellsTwoOctets, SpellsOne}
-use Rattle.dms_description.specs.FieldsReading.{if_last}
-use Rattle.dms_description.proofs.WordReading.{last_found, by_text}
-use Rattle.dms_description.proofs.FieldLaws.{same_rest, next_octets_found, next_octets_only}
+use Rattle.dms_forms.specs.Fields.{SpellsEach, SpellsOctet, SpellsTwoOctets, SpellsOne}
+use Rattle.dms_forms.specs.FieldsReading.{if_last}
+use Rattle.dms_forms.proofs.WordReading.{last_found, by_text}
+use Rattle.dms_forms.proofs.FieldLaws.{same_rest, next_octets_found, next_octets_only}
 use Rattle.dms_commands.specs.CommandFields.{SpellsAddressPart, SpellsAddress, SpellsCode}
 use Rattle.dms_commands.specs.CommandLine.{SpellsPublication, SpellsBlank, SpellsCommand}
 use Rattle.dms_commands.specs.CommandReading.{address_at, address_of, code_from, last_code_at, row_at, attributes_at, last_terms_at, publish_at, blank_at, command_word, command_after, command_of}

@@ -6,7 +6,7 @@ use Rattle.dms_text.specs.Numbers.{SpellsNumber}
 use Rattle.dms_codes.specs.declared.codes.Order.{Order}
 use Rattle.dms_codes.specs.declared.codes.Activation.{Activation}
 use Rattle.dms_codes.specs.Codes.{octets_of_activation, IsActivation}
-use Rattle.dms_description.specs.Fields.{SpellsEach}
+use Rattle.dms_forms.specs.Fields.{SpellsEach}
 
 -- one number of an address: one to three decimal digits, at most 255
 pub record SpellsAddressPart (number : ℕ) (word : List ℕ) : Type 0 where

@@ -4,7 +4,7 @@ use Rattle.dms_text.specs.Octets.{SpellsOctets}
 use Rattle.dms_codes.specs.declared.codes.Order.{Order}
 use Rattle.dms_requests.specs.Job.{PublicationModel}
 use Rattle.dms_requests.specs.Commands.{CommandModel, Publish, Blank, Activate}
-use Rattle.dms_description.specs.Fields.{SpellsOctet, SpellsTwoOctets, SpellsOne}
+use Rattle.dms_forms.specs.Fields.{SpellsOctet, SpellsTwoOctets, SpellsOne}
 use Rattle.dms_commands.specs.CommandFields.{SpellsAddress, SpellsCode}
 
 -- `publish MEMORY NUMBER TEXT OWNER BEACON PIXEL RUN MINUTES PRIORITY ADDRESS`

@@ -14,7 +14,7 @@ use Rattle.dms_requests.specs.declared.publication.Attributes.{Attributes}
 use Rattle.dms_requests.specs.declared.publication.Terms.{Terms}
 use Rattle.dms_requests.specs.PublicationView.{published}
 use Rattle.dms_requests.specs.Commands.{CommandModel, Publish, Blank, Activate}
-use Rattle.dms_description.specs.FieldsReading.{if_last, octet_at, two_octets_at, octets_at}
+use Rattle.dms_forms.specs.FieldsReading.{if_last, octet_at, two_octets_at, octets_at}
 use Rattle.dms_commands.specs.declared.command_word.CommandWord.{CommandWord}
 use Rattle.dms_commands.specs.declared.command_word.CommandWord.TheVariants as key
 

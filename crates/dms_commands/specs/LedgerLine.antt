@@ -3,7 +3,7 @@ use Rattle.std.specs.Prelude.{ℕ, List, ◌++◌, codes, decimal}
 use Rattle.dms_codes.specs.declared.codes.Order.{Order}
 use Rattle.dms_centre.specs.State.{Entry}
 use Rattle.dms_centre.specs.Texts.{outcome_text}
-use Rattle.dms_description.specs.ShownLine.{code_text, ended}
+use Rattle.dms_forms.specs.LineText.{code_text, ended}
 
 -- a code of the ledger, the number of its request, and what became of it
 abbrev pub ledger_line : Order → Entry → List ℕ

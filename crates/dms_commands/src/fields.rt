@@ -6,7 +6,7 @@ ghost use Rattle.dms_commands.specs.CommandReading.{address_of, attributes_at, l
 
 use dms_centre::{Attributes, Terms};
 use dms_codes::{Activation, Order, RowId};
-use dms_description::fields::{octet, two_octets};
+use dms_forms::fields::{octet, two_octets};
 use dms_text::Words;
 use hex::FromHexError;
 use std::alloc::{AllocError, Global};

@@ -4,7 +4,7 @@ ghost use Rattle.std.specs.Prelude.{◌≡◌, ◌++◌, ℕ, OnOk, flat_map};
 ghost use Rattle.dms_centre.specs.CodeView.{entry_model};
 ghost use Rattle.dms_centre.specs.declared.ledger.Entry.{Entry};
 ghost use Rattle.dms_commands.specs.LedgerLine.{ledger_line};
-ghost use Rattle.dms_description.specs.ShownLine.{code_text};
+ghost use Rattle.dms_forms.specs.LineText.{code_text};
 
 use dms_centre::{Centre, Entry};
 use dms_codes::{Activation, Order};

@@ -8,7 +8,7 @@ use crate::command_word::CommandWord;
 use crate::fields::{attributes, last_code, last_terms, row};
 use crate::owned_command::OwnedCommand;
 use dms_codes::Order;
-use dms_description::fields::{next_octets, two_octets};
+use dms_forms::fields::{next_octets, two_octets};
 use dms_text::Words;
 use std::alloc::{AllocError, Global};
 

@@ -1,5 +1,5 @@
 -- The text of the bench sign spells the bench sign.
-use Rattle.std.proofs.Common.{◌≡◌, ◌≢◌, ℕ, ◌≤◌, List, [], ◌∷◌, ◌++◌, Some, refl, arith}
+use Rattle.std.proofs.Common.{◌≡◌, ℕ, ◌≤◌, List, [], ◌∷◌, ◌++◌, Some, refl, arith}
 use Rattle.std.specs.Prelude.{codes}
 use Rattle.hex.specs.Hex.{decode_pairs}
 use Rattle.dms_multi.specs.Outcomes.{outcomes_within}
@@ -16,7 +16,7 @@ use Rattle.dms_font.specs.FontReading.{labelled_at, version_at, header_of, glyph
 use Rattle.dms_font.specs.FontText.{SpellsFont}
 use Rattle.dms_text.proofs.NumberLaws.{number_found}
 use Rattle.dms_font.proofs.FontLaws.{font_found}
-use Rattle.dms_description.specs.Fields.{SpellsOctet, SpellsFourOctets}
+use Rattle.dms_forms.specs.Fields.{SpellsOctet, SpellsFourOctets}
 use Rattle.dms_sign.specs.Construction.{CanBeMade}
 use Rattle.dms_description.specs.Description.{SpellsSign, SpellsFonts, no_font, one_more, SpellsPermanent, SpellsDefaults}
 use Rattle.dms_description.specs.BenchSign.{bench_text}

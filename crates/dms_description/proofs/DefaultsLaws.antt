@@ -5,10 +5,10 @@ use Rattle.std.proofs.lemmas.Option.{same_Some}
 use Rattle.dms_text.proofs.WordLaws.{begun, goes_on, keyword_found, keyword_only, decimal_found, decimal_only}
 use Rattle.dms_face.specs.declared.defaults.Defaults.{Defaults}
 use Rattle.dms_description.specs.declared.head.ColoursAndFlash.{ColoursAndFlash}
-use Rattle.dms_description.specs.Fields.{SpellsEach, SpellsOctet}
+use Rattle.dms_forms.specs.Fields.{SpellsEach, SpellsOctet}
 use Rattle.dms_description.specs.Description.{SpellsDefaults, numbers_of}
 use Rattle.dms_description.specs.DescriptionReading.{colours_and_flash_at, defaults_with, defaults_of}
-use Rattle.dms_description.proofs.WordReading.{last_found}
+use Rattle.dms_forms.proofs.WordReading.{last_found}
 
 -- ---- read, and so spelled
 

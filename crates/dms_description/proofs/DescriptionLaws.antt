@@ -11,7 +11,7 @@ use Rattle.dms_font.specs.FontText.{SpellsHeader}
 use Rattle.dms_table.specs.Rows.{RowModel}
 use Rattle.dms_sign.specs.Communities.{has_community_size}
 use Rattle.dms_sign.specs.Construction.{CanBeMade}
-use Rattle.dms_description.specs.Fields.{SpellsEach}
+use Rattle.dms_forms.specs.Fields.{SpellsEach}
 use Rattle.dms_description.specs.Description.{Description, SpellsSign, SpellsPermanentLine, SpellsFonts}
 use Rattle.dms_description.specs.DescriptionReading.{row_words, row_of, rows_from, fonts_at, end_at, HeadModel, described, body_at, description_at}
 use Rattle.dms_description.specs.Setups.{BeginsWith}

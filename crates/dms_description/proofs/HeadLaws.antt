@@ -10,10 +10,11 @@ use Rattle.dms_table.specs.Rows.{TableModel}
 use Rattle.dms_sign.specs.State.{ConfigModel}
 use Rattle.dms_description.specs.declared.head.Size.{Size}
 use Rattle.dms_description.specs.declared.head.RowCounts.{RowCounts}
-use Rattle.dms_description.specs.Fields.{SpellsOctet}
+use Rattle.dms_forms.specs.Fields.{SpellsOctet}
 use Rattle.dms_description.specs.Description.{SpellsSize, SpellsCommunities, SpellsRowCounts, SpellsOrderLine, SpellsServices, SpellsFirst}
 use Rattle.dms_description.specs.DescriptionReading.{size_of, CommunityWords, communities_of, row_counts_of, order_named, order_of, services_of, first_of}
-use Rattle.dms_description.proofs.WordReading.{last_found, two_found, two_only, flag_found, flag_only, flag_number, flag_is, order_found, order_only, four_found, four_only}
+use Rattle.dms_forms.proofs.WordReading.{last_found}
+use Rattle.dms_description.proofs.WordReading.{two_found, two_only, flag_found, flag_only, flag_number, flag_is, order_found, order_only, four_found, four_only}
 
 -- ---- `size`
 

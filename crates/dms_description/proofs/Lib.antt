@@ -11,6 +11,5 @@ pub mod DescriptionLaws
 pub mod SetupLaws
 pub mod BenchRead
 mod LastFont
-pub mod FieldLaws
 pub mod TextsDescribed
 pub mod ShownParts

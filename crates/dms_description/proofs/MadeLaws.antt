@@ -8,10 +8,8 @@ use Rattle.std.proofs.lemmas.List.Folds.{list_all-map}
 use Rattle.std.proofs.lemmas.List.{length-map, length-replicate}
 use Rattle.std.proofs.lemmas.Iterator.Adapters.{position_from-zero}
 use Rattle.dms_face.specs.Face.{FaceModel, is_face, checked}
-use Rattle.dms_face.specs.declared.fault.FaceFault.TheVariants as face_faults
 use Rattle.dms_table.specs.declared.stock.Permanent.{Permanent}
 use Rattle.dms_table.specs.declared.stock.Stock.{Stock}
-use Rattle.dms_table.specs.declared.stock.TableFault.TheVariants as faults
 use Rattle.dms_table.specs.Rows.{unused}
 use Rattle.dms_table.specs.Stock.{permanent_row, services_of, may_not_stand, are_counts, permanent_fault, stock_fault, table_of}
 use Rattle.dms_sign.specs.declared.config.Config.{Config}

@@ -6,10 +6,10 @@ use Rattle.std.proofs.lemmas.List.{append-nil}
 use Rattle.dms_text.specs.Words.{words_of}
 use Rattle.dms_text.proofs.WordLaws.{begun, goes_on, word_found, word_only, keyword_found, keyword_only, decimal_found, decimal_only, octets_found, octets_only, octets_some}
 use Rattle.dms_table.specs.Rows.{RowModel}
-use Rattle.dms_description.specs.Fields.{SpellsEach, SpellsOctet}
+use Rattle.dms_forms.specs.Fields.{SpellsEach, SpellsOctet}
 use Rattle.dms_description.specs.Description.{SpellsPermanent, SpellsPermanentLine}
 use Rattle.dms_description.specs.DescriptionReading.{RowWords, row_words, row_of, rows_then, rows_from}
-use Rattle.dms_description.proofs.WordReading.{last_found}
+use Rattle.dms_forms.proofs.WordReading.{last_found}
 
 -- ---- one row
 

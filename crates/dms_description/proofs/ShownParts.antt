@@ -1,5 +1,5 @@
 -- The line of what is shown, which is put in parts.
-use Rattle.std.proofs.Common.{◌≡◌, ℕ, List, ◌++◌, ◌∙◌, append_assoc, arith}
+use Rattle.std.proofs.Common.{◌≡◌, ℕ, List, ◌++◌, append_assoc, arith}
 
 regroup : (old source mode_word mode priority_word priority left_word left text_word text end : List ℕ)
     → (((old ++ source) ++ (mode_word ++ mode ++ priority_word ++ priority)) ++ (left_word ++ left)) ++ (text_word ++ text ++ end)

@@ -1,39 +1,17 @@
 -- What single words and whole lines of words spell is what is read of them.
-use Rattle.std.proofs.Common.{◌≡◌, ℕ, ◌<◌, ◌≤◌, ◌==◌, Bool, true, false, cond, List, [], ◌∷◌, length, Option, Some, sym, ap, subst, ◌∙◌, arith, inl, inr}
+use Rattle.std.proofs.Common.{◌≡◌, ℕ, ◌<◌, ◌==◌, Bool, true, false, List, [], ◌∷◌, length, Option, Some, ap, subst, ◌∙◌, arith}
 use Rattle.std.specs.Prelude.{codes}
-use Rattle.std.proofs.lemmas.Bool.{cases_Bool}
-use Rattle.std.proofs.lemmas.Option.{cond_some, same_Some, none-some}
+use Rattle.std.proofs.lemmas.Option.{same_Some, none-some}
 use Rattle.dms_text.specs.Numbers.{SpellsDecimal}
-use Rattle.dms_text.specs.Reading.{keyword_at, decimal_at, same_octets, ◌>>=◌}
-use Rattle.dms_text.proofs.WordLaws.{begun, goes_on, same_found, keyword_found, keyword_only, decimal_found, decimal_only, numeral_found, numeral_only}
+use Rattle.dms_text.specs.Reading.{keyword_at, decimal_at, ◌>>=◌}
+use Rattle.dms_text.proofs.WordLaws.{begun, goes_on, keyword_found, keyword_only, decimal_found, decimal_only, numeral_found, numeral_only}
 use Rattle.dms_codes.specs.declared.codes.Order.{Order}
 use Rattle.dms_codes.specs.declared.codes.Order.TheVariants.{High, Swapped}
-use Rattle.dms_font.proofs.FontLaws.{ended}
-use Rattle.dms_description.specs.Fields.{SpellsFlag, SpellsOrder, SpellsFourOctets}
+use Rattle.dms_forms.specs.Fields.{SpellsFourOctets}
+use Rattle.dms_forms.specs.FieldsReading.{if_last}
+use Rattle.dms_forms.proofs.WordReading.{last_found, by_keyword}
+use Rattle.dms_description.specs.Fields.{SpellsFlag, SpellsOrder}
 use Rattle.dms_description.specs.DescriptionReading.{order_named}
-use Rattle.dms_description.specs.FieldsReading.{if_last}
-
--- ---- the end of a line
-
-pub last_found : {A : Type 0} (value : A) (words : List (List ℕ)) (found : A) → if_last value words ≡ Some found → (words ≡ []) × (value ≡ found)
-last_found value words found e = let tests = cond_some _ _ _ e in (ended words tests.0, tests.1)
-
--- ---- words that are told apart by keywords
-
--- the word is this keyword, or what is read is read of another one
-pub by_keyword : {A P : Type 0} (word keyword : List ℕ) (this others : Option A) (found : A) → cond (same_octets word keyword) this others ≡ Some found
-    → (word ≡ keyword → this ≡ Some found → P) → (others ≡ Some found → P) → P
-by_keyword word keyword this others found e here there =
-    elim (cases_Bool (same_octets word keyword)) [
-      | inl same ↦ here (same_found _ _ same) (ap (λ b. cond b this others) (sym same) ∙ e)
-      | inr other ↦ there (ap (λ b. cond b this others) (sym other) ∙ e)
-    ]
-
--- of a type whose values have a keyword each
-pub by_text : {A : Type 0} (text_of : A → List ℕ) (word : List ℕ) (this found : A) (others : Option A)
-    → cond (same_octets word (text_of this)) (Some this) others ≡ Some found → (others ≡ Some found → word ≡ text_of found) → word ≡ text_of found
-by_text text_of word this found others e =
-    by_keyword word (text_of this) (Some this) others found e (λ is same. is ∙ ap text_of (same_Some this found same))
 
 -- ---- two numbers after a keyword
 

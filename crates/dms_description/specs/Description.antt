@@ -12,8 +12,9 @@ use Rattle.dms_codes.specs.declared.status.Status.TheVariants.{Valid}
 use Rattle.dms_table.specs.Rows.{RowModel, TableModel}
 use Rattle.dms_sign.specs.Construction.{CanBeMade}
 use Rattle.dms_sign.specs.State.{ConfigModel}
-use Rattle.dms_description.specs.Fields.{SpellsEach, SpellsOctet, SpellsTwoOctets}
-use Rattle.dms_description.specs.Fields.{SpellsFourOctets, SpellsFlag, SpellsOrder}
+use Rattle.dms_forms.specs.Fields.{SpellsEach, SpellsOctet, SpellsTwoOctets}
+use Rattle.dms_forms.specs.Fields.{SpellsFourOctets}
+use Rattle.dms_description.specs.Fields.{SpellsFlag, SpellsOrder}
 
 -- what a sign is made with, and the number of the first request of its centre
 pub record Description : Type 0 where

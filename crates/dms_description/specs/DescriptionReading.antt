@@ -16,7 +16,7 @@ use Rattle.dms_description.specs.declared.head.Size.{Size}
 use Rattle.dms_description.specs.declared.head.RowCounts.{RowCounts}
 use Rattle.dms_description.specs.declared.head.ColoursAndFlash.{ColoursAndFlash}
 use Rattle.dms_description.specs.Description.{Description}
-use Rattle.dms_description.specs.FieldsReading.{if_last}
+use Rattle.dms_forms.specs.FieldsReading.{if_last}
 
 -- ---- the words of the first lines
 

@@ -1,26 +1,8 @@
--- What single words of a sign's description, of a command and of a script spell (this profile).
-use Rattle.std.specs.Prelude.{◌≡◌, ℕ, ◌<◌, ◌^◌, Bool, true, false, List, [], ◌∷◌, codes}
-use Rattle.dms_text.specs.Numbers.{SpellsNumber, SpellsDecimal}
+-- What single words of a sign's description alone spell (this profile).
+use Rattle.std.specs.Prelude.{◌≡◌, Bool, true, false, List, ℕ, codes}
+use Rattle.dms_text.specs.Numbers.{SpellsDecimal}
 use Rattle.dms_codes.specs.declared.codes.Order.{Order}
 use Rattle.dms_codes.specs.declared.codes.Order.TheVariants.{High, Swapped}
-
--- each of these is spelled by one of those, in order
-abbrev pub SpellsEach : {A : Type 0} → (A → List ℕ → Type 0) → List A → List (List ℕ) → Type 0
-SpellsEach Spelled [] words = words ≡ []
-SpellsEach Spelled (value ∷ values) [] = ⊥
-SpellsEach Spelled (value ∷ values) (word ∷ words) = Spelled value word × SpellsEach Spelled values words
-
--- a number of one octet, and of two
-abbrev pub SpellsOctet : ℕ → List ℕ → Type 0
-SpellsOctet number word = SpellsDecimal 0 255 number word
-
-abbrev pub SpellsTwoOctets : ℕ → List ℕ → Type 0
-SpellsTwoOctets number word = SpellsDecimal 0 65535 number word
-
--- a number of four octets has one to ten decimal digits
-pub record SpellsFourOctets (number : ℕ) (word : List ℕ) : Type 0 where
-  pub spelled : SpellsNumber 10 10 number word
-  pub small : number < 2 ^ 32
 
 -- 0 for no, 1 for yes
 abbrev pub SpellsFlag : Bool → List ℕ → Type 0
@@ -30,9 +12,3 @@ SpellsFlag true word = SpellsDecimal 1 1 1 word
 abbrev pub SpellsOrder : Order → List ℕ → Type 0
 SpellsOrder High word = word ≡ codes "high"
 SpellsOrder Swapped word = word ≡ codes "swapped"
-
--- a keyword, and one word after it that spells something
-pub record SpellsOne (keyword : List ℕ) (Spelled : List ℕ → Type 0) (words : List (List ℕ)) : Type 0 where
-  pub word : List ℕ
-  pub words_are : words ≡ keyword ∷ word ∷ []
-  pub spelled : Spelled word

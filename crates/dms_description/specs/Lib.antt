@@ -10,7 +10,6 @@ pub mod ShownLine
 -- reading from the beginning, which only proofs go through: `read_is_spelled` and `spelled_is_read` in proofs/ join it
 -- to the above
 pub mod DescriptionReading
-pub mod FieldsReading
 pub mod Views
 pub mod PartsView
 pub mod ReadingFaults

@@ -1,9 +1,8 @@
 -- What a sign shows as a line of text, and the words of such lines (this profile): octets in small hexadecimal digits.
 use Rattle.std.specs.Prelude.{ℕ, List, [], ◌∷◌, ◌++◌, codes, decimal}
 use Rattle.hex.specs.Hex.{encode_lower}
-use Rattle.dms_codes.specs.declared.codes.Order.{Order}
-use Rattle.dms_codes.specs.declared.codes.Activation.{Activation}
-use Rattle.dms_codes.specs.Codes.{two_octets, octets_of_activation}
+use Rattle.dms_codes.specs.Codes.{two_octets}
+use Rattle.dms_forms.specs.LineText.{ended}
 use Rattle.dms_table.specs.Activation.{ShownModel}
 use Rattle.dms_table.specs.Activation.{minutes_left}
 
@@ -14,14 +13,7 @@ abbrev pub octets_text : List ℕ → List ℕ
 octets_text [] = codes "-"
 octets_text (octet ∷ octets) = encode_lower (octet ∷ octets)
 
--- the twelve octets of a code
-abbrev pub code_text : Order → Activation → List ℕ
-code_text order code = encode_lower (octets_of_activation order code)
-
 -- ---- lines
-
-abbrev pub ended : List ℕ → List ℕ
-ended line = line ++ codes "\n"
 
 -- its source with the checksum as a number of four digits, its mode, its priority, the minutes that are left, and its
 -- text

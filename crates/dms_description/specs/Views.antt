@@ -1,7 +1,6 @@
 -- What the code's parts and fields of a description are (this profile).
 use Rattle.std.specs.Prelude.{◌≡◌, ◌⊎◌, ℕ, Bool, true, false, List, [], ◌∷◌, Option, Some}
-use Rattle.std.specs.Prelude.{None, Result, Ok, Err, Vec, option_map, map, replicate}
-use Rattle.std.specs.declared.alloc.Global.{Global}
+use Rattle.std.specs.Prelude.{None, Result, Ok, Err, option_map, map, replicate}
 use Rattle.dms_text.specs.Lines.{TextLeft}
 use Rattle.dms_text.specs.declared.lines.Line.{Line}
 use Rattle.dms_codes.specs.declared.status.Status.TheVariants.{Valid}
@@ -106,9 +105,3 @@ described_with head permanent face = record {
   };
   first = head.first;
 }
-
-abbrev pub octets_found : Option (Vec ℕ Global) → Option (List ℕ)
-octets_found found = option_map (λ (octets : Vec ℕ Global). octets.items) found
-
-abbrev pub octets_and_rest : Vec ℕ Global × List (List ℕ) → List ℕ × List (List ℕ)
-octets_and_rest found = (found.0.items, found.1)

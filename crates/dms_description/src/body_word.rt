@@ -2,7 +2,7 @@
 
 ghost use Rattle.std.specs.Prelude.{◌≡◌};
 
-use crate::fields::are_same;
+use dms_forms::fields::are_same;
 use dms_text::Words;
 
 /// The word with which a line after the first seven begins.

@@ -9,9 +9,9 @@ ghost use Rattle.dms_description.specs.DescriptionReading.{order_of, services_of
 ghost use Rattle.dms_description.specs.DescriptionReading.{defaults_of, first_of, beginning_at, head_at};
 
 use crate::fault::DescriptionFault;
-use crate::fields::{are_same, octet, two_octets};
 use dms_codes::Order;
 use dms_face::Defaults;
+use dms_forms::fields::{are_same, octet, two_octets};
 use dms_table::Services;
 use dms_text::{Line, Lines, Words};
 

@@ -18,7 +18,6 @@ pub mod bench_sign;
 mod body_word;
 pub mod describing;
 pub mod fault;
-pub mod fields;
 mod fonts;
 mod head;
 pub mod laws;

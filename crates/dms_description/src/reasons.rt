@@ -10,7 +10,6 @@ ghost use Rattle.dms_description.specs.Causes.{line_cause, after_cause, stop_cau
 
 use crate::body_word::BodyWord;
 use crate::fault::DescriptionFault;
-use crate::fields::are_same;
 use crate::fonts::fonts;
 use crate::head::Head;
 use crate::reader::description;
@@ -19,6 +18,7 @@ use crate::sign_reasons::sign_cause;
 use crate::upcoming::Upcoming;
 use dms_causes::{Cause, Form};
 use dms_font::{Font, FontFaultKind};
+use dms_forms::fields::are_same;
 use dms_forms::word_fault;
 use dms_text::Lines;
 use std::alloc::{AllocError, Global};

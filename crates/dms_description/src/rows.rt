@@ -6,8 +6,8 @@ ghost use Rattle.dms_table.specs.Stock.{permanent_row};
 ghost use Rattle.dms_description.specs.Views.{row_line, row_seen};
 ghost use Rattle.dms_description.specs.DescriptionReading.{row_words, row_of, rows_from};
 
-use crate::fields::octet;
 use crate::upcoming::Upcoming;
+use dms_forms::fields::octet;
 use dms_table::Permanent;
 use dms_text::{Words, octets};
 use std::alloc::{AllocError, Global};

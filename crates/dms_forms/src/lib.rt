@@ -8,6 +8,7 @@
 #![tactic(auto)]
 
 pub mod fault;
+pub mod fields;
 pub mod form;
 pub mod vocabulary;
 pub mod wanted;

@@ -8,10 +8,10 @@ use Rattle.dms_text.proofs.WordLaws.{begun, goes_on, word_found, word_only}
 use Rattle.dms_codes.specs.declared.codes.Order.{Order}
 use Rattle.dms_codes.proofs.Options.{mapped_some}
 use Rattle.dms_world.specs.Event.{EventModel, command, sign_tick, centre_tick, to_sign, to_centre, power_lost, power_back, centre_restart, forge_sign, forge_centre}
-use Rattle.dms_description.specs.Fields.{SpellsEach}
-use Rattle.dms_description.specs.FieldsReading.{if_last}
-use Rattle.dms_description.proofs.WordReading.{last_found, by_text}
-use Rattle.dms_description.proofs.FieldLaws.{last_number_found, last_number_only, last_octets_found, last_octets_only}
+use Rattle.dms_forms.specs.Fields.{SpellsEach}
+use Rattle.dms_forms.specs.FieldsReading.{if_last}
+use Rattle.dms_forms.proofs.WordReading.{last_found, by_text}
+use Rattle.dms_forms.proofs.FieldLaws.{last_number_found, last_number_only, last_octets_found, last_octets_only}
 use Rattle.dms_commands.specs.CommandReading.{command_word}
 use Rattle.dms_commands.specs.declared.command_word.CommandWord.{CommandWord}
 use Rattle.dms_commands.specs.declared.command_word.CommandWord.TheVariants as word_of

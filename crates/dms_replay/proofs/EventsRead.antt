@@ -13,7 +13,7 @@ use Rattle.dms_text.specs.Views.{numbered_line}
 use Rattle.dms_text.proofs.LineFilter.{octets_of_lines}
 use Rattle.dms_codes.specs.declared.codes.Order.{Order}
 use Rattle.dms_world.specs.Event.{EventModel}
-use Rattle.dms_description.specs.Fields.{SpellsEach}
+use Rattle.dms_forms.specs.Fields.{SpellsEach}
 use Rattle.dms_replay.specs.EventLine.{SpellsEvent}
 use Rattle.dms_replay.specs.EventReading.{event_of}
 use Rattle.dms_replay.specs.EventView.{script_event_model, script_events_model}

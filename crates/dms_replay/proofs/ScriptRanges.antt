@@ -22,7 +22,7 @@ use Rattle.dms_world.specs.Backed.{Has}
 use Rattle.dms_world.specs.Headline.{IsEvent, AreEvents}
 use Rattle.dms_description.specs.BenchSign.{bench_text}
 use Rattle.dms_description.specs.Description.{Description, SpellsSign, SpellsPermanent, SpellsPermanentLine, numbers_of}
-use Rattle.dms_description.specs.Fields.{SpellsEach, SpellsOctet, SpellsTwoOctets}
+use Rattle.dms_forms.specs.Fields.{SpellsEach, SpellsOctet, SpellsTwoOctets}
 use Rattle.dms_description.proofs.BenchValue.{bench_sign}
 use Rattle.dms_description.proofs.BenchText.{spells_the_bench_sign}
 use Rattle.dms_description.proofs.DescriptionLaws.{one_sign}

@@ -14,7 +14,7 @@ use Rattle.dms_world.specs.Event.{EventModel}
 use Rattle.dms_world.specs.World.{WorldModel, beginning, world_after}
 use Rattle.dms_description.specs.BenchSign.{bench_text}
 use Rattle.dms_description.specs.Description.{Description, SpellsSign, longest_input}
-use Rattle.dms_description.specs.Fields.{SpellsEach}
+use Rattle.dms_forms.specs.Fields.{SpellsEach}
 use Rattle.dms_description.specs.Setups.{octets_left, BeginsWith, IsMade}
 use Rattle.dms_description.specs.declared.setup.Setup.{Setup}
 use Rattle.dms_description.proofs.DescriptionLaws.{one_prefix, one_sign}
@@ -25,7 +25,7 @@ use Rattle.dms_description.specs.declared.reading_fault.ReplayFault.{ReplayFault
 use Rattle.dms_replay.specs.declared.script_event.ScriptEvent.{ScriptEvent}
 use Rattle.dms_replay.specs.EventView.{script_event_model, script_events_model}
 use Rattle.dms_description.specs.declared.reading_fault.ReplayFault.TheVariants.{Memory, Line as LineFault}
-use Rattle.dms_description.proofs.FieldLaws.{same_rest}
+use Rattle.dms_forms.proofs.FieldLaws.{same_rest}
 use Rattle.dms_description.proofs.SetupLaws.{kept}
 use Rattle.dms_replay.specs.Report.{report_of}
 use Rattle.dms_replay.specs.Replayed.{IsReport, IsLawful, RunsLawfully, HasNoRoom, NoScript}

@@ -2,7 +2,7 @@
 use Rattle.std.specs.Prelude.{◌≡◌, ℕ, ◌≤◌, List, [], ◌∷◌, ◌++◌, length, codes}
 use Rattle.dms_text.specs.Lines.{kept_lines}
 use Rattle.dms_world.specs.Event.{EventModel}
-use Rattle.dms_description.specs.Fields.{SpellsEach}
+use Rattle.dms_forms.specs.Fields.{SpellsEach}
 use Rattle.dms_replay.specs.EventLine.{SpellsEvent}
 use Rattle.dms_sign.specs.State.{start}
 use Rattle.dms_centre.specs.State as centre

@@ -3,7 +3,7 @@
 ghost use Rattle.std.specs.Prelude.{◌≡◌, IfOk, IfSome, IfNone, option_map};
 ghost use Rattle.dms_world.specs.Event.{EventModel};
 ghost use Rattle.dms_replay.specs.EventLine.{SpellsEvent};
-ghost use Rattle.dms_description.specs.FieldsReading.{if_last};
+ghost use Rattle.dms_forms.specs.FieldsReading.{if_last};
 ghost use Rattle.dms_replay.specs.EventReading.{event_of};
 ghost use Rattle.dms_replay.specs.EventView.{script_event_model};
 
@@ -11,7 +11,7 @@ use crate::keyword::Keyword;
 use crate::script_event::ScriptEvent;
 use dms_codes::Order;
 use dms_commands::command_after;
-use dms_description::fields::{last_number, last_octets};
+use dms_forms::fields::{last_number, last_octets};
 use dms_text::Words;
 use std::alloc::{AllocError, Global};
 

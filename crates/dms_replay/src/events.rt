@@ -4,7 +4,7 @@ ghost use Rattle.std.specs.Prelude.{◌≡◌, ◌⊎◌, ◌++◌, ◌∷◌, [
 ghost use Rattle.dms_text.specs.Lines.{lines_left};
 ghost use Rattle.dms_text.proofs.LineFilter.{octets_of_lines};
 ghost use Rattle.dms_world.specs.Event.{EventModel};
-ghost use Rattle.dms_description.specs.Fields.{SpellsEach};
+ghost use Rattle.dms_forms.specs.Fields.{SpellsEach};
 ghost use Rattle.dms_replay.specs.EventLine.{SpellsEvent};
 ghost use Rattle.dms_replay.specs.EventView.{script_event_model, script_events_model};
 ghost use Rattle.dms_replay.specs.EventReading.{event_of};

@@ -6,7 +6,7 @@ use Rattle.dms_text.specs.Reading.{number_of}
 use Rattle.dms_text.proofs.NumberLaws.{number_found}
 use Rattle.dms_codes.specs.declared.codes.Order.TheVariants.{High}
 use Rattle.dms_world.specs.Event.{EventModel, sign_tick, centre_tick, to_sign, to_centre}
-use Rattle.dms_description.specs.Fields.{SpellsFourOctets}
+use Rattle.dms_forms.specs.Fields.{SpellsFourOctets}
 use Rattle.dms_commands.specs.CommandFields.{SpellsAddressPart}
 use Rattle.dms_replay.specs.EventLine.{SpellsEvent}
 use Rattle.dms_replay.specs.Script.{SpellsScript, the_bench}

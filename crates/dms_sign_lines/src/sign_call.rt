@@ -5,7 +5,7 @@ ghost use Rattle.dms_sign_lines.specs.SignReading.{call_of};
 ghost use Rattle.dms_sign_lines.specs.CallView.{call_model};
 
 use crate::keyword::Keyword;
-use dms_description::fields::{last_number, last_octets};
+use dms_forms::fields::{last_number, last_octets};
 use dms_lines::alone;
 use dms_text::Words;
 use std::alloc::{AllocError, Global};

@@ -2,9 +2,9 @@
 
 ghost use Rattle.std.specs.Prelude.{◌≡◌, IfOk, option_map};
 ghost use Rattle.dms_text.specs.Reading.{same_octets};
-ghost use Rattle.dms_description.specs.FieldsReading.{octet_at, two_octets_at, last_number_at};
-ghost use Rattle.dms_description.specs.FieldsReading.{octets_at, last_octets_at};
-ghost use Rattle.dms_description.specs.Views.{octets_and_rest, octets_found};
+ghost use Rattle.dms_forms.specs.FieldsReading.{octet_at, two_octets_at, last_number_at};
+ghost use Rattle.dms_forms.specs.FieldsReading.{octets_at, last_octets_at};
+ghost use Rattle.dms_forms.specs.FieldsView.{octets_and_rest, octets_found};
 
 use dms_text::{Words, octets};
 use std::alloc::{AllocError, Global};

@@ -4,9 +4,9 @@ use Rattle.std.proofs.lemmas.Option.{same_Some}
 use Rattle.dms_text.specs.Numbers.{SpellsNumber}
 use Rattle.dms_text.specs.Octets.{SpellsOctets}
 use Rattle.dms_text.proofs.WordLaws.{begun, goes_on, word_found, word_only, octets_found, octets_only, octets_some, numeral_found, numeral_only}
-use Rattle.dms_description.specs.Fields.{SpellsFourOctets, SpellsOne}
-use Rattle.dms_description.specs.FieldsReading.{last_number_at, octets_at, last_octets_at}
-use Rattle.dms_description.proofs.WordReading.{last_found}
+use Rattle.dms_forms.specs.Fields.{SpellsFourOctets, SpellsOne}
+use Rattle.dms_forms.specs.FieldsReading.{last_number_at, octets_at, last_octets_at}
+use Rattle.dms_forms.proofs.WordReading.{last_found}
 
 -- ---- words
 

@@ -1,0 +1,27 @@
+-- What single words of a sign's description, of a command and of a script spell (this profile).
+use Rattle.std.specs.Prelude.{◌≡◌, ℕ, ◌<◌, ◌^◌, List, [], ◌∷◌}
+use Rattle.dms_text.specs.Numbers.{SpellsNumber, SpellsDecimal}
+
+-- each of these is spelled by one of those, in order
+abbrev pub SpellsEach : {A : Type 0} → (A → List ℕ → Type 0) → List A → List (List ℕ) → Type 0
+SpellsEach Spelled [] words = words ≡ []
+SpellsEach Spelled (value ∷ values) [] = ⊥
+SpellsEach Spelled (value ∷ values) (word ∷ words) = Spelled value word × SpellsEach Spelled values words
+
+-- a number of one octet, and of two
+abbrev pub SpellsOctet : ℕ → List ℕ → Type 0
+SpellsOctet number word = SpellsDecimal 0 255 number word
+
+abbrev pub SpellsTwoOctets : ℕ → List ℕ → Type 0
+SpellsTwoOctets number word = SpellsDecimal 0 65535 number word
+
+-- a number of four octets has one to ten decimal digits
+pub record SpellsFourOctets (number : ℕ) (word : List ℕ) : Type 0 where
+  pub spelled : SpellsNumber 10 10 number word
+  pub small : number < 2 ^ 32
+
+-- a keyword, and one word after it that spells something
+pub record SpellsOne (keyword : List ℕ) (Spelled : List ℕ → Type 0) (words : List (List ℕ)) : Type 0 where
+  pub word : List ℕ
+  pub words_are : words ≡ keyword ∷ word ∷ []
+  pub spelled : Spelled word
