@@ -45,13 +45,14 @@ impl From<AllocError> for Usage {
 }
 
 /// The lines that say what is wrong with these words, or the help.
-fn lines_of<S: AsStr>(alloc: Global, words: &[S], error: clap::Error) -> Usage {
+fn lines_of<S: AsStr>(alloc: Global, words: &[S], error: &clap::Error) -> Usage {
     let is_word_too_many = matches!(
         error.kind(),
         ErrorKind::UnknownArgument | ErrorKind::TooManyValues
     );
+    let names_file = is_word_too_many && names_file(words);
     match format!(in alloc; "{error}") {
-        Ok(lines) if is_word_too_many && names_file(words) => Usage::NamesFile(lines),
+        Ok(lines) if names_file => Usage::NamesFile(lines),
         Ok(lines) => Usage::Line(lines),
         Err(_) => Usage::Memory,
     }
@@ -77,59 +78,80 @@ pub fn asked<S: AsStr>(alloc: Global, words: &[S]) -> Result<Call<'_>, Usage> {
     {
         return Ok(Call::Version);
     }
-    let matches = match command(alloc)?.try_get_matches_from(words) {
-        Ok(matches) => matches,
-        Err(error) => return Err(lines_of(alloc, words, error)),
-    };
+    match command(alloc)?.try_get_matches_from(words) {
+        Ok(matches) => call_of(&matches).ok_or(Usage::NoCall),
+        Err(error) => Err(lines_of(alloc, words, &error)),
+    }
+}
+
+/// The call that words are, as clap has read them.
+fn call_of<'a>(matches: &ArgMatches<'a>) -> Option<Call<'a>> {
     if matches.get_flag("version") {
-        return Ok(Call::Version);
+        return Some(Call::Version);
     }
-    match matches.subcommand() {
-        Some(("answer", answer)) => {
-            let hex = answer.get_str("HEX").ok_or(Usage::NoCall)?;
-            let sign = sign_wanted(answer);
-            Ok(Call::Answer { hex, sign })
-        }
-        Some(("check", check)) => {
-            let text = check.get_str("TEXT").ok_or(Usage::NoCall)?;
-            let sign = sign_wanted(check);
-            let form = wanted_form(check);
-            Ok(Call::Check { text, sign, form })
-        }
-        Some(("pages", pages)) => {
-            let text = pages.get_str("TEXT").ok_or(Usage::NoCall)?;
-            let sign = sign_wanted(pages);
-            let drawing = wanted_drawing(pages);
-            Ok(Call::Pages {
-                text,
-                sign,
-                drawing,
-            })
-        }
-        Some(("code", code)) => code_words(code).map(Call::Code).ok_or(Usage::NoCall),
-        Some(("activation", words)) => activation_words(words)
-            .map(Call::Activation)
-            .ok_or(Usage::NoCall),
-        Some(("decode", words)) => {
-            let hex = words.get_str("HEX").ok_or(Usage::NoCall)?;
-            let spaced = words.get_flag("spaced");
-            let form = wanted_form(words);
-            Ok(Call::Decode { hex, spaced, form })
-        }
-        Some(("items", words)) => {
-            let text = words.get_str("TEXT").ok_or(Usage::NoCall)?;
-            let form = wanted_form(words);
-            Ok(Call::Items { text, form })
-        }
-        Some(("replay", _)) => Ok(Call::Replay),
-        Some(("sign", words)) => Ok(Call::Sign {
+    let (name, words) = matches.subcommand()?;
+    match name {
+        "answer" => answer(words),
+        "check" => check(words),
+        "pages" => pages(words),
+        "decode" => decode(words),
+        "items" => items(words),
+        _ => other_call(name, words),
+    }
+}
+
+/// The call of a subcommand that takes a code, or no word at all.
+fn other_call<'a>(name: &str, words: &ArgMatches<'a>) -> Option<Call<'a>> {
+    match name {
+        "code" => Some(Call::Code(code_words(words)?)),
+        "activation" => Some(Call::Activation(activation_words(words)?)),
+        "replay" => Some(Call::Replay),
+        "sign" => Some(Call::Sign {
             sign: sign_wanted(words),
         }),
-        Some(("centre", words)) => Ok(Call::Centre {
+        "centre" => Some(Call::Centre {
             sign: sign_wanted(words),
         }),
-        _ => Err(Usage::NoCall),
+        _ => None,
     }
+}
+
+fn answer<'a>(words: &ArgMatches<'a>) -> Option<Call<'a>> {
+    Some(Call::Answer {
+        hex: words.get_str("HEX")?,
+        sign: sign_wanted(words),
+    })
+}
+
+fn check<'a>(words: &ArgMatches<'a>) -> Option<Call<'a>> {
+    Some(Call::Check {
+        text: words.get_str("TEXT")?,
+        sign: sign_wanted(words),
+        form: wanted_form(words),
+    })
+}
+
+fn pages<'a>(words: &ArgMatches<'a>) -> Option<Call<'a>> {
+    Some(Call::Pages {
+        text: words.get_str("TEXT")?,
+        sign: sign_wanted(words),
+        drawing: wanted_drawing(words),
+    })
+}
+
+fn decode<'a>(words: &ArgMatches<'a>) -> Option<Call<'a>> {
+    Some(Call::Decode {
+        hex: words.get_str("HEX")?,
+        spaced: words.get_flag("spaced"),
+        form: wanted_form(words),
+    })
+}
+
+fn items<'a>(words: &ArgMatches<'a>) -> Option<Call<'a>> {
+    Some(Call::Items {
+        text: words.get_str("TEXT")?,
+        form: wanted_form(words),
+    })
 }
 
 /// Which sign the words of a subcommand name.

@@ -8,5 +8,6 @@
 
 pub mod command_line;
 mod subcommands;
+mod word;
 
 pub use command_line::{Usage, asked};
