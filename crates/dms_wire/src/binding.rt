@@ -4,7 +4,7 @@ ghost use Rattle.std.specs.Prelude.{◌≡◌, ◌≢◌, ◌↔◌, ℕ, ◌+�
 ghost use Rattle.std.specs.Prelude.{map, Ok, Err, IsOk, IfOk, IfErr, OnOk, OnErr, IsSome, IfSome, IfNone};
 ghost use Rattle.arrayvec.specs.ArrayVec.{array_vec_len};
 ghost use Rattle.std.specs.List.{flat_map};
-ghost use Rattle.dms_wire.specs.Message.{VarBind};
+ghost use Rattle.dms_wire.specs.Message.{ObjectValue, VarBind};
 ghost use Rattle.dms_ber.specs.Reading.{Gives};
 ghost use Rattle.dms_wire.specs.Reading.{members_at, binding_at, bindings_at, list_at};
 ghost use Rattle.dms_wire.specs.Walk.{bindings_of, AreWhole, AreShortest};
@@ -43,7 +43,7 @@ pub struct Binds<'a> {
 
 impl<'a> Model for Binds<'a> {
     ghost use Rattle.std.specs.Prelude.{List};
-    ghost use Rattle.dms_wire.specs.Message.{VarBind};
+    ghost use Rattle.dms_wire.specs.Message.{ObjectValue, VarBind};
     ghost use Rattle.dms_wire.specs.Walk.{bindings_of, AreWhole};
 
     ghost Value = { List VarBind };
@@ -71,14 +71,27 @@ impl<'a> Binds<'a> {
         shortest_octets(self.content)
     }
 
-    /// The binding that is left, where it is the only one.
-    pub fn only(&self) -> Option<Bind<'a>>
-        ensures some { IfSome result (λ binding. self.now ≡ var_bind binding ∷ []) }
+    /// The name of the next binding, where there is one: its value is not read.
+    pub fn next_name(&mut self) -> Option<Oid<'a>>
+        ensures some { IfSome result (λ name. (value : ObjectValue)
+            × (self.old ≡ record { name = name; value = value } ∷ self.new)) }
+        ensures none { IfNone result (self.old ≡ []) }
+        ensures unchanged { IfNone result (self.new ≡ self.old) }
+    {
+        let (name, rest) = first_name(self.content)?;
+        self.content = rest;
+        Some(name)
+    }
+
+    /// The name of the binding that is left, where it is the only one: its value is not read.
+    pub fn only_name(&self) -> Option<Oid<'a>>
+        ensures some { IfSome result (λ name. (value : ObjectValue)
+            × (self.now ≡ record { name = name; value = value } ∷ [])) }
         ensures none { IfNone result (length self.now ≢ 1) }
     {
         let mut rest = self.again();
-        let first = rest.next()?;
-        match rest.next() {
+        let first = rest.next_name()?;
+        match rest.next_name() {
             None => Some(first),
             Some(_) => None,
         }
@@ -161,6 +174,25 @@ fn first_binding(octets: &[u8]) -> Option<(Bind<'_>, &[u8])>
     };
     let bind = known_members(content, offset_of(rest, octets.len()))?;
     Some((bind, rest))
+}
+
+/// The name of the first binding of octets that are bindings, and the octets after the binding.
+#[inline(always)]
+fn first_name(octets: &[u8]) -> Option<(Oid<'_>, &[u8])>
+    requires { AreWhole octets.now }
+    ensures some { IfSome result (λ x. (value : ObjectValue)
+        × (bindings_of octets.now ≡ record { name = x.0; value = value } ∷ bindings_of x.1.now)) }
+    ensures whole { IfSome result (λ x. AreWhole x.1.now) }
+    ensures none { IfNone result (bindings_of octets.now ≡ []) }
+{
+    let Ok((content, rest)) = read_element(tag::SEQUENCE, octets, octets.len()) else {
+        return None;
+    };
+    let end = offset_of(rest, octets.len());
+    let Ok((name, _)) = read_element(tag::OBJECT_IDENTIFIER, content, end) else {
+        return None;
+    };
+    Some((Oid::known(name), rest))
 }
 
 /// The two lengths at the beginning of a binding where each is one octet, and what follows them.
@@ -271,12 +303,15 @@ pub(crate) fn list(octets: &[u8], end: usize) -> Result<(Binds<'_>, &[u8]), Wire
     Ok((binds, rest))
 }
 
-/// How many octets a binding takes, where its name and its value are no larger than a datagram.
+/// How many octets the name and the value of a binding take, and how many the binding, where neither of the two is
+/// larger than a datagram.
 #[inline(always)]
 #[tactic(auto, using(crate::proofs::Sizes::sizes), unfolding(crate::specs::Canonical::binding_octets))]
-fn size_of_binding(binding: &Bind<'_>) -> Result<usize, TooBig>
-    ensures ok { IfOk result (λ n. n ≡ length (binding_octets (var_bind binding.now))) }
-    ensures small { IfOk result (λ n. n < 2 ^ 12) }
+pub(crate) fn sizes_of_binding(binding: &Bind<'_>) -> Result<(usize, usize), TooBig>
+    ensures content { IfOk result (λ sizes. sizes.0 ≡ length (element 6 (name_octets binding.now.name)
+        ++ value_octets (object_value binding.now.value))) }
+    ensures whole { IfOk result (λ sizes. sizes.1 ≡ length (binding_octets (var_bind binding.now))) }
+    ensures small { IfOk result (λ sizes. sizes.1 < 2 ^ 12) }
     ensures too_big { OnErr result (longest_datagram < length (binding_octets (var_bind binding.now))) }
 {
     let name = size_of_octets(binding.name.content());
@@ -284,7 +319,7 @@ fn size_of_binding(binding: &Bind<'_>) -> Result<usize, TooBig>
     if name > MAX_DATAGRAM || value > MAX_DATAGRAM {
         return Err(TooBig);
     }
-    Ok(size_of_element(name + value))
+    Ok((name + value, size_of_element(name + value)))
 }
 
 /// How many octets the shortest spelling of a binding takes, of which these are the contents of the name and of the
@@ -356,6 +391,19 @@ fn put_binding_content(out: &mut Out, binding: &Bind<'_>)
     put_value(out, &binding.value);
 }
 
+/// Writes a binding of which the name and the value take `content` octets.
+#[inline(always)]
+#[tactic(auto, using(crate::proofs::Sizes::nested_steps), unfolding(crate::specs::Canonical::binding_octets))]
+pub(crate) fn put_binding_of_size(out: &mut Out, binding: &Bind<'_>, content: usize)
+    requires content { content ≡ length (element 6 (name_octets binding.now.name)
+        ++ value_octets (object_value binding.now.value)) }
+    requires room { array_vec_len out.old + length (binding_octets (var_bind binding.now)) ≤ longest_datagram }
+    ensures { out.new.items ≡ out.old.items ++ binding_octets (var_bind binding.now) }
+{
+    put_head(out, tag::SEQUENCE, content);
+    put_binding_content(out, binding);
+}
+
 /// Writes a binding.
 #[inline(always)]
 #[tactic(auto, using(crate::proofs::Sizes::nested_steps), unfolding(crate::specs::Canonical::binding_octets))]
@@ -364,8 +412,7 @@ fn put_binding(out: &mut Out, binding: &Bind<'_>)
     ensures { out.new.items ≡ out.old.items ++ binding_octets (var_bind binding.now) }
 {
     let size = size_of_octets(binding.name.content()) + size_of_value(&binding.value);
-    put_head(out, tag::SEQUENCE, size);
-    put_binding_content(out, binding);
+    put_binding_of_size(out, binding, size);
 }
 
 /// How many octets bindings take, where that is no more than a datagram.
@@ -377,7 +424,8 @@ pub(crate) fn size_of_bindings(bindings: &[Bind<'_>]) -> Result<usize, TooBig>
 {
     let mut size = 0;
     for binding in bindings {
-        size += size_of_binding(binding)?;
+        let (_, added) = sizes_of_binding(binding)?;
+        size += added;
         if size > MAX_DATAGRAM {
             return Err(TooBig);
         }
@@ -435,11 +483,10 @@ impl BindingOctets {
         if self.too_big {
             return;
         }
-        match size_of_binding(binding) {
-            Ok(size) if size <= self.octets.remaining_capacity() => put_binding(
-                &mut self.octets,
-                binding,
-            ),
+        match sizes_of_binding(binding) {
+            Ok((content, size)) if size <= self.octets.remaining_capacity() => {
+                put_binding_of_size(&mut self.octets, binding, content);
+            }
             _ => self.too_big = true,
         }
     }

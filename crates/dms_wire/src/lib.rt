@@ -28,6 +28,7 @@ pub use dms_ber::{FaultKind, MAX_DATAGRAM, Numbers, Oid, Out, WireFault, oid_cmp
 pub use error_status::ErrorStatus;
 pub use fault::TooBig;
 pub use message::{
-    Header, Kind, Message, MessageParts, heard, read, write, write_around, write_response,
+    Header, Kind, Message, MessageParts, heard, read, write, write_around, write_binding,
+    write_response,
 };
 pub use value::Value;

@@ -23,7 +23,10 @@ ghost use Rattle.dms_wire.specs.PduView.{numbered};
 ghost use Rattle.dms_wire.specs.Prefix.{pdu_size, content_size, message_size, pdu_prefix, message_prefix, prefix};
 ghost use Rattle.dms_ber.specs.Limits.{longest_datagram};
 
-use crate::binding::{Bind, BindingOctets, Binds, list, put_bindings, size_of_bindings};
+use crate::binding::{
+    Bind, BindingOctets, Binds, list, put_binding_of_size, put_bindings, size_of_bindings,
+    sizes_of_binding,
+};
 use crate::error_status::ErrorStatus;
 use crate::fault::TooBig;
 use crate::tag;
@@ -320,6 +323,20 @@ pub fn write(parts: &MessageParts<'_>, out: &mut Out) -> Result<(), TooBig>
     let size = size_of_bindings(parts.binds)?;
     begin(&header, size, out)?;
     put_bindings(out, parts.binds);
+    Ok(())
+}
+
+/// Writes, as `write` does, the message with this header and this binding alone, of which the size is computed once.
+pub fn write_binding(header: &Header<'_>, binding: &Bind<'_>, out: &mut Out) -> Result<(), TooBig>
+    ensures { IsWritten result out.new.items (canonical (message_around header.now (var_bind binding.now ∷ []))) }
+{
+    out.clear();
+    let (content, size) = sizes_of_binding(binding)?;
+    if size > MAX_DATAGRAM {
+        return Err(TooBig);
+    }
+    begin(header, size, out)?;
+    put_binding_of_size(out, binding, content);
     Ok(())
 }
 

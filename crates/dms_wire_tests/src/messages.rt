@@ -4,7 +4,7 @@ mod cases;
 
 use dms_wire::{
     Bind, BindingOctets, ErrorStatus, FaultKind, Kind, Message, MessageParts, Oid, Out, TooBig,
-    Value, WireFault, heard, read, write, write_around, write_response,
+    Value, WireFault, heard, read, write, write_around, write_binding, write_response,
 };
 use std::alloc::Global;
 use std::fmt::Display;
@@ -140,6 +140,11 @@ fn hostile(rt: HostRuntime) {
     check_fault(&rt, &longer, FaultKind::TrailingBytes, 48);
 }
 
+/// The Response to it in which the object has the value 7.
+static SEVEN: [u8; 49] =
+    *b"\x30\x2f\x02\x01\x00\x04\x06public\xa2\x22\x02\x01\x01\x02\x01\x00\x02\x01\x00\x30\x17\
+       \x30\x15\x06\x10\x2b\x06\x01\x04\x01\x89\x36\x04\x02\x03\x05\x08\x01\x09\x03\x01\x02\x01\x07";
+
 /// The example of the crate's documentation: each object of a Get has the value 7.
 #[test]
 fn example(rt: HostRuntime) -> Result<(), Fail> {
@@ -156,10 +161,7 @@ fn example(rt: HostRuntime) -> Result<(), Fail> {
     if write_around(&header, &values, &mut out).is_err() {
         write_response(&message, ErrorStatus::TooBig, 0, &mut out)?;
     }
-    let answer =
-        b"\x30\x2f\x02\x01\x00\x04\x06public\xa2\x22\x02\x01\x01\x02\x01\x00\x02\x01\x00\x30\x17\
-          \x30\x15\x06\x10\x2b\x06\x01\x04\x01\x89\x36\x04\x02\x03\x05\x08\x01\x09\x03\x01\x02\x01\x07";
-    check_octets(&rt, &out, answer);
+    check_octets(&rt, &out, &SEVEN);
     write_response(&message, ErrorStatus::NoSuchName, 1, &mut out)?;
     let refusal = datagram_of(
         &rt,
@@ -172,6 +174,30 @@ fn example(rt: HostRuntime) -> Result<(), Fail> {
     check_octets(&rt, &out, &refusal);
     assert!(rt; heard(&GET).is_some() && heard(&GET[1..]).is_none());
     Ok(())
+}
+
+/// How a Response with this value alone is written, and how many octets it has.
+fn written_alone(rt: &impl Abort, value: Value<'_>, out: &mut Out) -> Result<usize, TooBig> {
+    let message = read(&GET).expect(rt, "a Get");
+    let header = message.response(ErrorStatus::NoError, 0);
+    let name = message.binds.only_name().expect(rt, "a binding");
+    write_binding(&header, &Bind { name, value }, out)?;
+    Ok(out.len())
+}
+
+/// A binding alone is written as the message that has it and no other, up to the largest datagram.
+#[test]
+fn one_binding(rt: HostRuntime) {
+    let mut out = Out::new();
+    let seven = written_alone(&rt, Value::Integer(7), &mut out);
+    check_octets(&rt, &out, &SEVEN);
+    let text = [0x61; 1415];
+    let largest = written_alone(&rt, Value::Octets(&text[..1414]), &mut out);
+    let larger = written_alone(&rt, Value::Octets(&text), &mut out);
+    assert_eq!(rt;
+        (seven, largest, larger, out.len()),
+        (Ok(49), Ok(1472), Err(TooBig), 0)
+    );
 }
 
 /// Asserts the Response without an error that repeats the request's bindings.

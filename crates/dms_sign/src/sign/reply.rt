@@ -16,7 +16,7 @@ use crate::sign::Sign;
 use dms_codes::Activation;
 use dms_objects::Name;
 use dms_wire::{
-    Bind, BindingOctets, ErrorStatus, Kind, Message, MessageParts, Out, heard, write, write_around,
+    Bind, BindingOctets, ErrorStatus, Kind, Message, Out, heard, write_around, write_binding,
     write_response,
 };
 
@@ -119,18 +119,15 @@ impl Sign {
         requires { IsRead (snmp_message message.now) }
         ensures { out.new.items ≡ reply_to (snmp_message message.now) (get self.now message.now.binds) }
     {
-        let Some(binding) = message.binds.only() else {
+        let Some(name) = message.binds.only_name() else {
             let mut octets = BindingOctets::new();
             return match self.values_of(&message.binds, &mut octets) {
                 Ok(()) => reply(message, &octets, out),
                 Err(index) => repeat(message, ErrorStatus::NoSuchName, index, out),
             };
         };
-        match self.value(&binding.name) {
-            Some(value) => {
-                let name = binding.name;
-                reply_one(message, Bind { name, value }, out)
-            }
+        match self.value(&name) {
+            Some(value) => reply_one(message, &Bind { name, value }, out),
             None => repeat(message, ErrorStatus::NoSuchName, 1, out),
         }
     }
@@ -141,18 +138,18 @@ impl Sign {
         requires { IsRead (snmp_message message.now) }
         ensures { out.new.items ≡ reply_to (snmp_message message.now) (get_next self.now message.now.binds) }
     {
-        let Some(binding) = message.binds.only() else {
+        let Some(name) = message.binds.only_name() else {
             let mut octets = BindingOctets::new();
             return match self.values_after(&message.binds, &mut octets) {
                 Ok(()) => reply(message, &octets, out),
                 Err(index) => repeat(message, ErrorStatus::NoSuchName, index, out),
             };
         };
-        match self.next(&binding.name) {
+        match self.next(&name) {
             Some((instance, value)) => {
                 let next = Name::of(instance);
                 let name = next.oid();
-                reply_one(message, Bind { name, value }, out)
+                reply_one(message, &Bind { name, value }, out)
             }
             None => repeat(message, ErrorStatus::NoSuchName, 1, out),
         }
@@ -160,19 +157,11 @@ impl Sign {
 }
 
 /// Writes the reply that has this binding alone, or tooBig where it does not fit a datagram.
-fn reply_one(message: &Message<'_>, binding: Bind<'_>, out: &mut Out)
+fn reply_one(message: &Message<'_>, binding: &Bind<'_>, out: &mut Out)
     requires { IsRead (snmp_message message.now) }
-    ensures { out.new.items ≡ reply_with (snmp_message message.now) 0 0 (var_bind binding.entry ∷ []) }
+    ensures { out.new.items ≡ reply_with (snmp_message message.now) 0 0 (var_bind binding.now ∷ []) }
 {
-    let parts = MessageParts {
-        community: message.community,
-        kind: Kind::Response,
-        request: message.request,
-        status: 0,
-        index: 0,
-        binds: &[binding],
-    };
-    match write(&parts, out) {
+    match write_binding(&message.response(ErrorStatus::NoError, 0), binding, out) {
         Ok(()) => {}
         Err(_) => refuse_too_big(message, out),
     }

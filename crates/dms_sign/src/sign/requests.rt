@@ -24,15 +24,12 @@ impl Sign {
     {
         let mut index = 0;
         let mut rest = binds.again();
-        while let Some(binding) = rest.next() {
+        while let Some(name) = rest.next_name() {
             index += 1;
-            let Some(value) = self.value(&binding.name) else {
+            let Some(value) = self.value(&name) else {
                 return Err(index);
             };
-            octets.push(&Bind {
-                name: binding.name,
-                value,
-            });
+            octets.push(&Bind { name, value });
         }
         Ok(())
     }
@@ -51,9 +48,9 @@ impl Sign {
     {
         let mut index = 0;
         let mut rest = binds.again();
-        while let Some(binding) = rest.next() {
+        while let Some(name) = rest.next_name() {
             index += 1;
-            let Some((instance, value)) = self.next(&binding.name) else {
+            let Some((instance, value)) = self.next(&name) else {
                 return Err(index);
             };
             octets.push(&Bind {
