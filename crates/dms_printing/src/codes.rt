@@ -36,11 +36,17 @@ pub fn code<W: Write>(
         number: words.row.number,
         crc,
     };
-    let mut lines = Vec::new(alloc);
-    if writeln!(lines, "crc {crc:04x}").is_err() {
-        return print_line(writer, "memory", 1);
+    match checksum_line(alloc, crc) {
+        Ok(lines) => print_code(alloc, lines, id, &words.terms, address, writer),
+        Err(_) => print_line(writer, "memory", 1),
     }
-    print_code(alloc, lines, id, &words.terms, address, writer)
+}
+
+/// The line that says a checksum.
+fn checksum_line(alloc: Global, crc: u16) -> Result<Vec<u8>, AllocError> {
+    let mut line = Vec::new(alloc);
+    writeln!(line, "crc {crc:04x}").or(Err(AllocError))?;
+    Ok(line)
 }
 
 /// Prints the code that puts up the message of a checksum. `address` is what the address of its terms spells.

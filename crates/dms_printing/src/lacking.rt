@@ -1,7 +1,7 @@
 //! What a sign lacks for a text, in words.
 
 use dms_codes::MAX_TEXT;
-use dms_face::{Face, Font, MultiFault, MultiFaultCode, check};
+use dms_face::{Face, Font, Glyph, MultiFault, MultiFaultCode, check};
 use dms_multi::{Item, items};
 use std::alloc::{AllocError, Global};
 use std::fmt;
@@ -16,7 +16,7 @@ const HIGHEST: u16 = 64;
 const STEPS: [u16; 8] = [128, 64, 32, 16, 8, 4, 2, 1];
 
 /// What a sign lacks for a text that it refuses.
-#[derive(Clone, Copy, Debug, PartialEq, Eq)]
+#[derive(Clone, Copy)]
 pub(crate) enum Lack {
     /// A picture of a character.
     Character { character: u16, font: u8 },
@@ -37,14 +37,26 @@ impl fmt::Display for Lack {
                 write!(f, "character {character} is not in font {font}")
             }
             Lack::Font(font) => write!(f, "the sign has no font {font}"),
-            Lack::Columns(1) => f.write_str("wider than the matrix by 1 column"),
-            Lack::Columns(count) => write!(f, "wider than the matrix by {count} columns"),
-            Lack::Rows(1) => f.write_str("higher than the matrix by 1 row"),
-            Lack::Rows(count) => write!(f, "higher than the matrix by {count} rows"),
-            Lack::Octets(1) => f.write_str("longer than a text may be by 1 octet"),
-            Lack::Octets(count) => write!(f, "longer than a text may be by {count} octets"),
+            Lack::Columns(count) => {
+                put_count(f, "wider than the matrix", usize::from(*count), "column")
+            }
+            Lack::Rows(count) => {
+                put_count(f, "higher than the matrix", usize::from(*count), "row")
+            }
+            Lack::Octets(count) => put_count(f, "longer than a text may be", *count, "octet"),
         }
     }
+}
+
+/// Prints by how many of these it is too much.
+fn put_count<W: fmt::Write>(
+    f: &mut fmt::Formatter<W>,
+    what: &str,
+    count: usize,
+    unit: &str,
+) -> fmt::Result {
+    let plural = if count == 1 { "" } else { "s" };
+    write!(f, "{what} by {count} {unit}{plural}")
 }
 
 /// What a face lacks for a text with this fault, where that is a character, a font or room. `None` where no matrix has
@@ -138,22 +150,42 @@ fn takes(
     if width > WIDEST || height > HIGHEST {
         return Ok(true);
     }
+    let fonts = unlit_fonts(alloc, face)?;
+    match Face::new(width, height, fonts, face.defaults()) {
+        Ok(larger) => Ok(has_room(&larger, text, end)),
+        Err(_) => Ok(true),
+    }
+}
+
+/// Whether a face has room for the items of a text that begin before an octet.
+fn has_room(face: &Face, text: &[u8], end: usize) -> bool {
+    match check(face, text) {
+        Ok(_) => true,
+        Err(fault) => fault.place >= end,
+    }
+}
+
+/// The fonts of a face, with pictures of which none has a lit lamp.
+fn unlit_fonts(alloc: Global, face: &Face) -> Result<Vec<Font>, AllocError> {
     let mut fonts = Vec::new(alloc);
     for font in face.fonts() {
         fonts.push(unlit(alloc, font)?)?;
     }
-    match Face::new(width, height, fonts, face.defaults()) {
-        Ok(larger) => match check(&larger, text) {
-            Ok(_) => Ok(true),
-            Err(fault) => Ok(fault.place >= end),
-        },
-        Err(_) => Ok(true),
-    }
+    Ok(fonts)
 }
 
 /// A font with the sizes of this one, of which no picture has a lit lamp.
 fn unlit(alloc: Global, font: &Font) -> Result<Font, AllocError> {
     let mut text = Vec::new(alloc);
+    put_header(&mut text, font)?;
+    for glyph in font.glyphs() {
+        put_unlit(&mut text, glyph)?;
+    }
+    Font::from_text(alloc, text.as_slice()).or(Err(AllocError))
+}
+
+/// Appends the first line of a font.
+fn put_header(text: &mut Vec<u8>, font: &Font) -> Result<(), AllocError> {
     writeln!(
         text,
         "font {} height {} space {} line {} version {:04x}",
@@ -163,16 +195,19 @@ fn unlit(alloc: Global, font: &Font) -> Result<Font, AllocError> {
         font.line_spacing(),
         font.version()
     )
-    .or(Err(AllocError))?;
-    for glyph in font.glyphs() {
-        let lamps = u32::from(glyph.width()) * u32::from(glyph.height());
-        write!(text, "glyph {} {} ", glyph.character(), glyph.width()).or(Err(AllocError))?;
-        for _ in 0..lamps.div_ceil(8) {
-            text.extend_from_slice(b"00")?;
-        }
-        text.push(b'\n')?;
+    .or(Err(AllocError))
+}
+
+/// Appends the line of a picture of this size without a lit lamp.
+fn put_unlit(text: &mut Vec<u8>, glyph: &Glyph) -> Result<(), AllocError> {
+    let (character, width) = (glyph.character(), glyph.width());
+    write!(text, "glyph {character} {width} ").or(Err(AllocError))?;
+    let lamps = u32::from(width) * u32::from(glyph.height());
+    for _ in 0..lamps.div_ceil(8) {
+        text.extend_from_slice(b"00")?;
     }
-    Font::from_text(alloc, text.as_slice()).or(Err(AllocError))
+    text.push(b'\n')?;
+    Ok(())
 }
 
 /// Where the line of an octet ends: the first octet of the next item that closes a line, or the octet after the text's

@@ -12,6 +12,7 @@
 pub mod codes;
 mod fields;
 mod item_lines;
+mod item_words;
 mod json;
 mod lacking;
 mod names;

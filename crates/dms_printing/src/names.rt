@@ -7,8 +7,8 @@ ghost use Rattle.dms_printing.specs.ObjectNames.{IsName, HasNone};
 use dms_objects::laws::objects_are_the_table;
 use dms_objects::{Group, OBJECTS, Object};
 use dms_wire::Oid;
-use std::io;
 use std::io::Write;
+use std::{fmt, io};
 
 /// The sub-identifiers before those of a group: `dms` of NTCIP 1203.
 const DMS: [u32; 10] = [1, 3, 6, 1, 4, 1, 1206, 4, 2, 3];
@@ -32,29 +32,58 @@ pub fn write_object<W: Write>(
     writer: &mut W,
 ) -> io::Result<()> {
     let mut numbers = [0; MOST];
-    let mut count = 0;
-    for number in name.numbers() {
-        if count >= MOST {
-            return Ok(());
-        }
-        numbers[count] = number;
-        count += 1;
-    }
+    let count = first_numbers(name, &mut numbers);
     let Some(numbers) = numbers.get(..count) else {
         return Ok(());
     };
     match numbers.strip_prefix(&DMS) {
-        Some([5, 8, 1, number, memory, row]) => {
-            match object_name(Group::DmsMessageEntry, *number) {
-                Some(column) => write!(writer, "{before}{column}.{memory}.{row}{after}"),
-                None => Ok(()),
-            }
-        }
-        Some([node, number, 0]) => match scalar_name(*node, *number) {
-            Some(object) => write!(writer, "{before}{object}.0{after}"),
+        Some(below) => match instance_named(below) {
+            Some(instance) => write!(writer, "{before}{instance}{after}"),
             None => Ok(()),
         },
-        _ => Ok(()),
+        None => Ok(()),
+    }
+}
+
+/// Copies as many of the first sub-identifiers as there is room for, and gives the number of all.
+fn first_numbers(name: &Oid<'_>, numbers: &mut [u32]) -> usize {
+    let mut count = 0_usize;
+    for number in name.numbers() {
+        if let Some(place) = numbers.get_mut(count) {
+            *place = number;
+        }
+        count = count.saturating_add(1);
+    }
+    count
+}
+
+/// An object by its name, and an instance of it.
+#[derive(Clone, Copy)]
+enum Instance {
+    /// The only one.
+    Only(&'static str),
+    /// That of a row of the message table.
+    Row(&'static str, u32, u32),
+}
+
+impl fmt::Display for Instance {
+    fn fmt<W: fmt::Write>(&self, f: &mut fmt::Formatter<W>) -> fmt::Result {
+        match self {
+            Instance::Only(object) => write!(f, "{object}.0"),
+            Instance::Row(column, memory, number) => write!(f, "{column}.{memory}.{number}"),
+        }
+    }
+}
+
+/// The instance that has these numbers below `dms`, if one has.
+fn instance_named(below: &[u32]) -> Option<Instance> {
+    match below {
+        [5, 8, 1, number, memory, row] => {
+            let column = object_name(Group::DmsMessageEntry, *number)?;
+            Some(Instance::Row(column, *memory, *row))
+        }
+        [node, number, 0] => scalar_name(*node, *number).map(Instance::Only),
+        _ => None,
     }
 }
 

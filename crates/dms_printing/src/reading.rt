@@ -5,7 +5,7 @@ use crate::item_lines::write_items;
 use crate::json::{put_items, put_message};
 use crate::statuses::{print_line, status, status_after};
 use dms_calls::Form;
-use dms_wire::{WireFault, read};
+use dms_wire::{Message, WireFault, read};
 use hex::FromHexError;
 use std::alloc::Global;
 use std::io::Write;
@@ -24,14 +24,21 @@ pub fn decode<W: Write>(
     } else {
         hex::decode(alloc, digits.as_bytes())
     };
-    let datagram = match octets {
-        Ok(datagram) => datagram,
-        Err(fault) => return print_hex_fault(form, writer, fault),
-    };
-    let message = match read(datagram.as_slice()) {
-        Ok(message) => message,
-        Err(fault) => return print_wire_fault(form, writer, fault),
-    };
+    match octets {
+        Ok(datagram) => print_datagram(alloc, datagram.as_slice(), form, writer),
+        Err(fault) => print_hex_fault(form, writer, fault),
+    }
+}
+
+/// Prints the fields of a datagram, or its fault.
+fn print_datagram<W: Write>(alloc: Global, datagram: &[u8], form: Form, writer: &mut W) -> u8 {
+    match read(datagram) {
+        Ok(message) => print_message(alloc, message, form, writer),
+        Err(fault) => print_wire_fault(form, writer, fault),
+    }
+}
+
+fn print_message<W: Write>(alloc: Global, message: Message<'_>, form: Form, writer: &mut W) -> u8 {
     let mut fields = Vec::new(alloc);
     let made = match form {
         Form::Lines => write_message(alloc, message, &mut fields),

@@ -5,9 +5,10 @@ use crate::statuses::{print_line, status, status_after};
 use dms_calls::{Drawing, Form};
 use dms_face::{Face, MultiFault, check};
 use dms_lines::{numbered_page, pages_text};
-use dms_pages::{PagesFault, pages};
+use dms_pages::{Page, PagesFault, pages};
 use dms_picture::{picture, still};
 use std::alloc::{AllocError, Global};
+use std::io;
 use std::io::Write;
 
 /// Prints the number of a text's pages on a face, or its fault, which is said in words too.
@@ -20,22 +21,16 @@ pub fn print_count<W: Write, E: Write>(
     errors: &mut E,
 ) -> u8 {
     match check(face, text.as_bytes()) {
-        Ok(pages) => status(match form {
-            Form::Lines => writeln!(writer, "ok pages {pages}"),
-            Form::Json => writeln!(writer, "{{\"pages\":{pages}}}"),
-        }),
-        Err(fault) => {
-            say_fault(alloc, text, face, fault, errors);
-            let number = fault.code.number();
-            let place = fault.place;
-            status_after(
-                1,
-                match form {
-                    Form::Lines => writeln!(writer, "fault {number} at {place}"),
-                    Form::Json => writeln!(writer, "{{\"fault\":{number},\"at\":{place}}}"),
-                },
-            )
-        }
+        Ok(pages) => status(write_count(form, pages, writer)),
+        Err(fault) => print_fault(alloc, text, face, form, fault, writer, errors),
+    }
+}
+
+/// Writes the number of a text's pages.
+fn write_count<W: Write>(form: Form, pages: usize, writer: &mut W) -> io::Result<()> {
+    match form {
+        Form::Lines => writeln!(writer, "ok pages {pages}"),
+        Form::Json => writeln!(writer, "{{\"pages\":{pages}}}"),
     }
 }
 
@@ -48,26 +43,37 @@ pub fn print_pages<W: Write, E: Write>(
     writer: &mut W,
     errors: &mut E,
 ) -> u8 {
-    let pages = match pages(alloc, face, text.as_bytes()) {
-        Ok(pages) => pages,
-        Err(PagesFault::Multi(fault)) => {
-            return print_fault(alloc, text, face, fault, writer, errors);
-        }
-        Err(PagesFault::Memory) => return print_line(writer, "memory", 1),
-    };
-    match drawing.page {
-        None if drawing.svg => {
-            let document = picture(alloc, face.width(), face.height(), pages.as_slice());
-            print_document(document, writer)
-        }
-        None => print_document(pages_text(alloc, pages.as_slice()), writer),
-        Some(number) => match pages.get(usize::from(number).saturating_sub(1)) {
-            Some(page) if drawing.svg => print_document(still(alloc, page), writer),
-            Some(page) => {
-                print_document(numbered_page(alloc, usize::from(number), page), writer)
-            }
+    match pages(alloc, face, text.as_bytes()) {
+        Ok(pages) => match document(alloc, face, pages.as_slice(), drawing) {
+            Some(document) => print_document(document, writer),
             None => print_line(writer, "no such page", 1),
         },
+        Err(PagesFault::Multi(fault)) => {
+            print_fault(alloc, text, face, Form::Lines, fault, writer, errors)
+        }
+        Err(PagesFault::Memory) => print_line(writer, "memory", 1),
+    }
+}
+
+/// Pages of a face as they are to be drawn, or the one that is wanted, where it is one of them.
+fn document(
+    alloc: Global,
+    face: &Face,
+    pages: &[Page],
+    drawing: Drawing,
+) -> Option<Result<Vec<u8>, AllocError>> {
+    match drawing.page {
+        None if drawing.svg => Some(picture(alloc, face.width(), face.height(), pages)),
+        None => Some(pages_text(alloc, pages)),
+        Some(number) => {
+            let number = usize::from(number);
+            let page = pages.get(number.saturating_sub(1))?;
+            if drawing.svg {
+                Some(still(alloc, page))
+            } else {
+                Some(numbered_page(alloc, number, page))
+            }
+        }
     }
 }
 
@@ -84,13 +90,23 @@ fn print_fault<W: Write, E: Write>(
     alloc: Global,
     text: &str,
     face: &Face,
+    form: Form,
     fault: MultiFault,
     writer: &mut W,
     errors: &mut E,
 ) -> u8 {
     say_fault(alloc, text, face, fault, errors);
-    let _ = writeln!(writer, "fault {} at {}", fault.code.number(), fault.place);
-    1
+    status_after(1, write_fault(form, fault, writer))
+}
+
+/// Writes the number of a fault, and where it is.
+fn write_fault<W: Write>(form: Form, fault: MultiFault, writer: &mut W) -> io::Result<()> {
+    let number = fault.code.number();
+    let place = fault.place;
+    match form {
+        Form::Lines => writeln!(writer, "fault {number} at {place}"),
+        Form::Json => writeln!(writer, "{{\"fault\":{number},\"at\":{place}}}"),
+    }
 }
 
 /// Says the fault of a text on a face, and what the face lacks for it.
