@@ -1,7 +1,7 @@
 use Rattle.std.proofs.Common.{◌∙◌, Err, sym, ap, subst, rules, arith}
 use Rattle.dms_streams.specs.Lines.{Takes, held, left}
 use Rattle.dms_streams.proofs.Parts.{some_there, none_there}
-use Rattle.dms_streams.proofs.Turns.{said_more, all_said, all_left, said_in_part, said_so_far, kept_whole}
+use Rattle.dms_streams.proofs.Turns.{said_more, all_said, all_left, said_in_part, said_so_far, said_whole, kept_whole}
 use Rattle.dms_streams.proofs.conversation.converse.Goals as goal
 
 -- src/conversation.rt:50:13
@@ -35,3 +35,6 @@ loop-preserved g c = grind (arith, said_more, some_there)
 
 pub returns-in-Err-clause-prompt : goal.returns-in-Err-clause-prompt
 returns-in-Err-clause-prompt g c = λ failed. said_so_far g.P.Party.reply g.P.Party.after _ _ _ _ _ _ _ _ c.loop.invariant.said (c.in-Err.ensures.part failed)
+
+pub returns-clause-whole : goal.returns-clause-whole
+returns-clause-whole g c = λ _ _. said_whole g.P.Party.reply g.P.Party.after _ _ _ _ _ _ _ c.loop.invariant.said
