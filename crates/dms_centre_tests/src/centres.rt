@@ -74,27 +74,50 @@ fn check_octets(rt: &impl Abort, found: &[u8], wanted: &[u8]) {
     assert_eq!(rt; found, wanted);
 }
 
+fn check_command(rt: &impl Abort, centre: &mut Centre, command: Command<'_>, out: &mut Out) {
+    assert_eq!(rt; centre.command(command, out), Ok(()));
+}
+
 fn check_sent(rt: &impl Abort, centre: &mut Centre, command: Command<'_>, octets: &[u8]) {
     let mut out = Out::new();
-    assert_eq!(rt; centre.command(command, &mut out), Ok(()));
+    check_command(rt, centre, command, &mut out);
     check_octets(rt, &out, octets);
 }
 
 /// The command is taken, whatever is sent for it.
 fn check_taken(rt: &impl Abort, centre: &mut Centre, command: Command<'_>) {
-    assert_eq!(rt; centre.command(command, &mut Out::new()), Ok(()));
+    check_command(rt, centre, command, &mut Out::new());
+}
+
+fn check_second(rt: &impl Abort, centre: &mut Centre, out: &mut Out) {
+    assert_eq!(rt; centre.tick(out), Ok(()));
 }
 
 fn check_tick(rt: &impl Abort, centre: &mut Centre, octets: &[u8]) {
     let mut out = Out::new();
-    assert_eq!(rt; centre.tick(&mut out), Ok(()));
+    check_second(rt, centre, &mut out);
     check_octets(rt, &out, octets);
+}
+
+/// So many seconds pass, whatever is sent in them.
+fn check_seconds(rt: &impl Abort, centre: &mut Centre, count: usize) {
+    for _ in 0..count {
+        check_second(rt, centre, &mut Out::new());
+    }
 }
 
 fn check_answer(rt: &impl Abort, centre: &mut Centre, datagram: &[u8], octets: &[u8]) {
     let mut out = Out::new();
     centre.receive(datagram, &mut out);
     check_octets(rt, &out, octets);
+}
+
+fn check_reported(rt: &impl Abort, centre: &Centre, wanted: (bool, Ended, usize)) {
+    assert_eq!(rt; reported(centre), wanted);
+}
+
+fn check_last(rt: &impl Abort, centre: &Centre, ended: Ended) {
+    assert_eq!(rt; centre.last(), ended);
 }
 
 fn check_entry(rt: &impl Abort, centre: &Centre, number: u32, code: Activation, outcome: Outcome) {
@@ -159,6 +182,17 @@ fn changed_octets(rt: HostRuntime) {
     check_goes_on(&rt, &mut centre);
 }
 
+/// The reply with one to four octets more is not heard.
+fn check_longer(rt: &impl Abort, centre: &mut Centre, reply: &[u8]) {
+    let mut longer = Out::new();
+    let mut has_room = longer.try_extend_from_slice(reply).is_ok();
+    for octet in [0, 5, 48, 255] {
+        has_room = has_room && longer.try_push(octet).is_ok();
+        check_unheard(rt, centre, &longer);
+    }
+    assert!(rt; has_room);
+}
+
 /// Each proper prefix of the reply that is waited for, and the reply with one to four octets more, are not heard.
 #[test]
 fn cut_and_longer_replies(rt: HostRuntime) {
@@ -167,28 +201,23 @@ fn cut_and_longer_replies(rt: HostRuntime) {
     for (place, _) in reply.iter().enumerate() {
         check_unheard(&rt, &mut centre, &reply[..place]);
     }
-    let mut longer = Out::new();
-    assert!(rt; longer.try_extend_from_slice(reply).is_ok());
-    for octet in [0, 5, 48, 255] {
-        assert!(rt; longer.try_extend_from_slice(&[octet]).is_ok());
-        check_unheard(&rt, &mut centre, &longer);
-    }
+    check_longer(&rt, &mut centre, reply);
     check_goes_on(&rt, &mut centre);
 }
 
 #[test]
 fn published(rt: HostRuntime) {
     let mut centre = centre(&rt, rt.alloc(), Order::High, 1);
-    assert_eq!(rt; reported(&centre), (false, Ended::Never, 0));
+    check_reported(&rt, &centre, (false, Ended::Never, 0));
     let (first, _) = cases::PUBLISHED[0];
     check_sent(&rt, &mut centre, publish(3, 1, b"A"), first);
-    assert_eq!(rt; reported(&centre), (true, Ended::Never, 0));
+    check_reported(&rt, &centre, (true, Ended::Never, 0));
     check_steps(&rt, &mut centre, &cases::PUBLISHED, 6);
     check_entry(&rt, &centre, 7, CODE, Outcome::Waiting);
     let (_, accepted) = cases::PUBLISHED[6];
     check_answer(&rt, &mut centre, accepted, &[]);
     check_entry(&rt, &centre, 7, CODE, Outcome::Accepted);
-    assert_eq!(rt; reported(&centre), (false, Ended::Accepted, 1));
+    check_reported(&rt, &centre, (false, Ended::Accepted, 1));
 }
 
 #[test]
@@ -211,7 +240,7 @@ fn published_in_the_other_order(rt: HostRuntime) {
     let (first, _) = cases::PUBLISHED_SWAPPED[0];
     check_sent(&rt, &mut centre, command, first);
     check_steps(&rt, &mut centre, &cases::PUBLISHED_SWAPPED, 7);
-    assert_eq!(rt; reported(&centre), (false, Ended::Accepted, 1));
+    check_reported(&rt, &centre, (false, Ended::Accepted, 1));
 }
 
 #[test]
@@ -222,7 +251,7 @@ fn sent_three_times(rt: HostRuntime) {
         let again: &[u8] = if tick == 3 || tick == 6 { first } else { &[] };
         check_tick(&rt, &mut centre, again);
     }
-    assert_eq!(rt; centre.last(), Ended::Failed(1, Why::NoReply));
+    check_last(&rt, &centre, Ended::Failed(1, Why::NoReply));
     check_tick(&rt, &mut centre, &[]);
     let mut out = Out::new();
     let taken = centre.command(publish(3, 1, b"A"), &mut out);
@@ -256,7 +285,7 @@ fn polled_ten_times(rt: HostRuntime) {
         }
         check_answer(&rt, &mut centre, reply, &[]);
     }
-    assert_eq!(rt; centre.last(), Ended::Failed(5, Why::StillValidating));
+    check_last(&rt, &centre, Ended::Failed(5, Why::StillValidating));
 }
 
 /// The numbers of the first three entries of the ledger.
@@ -267,6 +296,10 @@ fn numbers(centre: &Centre) -> [Option<u32>; 3] {
         numbers.next().copied(),
         numbers.next().copied(),
     ]
+}
+
+fn check_numbers(rt: &impl Abort, centre: &Centre, wanted: [Option<u32>; 3]) {
+    assert_eq!(rt; numbers(centre), wanted);
 }
 
 #[test]
@@ -281,33 +314,35 @@ fn refused_for_a_cause(rt: HostRuntime) {
     check_taken(&rt, &mut centre, Command::Activate(CODE));
     check_answer(&rt, &mut centre, &cases::REFUSED, &cases::WHY);
     check_answer(&rt, &mut centre, &cases::PRIORITY, &[]);
-    assert_eq!(rt;
-        (centre.last(), numbers(&centre)),
-        (Ended::Failed(7, Why::Cause(3)), [Some(1), Some(7), None])
-    );
+    check_last(&rt, &centre, Ended::Failed(7, Why::Cause(3)));
     check_entry(&rt, &centre, 7, CODE, Outcome::Refused(5));
+    check_numbers(&rt, &centre, [Some(1), Some(7), None]);
 }
 
-/// The type of memory and the outcome of an entry.
-fn entry_of(centre: &Centre, number: u32) -> Option<(u8, Outcome)> {
-    let entry = centre.ledger().get(&number)?;
-    Some((entry.code.id.memory, entry.outcome))
-}
+/// The code of `BLANK`.
+const BLANK_CODE: Activation = Activation {
+    minutes: 65535,
+    priority: 255,
+    id: MessageId {
+        memory: 7,
+        number: 255,
+        crc: 0,
+    },
+    address: [0; 4],
+};
 
 #[test]
 fn restarted(rt: HostRuntime) {
     let mut centre = centre(&rt, rt.alloc(), Order::High, 1);
     check_sent(&rt, &mut centre, BLANK, &cases::BLANK);
     centre.restart();
-    assert_eq!(rt; centre.last(), Ended::Failed(7, Why::Restarted));
+    check_last(&rt, &centre, Ended::Failed(7, Why::Restarted));
     check_answer(&rt, &mut centre, &cases::BLANK_ACCEPTED, &[]);
-    assert_eq!(rt; entry_of(&centre, 1), Some((7, Outcome::Unknown)));
+    check_entry(&rt, &centre, 1, BLANK_CODE, Outcome::Unknown);
     check_taken(&rt, &mut centre, BLANK);
-    assert!(rt; centre.ledger().contains_key(&2));
-    for _ in 0..9 {
-        assert_eq!(rt; centre.tick(&mut Out::new()), Ok(()));
-    }
-    assert_eq!(rt; entry_of(&centre, 2), Some((7, Outcome::NoReply)));
+    check_entry(&rt, &centre, 2, BLANK_CODE, Outcome::Waiting);
+    check_seconds(&rt, &mut centre, 9);
+    check_entry(&rt, &centre, 2, BLANK_CODE, Outcome::NoReply);
 }
 
 #[test]
@@ -321,14 +356,13 @@ fn last_number(rt: HostRuntime) {
     );
     check_answer(&rt, &mut centre, &cases::LAST_REFUSED, &[]);
     check_entry(&rt, &centre, 2_147_483_647, CODE, Outcome::Refused(5));
-    let ended = centre.last();
-    let refused = centre.command(publish(2, 0, b""), &mut Out::new());
-    assert_eq!(rt;
-        (ended, refused),
-        (
-            Ended::Failed(8, Why::NumbersUsedUp),
-            Err(CommandFault::NumbersUsedUp)
-        )
+    check_last(&rt, &centre, Ended::Failed(8, Why::NumbersUsedUp));
+    check_refused(
+        &rt,
+        &mut centre,
+        &mut Out::new(),
+        publish(2, 0, b""),
+        CommandFault::NumbersUsedUp,
     );
 }
 
@@ -408,13 +442,10 @@ fn refused_commands(rt: HostRuntime) {
             CommandFault::BadCommand,
         );
     }
-    assert_eq!(rt; reported(&centre), (false, Ended::Never, 0));
-    assert_eq!(rt;
-        centre.command(owned(&text[..127], 1, 1, 255), &mut out),
-        Ok(())
-    );
+    check_reported(&rt, &centre, (false, Ended::Never, 0));
+    check_command(&rt, &mut centre, owned(&text[..127], 1, 1, 255), &mut out);
     check_refused(&rt, &mut centre, &mut out, blank(0), CommandFault::Busy);
-    assert!(rt; centre.busy());
+    check_reported(&rt, &centre, (true, Ended::Never, 0));
 }
 
 #[test]

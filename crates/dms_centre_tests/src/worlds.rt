@@ -74,7 +74,9 @@ fn world_of(alloc: Global) -> Option<World> {
 }
 
 /// How many datagrams the centre and the sign have sent, how many activations were accepted, and whether `A` is shown.
-fn counts(world: &World) -> (usize, usize, usize, bool) {
+type Counts = (usize, usize, usize, bool);
+
+fn counts(world: &World) -> Counts {
     (
         world.to_sign.len(),
         world.to_centre.len(),
@@ -138,13 +140,27 @@ fn after_all(alloc: Global, events: &[Event<'_>]) -> Result<(World, usize), &'st
     Ok((world, stop))
 }
 
+/// What is looked at after a run: the counts, what became of a request, and the first acceptance.
+type Seen = (Counts, Option<Outcome>, Option<(usize, bool)>);
+
+/// What is seen after all events, and how many had happened at a stop.
+fn seen(alloc: Global, events: &[Event<'_>], request: u32) -> Result<(Seen, usize), &'static str> {
+    let (world, stop) = after_all(alloc, events)?;
+    let seen = (
+        counts(&world),
+        outcome(&world, request),
+        acceptance(&world, 0),
+    );
+    Ok((seen, stop))
+}
+
 /// A publication is accepted at the sixteenth event. Where the run stops out of memory, it goes on after the stop, and
 /// counts from there.
 #[test]
 fn publication(rt: HostRuntime) -> Result<(), Fail> {
-    let (world, stop) = after_all(rt.alloc(), &PUBLICATION)?;
+    let (found, stop) = seen(rt.alloc(), &PUBLICATION, 7)?;
     assert_eq!(rt;
-        (counts(&world), outcome(&world, 7), acceptance(&world, 0)),
+        found,
         (
             (7, 7, 1, true),
             Some(Outcome::Accepted),
@@ -231,10 +247,7 @@ fn forged_reply(rt: HostRuntime) -> Result<(), Fail> {
         Event::Command(Command::Activate(CODE)),
         Event::ForgeCentre(&cases::NOTHING_BOUND),
     ];
-    let (world, _) = after_all(rt.alloc(), &events)?;
-    assert_eq!(rt;
-        (counts(&world), outcome(&world, 1)),
-        ((1, 0, 0, false), Some(Outcome::Accepted))
-    );
+    let (found, _) = seen(rt.alloc(), &events, 1)?;
+    assert_eq!(rt; found, ((1, 0, 0, false), Some(Outcome::Accepted), None));
     Ok(())
 }
