@@ -6,7 +6,7 @@ ghost use Rattle.dms_description.specs.Setups.{octets_left};
 ghost use Rattle.dms_description.specs.Views.{communities_seen, beginning_seen, head_seen};
 ghost use Rattle.dms_description.specs.DescriptionReading.{size_of, communities_of, row_counts_of, order_named};
 ghost use Rattle.dms_description.specs.DescriptionReading.{order_of, services_of, colours_and_flash_at, defaults_with};
-ghost use Rattle.dms_description.specs.DescriptionReading.{defaults_of, first_of, beginning_at, head_at};
+ghost use Rattle.dms_description.specs.DescriptionReading.{defaults_of, first_of, line_at, beginning_at, head_at};
 
 use crate::fault::DescriptionFault;
 use dms_codes::Order;
@@ -254,6 +254,36 @@ impl<'a> Beginning<'a> {
     }
 }
 
+/// What the line `has ..` says, which comes next, and the lines after it.
+fn services_line(lines: Lines<'_>) -> Result<(Services, Lines<'_>), DescriptionFault>
+    ensures found { IfOk result (λ x. line_at services_of (octets_left lines.entry) ≡ Some (x.0, octets_left x.1)) }
+    ensures none { IfErr result (λ fault. line_at services_of (octets_left lines.entry) ≡ None) }
+{
+    let (line, lines) = next_line(lines)?;
+    let services = services_of(line.octets).ok_or(DescriptionFault::Line(line.number))?;
+    Ok((services, lines))
+}
+
+/// What the line `defaults ..` says, which comes next, and the lines after it.
+fn defaults_line(lines: Lines<'_>) -> Result<(Defaults, Lines<'_>), DescriptionFault>
+    ensures found { IfOk result (λ x. line_at defaults_of (octets_left lines.entry) ≡ Some (x.0, octets_left x.1)) }
+    ensures none { IfErr result (λ fault. line_at defaults_of (octets_left lines.entry) ≡ None) }
+{
+    let (line, lines) = next_line(lines)?;
+    let defaults = defaults_of(line.octets).ok_or(DescriptionFault::Line(line.number))?;
+    Ok((defaults, lines))
+}
+
+/// What the line `first ..` says, which comes next, and the lines after it.
+fn first_line(lines: Lines<'_>) -> Result<(u32, Lines<'_>), DescriptionFault>
+    ensures found { IfOk result (λ x. line_at first_of (octets_left lines.entry) ≡ Some (x.0, octets_left x.1)) }
+    ensures none { IfErr result (λ fault. line_at first_of (octets_left lines.entry) ≡ None) }
+{
+    let (line, lines) = next_line(lines)?;
+    let first = first_of(line.octets).ok_or(DescriptionFault::Line(line.number))?;
+    Ok((first, lines))
+}
+
 impl<'a> Head<'a> {
     /// The first seven lines, and the lines after them.
     #[tactic(auto, unfolding(crate::specs::DescriptionReading::head_at))]
@@ -262,12 +292,9 @@ impl<'a> Head<'a> {
         ensures none { IfErr result (λ fault. head_at (octets_left lines.entry) ≡ None) }
     {
         let (beginning, lines) = Beginning::read(lines)?;
-        let (line, lines) = next_line(lines)?;
-        let services = services_of(line.octets).ok_or(DescriptionFault::Line(line.number))?;
-        let (line, lines) = next_line(lines)?;
-        let defaults = defaults_of(line.octets).ok_or(DescriptionFault::Line(line.number))?;
-        let (line, lines) = next_line(lines)?;
-        let first = first_of(line.octets).ok_or(DescriptionFault::Line(line.number))?;
+        let (services, lines) = services_line(lines)?;
+        let (defaults, lines) = defaults_line(lines)?;
+        let (first, lines) = first_line(lines)?;
         let head = Head {
             beginning,
             services,
