@@ -82,15 +82,26 @@ fn cause_at(alloc: Global, octets: &[u8], number: usize) -> Result<Option<Script
     ensures { IfOk result (λ found. IfSome found (IsCauseOf octets.now number)) }
 {
     match named_sign(alloc, octets) {
-        Ok(_) => match event_cause_at(alloc, octets, number)? {
-            Some(cause) => Ok(Some(ScriptCause::Event(cause))),
-            None => Ok(None),
-        },
+        Ok(_) => cause_of_event(alloc, octets, number),
         Err(ReplayFault::Memory) => Err(AllocError),
         Err(_) => match first_cause(alloc, octets)? {
             Some(cause) => Ok(Some(ScriptCause::Sign(cause))),
             None => Ok(None),
         },
+    }
+}
+
+/// The cause of the line of this number, as an event.
+fn cause_of_event(
+    alloc: Global,
+    octets: &[u8],
+    number: usize,
+) -> Result<Option<ScriptCause>, AllocError>
+    ensures { IfOk result (λ found. IfSome found (IsCauseOf octets.now number)) }
+{
+    match event_cause_at(alloc, octets, number)? {
+        Some(cause) => Ok(Some(ScriptCause::Event(cause))),
+        None => Ok(None),
     }
 }
 

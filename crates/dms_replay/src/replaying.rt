@@ -15,6 +15,7 @@ ghost use Rattle.dms_description.specs.Description.{Description, SpellsSign, lon
 ghost use Rattle.dms_description.specs.Setups.{IsMade};
 ghost use Rattle.dms_replay.specs.EventView.{script_events_model};
 ghost use Rattle.dms_description.specs.ReadingFaults.{IsLine};
+ghost use Rattle.dms_replay.specs.Report.{report_of};
 ghost use Rattle.dms_replay.specs.Replayed.{IsReport, Replayed, ReplayedPrefix, RunsLawfully, HasNoRoom, NoScript};
 ghost use Rattle.dms_replay.specs.Script.{SpellsScript};
 ghost use Rattle.dms_description.specs.declared.reading_fault.ReplayFault.TheVariants as faults;
@@ -78,12 +79,36 @@ fn script_report(alloc: Global, octets: &[u8]) -> Result<Vec<u8>, ReplayFault>
     let Script { setup, events } = read_script(alloc, octets)?;
     scripts_run_lawfully();
     are_octets(octets);
-    let mut world = fresh_world(alloc, setup)?;
-    run_events(alloc, &mut world, events.as_slice())?;
+    match run_report(alloc, setup, events.as_slice()) {
+        Ok(report) => Ok(report),
+        Err(fault) => Err(fault),
+    }
+}
+
+/// The report of a sign's and its centre's run of these events.
+fn run_report(alloc: Global, setup: Setup, events: &[ScriptEvent]) -> Result<Vec<u8>, ReplayFault>
+    ensures report { IfOk result (λ report. report.items ≡ report_of (world_after (beginning setup.sign
+        (start (record { community = setup.sign.config.writer; order = setup.sign.table.order }) setup.first))
+        (script_events_model events.now)) (length events.now)) }
+    ensures memory { IfErr result (λ fault. fault ≡ faults.Memory) }
+{
+    let world = ended_world(alloc, setup, events)?;
     match report(alloc, &world, events.len()) {
         Ok(report) => Ok(report),
         Err(_) => Err(ReplayFault::Memory),
     }
+}
+
+/// The world of a sign and of its centre after these events.
+fn ended_world(alloc: Global, setup: Setup, events: &[ScriptEvent]) -> Result<World, ReplayFault>
+    ensures world { IfOk result (λ world. seen world ≡ world_after (beginning setup.sign
+        (start (record { community = setup.sign.config.writer; order = setup.sign.table.order }) setup.first))
+        (script_events_model events.now)) }
+    ensures memory { IfErr result (λ fault. fault ≡ faults.Memory) }
+{
+    let mut world = fresh_world(alloc, setup)?;
+    run_events(alloc, &mut world, events)?;
+    Ok(world)
 }
 
 /// What is read is octets.

@@ -1,4 +1,4 @@
-use Rattle.std.proofs.Common.{◌≡◌, length, arith}
+use Rattle.std.proofs.Common.{length, ap, refl}
 use Rattle.dms_replay.proofs.ScriptRead.{is_report, runs_lawfully}
 use Rattle.dms_replay.proofs.replaying.script_report.Goals as goal
 
@@ -12,13 +12,13 @@ returns-in-Ok-clause-report c =
     _
     _
     c.in-Ok.report.items
-    c.len.result
+    _
     c.in_ok-setup.ensures.read
-    c.in_ok-world.ensures.world
+    refl
     c.as_slice.ensures.value
-    c.in_ok-run_events.ensures.world
-    (let counted : c.len.result ≡ length c.in_ok-setup.field-0.events.items = omega (arith, c.len.ensures) in counted)
-    c.in-Ok.ensures
+    refl
+    (ap length c.as_slice.ensures.value)
+    c.in-Ok.ensures.report
 
 pub returns-in-Ok-clause-lawful : goal.returns-in-Ok-clause-lawful
 returns-in-Ok-clause-lawful c =
