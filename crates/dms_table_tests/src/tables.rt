@@ -525,10 +525,8 @@ fn checksum(table: &Table, id: RowId) -> Option<u16> {
     Some(table.row(id)?.checksum)
 }
 
-#[test]
-fn example(rt: HostRuntime) -> Result<(), Fail> {
-    let face = face(rt.alloc())?;
-    let mut table = Table::new(rt.alloc(), stock(&[]), &face)?;
+/// The first changeable row is modified, written and validated, and then takes no modification.
+fn check_begun(rt: &impl Abort, table: &mut Table) {
     let row = RowId {
         memory: memory::CHANGEABLE,
         number: 1,
@@ -552,12 +550,26 @@ fn example(rt: HostRuntime) -> Result<(), Fail> {
             })
         )
     );
-    let verdict = table.settle(&face, &face.defaults()).ok_or("no verdict")?;
-    assert_eq!(rt;
-        (verdict.error, verdict.passes(), table.settling()),
-        (2, true, None)
-    );
-    assert_eq!(rt; checksum(&table, row), Some(0x9a66));
+}
+
+/// The error of the verdict on it, whether it passes, what is being validated then, and the row's checksum.
+fn settled(table: &mut Table, face: &Face) -> Option<(u8, bool, Option<Place>, Option<u16>)> {
+    let verdict = table.settle(face, &face.defaults())?;
+    Some((
+        verdict.error,
+        verdict.passes(),
+        table.settling(),
+        checksum(table, FIRST),
+    ))
+}
+
+#[test]
+fn example(rt: HostRuntime) -> Result<(), Fail> {
+    let face = face(rt.alloc())?;
+    let mut table = Table::new(rt.alloc(), stock(&[]), &face)?;
+    check_begun(&rt, &mut table);
+    let found = settled(&mut table, &face);
+    assert_eq!(rt; found, Some((2, true, None, Some(0x9a66))));
     Ok(())
 }
 
