@@ -11,7 +11,7 @@ use dms_text::Words;
 use std::alloc::{AllocError, Global};
 
 /// What a line asks of a central system, but for an operator's commands.
-#[derive(Debug, Drop)]
+#[derive(Drop)]
 pub(crate) enum Call {
     /// A datagram reached it.
     Datagram(Vec<u8>),

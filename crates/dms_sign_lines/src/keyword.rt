@@ -3,7 +3,7 @@
 use dms_forms::fields::are_same;
 
 /// The word with which a line begins.
-#[derive(Clone, Copy, Debug, PartialEq, Eq)]
+#[derive(Clone, Copy)]
 pub(crate) enum Keyword {
     Datagram,
     Tick,

@@ -11,7 +11,7 @@ use dms_text::Words;
 use std::alloc::{AllocError, Global};
 
 /// What a line asks of a live sign.
-#[derive(Debug, Drop)]
+#[derive(Drop)]
 pub(crate) enum SignCall {
     /// `datagram OCTETS`: the sign receives these octets.
     Datagram(Vec<u8>),
