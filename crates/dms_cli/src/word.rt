@@ -50,7 +50,7 @@ pub(crate) enum Valued {
     Address,
 }
 
-/// What clap is told of a word or an option.
+/// A word or an option, as clap has it.
 pub(crate) fn arg<'a>(alloc: Global, word: Word) -> Arg<'a> {
     match word {
         Word::Wanted(wanted) => wanted.arg(alloc),

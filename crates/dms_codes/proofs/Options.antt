@@ -1,4 +1,4 @@
--- What a value that was made of another, where there is one, tells of the other.
+-- What a value that was made of another, where there is one, says of the other.
 use Rattle.std.proofs.Common.{◌≡◌, Option, Some, None, option_map, is_some, refl, arith}
 
 pub mapped_none : {A B : Type 0} (f : A → B) (o : Option A) → option_map f o ≡ None → o ≡ None

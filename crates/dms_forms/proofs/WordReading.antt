@@ -1,4 +1,4 @@
--- The end of a line, and words that are told apart by keywords.
+-- The end of a line, and words of which each is a keyword.
 use Rattle.std.proofs.Common.{◌≡◌, ℕ, cond, List, [], ◌∷◌, Option, Some, sym, ap, ◌∙◌, arith, inl, inr}
 use Rattle.std.proofs.lemmas.Bool.{cases_Bool}
 use Rattle.std.proofs.lemmas.Option.{same_Some}
@@ -12,7 +12,7 @@ pub last_found : {A : Type 0} (value : A) (words : List (List ℕ)) (found : A) 
 last_found value [] found e = grind arith
 last_found value (word ∷ words) found e = grind arith
 
--- ---- words that are told apart by keywords
+-- ---- words of which each is a keyword
 
 -- the word is this keyword, or what is read is read of another one
 pub by_keyword : {A P : Type 0} (word keyword : List ℕ) (this others : Option A) (found : A) → cond (same_octets word keyword) this others ≡ Some found

@@ -94,7 +94,7 @@ same_below table n has a b objects cells = same_next table (below_dms a) (below_
     each (kinds.Scalar object) there = objects object
     each (kinds.Cell column row) there = cells column row (there_counted table n column row has there)
 
--- names that no number but the first two tells from those that there are
+-- names that their first two numbers alone part from those that there are
 by_pairs : (table : TableModel) (n : Counts) → HasCounts table n → (a b : List ℕ)
     → ((g x y : ℕ) (c : List ℕ) → (1 ≤ g) × (g ≤ 6) × (1 ≤ x) × (x ≤ 24) → is_before a (g ∷ x ∷ y ∷ c) ≡ is_before b (g ∷ x ∷ y ∷ c))
     → next_instance table (below_dms a) ≡ next_instance table (below_dms b)

@@ -80,7 +80,7 @@ pub extern "C" fn dms_still_table(alloc: Global, fonts: &[u8], text: &[u8], time
 }
 
 /// The central system: a message is published, each request is repeated as its reply, a tick passes, and it begins
-/// anew.
+/// again.
 #[unsafe(no_mangle)]
 pub extern "C" fn dms_still_centre(alloc: Global, text: &[u8], times: u32) -> u64 {
     let Ok(mut centre) = Centre::new(alloc, SETTINGS, 1) else {
@@ -250,13 +250,13 @@ pub extern "C" fn dms_still_worlds(alloc: Global, fonts: &[u8], times: u32) -> u
     sum
 }
 
-/// A number that depends on all that a page tells beside its cells.
+/// A number that depends on all that a page has beside its cells.
 fn page_weight(page: &Page) -> u64 {
     let times = u64::from(page.on()) + u64::from(page.off());
     times + u64::from(page.back()) + u64::from(page.width()) + u64::from(page.height())
 }
 
-/// Makes the text's pages once, and sums what each tells beside its cells.
+/// Makes the text's pages once, and sums what each has beside its cells.
 #[unsafe(no_mangle)]
 pub extern "C" fn dms_still_pages(alloc: Global, fonts: &[u8], text: &[u8], times: u32) -> u64 {
     let Some(face) = face_of(alloc, fonts) else {

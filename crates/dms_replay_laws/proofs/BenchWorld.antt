@@ -132,7 +132,7 @@ unfoldable pub status_and_index : WorldModel → List VarBind → ℕ × ℕ
 unfolding after
 status_and_index world bindings = (error_status_number (set world.sign true bindings).status, (set world.sign true bindings).index)
 
--- what is told of activations and texts: dmsActivateMsgError, dmsMultiSyntaxError and its position
+-- what is reported of activations and texts: dmsActivateMsgError, dmsMultiSyntaxError and its position
 abbrev pub errors : WorldModel → List ℕ
 errors world = world.sign.reports.activate_error ∷ world.sign.reports.syntax_error ∷ world.sign.reports.syntax_error_position ∷ []
 

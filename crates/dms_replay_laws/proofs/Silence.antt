@@ -96,7 +96,7 @@ acts_once : (after bench (one_minute ∷ seconds 70)).sign.silent_seconds ≡ 60
 unfolding after hex
 acts_once = refl
 
--- ---- the return of the power begins the silence anew, where the power was off
+-- ---- the return of the power begins the silence again, where the power was off
 
 power_breaks_it : seen (after bench (one_minute ∷ seconds 59 ++ power_lost ∷ power_back 1 ∷ seconds 59)) ≡ blank_up 10
 unfolding after hex

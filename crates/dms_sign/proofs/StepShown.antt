@@ -134,7 +134,7 @@ decided_displays face defaults table shown code new e = known_displays (is_memor
 
 -- ---- codes of the sign's own
 
--- all but what is shown and what is told stays
+-- all but what is shown and what is reported stays
 pub record KeepsRest (old new : SignState) : Type 0 where
   pub config : new.config ≡ old.config
   pub table : new.table ≡ old.table

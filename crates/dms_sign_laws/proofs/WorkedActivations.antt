@@ -197,7 +197,7 @@ refused_code_is_kept : reads (after_set lettered (code (codes "ffffff0300039a660
 unfolding answer reads
 refused_code_is_kept = refl
 
--- the code that was accepted before it is still told
+-- the code that was accepted before it is still reported
 accepted_code_is_kept : reads (after_set lettered (code (codes "ffffff0300039a6600000000") ∷ [])) (Scalar ActivateMessage)
     ≡ Some (octet_string (octets_of five_minutes))
 unfolding answer reads
@@ -208,7 +208,7 @@ two_commands : status_and_index lettered (code (codes "ffffff0300039a6600000000"
 unfolding answer
 two_commands = refl
 
--- the code is not judged, and nothing is told of it
+-- the code is not judged, and nothing is reported of it
 two_commands_change_nothing : after_set lettered (code (codes "ffffff0300039a6600000000") ∷ number (Scalar MessageTimeRemaining) 9 ∷ []) ≡ lettered
 unfolding answer
 two_commands_change_nothing = refl
@@ -261,7 +261,7 @@ refused_at_the_end_is_told : (ended_by (codes "0300039a66")).reports.activate_er
 unfolding answer
 refused_at_the_end_is_told = refl
 
--- the code that is told is the sign's own: without an end, with the highest priority, for nobody
+-- the code that is reported is the sign's own: without an end, with the highest priority, for nobody
 own_code_is_told : (ended_by (codes "0300039a66")).reports.failed_code ≡ octets_of (codes "ffffff0300039a6600000000")
 unfolding answer
 own_code_is_told = refl

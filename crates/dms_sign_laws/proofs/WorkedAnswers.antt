@@ -111,7 +111,7 @@ checksum_of_b : reads bench_sign (cell Crc 2 1) ≡ Some (integer (pos 29954))
 unfolding reads
 checksum_of_b = refl
 
--- a sign of the other order tells its two octets exchanged, 0275
+-- a sign of the other order reports its two octets exchanged, 0275
 swapped_checksum_of_b : reads (record bench_sign { table = record bench_table { order = Swapped } }) (cell Crc 2 1) ≡ Some (integer (pos 629))
 unfolding reads
 swapped_checksum_of_b = refl

@@ -62,7 +62,7 @@ row_stays_valid : reads refused_sign (cell Status 2 1) ≡ Some (integer (pos 4)
 unfolding datagram answer reads
 row_stays_valid = refl
 
--- a later acceptance leaves what is told of the text
+-- a later acceptance leaves what is reported of the text
 fault_stays_told : reads (after_set refused_sign (code (codes "ffffff0700ff000000000000") ∷ [])) (Scalar MultiSyntaxError) ≡ Some (integer (pos 7))
 unfolding datagram answer reads
 fault_stays_told = refl

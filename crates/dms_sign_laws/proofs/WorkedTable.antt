@@ -95,7 +95,7 @@ one_at_a_time = refl
 
 -- ---- verdicts
 
--- what is told of a row a second after validateReq: its status, dmsValidateMessageError, dmsMultiSyntaxError and its position
+-- what is reported of a row a second after validateReq: its status, dmsValidateMessageError, dmsMultiSyntaxError and its position
 abbrev told_of : RowModel → List (Option ObjectValue)
 told_of row =
     let s = later 1 (after_set (with_changeable_rows (row ∷ unused ∷ [])) (number (cell Status 3 1) 7 ∷ [])) in
@@ -114,7 +114,7 @@ tag_without_an_end : told_of (open_row (codes "[nl")) ≡ numbers (5 ∷ 5 ∷ 3
 unfolding answer reads later
 tag_without_an_end = refl
 
--- a pixel service that the sign has not is told first, and the text is not looked at
+-- a pixel service that the sign has not is reported first, and the text is not looked at
 no_pixel_service : told_of (record (open_row (codes "[nl")) { pixel = 1 }) ≡ numbers (5 ∷ 4 ∷ 2 ∷ 0 ∷ [])
 unfolding answer reads later
 no_pixel_service = refl

@@ -18,7 +18,7 @@ use Rattle.dms_table.specs.Validation.{verdict_of, passes, settled_row, settled,
 abbrev IsFound : Services → FaceModel → RowModel → Type 0
 IsFound services face row = row_is_validating row ≡ true → passes (verdict_of services face row) ≡ true → IsGood face row.text
 
--- ---- what a verdict tells
+-- ---- what a verdict says
 
 passes_on : (b : Bool) (wrong other : Verdict) → passes wrong ≡ false → passes (if b then wrong else other) ≡ true → passes other ≡ true
 passes_on b wrong other fails h = grind arith
