@@ -1,4 +1,5 @@
-//! Forms of lines: what each word of a line is to be, and the first word that is not.
+//! Forms of lines: what each word of a line is to be, and the first word that is not; and the numbers and octets that
+//! words spell.
 //!
 //! ```
 //! let form = [Wanted::Keyword(Keyword::Size), Wanted::Number(0, 65535), Wanted::Number(0, 65535)];
