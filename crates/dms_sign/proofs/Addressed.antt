@@ -1,5 +1,5 @@
 -- A message for the sign comes to what its kind says, and another to nothing.
-use Rattle.std.proofs.Common.{◌≡◌, Bool, true, false, ◌&&◌, cond, true≢false, arith}
+use Rattle.std.proofs.Common.{◌≡◌, Bool, true, false, ◌&&◌, cond, arith}
 use Rattle.dms_wire.specs.declared.message.Kind.{Kind}
 use Rattle.dms_wire.specs.Message.{SnmpMessage}
 use Rattle.dms_sign.specs.State.{SignState}

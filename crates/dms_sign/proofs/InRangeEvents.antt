@@ -1,5 +1,5 @@
 -- A second, a loss of power and its return keep a sign in range.
-use Rattle.std.proofs.Common.{◌≡◌, ℕ, ◌+◌, ◌-◌, ◌*◌, ◌<◌, ◌≤◌, ◌==◌, ◌&&◌, Bool, cond, Option, refl, arith, ltb, ltb-true}
+use Rattle.std.proofs.Common.{◌≡◌, ℕ, ◌+◌, ◌*◌, ◌≤◌, ◌==◌, Bool, cond, Option, refl, arith, ltb, ltb-true}
 use Rattle.std.specs.Prelude.{option_map}
 use Rattle.std.specs.Option.{IfSome}
 use Rattle.std.proofs.lemmas.List.{length-map}
@@ -8,7 +8,6 @@ use Rattle.dms_face.specs.Face.{FaceModel}
 use Rattle.dms_face.specs.Layout.{under}
 use Rattle.dms_table.specs.declared.row.Services.{Services}
 use Rattle.dms_codes.specs.declared.status.Status.{Status}
-use Rattle.dms_codes.specs.declared.validation_error.ValidationError.TheVariants as errors
 use Rattle.dms_table.specs.declared.validation.Verdict.{Verdict}
 use Rattle.dms_table.specs.Rows.{RowModel, TableModel, row_is_validating, interrupted, released, unused, after_power}
 use Rattle.dms_codes.specs.Limits.{longest_text}

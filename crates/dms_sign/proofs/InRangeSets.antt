@@ -19,10 +19,11 @@ use Rattle.dms_objects.specs.declared.column.Column.TheVariants as columns_of
 use Rattle.dms_codes.specs.declared.row_id.RowId.{RowId}
 use Rattle.dms_codes.specs.declared.status.Ask.{Ask}
 use Rattle.dms_codes.specs.declared.status.Status.{Status}
-use Rattle.dms_codes.specs.declared.status.Status.TheVariants as statuses
 use Rattle.dms_codes.specs.Codes.{activation_of}
-use Rattle.dms_table.specs.Rows.{RowModel, TableModel, FieldModel, Text, Owner, Beacon, Pixel, Priority, numbered, changed_in, with_changeable, with_volatile, changed, with_status, asked, with_field, written}
-use Rattle.dms_codes.specs.Memory.{changeable_memory, volatile_memory}
+use Rattle.dms_table.specs.Rows.{RowModel, TableModel, FieldModel, Text, Owner, Beacon, Pixel, Priority, numbered, changed_in, with_changeable, with_volatile, changed_by, changed, with_status, asked, with_field, written}
+use Rattle.dms_codes.specs.declared.memory.Memory.{Memory}
+use Rattle.dms_codes.specs.declared.memory.Memory.TheVariants.{Permanent, Changeable, Volatile, CurrentBuffer, Blank}
+use Rattle.dms_codes.specs.Memory.{memory_of}
 use Rattle.dms_codes.specs.Limits.{longest_text, longest_owner}
 use Rattle.dms_table.specs.Activation.{ShownModel, decided}
 use Rattle.dms_objects.specs.declared.scalar.Scalar.{Scalar}
@@ -63,11 +64,10 @@ changed_in_range rows n change all each =
     (λ new h. record { each = all_set rows (n - 1) new all h; count = length-set rows (n - 1) new }) (each row is))
     (if_either IsRowInRange (n == 0) None (slice_get rows (n - 1)) tt (if_at IsRowInRange rows (n - 1) all))
 
-changed_table : (table : TableModel) (id : RowId) (change : RowModel → Option RowModel) → IsTableInRange table
-    → ((row : RowModel) → IsRowInRange row → IfSome (change row) IsRowInRange) → IfSome (changed table id change) IsTableInRange
-changed_table table id change is each =
-    if_either IsTableInRange (id.memory == changeable_memory) (option_map (with_changeable table) (changed_in table.changeable id.number change)) _
-    (if_mapped (AreRowsLike table.changeable) IsTableInRange (with_changeable table) (changed_in table.changeable id.number change)
+changed_by_in_range : (table : TableModel) (memory : Option Memory) (number : ℕ) (change : RowModel → Option RowModel) → IsTableInRange table
+    → ((row : RowModel) → IsRowInRange row → IfSome (change row) IsRowInRange) → IfSome (changed_by table memory number change) IsTableInRange
+changed_by_in_range table (Some Changeable) number change is each =
+    if_mapped (AreRowsLike table.changeable) IsTableInRange (with_changeable table) (changed_in table.changeable number change)
     (λ rows new. record {
       permanent = is.permanent;
       changeable = new.each;
@@ -76,9 +76,9 @@ changed_table table id change is each =
       changeable_count = omega (arith, new.count, is.changeable_count);
       volatile_count = is.volatile_count;
     })
-    (changed_in_range table.changeable id.number change is.changeable each))
-    (if_either IsTableInRange (id.memory == volatile_memory) (option_map (with_volatile table) (changed_in table.volatile id.number change)) None
-    (if_mapped (AreRowsLike table.volatile) IsTableInRange (with_volatile table) (changed_in table.volatile id.number change)
+    (changed_in_range table.changeable number change is.changeable each)
+changed_by_in_range table (Some Volatile) number change is each =
+    if_mapped (AreRowsLike table.volatile) IsTableInRange (with_volatile table) (changed_in table.volatile number change)
     (λ rows new. record {
       permanent = is.permanent;
       changeable = is.changeable;
@@ -87,7 +87,15 @@ changed_table table id change is each =
       changeable_count = is.changeable_count;
       volatile_count = omega (arith, new.count, is.volatile_count);
     })
-    (changed_in_range table.volatile id.number change is.volatile each)) tt)
+    (changed_in_range table.volatile number change is.volatile each)
+changed_by_in_range table (Some Permanent) number change is each = tt
+changed_by_in_range table (Some CurrentBuffer) number change is each = tt
+changed_by_in_range table (Some Blank) number change is each = tt
+changed_by_in_range table None number change is each = tt
+
+changed_table : (table : TableModel) (id : RowId) (change : RowModel → Option RowModel) → IsTableInRange table
+    → ((row : RowModel) → IsRowInRange row → IfSome (change row) IsRowInRange) → IfSome (changed table id change) IsTableInRange
+changed_table table id change is each = changed_by_in_range table (memory_of id.memory) id.number change is each
 
 -- ---- asking
 

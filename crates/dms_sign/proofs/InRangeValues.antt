@@ -1,5 +1,5 @@
 -- What a sign in range reads is within the limits of a message: its values, and the names of its instances.
-use Rattle.std.proofs.Common.{◌≡◌, ℕ, zero, suc, ◌+◌, ◌*◌, ◌/◌, ◌-◌, ◌^◌, ◌<◌, ◌≤◌, ◌==◌, ◌&&◌, Bool, true, false, cond, List, [], ◌∷◌, ◌++◌, length, map, flat_map, Option, Some, None, slice_get, refl, ap, subst, ◌∙◌, arith, lt-ltb, length-append}
+use Rattle.std.proofs.Common.{◌≡◌, ℕ, zero, suc, ◌+◌, ◌*◌, ◌-◌, ◌^◌, ◌<◌, ◌≤◌, ◌==◌, ◌&&◌, Bool, true, false, cond, List, [], ◌∷◌, ◌++◌, length, map, flat_map, Option, Some, None, slice_get, refl, ap, subst, arith, lt-ltb, length-append}
 use Rattle.std.specs.Prelude.{nat_le, count_by, ⊤}
 use Rattle.std.specs.Option.{IfSome}
 use Rattle.std.specs.List.{AllByRecursion, range_with_len}
@@ -11,16 +11,14 @@ use Rattle.dms_wire.specs.Limits.{IsValueInLimits}
 use Rattle.dms_codes.specs.declared.codes.Order.{Order}
 use Rattle.dms_codes.specs.declared.codes.MessageId.{MessageId}
 use Rattle.dms_objects.specs.declared.column.Column.{Column}
-use Rattle.dms_objects.specs.declared.column.Column.TheVariants as columns_of
 use Rattle.dms_codes.specs.declared.row_id.RowId.{RowId}
-use Rattle.dms_codes.specs.declared.status.Status.TheVariants as statuses
 use Rattle.dms_codes.specs.Checksum.{number, checksum, remainder, sixteen_zeros}
 use Rattle.dms_codes.specs.Codes.{octets_of_id, in_order, IsMessageId}
 use Rattle.dms_objects.specs.Names.{below_dms, object_name, cell_name, column_number}
-use Rattle.dms_table.specs.Rows.{RowModel, TableModel, RowReading, reading, blank_reading, blank, blank_at, numbered, rows_of, row_read, row_checksum}
+use Rattle.dms_table.specs.Rows.{RowModel, TableModel, RowReading, reading, blank_reading, blank, blank_at, numbered, rows_by, rows_of, row_read, row_checksum}
 use Rattle.dms_codes.specs.Limits.{longest_text}
 use Rattle.dms_codes.specs.declared.memory.Memory.{Memory}
-use Rattle.dms_codes.specs.Memory.{blank_memory, memory_number}
+use Rattle.dms_codes.specs.Memory.{blank_memory, memory_number, memory_of}
 use Rattle.dms_table.specs.Activation.{ShownModel, shown_row, shown_reading, message_at}
 use Rattle.dms_codes.proofs.Division.{length-divided}
 use Rattle.dms_objects.specs.declared.scalar.Scalar.{Scalar}
@@ -121,8 +119,11 @@ blank_in_range n = blank_if n (nat_le 1 n && nat_le n 255) refl
 numbered_in_range : (rows : List RowModel) (n : ℕ) → AllByRecursion IsRowInRange rows → IfSome (numbered rows n) IsRowInRange
 numbered_in_range rows n all = if_either IsRowInRange (n == 0) None (slice_get rows (n - 1)) tt (if_at IsRowInRange rows (n - 1) all)
 
+rows_by_in_range : (table : TableModel) (memory : Option Memory) → IsTableInRange table → AllByRecursion IsRowInRange (rows_by table memory)
+rows_by_in_range table memory is = grind arith
+
 pub rows_in_range : (table : TableModel) (memory : ℕ) → IsTableInRange table → AllByRecursion IsRowInRange (rows_of table memory)
-rows_in_range table memory is = grind arith
+rows_in_range table memory is = rows_by_in_range table (memory_of memory) is
 
 row_read_in_range : (table : TableModel) (id : RowId) → IsTableInRange table → IfSome (row_read table id) IsReadingInRange
 row_read_in_range table id is =

@@ -8,12 +8,14 @@ use Rattle.dms_face.specs.Face.{FaceModel}
 use Rattle.dms_face.specs.Layout.{under}
 use Rattle.dms_face.specs.Fit.{IsGood}
 use Rattle.dms_codes.specs.declared.status.Status.TheVariants.{Valid, Error}
-use Rattle.dms_codes.specs.Memory.{permanent_memory, changeable_memory, volatile_memory}
+use Rattle.dms_codes.specs.declared.memory.Memory.{Memory}
+use Rattle.dms_codes.specs.declared.memory.Memory.TheVariants as memories
+use Rattle.dms_codes.specs.Memory.{memory_of}
 use Rattle.dms_table.specs.declared.row.Services.{Services}
 use Rattle.dms_table.specs.declared.writable.Place.{Place}
 use Rattle.dms_table.specs.declared.writable.Writable.{Writable}
 use Rattle.dms_table.specs.declared.writable.Writable.TheVariants.{Changeable, Volatile}
-use Rattle.dms_table.specs.Rows.{RowModel, TableModel, unused, rows_of, numbered, row_is_validating}
+use Rattle.dms_table.specs.Rows.{RowModel, TableModel, unused, rows_by, rows_of, numbered, row_is_validating}
 use Rattle.dms_table.specs.Validation.{verdict_of, passes, settled_row, settled, IsShowable, HasGoodTextWhereValid}
 use Rattle.dms_table.specs.PlaceView.{writable, of_type, IsOnly, IsOnlyOfAll, IsPlaced}
 use Rattle.dms_table.specs.Stock.{PermanentRowsAreGood}
@@ -160,14 +162,16 @@ shown_at services face rows k row each e = grind (arith, get_or_from_slice_get, 
 unused_at : (rows : List RowModel) (n k : ℕ) (row : RowModel) → rows ≡ replicate n unused → slice_get rows k ≡ Some row → row.status ≡ Valid → ⊥
 unused_at rows n k row are e valid = never_used n k row (ap (λ (rows : List RowModel). slice_get rows k) (sym are) ∙ e) valid
 
-made_at : (is_permanent is_changeable is_volatile : Bool) (services : Services) (face : FaceModel) (permanent changeable volatile : List RowModel) (k : ℕ) (row : RowModel)
-    → All (IsShowable services face) permanent → changeable ≡ replicate (length changeable) unused → volatile ≡ replicate (length volatile) unused
-    → slice_get (cond is_permanent permanent (cond is_changeable changeable (cond is_volatile volatile []))) k ≡ Some row → row.status ≡ Valid
-    → IsGood face row.text
-made_at true c v services face permanent changeable volatile k row each ones others e valid = shown_at services face permanent k row each e
-made_at false true v services face permanent changeable volatile k row each ones others e valid = absurd (unused_at changeable (length changeable) k row ones e valid)
-made_at false false true services face permanent changeable volatile k row each ones others e valid = absurd (unused_at volatile (length volatile) k row others e valid)
-made_at false false false services face permanent changeable volatile k row each ones others e valid = absurd (cc)
+made_at : (memory : Option Memory) (face : FaceModel) (table : TableModel) (k : ℕ) (row : RowModel) → PermanentRowsAreGood face table → IsStocked table
+    → slice_get (rows_by table memory) k ≡ Some row → row.status ≡ Valid → IsGood face row.text
+made_at (Some memories.Permanent) face table k row good stocked e valid = shown_at table.services face table.permanent k row good e
+made_at (Some memories.Changeable) face table k row good stocked e valid =
+    absurd (unused_at table.changeable (length table.changeable) k row stocked.changeable e valid)
+made_at (Some memories.Volatile) face table k row good stocked e valid =
+    absurd (unused_at table.volatile (length table.volatile) k row stocked.volatile e valid)
+made_at (Some memories.CurrentBuffer) face table k row good stocked e valid = absurd (cc)
+made_at (Some memories.Blank) face table k row good stocked e valid = absurd (cc)
+made_at None face table k row good stocked e valid = absurd (cc)
 
 replicated : {A : Type 0} (n k : ℕ) (x : A) → get_or (replicate n x) k x ≡ x
 replicated zero k x = refl
@@ -185,6 +189,5 @@ known_made known face table is good stocked = λ memory number row there valid.
     subst (λ (d : Defaults). IsGood (under face d) row.text)
     (sym (ap (λ (known : KnownTexts). kept_for known memory number) is
     ∙ first_kept (writable memory) face.defaults number))
-    (made_at (memory == permanent_memory) (memory == changeable_memory) (memory == volatile_memory) table.services face table.permanent table.changeable table.volatile
-    (number - 1) row good stocked.changeable stocked.volatile
+    (made_at (memory_of memory) face table (number - 1) row good stocked
     (not_zero (number == 0) (slice_get (rows_of table memory) (number - 1)) row there).1 valid)

@@ -1,5 +1,5 @@
 -- What is written of a reply: itself where it fits a datagram, or tooBig.
-use Rattle.std.proofs.Common.{◌≡◌, ℕ, ◌<◌, ◌≤◌, List, length, Result, ◌∙◌, arith}
+use Rattle.std.proofs.Common.{◌≡◌, ℕ, ◌<◌, ◌≤◌, List, length, Result, arith}
 use Rattle.dms_wire.specs.declared.fault.TooBig.{TooBig}
 use Rattle.dms_wire.specs.Message.{VarBind, SnmpMessage}
 use Rattle.dms_wire.specs.Canonical.{canonical}

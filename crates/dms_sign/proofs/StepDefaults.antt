@@ -1,5 +1,5 @@
 -- The defaults of a sign stay in their ranges, and name a font of its face.
-use Rattle.std.proofs.Common.{◌≡◌, ℕ, ◌+◌, ◌==◌, ◌&&◌, Bool, true, cond, List, [], ◌∷◌, Option, Some, None, Result, refl, leb, arith}
+use Rattle.std.proofs.Common.{◌≡◌, ℕ, ◌==◌, ◌&&◌, Bool, true, cond, List, [], ◌∷◌, Option, Some, None, Result, refl, leb, arith}
 use Rattle.std.specs.Prelude.{option_map, option_and_then, unwrap_or, filter_map, nat_le, ⊤}
 use Rattle.std.specs.Option.{IfSome}
 use Rattle.std.specs.List.{AllByRecursion}

@@ -1,5 +1,5 @@
 -- Rows become valid by settling alone.
-use Rattle.std.proofs.Common.{◌≡◌, ℕ, zero, suc, ◌-◌, ◌==◌, ◌&&◌, Bool, true, false, not, cond, List, [], ◌∷◌, map, set, Option, Some, None, slice_get, slice_set, All, get_or, refl, ap, ◌∙◌, arith}
+use Rattle.std.proofs.Common.{◌≡◌, ℕ, zero, suc, ◌-◌, ◌==◌, ◌&&◌, Bool, true, false, cond, List, [], ◌∷◌, map, set, Option, Some, None, slice_get, slice_set, All, get_or, refl, ap, sym, ◌∙◌, arith}
 use Rattle.std.specs.Prelude.{option_map, option_and_then, unwrap_or}
 use Rattle.dms_face.specs.declared.multi_fault.MultiFault.{MultiFault}
 use Rattle.dms_face.specs.Face.{FaceModel}
@@ -8,16 +8,16 @@ use Rattle.dms_face.proofs.GoodLaws.{faultless_law}
 use Rattle.dms_codes.specs.declared.row_id.RowId.{RowId}
 use Rattle.dms_table.specs.declared.row.Services.{Services}
 use Rattle.dms_codes.specs.declared.status.Ask.{Ask}
-use Rattle.dms_codes.specs.declared.status.Ask.TheVariants as asks
 use Rattle.dms_codes.specs.declared.status.Status.{Status}
 use Rattle.dms_codes.specs.declared.status.Status.TheVariants.{NotUsed, Modifying, Valid}
 use Rattle.dms_table.specs.declared.validation.Verdict.{Verdict}
 use Rattle.dms_codes.specs.Status.{next_status, is_modifying}
-use Rattle.dms_table.specs.Rows.{RowModel, TableModel, FieldModel, Text, Owner, Beacon, Pixel, Priority, unused, rows_of, numbered, blank_at, changed_in, with_changeable, with_volatile, changed, with_status, asked_row, may_ask, asked, is_in_range, with_field, written_row, written, row_is_validating, after_power}
-use Rattle.dms_codes.specs.Memory.{blank_memory}
-use Rattle.dms_codes.specs.declared.validation_error.ValidationError.TheVariants as errors
+use Rattle.dms_table.specs.Rows.{RowModel, TableModel, FieldModel, Text, Owner, Beacon, Pixel, Priority, unused, rows_of, numbered, blank_at, changed_in, with_changeable, with_volatile, changed_by, changed, with_status, asked_row, may_ask, asked, is_in_range, with_field, written_row, written, row_is_validating, after_power}
+use Rattle.dms_codes.specs.declared.memory.Memory.{Memory}
+use Rattle.dms_codes.specs.Memory.{memory_of, blank_memory}
 use Rattle.dms_table.specs.Validation.{text_verdict, verdict_of, passes, settled, CameToBeValid, ValidRowsAreGood}
 use Rattle.dms_table.proofs.GoodRows.{settled_rows_are_good}
+use Rattle.dms_table.proofs.Memories.{no_blank_rows}
 use Rattle.dms_access.specs.Access.{Write}
 use Rattle.dms_sign.specs.SetRequest.{with_write, with_writes}
 use Rattle.dms_sign.specs.Transitions.{TableStep}
@@ -89,14 +89,12 @@ volatile_changed : (table new : TableModel) (o : Option (List RowModel)) → ((r
     → option_map (with_volatile table) o ≡ Some new → KeepsRows table new
 volatile_changed table new o each e = grind arith
 
-table_changed : (table new : TableModel) (number : ℕ) (change : RowModel → Option RowModel) (is_changeable is_volatile : Bool) → NeverValid change
-    → cond is_changeable (option_map (with_changeable table) (changed_in table.changeable number change))
-    (cond is_volatile (option_map (with_volatile table) (changed_in table.volatile number change)) None) ≡ Some new
-    → KeepsRows table new
-table_changed table new number change is_changeable v never e = grind (arith, changeable_changed, list_changed, volatile_changed)
+table_changed : (table new : TableModel) (memory : Option Memory) (number : ℕ) (change : RowModel → Option RowModel) → NeverValid change
+    → changed_by table memory number change ≡ Some new → KeepsRows table new
+table_changed table new memory number change never e = grind (arith, changeable_changed, list_changed, volatile_changed)
 
 changed_keeps : (table new : TableModel) (id : RowId) (change : RowModel → Option RowModel) → NeverValid change → changed table id change ≡ Some new → KeepsRows table new
-changed_keeps table new id change never e = grind (arith, table_changed)
+changed_keeps table new id change never e = table_changed table new (memory_of id.memory) id.number change never e
 
 -- ---- asking
 
@@ -140,7 +138,8 @@ write_keeps table write = grind (arith, or_old, written_keeps, rows_same)
 
 pub writes_keep : (table : TableModel) (writes : List Write) → KeepsRows table (with_writes table writes)
 writes_keep table [] = rows_same table
-writes_keep table (write ∷ writes) = grind (arith, rows_same, rows_then, write_keeps, writes_keep (with_write table write) writes)
+writes_keep table (write ∷ writes) =
+    rows_then table (with_write table write) (with_writes (with_write table write) writes) (write_keeps table write) (writes_keep (with_write table write) writes)
 
 -- ---- a loss of power
 
@@ -183,7 +182,9 @@ stored : (blank : Bool) (face : FaceModel) (old new : TableModel) (memory number
     → (cond blank (blank_at number) (numbered (rows_of new memory) number) ≡ Some row
     → CameToBeValid old.services face (cond blank (blank_at number) (numbered (rows_of old memory) number)) row)
     → numbered (rows_of new memory) number ≡ Some row → CameToBeValid old.services face (numbered (rows_of old memory) number) row
-stored blank face old new memory number row is came there = grind arith
+stored true face old new memory number row is came there =
+    absurd (none_at (number == 0) (number - 1) row (ap (λ (rows : List RowModel). numbered rows number) (sym (no_blank_rows new memory is)) ∙ there))
+stored false face old new memory number row is came there = came there
 
 pub settled_step : (face : FaceModel) (table : TableModel) → TableStep face table (settled face table)
 settled_step face table = record {

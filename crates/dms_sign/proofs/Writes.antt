@@ -1,20 +1,20 @@
 -- What the writes of a SET leave: rows that are not being modified stay as they are, so a command is judged alike before and after them.
-use Rattle.std.proofs.Common.{◌≡◌, ◌⊎◌, inl, ℕ, zero, suc, ◌-◌, ◌==◌, ◌&&◌, ◌||◌, Bool, true, false, not, cond, List, [], ◌∷◌, Option, Some, None, is_some, refl, sym, ap, subst, ◌∙◌, arith}
+use Rattle.std.proofs.Common.{◌≡◌, ◌⊎◌, inl, ℕ, zero, suc, ◌-◌, ◌==◌, ◌&&◌, Bool, true, cond, List, [], ◌∷◌, Option, Some, None, is_some, refl, sym, ap, subst, ◌∙◌, arith}
 use Rattle.std.specs.Prelude.{option_map, option_and_then, unwrap_or, slice_get, slice_set, ⊤}
 use Rattle.std.specs.Option.{IfSome}
 use Rattle.std.specs.List.{list_any}
 use Rattle.dms_face.specs.declared.defaults.Defaults.{Defaults}
 use Rattle.dms_face.specs.Face.{FaceModel}
-use Rattle.dms_face.proofs.Lists.{if_either}
 use Rattle.dms_codes.specs.declared.status.Status.{Status}
 use Rattle.dms_codes.specs.declared.status.Status.TheVariants.{Modifying}
 use Rattle.dms_codes.specs.declared.status.Ask.{Ask}
 use Rattle.dms_codes.specs.declared.row_id.RowId.{RowId}
 use Rattle.dms_codes.specs.declared.codes.Activation.{Activation}
 use Rattle.dms_codes.specs.Status.{next_status, is_modifying}
-use Rattle.dms_codes.specs.Memory.{changeable_memory, volatile_memory}
-use Rattle.dms_table.specs.declared.activation.Cause.TheVariants as causes
-use Rattle.dms_table.specs.Rows.{RowModel, TableModel, FieldModel, Text, Owner, Beacon, Pixel, Priority, RowReading, reading, numbered, changed_in, with_changeable, with_volatile, with_status, asked_row, asked, row_is_validating, with_field, written_row, written}
+use Rattle.dms_codes.specs.declared.memory.Memory.{Memory}
+use Rattle.dms_codes.specs.declared.memory.Memory.TheVariants.{Permanent, Changeable, Volatile, CurrentBuffer, Blank}
+use Rattle.dms_codes.specs.Memory.{memory_of}
+use Rattle.dms_table.specs.Rows.{RowModel, TableModel, FieldModel, Text, Owner, Beacon, Pixel, Priority, RowReading, reading, rows_by, numbered, changed_in, with_changeable, with_volatile, changed_by, with_status, asked_row, asked, row_is_validating, with_field, written_row, written}
 use Rattle.dms_codes.proofs.Options.{is_some_mapped}
 use Rattle.dms_table.specs.Activation.{ShownModel, decided_on, decided}
 use Rattle.dms_access.specs.Access.{Write, SetNumber, SetCode, SetField, AskRow, Activate, SetRemaining}
@@ -111,14 +111,21 @@ table_like table = record { permanent = refl; changeable = all_like table.change
 tables_then : (a b c : TableModel) → IsTableLike a b → IsTableLike b c → IsTableLike a c
 tables_then a b c one other = grind (arith, all_then)
 
+written_by : (table : TableModel) (memory : Option Memory) (number : ℕ) (field : FieldModel)
+    → IfSome (changed_by table memory number (written_row field)) (IsTableLike table)
+written_by table (Some Changeable) number field =
+    if_mapped (AreLike table.changeable) (IsTableLike table) (with_changeable table) (changed_in table.changeable number (written_row field))
+    (λ rows are. record { permanent = refl; changeable = are; volatile = all_like table.volatile }) (written_in table.changeable number field)
+written_by table (Some Volatile) number field =
+    if_mapped (AreLike table.volatile) (IsTableLike table) (with_volatile table) (changed_in table.volatile number (written_row field))
+    (λ rows are. record { permanent = refl; changeable = all_like table.changeable; volatile = are }) (written_in table.volatile number field)
+written_by table (Some Permanent) number field = tt
+written_by table (Some CurrentBuffer) number field = tt
+written_by table (Some Blank) number field = tt
+written_by table None number field = tt
+
 written_like : (table : TableModel) (id : RowId) (field : FieldModel) → IfSome (written table id field) (IsTableLike table)
-written_like table id field =
-    if_either (IsTableLike table) (id.memory == changeable_memory) (option_map (with_changeable table) (changed_in table.changeable id.number (written_row field))) _
-    (if_mapped (AreLike table.changeable) (IsTableLike table) (with_changeable table) (changed_in table.changeable id.number (written_row field))
-    (λ rows are. record { permanent = refl; changeable = are; volatile = all_like table.volatile }) (written_in table.changeable id.number field))
-    (if_either (IsTableLike table) (id.memory == volatile_memory) (option_map (with_volatile table) (changed_in table.volatile id.number (written_row field))) None
-    (if_mapped (AreLike table.volatile) (IsTableLike table) (with_volatile table) (changed_in table.volatile id.number (written_row field))
-    (λ rows are. record { permanent = refl; changeable = all_like table.changeable; volatile = are }) (written_in table.volatile id.number field)) tt)
+written_like table id field = written_by table (memory_of id.memory) id.number field
 
 or_like : (table : TableModel) (o : Option TableModel) → IfSome o (IsTableLike table) → IsTableLike table (unwrap_or o table)
 or_like table None is = table_like table
@@ -165,19 +172,27 @@ asked_in old new number ask are =
     ∙ ap is_some (both_asked ask (numbered old number) (numbered new number) (numbered_like old new number are))
     ∙ sym (asked_some new (number - 1) ask (numbered new number))
 
-changed_some : (b c : Bool) (old new : TableModel) (o p q r : Option (List RowModel)) → is_some o ≡ is_some q → is_some p ≡ is_some r
-    → is_some (cond b (option_map (with_changeable old) o) (cond c (option_map (with_volatile old) p) None))
-    ≡ is_some (cond b (option_map (with_changeable new) q) (cond c (option_map (with_volatile new) r) None))
-changed_some true c old new o p q r e f = is_some_mapped (with_changeable old) o ∙ e ∙ sym (is_some_mapped (with_changeable new) q)
-changed_some false true old new o p q r e f = is_some_mapped (with_volatile old) p ∙ f ∙ sym (is_some_mapped (with_volatile new) r)
-changed_some false false old new o p q r e f = refl
+asked_by : (memory : Option Memory) (old new : TableModel) (number : ℕ) (ask : Ask) → IsTableLike old new
+    → is_some (changed_by old memory number (asked_row ask)) ≡ is_some (changed_by new memory number (asked_row ask))
+asked_by (Some Changeable) old new number ask like =
+    is_some_mapped (with_changeable old) (changed_in old.changeable number (asked_row ask))
+    ∙ asked_in old.changeable new.changeable number ask like.changeable
+    ∙ sym (is_some_mapped (with_changeable new) (changed_in new.changeable number (asked_row ask)))
+asked_by (Some Volatile) old new number ask like =
+    is_some_mapped (with_volatile old) (changed_in old.volatile number (asked_row ask))
+    ∙ asked_in old.volatile new.volatile number ask like.volatile
+    ∙ sym (is_some_mapped (with_volatile new) (changed_in new.volatile number (asked_row ask)))
+asked_by (Some Permanent) old new number ask like = refl
+asked_by (Some CurrentBuffer) old new number ask like = refl
+asked_by (Some Blank) old new number ask like = refl
+asked_by None old new number ask like = refl
 
 if_some : (b : Bool) (o p : Option TableModel) → is_some o ≡ is_some p → is_some (cond b o None) ≡ is_some (cond b p None)
 if_some b o p e = grind arith
 
 -- a row takes what is asked after the writes where it took it before
 pub asked_alike : (old new : TableModel) (id : RowId) (ask : Ask) → IsTableLike old new → is_some (asked old id ask) ≡ is_some (asked new id ask)
-asked_alike old new id ask like = grind (arith, any_like, if_some, changed_some, asked_in, is_some)
+asked_alike old new id ask like = grind (arith, any_like, if_some, asked_by, is_some)
 
 -- ---- decisions
 
@@ -185,9 +200,8 @@ both_alike : (face : FaceModel) (defaults : Defaults) (shown : ShownModel) (code
     → decided_on face defaults shown code (option_map reading o) ≡ decided_on face defaults shown code (option_map reading p)
 both_alike face defaults shown code o p both = grind arith
 
-rows_by : (b c d : Bool) (old new : TableModel) → IsTableLike old new
-    → AreLike (cond b old.permanent (cond c old.changeable (cond d old.volatile []))) (cond b new.permanent (cond c new.changeable (cond d new.volatile [])))
-rows_by b c d old new like = grind (arith, all_like)
+rows_alike : (memory : Option Memory) (old new : TableModel) → IsTableLike old new → AreLike (rows_by old memory) (rows_by new memory)
+rows_alike memory old new like = grind (arith, all_like)
 
 read_by : (face : FaceModel) (defaults : Defaults) (shown : ShownModel) (code : Activation) (b : Bool) (o p q : Option RowReading)
     → decided_on face defaults shown code p ≡ decided_on face defaults shown code q
@@ -197,4 +211,4 @@ read_by face defaults shown code b o p q e = grind arith
 -- a code is decided on alike before and after the writes
 pub decided_alike : (face : FaceModel) (defaults : Defaults) (old new : TableModel) (shown : ShownModel) (code : Activation) → IsTableLike old new
     → decided face defaults old shown code ≡ decided face defaults new shown code
-decided_alike face defaults old new shown code like = grind (arith, rows_by, both_alike, numbered_like, read_by)
+decided_alike face defaults old new shown code like = grind (arith, rows_alike, both_alike, numbered_like, read_by)

@@ -1,5 +1,5 @@
 -- An activation is accepted where a SET of it succeeds, and there alone.
-use Rattle.std.proofs.Common.{◌≡◌, ◌↔◌, ℕ, suc, ◌&&◌, ◌||◌, Bool, true, false, cond, List, [], ◌∷◌, ◌++◌, length, Option, Some, None, Result, refl, sym, ap, subst, ◌∙◌, arith}
+use Rattle.std.proofs.Common.{◌≡◌, ◌↔◌, ℕ, suc, ◌&&◌, Bool, true, false, cond, List, [], ◌∷◌, length, Option, Some, None, Result, refl, sym, ap, subst, ◌∙◌, arith}
 use Rattle.std.specs.Prelude.{nat_le, option_map, option_and_then, is_none, unwrap_or, find}
 use Rattle.std.specs.List.{cons_option, list_any, AllByRecursion, Contains}
 use Rattle.dms_wire.specs.declared.message.Kind.{Kind}
@@ -10,12 +10,10 @@ use Rattle.dms_wire.specs.Message.{ObjectValue, octet_string, VarBind, SnmpMessa
 use Rattle.dms_face.specs.Face.{FaceModel}
 use Rattle.dms_table.specs.declared.activation.Cause.{Cause}
 use Rattle.dms_codes.specs.declared.codes.Activation.{Activation}
-use Rattle.dms_objects.specs.declared.column.Column.TheVariants as columns
 use Rattle.dms_objects.specs.Names.{activate_message}
 use Rattle.dms_table.specs.Rows.{TableModel, asked}
 use Rattle.dms_codes.specs.Codes.{activation_of}
 use Rattle.dms_table.specs.Activation.{ShownModel}
-use Rattle.dms_objects.specs.declared.scalar.Scalar.{Scalar}
 use Rattle.dms_objects.specs.declared.scalar.Scalar.TheVariants.{ActivateMessage}
 use Rattle.dms_objects.specs.declared.instance.Instance.{Instance}
 use Rattle.dms_objects.specs.declared.instance.Instance.TheVariants as kinds

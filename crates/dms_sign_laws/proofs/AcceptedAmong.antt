@@ -1,5 +1,5 @@
 -- An activation among the bindings of a SET that succeeds was accepted.
-use Rattle.std.proofs.Common.{◌≡◌, ℕ, zero, suc, ◌+◌, ◌&&◌, ◌||◌, Bool, true, false, List, [], ◌∷◌, ◌++◌, length, Option, Some, refl, sym, ap, subst, ◌∙◌, arith}
+use Rattle.std.proofs.Common.{◌≡◌, ℕ, zero, suc, ◌&&◌, ◌||◌, Bool, true, false, List, [], ◌∷◌, ◌++◌, length, Option, Some, refl, sym, ap, subst, ◌∙◌, arith}
 use Rattle.std.specs.Prelude.{option_map, is_none, unwrap_or, filter_map, find}
 use Rattle.std.specs.List.{cons_option, list_any, AllByRecursion, Contains}
 use Rattle.std.proofs.lemmas.Bool.{false_from_ne_true, or_left, or_right}

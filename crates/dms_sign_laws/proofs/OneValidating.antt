@@ -1,6 +1,6 @@
 -- At most one row is being validated, whatever comes.
 use Rattle.std.proofs.Common.{◌≡◌, ℕ, ◌+◌, ◌≤◌, ◌==◌, Bool, true, false, cond, List, [], ◌∷◌, Option, Some, None, Result, Ok, refl, sym, subst, arith}
-use Rattle.std.specs.Prelude.{option_map, unwrap_or}
+use Rattle.std.specs.Prelude.{unwrap_or}
 use Rattle.dms_wire.specs.declared.message.Kind.{Kind}
 use Rattle.dms_wire.specs.Message.{VarBind, SnmpMessage}
 use Rattle.dms_wire.specs.MessageOf.{message_of}
@@ -10,8 +10,9 @@ use Rattle.dms_table.specs.declared.activation.Cause.{Cause}
 use Rattle.dms_codes.specs.declared.row_id.RowId.{RowId}
 use Rattle.dms_codes.specs.declared.status.Ask.{Ask}
 use Rattle.dms_table.specs.declared.stock.Stock.{Stock}
-use Rattle.dms_table.specs.Rows.{RowModel, TableModel, FieldModel, with_changeable, with_volatile, changed_in, changed, may_ask, asked_row, asked, written_row, written, after_power, IsTable}
-use Rattle.dms_codes.specs.Memory.{changeable_memory, volatile_memory}
+use Rattle.dms_table.specs.Rows.{RowModel, TableModel, FieldModel, changed_in, changed_by, changed, may_ask, asked_row, asked, written_row, written, after_power, IsTable}
+use Rattle.dms_codes.specs.declared.memory.Memory.{Memory}
+use Rattle.dms_codes.specs.Memory.{memory_of}
 use Rattle.dms_table.specs.Validation.{settled}
 use Rattle.dms_table.specs.Stock.{table_of}
 use Rattle.dms_table.specs.Activation.{ShownModel}
@@ -27,25 +28,17 @@ use Rattle.dms_sign.specs.Events.{after_settling, counted_down, after_duration, 
 -- ---- tables
 
 -- a change that leaves one row validating in either memory
-one_changed : (table new : TableModel) (id : RowId) (change : RowModel → Option RowModel) (is_changeable is_volatile : Bool)
-    → ((rows : List RowModel) → changed_in table.changeable id.number change ≡ Some rows → count rows + count table.volatile ≤ 1)
-    → ((rows : List RowModel) → changed_in table.volatile id.number change ≡ Some rows → count table.changeable + count rows ≤ 1)
-    → cond is_changeable (option_map (with_changeable table) (changed_in table.changeable id.number change))
-    (cond is_volatile (option_map (with_volatile table) (changed_in table.volatile id.number change)) None) ≡ Some new
-    → IsTable new
-one_changed table new id change is_changeable is_volatile first second e = grind arith
+one_changed : (table new : TableModel) (memory : Option Memory) (number : ℕ) (change : RowModel → Option RowModel)
+    → ((rows : List RowModel) → changed_in table.changeable number change ≡ Some rows → count rows + count table.volatile ≤ 1)
+    → ((rows : List RowModel) → changed_in table.volatile number change ≡ Some rows → count table.changeable + count rows ≤ 1)
+    → changed_by table memory number change ≡ Some new → IsTable new
+one_changed table new memory number change first second e = grind arith
 
 one_asked_if : (b : Bool) (table new : TableModel) (id : RowId) (ask : Ask) → IsTable table → b ≡ may_ask table ask
     → cond b (changed table id (asked_row ask)) None ≡ Some new → IsTable new
 one_asked_if false table new id ask is may e = absurd (cc)
 one_asked_if true table new id ask is may e =
-    one_changed
-    table
-    new
-    id
-    (asked_row ask)
-    (id.memory == changeable_memory)
-    (id.memory == volatile_memory)
+    one_changed table new (memory_of id.memory) id.number (asked_row ask)
     (λ rows done. one_asked_changeable table ask true table.changeable table.volatile rows id.number (Ok tt) may refl refl refl is.one done tt)
     (λ rows done. one_asked_volatile table ask true table.changeable table.volatile rows id.number (Ok tt) may refl refl refl is.one done tt)
     e
@@ -55,13 +48,7 @@ one_asked table new id ask is e = one_asked_if (may_ask table ask) table new id 
 
 one_written : (table new : TableModel) (id : RowId) (field : FieldModel) → IsTable table → written table id field ≡ Some new → IsTable new
 one_written table new id field is e =
-    one_changed
-    table
-    new
-    id
-    (written_row field)
-    (id.memory == changeable_memory)
-    (id.memory == volatile_memory)
+    one_changed table new (memory_of id.memory) id.number (written_row field)
     (λ rows done. omega (arith, is.one, none_more_written field table.changeable rows id.number (Ok tt) done tt))
     (λ rows done. omega (arith, is.one, none_more_written field table.volatile rows id.number (Ok tt) done tt))
     e

@@ -1,8 +1,6 @@
 -- A Get ends the silence, and leaves all else as it is; what is not answered changes nothing.
-use Rattle.std.proofs.Common.{◌≡◌, ℕ, ◌&&◌, ◌||◌, Bool, true, cond, IsTrue, List, Option, Some, None, ◌∙◌, arith}
-use Rattle.std.proofs.lemmas.Bool.{false≢true}
+use Rattle.std.proofs.Common.{◌≡◌, ℕ, Bool, true, cond, IsTrue, List, Option, Some, None, arith}
 use Rattle.dms_wire.specs.declared.message.Kind.{Kind}
-use Rattle.dms_wire.specs.declared.message.Kind.TheVariants.{Get}
 use Rattle.dms_wire.specs.Message.{VarBind, SnmpMessage}
 use Rattle.dms_wire.specs.MessageOf.{message_of}
 use Rattle.dms_sign.specs.State.{SignState}

@@ -1,5 +1,5 @@
 -- Replies of the bench sign that are too big for a datagram, computed.
-use Rattle.std.proofs.Common.{◌≡◌, ◌∙◌, ℕ, ℤ, zero, suc, ◌+◌, ◌/◌, ◌≤◌, ◌<◌, List, [], ◌∷◌, ◌++◌, Some, refl, ap, replicate, length, length-append, arith}
+use Rattle.std.proofs.Common.{◌≡◌, ◌∙◌, ℕ, zero, suc, ◌+◌, ◌≤◌, ◌<◌, List, [], ◌∷◌, ◌++◌, Some, refl, ap, replicate, length, length-append, arith}
 use Rattle.std.specs.Prelude.{pos, codes}
 use Rattle.std.specs.List.{flat_map}
 use Rattle.dms_wire.specs.declared.error_status.ErrorStatus.TheVariants.{NoSuchName}

@@ -1,11 +1,10 @@
 -- A decision is a judgement, and then what the code puts up.
-use Rattle.std.proofs.Common.{◌≡◌, Option, Some, None, Ok, Err, refl, ◌∙◌, arith}
+use Rattle.std.proofs.Common.{◌≡◌, Option, Some, None, Ok, Err, refl, arith}
 use Rattle.dms_face.specs.declared.defaults.Defaults.{Defaults}
 use Rattle.dms_face.specs.Face.{FaceModel}
 use Rattle.dms_face.specs.Layout.{under}
 use Rattle.dms_codes.specs.declared.codes.Activation.{Activation}
 use Rattle.dms_table.specs.declared.activation.Cause.{Cause}
-use Rattle.dms_table.specs.declared.activation.Cause.TheVariants as causes
 use Rattle.dms_table.specs.Rows.{TableModel, RowReading}
 use Rattle.dms_table.specs.Activation.{ShownModel, row_refusal, refusal, put_up_row, shown_by, unless_refused, decided_on, decided}
 

@@ -1,5 +1,5 @@
 -- Rows that settling makes valid can be shown.
-use Rattle.std.proofs.Common.{◌≡◌, ℕ, ◌-◌, ◌==◌, ◌&&◌, Bool, true, false, if◌then◌else◌, List, [], map, Option, Some, None, slice_get, All, subst, sym, ◌∙◌, arith}
+use Rattle.std.proofs.Common.{◌≡◌, ℕ, ◌-◌, ◌==◌, Bool, true, false, if◌then◌else◌, List, map, Option, Some, None, slice_get, All, subst, sym, arith}
 use Rattle.std.specs.Prelude.{option_map}
 use Rattle.std.proofs.lemmas.Option.{slice_get-map, slice_get_within, get_or_from_slice_get}
 use Rattle.dms_face.specs.Face.{FaceModel}
@@ -8,10 +8,11 @@ use Rattle.dms_codes.specs.declared.codes.Order.{Order}
 use Rattle.dms_codes.specs.declared.status.Status.{Status}
 use Rattle.dms_codes.specs.declared.status.Status.TheVariants.{Valid}
 use Rattle.dms_table.specs.declared.row.Services.{Services}
-use Rattle.dms_codes.specs.declared.validation_error.ValidationError.TheVariants as errors
 use Rattle.dms_table.specs.declared.validation.Verdict.{Verdict}
-use Rattle.dms_table.specs.Rows.{RowModel, TableModel, row_is_validating, numbered, blank_at}
-use Rattle.dms_codes.specs.Memory.{permanent_memory, changeable_memory, volatile_memory, blank_memory}
+use Rattle.dms_table.specs.Rows.{RowModel, TableModel, row_is_validating, rows_by, numbered, blank_at}
+use Rattle.dms_codes.specs.declared.memory.Memory.{Memory}
+use Rattle.dms_codes.specs.declared.memory.Memory.TheVariants.{Permanent, Changeable, Volatile, CurrentBuffer, Blank}
+use Rattle.dms_codes.specs.Memory.{memory_of, blank_memory}
 use Rattle.dms_table.specs.Validation.{verdict_of, passes, settled_row, settled, IsShowable, CameToBeValid, was_valid, ValidRowsAreGood}
 
 -- a row that passes has a good text
@@ -49,16 +50,17 @@ came_numbered b services face rows place row each e valid = grind (arith, came_i
 
 -- ---- rows of all types
 
-came_at : (is_blank is_permanent is_changeable is_volatile : Bool) (services : Services) (face : FaceModel) (permanent changeable volatile : List RowModel) (number : ℕ) (row : RowModel)
-    → All (IsFound services face) changeable → All (IsFound services face) volatile
-    → (if is_blank then blank_at number else numbered (if is_permanent then permanent else if is_changeable then map (settled_row services face) changeable else if is_volatile then map (settled_row services face) volatile else []) number) ≡ Some row
-    → row.status ≡ Valid
-    → CameToBeValid services face (if is_blank then blank_at number else numbered (if is_permanent then permanent else if is_changeable then changeable else if is_volatile then volatile else []) number) row
-came_at true p c v services face permanent changeable volatile number row ones others e valid = was_valid e
-came_at false true c v services face permanent changeable volatile number row ones others e valid = was_valid e
-came_at false false true v services face permanent changeable volatile number row ones others e valid = came_numbered (number == 0) services face changeable (number - 1) row ones e valid
-came_at false false false true services face permanent changeable volatile number row ones others e valid = came_numbered (number == 0) services face volatile (number - 1) row others e valid
-came_at false false false false services face permanent changeable volatile number row ones others e valid = was_valid e
+came_at : (is_blank : Bool) (memory : Option Memory) (face : FaceModel) (table : TableModel) (number : ℕ) (row : RowModel)
+    → All (IsFound table.services face) table.changeable → All (IsFound table.services face) table.volatile
+    → (if is_blank then blank_at number else numbered (rows_by (settled face table) memory) number) ≡ Some row → row.status ≡ Valid
+    → CameToBeValid table.services face (if is_blank then blank_at number else numbered (rows_by table memory) number) row
+came_at true memory face table number row ones others e valid = was_valid e
+came_at false (Some Changeable) face table number row ones others e valid = came_numbered (number == 0) table.services face table.changeable (number - 1) row ones e valid
+came_at false (Some Volatile) face table number row ones others e valid = came_numbered (number == 0) table.services face table.volatile (number - 1) row others e valid
+came_at false (Some Permanent) face table number row ones others e valid = was_valid e
+came_at false (Some CurrentBuffer) face table number row ones others e valid = was_valid e
+came_at false (Some Blank) face table number row ones others e valid = was_valid e
+came_at false None face table number row ones others e valid = was_valid e
 
 -- what settling leaves
 pub settled_rows_are_good : (face : FaceModel) (table new : TableModel) (permanent changeable volatile : List RowModel) (services : Services) (order : Order)
@@ -67,5 +69,5 @@ pub settled_rows_are_good : (face : FaceModel) (table new : TableModel) (permane
 settled_rows_are_good face table new permanent changeable volatile services order is ones others becomes =
     let whole : TableModel = record { permanent = permanent; changeable = changeable; volatile = volatile; services = services; order = order } in
     let here : ValidRowsAreGood face whole (settled face whole) = λ id row e valid.
-    came_at (id.memory == blank_memory) (id.memory == permanent_memory) (id.memory == changeable_memory) (id.memory == volatile_memory) services face permanent changeable volatile id.number row ones others e valid in
+    came_at (id.memory == blank_memory) (memory_of id.memory) face whole id.number row ones others e valid in
     subst (ValidRowsAreGood face table) (sym becomes) (subst (λ t. ValidRowsAreGood face t (settled face t)) is here)

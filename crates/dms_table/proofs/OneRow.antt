@@ -10,7 +10,6 @@ use Rattle.dms_table.specs.declared.row.Refused.{Refused}
 use Rattle.dms_codes.specs.declared.status.Status.{Status}
 use Rattle.dms_codes.specs.declared.status.Status.TheVariants.{Modifying, Valid, Error}
 use Rattle.dms_codes.specs.declared.status.Ask.{Ask}
-use Rattle.dms_codes.specs.declared.status.Ask.TheVariants as asks
 use Rattle.dms_codes.specs.Status.{is_validate, is_validating, is_modifying}
 use Rattle.dms_face.specs.Face.{FaceModel}
 use Rattle.dms_table.specs.declared.row.Services.{Services}

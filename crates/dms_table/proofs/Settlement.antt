@@ -1,5 +1,5 @@
 -- What settling makes of a table.
-use Rattle.std.proofs.Common.{◌≡◌, ◌++◌, true, false, List, map, find, Option, None, All, ◌∙◌, arith}
+use Rattle.std.proofs.Common.{◌≡◌, ◌++◌, true, false, List, map, find, Option, None, All, arith}
 use Rattle.std.specs.Prelude.{option_map}
 use Rattle.std.specs.Option.{option_or}
 use Rattle.std.proofs.lemmas.List.Folds.{find-append}

@@ -1,5 +1,5 @@
 -- The checksum that is read of a valid row is that which it has while it is shown.
-use Rattle.std.proofs.Common.{◌≡◌, ◌==◌, Bool, true, cond, Option, Some, arith}
+use Rattle.std.proofs.Common.{◌≡◌, Bool, true, cond, Option, Some, arith}
 use Rattle.std.specs.Prelude.{option_map}
 use Rattle.dms_codes.specs.declared.row_id.RowId.{RowId}
 use Rattle.dms_codes.specs.Status.{is_valid}

@@ -1,5 +1,5 @@
 -- The rows of one type of memory, as they are lent, and the table with them.
-use Rattle.std.proofs.Common.{◌≡◌, List, length, refl, ◌∙◌, arith}
+use Rattle.std.proofs.Common.{◌≡◌, List, length, refl, arith}
 use Rattle.std.proofs.lemmas.List.{with_items_is}
 use Rattle.dms_codes.specs.declared.codes.Order.{Order}
 use Rattle.dms_table.specs.declared.row.Services.{Services}

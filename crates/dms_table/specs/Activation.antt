@@ -1,6 +1,7 @@
 -- What puts a message up, and what keeps it from being shown (NTCIP 1203, dmsActivateMessage and dmsActivateMsgError).
 use Rattle.std.specs.Prelude.{ℕ, ◌+◌, ◌*◌, ◌/◌, ◌==◌, ◌||◌, Bool, not, if◌then◌else◌, List, [], ◌∷◌}
 use Rattle.std.specs.Prelude.{Option, Some, None, Result, Ok, Err, option_map, nat_lt}
+use Rattle.std.specs.Option.{is_some}
 use Rattle.dms_face.specs.declared.defaults.Defaults.{Defaults}
 use Rattle.dms_face.specs.Face.{FaceModel}
 use Rattle.dms_face.specs.Layout.{under}
@@ -16,7 +17,7 @@ use Rattle.dms_table.specs.declared.activation.Cause.{Cause}
 use Rattle.dms_table.specs.declared.activation.Cause.TheVariants as causes
 use Rattle.dms_codes.specs.Status.{is_valid}
 use Rattle.dms_table.specs.Rows.{RowModel, TableModel, RowReading, row_read, row_checksum}
-use Rattle.dms_codes.specs.Memory.{permanent_memory, changeable_memory, volatile_memory, current_buffer, blank_memory}
+use Rattle.dms_codes.specs.Memory.{memory_of, current_buffer, blank_memory}
 
 -- What is shown: a copy of its row, the code's name of it, how it came up and by whom, the seconds that are left or no
 -- end, and a copy of the defaults.
@@ -82,9 +83,7 @@ shown_reading shown = record {
 }
 
 abbrev pub is_memory : ℕ → Bool
-is_memory memory =
-    memory == permanent_memory || memory == changeable_memory || memory == volatile_memory
-    || memory == current_buffer || memory == blank_memory
+is_memory memory = is_some (memory_of memory)
 
 -- what is read of a row; the only number of the current buffer is 1
 abbrev pub message_at : TableModel → ShownModel → RowId → Option RowReading

@@ -1,20 +1,25 @@
 -- The rows that can be changed, and where the one stands that is being validated.
-use Rattle.std.specs.Prelude.{◌≡◌, ℕ, ◌+◌, ◌==◌, true, if◌then◌else◌}
+use Rattle.std.specs.Prelude.{◌≡◌, ℕ, ◌+◌, true, if◌then◌else◌}
 use Rattle.std.specs.Prelude.{List, Option, Some, None, option_map, slice_get, count_by}
 use Rattle.dms_codes.specs.declared.status.Ask.{Ask}
 use Rattle.dms_codes.specs.Status.{is_validate}
-use Rattle.dms_codes.specs.Memory.{changeable_memory, volatile_memory}
+use Rattle.dms_codes.specs.declared.memory.Memory.{Memory}
+use Rattle.dms_codes.specs.declared.memory.Memory.TheVariants as memories
+use Rattle.dms_codes.specs.Memory.{memory_of}
 use Rattle.dms_table.specs.declared.writable.Writable.{Writable}
 use Rattle.dms_table.specs.declared.writable.Writable.TheVariants.{Changeable, Volatile}
 use Rattle.dms_table.specs.declared.writable.Place.{Place}
 use Rattle.dms_table.specs.Rows.{RowModel, row_is_validating}
 
+-- a type of memory, where its rows can be changed
+abbrev pub writable_by : Option Memory → Option Writable
+writable_by (Some memories.Changeable) = Some Changeable
+writable_by (Some memories.Volatile) = Some Volatile
+writable_by memory = None
+
 -- the type of memory of a number, where its rows can be changed
 abbrev pub writable : ℕ → Option Writable
-writable memory =
-    if memory == changeable_memory then Some Changeable
-    else if memory == volatile_memory then Some Volatile
-    else None
+writable memory = writable_by (memory_of memory)
 
 -- of what there is of changeable and of volatile rows, that of one type
 abbrev pub of_type : {A : Type 0} → Writable → A → A → A

@@ -10,7 +10,9 @@ use Rattle.dms_codes.specs.declared.codes.Order.{Order}
 use Rattle.dms_codes.specs.declared.row_id.RowId.{RowId}
 use Rattle.dms_table.specs.declared.row.Services.{Services}
 use Rattle.dms_codes.specs.Checksum.{message_checksum}
-use Rattle.dms_codes.specs.Memory.{permanent_memory, changeable_memory, volatile_memory, blank_memory}
+use Rattle.dms_codes.specs.declared.memory.Memory.{Memory}
+use Rattle.dms_codes.specs.declared.memory.Memory.TheVariants.{Permanent, Changeable, Volatile}
+use Rattle.dms_codes.specs.Memory.{memory_of, blank_memory}
 use Rattle.dms_codes.specs.Limits.{longest_text, longest_owner}
 use Rattle.dms_codes.specs.Status.{next_status, is_not_used, is_modifying, is_validating, is_valid, is_validate}
 
@@ -41,13 +43,16 @@ unused = record { text = []; owner = []; beacon = 0; pixel = 0; priority = 1; st
 abbrev pub blank : ℕ → RowModel
 blank number = record { text = []; owner = []; beacon = 0; pixel = 0; priority = number; status = Valid }
 
--- the rows of a type of memory; blank messages are not kept
+-- the rows of a type of memory; what is shown and blank messages are no rows of the table
+abbrev pub rows_by : TableModel → Option Memory → List RowModel
+rows_by table (Some Permanent) = table.permanent
+rows_by table (Some Changeable) = table.changeable
+rows_by table (Some Volatile) = table.volatile
+rows_by table memory = []
+
+-- the rows of the type of memory of a number
 abbrev pub rows_of : TableModel → ℕ → List RowModel
-rows_of table memory =
-    if memory == permanent_memory then table.permanent
-    else if memory == changeable_memory then table.changeable
-    else if memory == volatile_memory then table.volatile
-    else []
+rows_of table memory = rows_by table (memory_of memory)
 
 -- the row of a number, from 1
 abbrev pub numbered : List RowModel → ℕ → Option RowModel
@@ -106,13 +111,16 @@ with_changeable table rows = record table { changeable = rows }
 abbrev pub with_volatile : TableModel → List RowModel → TableModel
 with_volatile table rows = record table { volatile = rows }
 
+-- the table with a row of a type of memory changed
+abbrev pub changed_by : TableModel → Option Memory → ℕ → (RowModel → Option RowModel) → Option TableModel
+changed_by table (Some Changeable) number change =
+    option_map (with_changeable table) (changed_in table.changeable number change)
+changed_by table (Some Volatile) number change =
+    option_map (with_volatile table) (changed_in table.volatile number change)
+changed_by table memory number change = None
+
 abbrev pub changed : TableModel → RowId → (RowModel → Option RowModel) → Option TableModel
-changed table id change =
-    if id.memory == changeable_memory
-    then option_map (with_changeable table) (changed_in table.changeable id.number change)
-    else if id.memory == volatile_memory
-    then option_map (with_volatile table) (changed_in table.volatile id.number change)
-    else None
+changed table id change = changed_by table (memory_of id.memory) id.number change
 
 -- ---- asking
 

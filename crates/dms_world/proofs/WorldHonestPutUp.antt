@@ -1,5 +1,5 @@
 -- An activation of a row that is accepted puts up a message with the checksum of its code.
-use Rattle.std.proofs.Common.{◌≡◌, ◌≢◌, ℕ, ◌==◌, Bool, true, not, cond, List, [], ◌∷◌, Option, Some, None, Result, Ok, Err, if◌then◌else◌, ◌∙◌, arith}
+use Rattle.std.proofs.Common.{◌≡◌, ◌≢◌, ℕ, Bool, true, not, cond, List, [], ◌∷◌, Option, Some, None, Result, Ok, Err, arith}
 use Rattle.std.specs.Prelude.{find}
 use Rattle.dms_wire.specs.declared.message.Kind.{Kind}
 use Rattle.dms_wire.specs.declared.message.Kind.TheVariants.{Get, GetNext, Response, Set}

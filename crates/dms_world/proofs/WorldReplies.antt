@@ -1,5 +1,5 @@
 -- Where nothing is forged, each reply that was sent is what the sign answered to a datagram of the centre, at an event that handed it over.
-use Rattle.std.proofs.Common.{◌≡◌, ℕ, zero, suc, ◌<◌, ◌≤◌, ◌⊎◌, Bool, true, false, cond, List, [], ◌++◌, length, Option, Some, None, option_to_list, slice_get, refl, ap, ◌∙◌, arith, append-nil}
+use Rattle.std.proofs.Common.{◌≡◌, ℕ, zero, suc, ◌<◌, ◌⊎◌, Bool, true, false, cond, List, [], ◌++◌, length, Option, Some, None, option_to_list, slice_get, refl, ap, arith, append-nil}
 use Rattle.std.specs.Prelude.{pos}
 use Rattle.std.proofs.lemmas.Bool.{le-leb}
 use Rattle.dms_wire.specs.ErrorStatus.{error_status_number}

@@ -1,13 +1,15 @@
 -- Each row that is valid after any events was good when it was settled.
-use Rattle.std.proofs.Common.{◌≡◌, ◌≢◌, ℕ, zero, suc, ◌-◌, ◌==◌, ◌&&◌, Bool, true, false, cond, List, [], ◌∷◌, length, replicate, Some, None, slice_get, refl, subst, ◌∙◌, arith}
+use Rattle.std.proofs.Common.{◌≡◌, Option, ◌≢◌, ℕ, zero, suc, ◌-◌, ◌==◌, Bool, true, false, cond, List, [], ◌∷◌, length, replicate, Some, None, slice_get, refl, subst, arith}
 use Rattle.std.specs.List.{list_all}
-use Rattle.std.proofs.lemmas.Bool.{eqb-true, and_parts}
+use Rattle.std.proofs.lemmas.Bool.{and_parts}
 use Rattle.dms_face.specs.Face.{FaceModel}
 use Rattle.dms_face.specs.Layout.{under}
 use Rattle.dms_codes.specs.declared.status.Status.TheVariants.{Valid, Validating}
 use Rattle.dms_table.specs.declared.row.Services.{Services}
-use Rattle.dms_table.specs.Rows.{RowModel, TableModel, unused, numbered}
-use Rattle.dms_codes.specs.Memory.{permanent_memory, changeable_memory, volatile_memory}
+use Rattle.dms_table.specs.Rows.{RowModel, TableModel, unused, rows_by, numbered}
+use Rattle.dms_codes.specs.declared.memory.Memory.{Memory}
+use Rattle.dms_codes.specs.declared.memory.Memory.TheVariants.{Permanent, Changeable, Volatile, CurrentBuffer, Blank}
+use Rattle.dms_codes.specs.Memory.{permanent_memory, memory_of}
 use Rattle.dms_table.specs.Validation.{IsShowable, CameToBeValid, was_valid, was_settled as came_settled}
 use Rattle.dms_table.proofs.GoodRows.{showable}
 use Rattle.dms_sign.proofs.StepRows.{good_where_passes}
@@ -95,15 +97,19 @@ record IsStart (face : FaceModel) (table : TableModel) : Type 0 where
   changeable : table.changeable ≡ replicate (length table.changeable) unused
   volatile : table.volatile ≡ replicate (length table.volatile) unused
 
-start_rows : (is_permanent is_changeable is_volatile : Bool) (face : FaceModel) (table : TableModel) (memory number : ℕ) (row : RowModel) → IsStart face table
-    → (memory == permanent_memory) ≡ is_permanent
-    → numbered (cond is_permanent table.permanent (cond is_changeable table.changeable (cond is_volatile table.volatile []))) number ≡ Some row → row.status ≡ Valid
+permanent_alone : (memory : ℕ) → memory_of memory ≡ Some Permanent → memory ≡ permanent_memory
+permanent_alone memory is = grind arith
+
+start_rows : (o : Option Memory) (face : FaceModel) (table : TableModel) (memory number : ℕ) (row : RowModel) → IsStart face table
+    → memory_of memory ≡ o → numbered (rows_by table o) number ≡ Some row → row.status ≡ Valid
     → (memory ≡ permanent_memory) × IsShowable table.services face row
-start_rows true c v face table memory number row start is e valid =
-    (eqb-true memory permanent_memory is, permanent_can (number == 0) table.services face table.permanent (number - 1) row start.permanent e)
-start_rows false true v face table memory number row start is e valid = none_valid (number == 0) table.changeable (number - 1) row start.changeable e valid
-start_rows false false true face table memory number row start is e valid = none_valid (number == 0) table.volatile (number - 1) row start.volatile e valid
-start_rows false false false face table memory number row start is e valid = none_in_none (number == 0) (number - 1) row e
+start_rows (Some Permanent) face table memory number row start is e valid =
+    (permanent_alone memory is, permanent_can (number == 0) table.services face table.permanent (number - 1) row start.permanent e)
+start_rows (Some Changeable) face table memory number row start is e valid = none_valid (number == 0) table.changeable (number - 1) row start.changeable e valid
+start_rows (Some Volatile) face table memory number row start is e valid = none_valid (number == 0) table.volatile (number - 1) row start.volatile e valid
+start_rows (Some CurrentBuffer) face table memory number row start is e valid = none_in_none (number == 0) (number - 1) row e
+start_rows (Some Blank) face table memory number row start is e valid = none_in_none (number == 0) (number - 1) row e
+start_rows None face table memory number row start is e valid = none_in_none (number == 0) (number - 1) row e
 
 is_start : (world : WorldModel) → IsFresh world → IsStart (under world.sign.config.face world.sign.config.face.defaults) world.sign.table
 is_start world fresh = grind arith
@@ -111,7 +117,7 @@ is_start world fresh = grind arith
 good_first : (world : WorldModel) (events : List EventModel) → IsFresh world → GoodRowsAt world events zero
 good_first world events fresh = λ memory number row there valid.
     let made =
-    start_rows (memory == permanent_memory) (memory == changeable_memory) (memory == volatile_memory)
+    start_rows (memory_of memory)
     (under world.sign.config.face world.sign.config.face.defaults) world.sign.table memory number row (is_start world fresh) refl there valid in
     was_made made.0 made.1
 

@@ -1,4 +1,4 @@
-use Rattle.std.proofs.Common.{◌≡◌, is_some, ◌∙◌, arith}
+use Rattle.std.proofs.Common.{is_some, arith}
 use Rattle.dms_sign.proofs.Assigned.{ask_refused, takes_after}
 use Rattle.dms_sign.proofs.sign.Sign.ask_row.Goals as goal
 

@@ -1,4 +1,4 @@
-use Rattle.std.proofs.Common.{◌≡◌, Option, subst, arith}
+use Rattle.std.proofs.Common.{Option, subst, arith}
 use Rattle.dms_table.specs.declared.writable.Place.{Place}
 use Rattle.dms_table.specs.PlaceView.{IsPlaced}
 use Rattle.dms_sign.specs.SignView.{state_of}

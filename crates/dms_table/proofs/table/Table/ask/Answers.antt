@@ -1,4 +1,4 @@
-use Rattle.std.proofs.Common.{◌≡◌, ◌∙◌, arith}
+use Rattle.std.proofs.Common.{arith}
 use Rattle.dms_table.proofs.Places.{asked_place}
 use Rattle.dms_table.proofs.Writables.{are_lent, table_by}
 use Rattle.dms_table.proofs.table.Table.ask.Goals as goal
