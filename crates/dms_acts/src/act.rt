@@ -6,8 +6,8 @@ use dms_calls::{Call, Form, SignWanted};
 use dms_description::Setup;
 use dms_parties::{LiveCentre, LiveSign};
 use dms_printing::{
-    activation, code, decode, list_items, print_count, print_hex_fault, print_line, print_pages,
-    say_why_dropped, status_after,
+    ExitStatus, activation, code, decode, list_items, print_count, print_hex_fault, print_line,
+    print_pages, say_why_dropped, status_after,
 };
 use dms_replay::{ReplayFault, address, bench};
 use dms_sign::Receipt;
@@ -27,7 +27,7 @@ pub fn act<R: Read, W: Write>(
     reader: &mut R,
     writer: &mut W,
 ) -> u8 {
-    act_saying(alloc, call, reader, writer, &mut Vec::new(alloc))
+    act_saying(alloc, call, reader, writer, &mut Vec::new(alloc)).number()
 }
 
 /// Carries out the call as `act` does, and says in words on the standard error why an input was refused or dropped.
@@ -37,7 +37,7 @@ pub fn act_saying<R: Read, W: Write, E: Write>(
     reader: &mut R,
     writer: &mut W,
     errors: &mut E,
-) -> u8 {
+) -> ExitStatus {
     match *call {
         Call::Answer { hex, sign } => answer(alloc, hex, sign, reader, writer, errors),
         Call::Check { text, sign, form } => {
@@ -53,7 +53,7 @@ pub fn act_saying<R: Read, W: Write, E: Write>(
         },
         Call::Decode { hex, spaced, form } => decode(alloc, hex, spaced, form, writer),
         Call::Items { text, form } => list_items(alloc, text, form, writer, errors),
-        Call::Version => print_line(writer, VERSION, 0),
+        Call::Version => print_line(writer, VERSION, ExitStatus::Done),
         Call::Code(words) => {
             let address = address(words.terms.address.as_bytes());
             code(alloc, &words, address, writer)
@@ -75,9 +75,9 @@ fn be_sign<R: Read, W: Write, E: Write>(
     reader: &mut R,
     writer: &mut W,
     errors: &mut E,
-) -> u8 {
+) -> ExitStatus {
     let Ok(mut input) = Input::new(alloc, Counted::new(&mut *reader)) else {
-        return print_line(writer, "memory", 1);
+        return print_line(writer, "memory", ExitStatus::Refused);
     };
     match live_setup(alloc, wanted, &mut input) {
         Ok(setup) => talk(alloc, LiveSign::new(setup.sign), &mut input, writer),
@@ -92,9 +92,9 @@ fn be_centre<R: Read, W: Write, E: Write>(
     reader: &mut R,
     writer: &mut W,
     errors: &mut E,
-) -> u8 {
+) -> ExitStatus {
     let Ok(mut input) = Input::new(alloc, Counted::new(&mut *reader)) else {
-        return print_line(writer, "memory", 1);
+        return print_line(writer, "memory", ExitStatus::Refused);
     };
     let setup = match live_setup(alloc, wanted, &mut input) {
         Ok(setup) => setup,
@@ -102,7 +102,7 @@ fn be_centre<R: Read, W: Write, E: Write>(
     };
     match LiveCentre::new(alloc, &setup) {
         Ok(centre) => talk(alloc, centre, &mut input, writer),
-        Err(_) => print_line(writer, "memory", 1),
+        Err(_) => print_line(writer, "memory", ExitStatus::Refused),
     }
 }
 
@@ -124,14 +124,14 @@ fn talk<P: Party + Drop, S: Source, W: Write>(
     mut party: P,
     input: &mut Input<S>,
     writer: &mut W,
-) -> u8 {
+) -> ExitStatus {
     let mut sink = Counted::new(&mut *writer);
     match converse(alloc, &mut party, input, &mut sink) {
-        Ok(()) => 0,
-        Err(ConversationFault::Write) => 1,
+        Ok(()) => ExitStatus::Done,
+        Err(ConversationFault::Write) => ExitStatus::Refused,
         Err(fault) => {
             let _ = writeln!(writer, "{fault}");
-            1
+            ExitStatus::Refused
         }
     }
 }
@@ -150,11 +150,11 @@ fn print_report<R: Read, W: Write, E: Write>(
     reader: &mut R,
     writer: &mut W,
     errors: &mut E,
-) -> u8 {
+) -> ExitStatus {
     let mut sink = Counted::new(&mut *writer);
     match replayed(alloc, &mut Counted::new(&mut *reader), &mut sink) {
-        Ok(()) => 0,
-        Err(refusal) if refusal.fault == ReplayFault::Write => 1,
+        Ok(()) => ExitStatus::Done,
+        Err(refusal) if refusal.fault == ReplayFault::Write => ExitStatus::Refused,
         Err(refusal) => report_refusal(writer, errors, refusal),
     }
 }
@@ -167,7 +167,7 @@ fn answer<R: Read, W: Write, E: Write>(
     reader: &mut R,
     writer: &mut W,
     errors: &mut E,
-) -> u8 {
+) -> ExitStatus {
     let datagram = match hex::decode(alloc, digits.as_bytes()) {
         Ok(datagram) => datagram,
         Err(fault) => return print_hex_fault(Form::Lines, writer, fault),
@@ -180,11 +180,11 @@ fn answer<R: Read, W: Write, E: Write>(
     match setup.sign.receive(datagram.as_slice(), &mut reply) {
         Receipt::Dropped => {
             say_why_dropped(datagram.as_slice(), errors);
-            print_line(writer, "dropped", 1)
+            print_line(writer, "dropped", ExitStatus::Refused)
         }
         Receipt::Replied | Receipt::Accepted(_) => match hex::encode(alloc, reply.as_slice()) {
-            Ok(text) => print_line(writer, text.as_str(), 0),
-            Err(_) => print_line(writer, "memory", 1),
+            Ok(text) => print_line(writer, text.as_str(), ExitStatus::Done),
+            Err(_) => print_line(writer, "memory", ExitStatus::Refused),
         },
     }
 }
@@ -196,7 +196,7 @@ fn check_text<R: Read, W: Write, E: Write>(
     reader: &mut R,
     writer: &mut W,
     errors: &mut E,
-) -> u8 {
+) -> ExitStatus {
     let (text, sign, form) = words;
     match setup(alloc, sign, reader) {
         Ok(setup) => print_count(alloc, text, setup.sign.face(), form, writer, errors),
@@ -204,14 +204,21 @@ fn check_text<R: Read, W: Write, E: Write>(
             Form::Lines => report_refusal(writer, errors, refusal),
             Form::Json => {
                 let _ = refusal.say(errors);
-                status_after(1, writeln!(writer, "{{\"refused\":\"{}\"}}", refusal.fault))
+                status_after(
+                    ExitStatus::Refused,
+                    writeln!(writer, "{{\"refused\":\"{}\"}}", refusal.fault),
+                )
             }
         },
     }
 }
 
 /// Prints what is wrong with a script or a description on the standard input, or that there is no memory.
-fn report_refusal<W: Write, E: Write>(writer: &mut W, errors: &mut E, refusal: Refusal) -> u8 {
+fn report_refusal<W: Write, E: Write>(
+    writer: &mut W,
+    errors: &mut E,
+    refusal: Refusal,
+) -> ExitStatus {
     let _ = refusal.report(writer, errors);
-    1
+    ExitStatus::Refused
 }

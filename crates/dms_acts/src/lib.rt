@@ -6,7 +6,7 @@
 //! let mut printed = Vec::new(alloc);
 //! let mut errors = Vec::new(alloc);
 //! let status = act_saying(alloc, &Call::Replay, &mut input, &mut printed, &mut errors);
-//! assert_eq!(rt; (status, printed.as_slice()), (1, b"line 2\n".as_slice()));
+//! assert_eq!(rt; (status, printed.as_slice()), (ExitStatus::Refused, b"line 2\n".as_slice()));
 //! assert_eq!(rt; errors.as_slice(), b"line 2: no event begins with this word\n".as_slice());
 //! ```
 #![tactic(auto)]
@@ -16,5 +16,6 @@ pub mod inputs;
 pub mod refusal;
 
 pub use act::act_saying;
+pub use dms_printing::ExitStatus;
 pub use inputs::{described_before, described_whole, replayed};
 pub use refusal::Refusal;

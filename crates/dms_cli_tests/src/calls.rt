@@ -98,7 +98,7 @@ fn called_saying(alloc: Global, line: &str, printed: &str, said: &str) -> Option
     let mut input: &[u8] = &[];
     let status = act_saying(alloc, &call, &mut input, &mut output, &mut errors);
     Some((
-        status,
+        status.number(),
         output.as_slice() == printed.as_bytes(),
         errors.as_slice() == said.as_bytes(),
     ))

@@ -1,3 +1,4 @@
 -- what a reader must believe of what is printed
 pub mod CodeLine
+pub mod ExitNumbers
 pub mod ObjectNames

@@ -6,7 +6,7 @@ ghost use Rattle.dms_codes.specs.declared.codes.Order.TheVariants.{High, Swapped
 ghost use Rattle.dms_codes.specs.declared.codes.Activation.{Activation};
 ghost use Rattle.dms_printing.specs.CodeLine.{code_line};
 
-use crate::statuses::{print_line, status};
+use crate::statuses::{ExitStatus, print_line, status};
 use dms_calls::{ActivationWords, CodeWords, TermWords};
 use dms_codes::{Activation, MAX_TEXT, MessageId, Order, crc};
 use dms_text::version;
@@ -19,12 +19,12 @@ pub fn code<W: Write>(
     words: &CodeWords<'_>,
     address: Option<[u8; 4]>,
     writer: &mut W,
-) -> u8 {
+) -> ExitStatus {
     let Some(address) = address else {
-        return print_line(writer, "bad address", 2);
+        return print_line(writer, "bad address", ExitStatus::Misused);
     };
     if words.text.len() > MAX_TEXT {
-        return print_line(writer, "text too long", 1);
+        return print_line(writer, "text too long", ExitStatus::Refused);
     }
     let crc = crc(
         words.text.as_bytes(),
@@ -38,7 +38,7 @@ pub fn code<W: Write>(
     };
     match checksum_line(alloc, crc) {
         Ok(lines) => print_code(alloc, lines, id, &words.terms, address, writer),
-        Err(_) => print_line(writer, "memory", 1),
+        Err(_) => print_line(writer, "memory", ExitStatus::Refused),
     }
 }
 
@@ -55,12 +55,12 @@ pub fn activation<W: Write>(
     words: &ActivationWords<'_>,
     address: Option<[u8; 4]>,
     writer: &mut W,
-) -> u8 {
+) -> ExitStatus {
     let Some(crc) = version(words.checksum.as_bytes()) else {
-        return print_line(writer, "bad checksum", 2);
+        return print_line(writer, "bad checksum", ExitStatus::Misused);
     };
     let Some(address) = address else {
-        return print_line(writer, "bad address", 2);
+        return print_line(writer, "bad address", ExitStatus::Misused);
     };
     let id = MessageId {
         memory: words.message.memory,
@@ -78,11 +78,11 @@ fn print_code<W: Write>(
     terms: &TermWords<'_>,
     address: [u8; 4],
     writer: &mut W,
-) -> u8 {
+) -> ExitStatus {
     let code = on_terms(id, terms, address);
     match put_code(alloc, &mut lines, order_of(terms), &code) {
         Ok(()) => status(writer.write_all(lines.as_slice())),
-        Err(_) => print_line(writer, "memory", 1),
+        Err(_) => print_line(writer, "memory", ExitStatus::Refused),
     }
 }
 

@@ -4,7 +4,7 @@
 //! ```
 //! let mut printed = Vec::new(alloc);
 //! let status = decode(alloc, "300a", false, Form::Lines, &mut printed);
-//! assert_eq!(rt; status, 1);
+//! assert_eq!(rt; status, ExitStatus::Refused);
 //! assert_eq!(rt; printed.as_slice(), b"fault truncated at octet 2\n".as_slice());
 //! ```
 #![tactic(auto)]
@@ -22,5 +22,5 @@ pub mod texts;
 
 pub use codes::{activation, code};
 pub use reading::{decode, list_items, print_hex_fault, say_why_dropped};
-pub use statuses::{print_line, status, status_after};
+pub use statuses::{ExitStatus, print_line, status, status_after};
 pub use texts::{print_count, print_pages};

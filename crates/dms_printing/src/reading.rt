@@ -3,7 +3,7 @@
 use crate::fields::write_message;
 use crate::item_lines::write_items;
 use crate::json::{put_items, put_message};
-use crate::statuses::{print_line, status, status_after};
+use crate::statuses::{ExitStatus, print_line, status, status_after};
 use dms_calls::Form;
 use dms_wire::{Message, WireFault, read};
 use hex::FromHexError;
@@ -18,7 +18,7 @@ pub fn decode<W: Write>(
     spaced: bool,
     form: Form,
     writer: &mut W,
-) -> u8 {
+) -> ExitStatus {
     let octets = if spaced {
         spaced_octets(alloc, digits)
     } else {
@@ -31,14 +31,24 @@ pub fn decode<W: Write>(
 }
 
 /// Prints the fields of a datagram, or its fault.
-fn print_datagram<W: Write>(alloc: Global, datagram: &[u8], form: Form, writer: &mut W) -> u8 {
+fn print_datagram<W: Write>(
+    alloc: Global,
+    datagram: &[u8],
+    form: Form,
+    writer: &mut W,
+) -> ExitStatus {
     match read(datagram) {
         Ok(message) => print_message(alloc, message, form, writer),
         Err(fault) => print_wire_fault(form, writer, fault),
     }
 }
 
-fn print_message<W: Write>(alloc: Global, message: Message<'_>, form: Form, writer: &mut W) -> u8 {
+fn print_message<W: Write>(
+    alloc: Global,
+    message: Message<'_>,
+    form: Form,
+    writer: &mut W,
+) -> ExitStatus {
     let mut fields = Vec::new(alloc);
     let made = match form {
         Form::Lines => write_message(alloc, message, &mut fields),
@@ -46,7 +56,7 @@ fn print_message<W: Write>(alloc: Global, message: Message<'_>, form: Form, writ
     };
     match made {
         Ok(()) => status(writer.write_all(fields.as_slice())),
-        Err(_) => print_refused(form, writer, "memory", 1),
+        Err(_) => print_refused(form, writer, "memory", ExitStatus::Refused),
     }
 }
 
@@ -57,7 +67,7 @@ pub fn list_items<W: Write, E: Write>(
     form: Form,
     writer: &mut W,
     errors: &mut E,
-) -> u8 {
+) -> ExitStatus {
     let mut lines = Vec::new(alloc);
     let made = match form {
         Form::Lines => write_items(text.as_bytes(), &mut lines),
@@ -67,9 +77,9 @@ pub fn list_items<W: Write, E: Write>(
         Ok(None) => status(writer.write_all(lines.as_slice())),
         Ok(Some(fault)) => {
             let _ = writeln!(errors, "{fault}");
-            status_after(1, writer.write_all(lines.as_slice()))
+            status_after(ExitStatus::Refused, writer.write_all(lines.as_slice()))
         }
-        Err(_) => print_refused(form, writer, "memory", 1),
+        Err(_) => print_refused(form, writer, "memory", ExitStatus::Refused),
     }
 }
 
@@ -86,10 +96,10 @@ fn spaced_octets(alloc: Global, digits: &str) -> Result<Vec<u8>, FromHexError> {
 }
 
 /// Prints that digits are no octets, or that there is no memory.
-pub fn print_hex_fault<W: Write>(form: Form, writer: &mut W, fault: FromHexError) -> u8 {
+pub fn print_hex_fault<W: Write>(form: Form, writer: &mut W, fault: FromHexError) -> ExitStatus {
     match fault {
-        FromHexError::OutOfMemory => print_refused(form, writer, "memory", 1),
-        _ => print_refused(form, writer, "not hex", 2),
+        FromHexError::OutOfMemory => print_refused(form, writer, "memory", ExitStatus::Refused),
+        _ => print_refused(form, writer, "not hex", ExitStatus::Misused),
     }
 }
 
@@ -105,9 +115,9 @@ pub fn say_why_dropped<E: Write>(datagram: &[u8], errors: &mut E) {
 }
 
 /// Prints why octets spell no message, and where.
-fn print_wire_fault<W: Write>(form: Form, writer: &mut W, fault: WireFault) -> u8 {
+fn print_wire_fault<W: Write>(form: Form, writer: &mut W, fault: WireFault) -> ExitStatus {
     status_after(
-        1,
+        ExitStatus::Refused,
         match form {
             Form::Lines => writeln!(writer, "fault {fault}"),
             Form::Json => writeln!(
@@ -119,8 +129,13 @@ fn print_wire_fault<W: Write>(form: Form, writer: &mut W, fault: WireFault) -> u
     )
 }
 
-/// Prints a refusal, and gives the status, or 1 where it was not written.
-fn print_refused<W: Write>(form: Form, writer: &mut W, words: &str, status: u8) -> u8 {
+/// Prints a refusal, and gives the status, or `Refused` where it was not written.
+fn print_refused<W: Write>(
+    form: Form,
+    writer: &mut W,
+    words: &str,
+    status: ExitStatus,
+) -> ExitStatus {
     match form {
         Form::Lines => print_line(writer, words, status),
         Form::Json => { status_after(status, writeln!(writer, "{{\"refused\":\"{words}\"}}")) }

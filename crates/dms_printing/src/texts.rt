@@ -1,7 +1,7 @@
 //! Texts on a face: the number of their pages, their pages, and their faults.
 
 use crate::lacking::what_lacks;
-use crate::statuses::{print_line, status, status_after};
+use crate::statuses::{ExitStatus, print_line, status, status_after};
 use dms_calls::{Drawing, Form};
 use dms_face::{Face, MultiFault, check};
 use dms_lines::{numbered_page, pages_text};
@@ -19,7 +19,7 @@ pub fn print_count<W: Write, E: Write>(
     form: Form,
     writer: &mut W,
     errors: &mut E,
-) -> u8 {
+) -> ExitStatus {
     match check(face, text.as_bytes()) {
         Ok(pages) => status(write_count(form, pages, writer)),
         Err(fault) => print_fault(alloc, text, face, form, fault, writer, errors),
@@ -42,16 +42,16 @@ pub fn print_pages<W: Write, E: Write>(
     drawing: Drawing,
     writer: &mut W,
     errors: &mut E,
-) -> u8 {
+) -> ExitStatus {
     match pages(alloc, face, text.as_bytes()) {
         Ok(pages) => match document(alloc, face, pages.as_slice(), drawing) {
             Some(document) => print_document(document, writer),
-            None => print_line(writer, "no such page", 1),
+            None => print_line(writer, "no such page", ExitStatus::Refused),
         },
         Err(PagesFault::Multi(fault)) => {
             print_fault(alloc, text, face, Form::Lines, fault, writer, errors)
         }
-        Err(PagesFault::Memory) => print_line(writer, "memory", 1),
+        Err(PagesFault::Memory) => print_line(writer, "memory", ExitStatus::Refused),
     }
 }
 
@@ -78,10 +78,10 @@ fn document(
 }
 
 /// Prints a picture, or the text of pages.
-fn print_document<W: Write>(document: Result<Vec<u8>, AllocError>, writer: &mut W) -> u8 {
+fn print_document<W: Write>(document: Result<Vec<u8>, AllocError>, writer: &mut W) -> ExitStatus {
     match document {
         Ok(document) => status(writer.write_all(document.as_slice())),
-        Err(_) => print_line(writer, "memory", 1),
+        Err(_) => print_line(writer, "memory", ExitStatus::Refused),
     }
 }
 
@@ -94,9 +94,9 @@ fn print_fault<W: Write, E: Write>(
     fault: MultiFault,
     writer: &mut W,
     errors: &mut E,
-) -> u8 {
+) -> ExitStatus {
     say_fault(alloc, text, face, fault, errors);
-    status_after(1, write_fault(form, fault, writer))
+    status_after(ExitStatus::Refused, write_fault(form, fault, writer))
 }
 
 /// Writes the number of a fault, and where it is.

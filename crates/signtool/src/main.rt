@@ -135,14 +135,11 @@
 //! refused or a datagram is dropped is said in words on standard error.
 #![tactic(auto)]
 
-use dms_acts::act_saying;
+use dms_acts::{ExitStatus, act_saying};
 use dms_cli::asked;
 use std::env::{Env, FillError};
 use std::io;
 use std::process::ExitCode;
-
-/// The status for a command line that is no call.
-const MISUSED: u8 = 2;
 
 /// The most octets of a word that Linux hands to a program.
 const LONGEST_WORD: usize = 131_072;
@@ -155,22 +152,23 @@ fn main(rt: HostRuntime) -> ExitCode {
                 Some(number) => eprintln!(rt; "word {number} of the command line is no text"),
                 None => eprintln!(rt; "the words of the command line: {error}"),
             };
-            return ExitCode::from(MISUSED);
+            return ExitCode::from(ExitStatus::Misused.number());
         }
     };
-    match asked(rt.alloc(), words.as_slice()) {
-        Ok(call) => ExitCode::from(act_saying(
+    let status = match asked(rt.alloc(), words.as_slice()) {
+        Ok(call) => act_saying(
             rt.alloc(),
             &call,
             &mut rt.stdin(),
             &mut rt.stdout(),
             &mut rt.stderr(),
-        )),
+        ),
         Err(usage) => {
             let _ = eprint!(rt; "{usage}");
-            ExitCode::from(MISUSED)
+            ExitStatus::Misused
         }
-    }
+    };
+    ExitCode::from(status.number())
 }
 
 /// The number of the first word that is no text, from 1; the program's name is word 0. None is found where there is no
