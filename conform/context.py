@@ -44,7 +44,7 @@ class Context:
     @functools.cached_property
     def characters(self) -> list[bytes]:
         """Texts of one character that fit under the defaults, those that are seen first, and the narrowest."""
-        font = self.described.face.font(self.defaults[4])
+        font = self.described.face.known_font(self.defaults[4])
         found = sorted(
             (not any(map(any, rows)), width, number)
             for number, (width, rows) in font.glyphs.items()

@@ -46,8 +46,8 @@ class ModelOracle:
 
     def pages(self, message: bytes) -> list[str]:
         face = self.described.face
-        pages, fault = layout.laid_out(face, face.defaults, message)
-        return [] if fault else layout.drawn(face, pages)
+        pages, _ = layout.laid_out(face, face.defaults, message)
+        return [] if pages is None else layout.drawn(face, pages)
 
     def end(self) -> None:
         pass

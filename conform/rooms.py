@@ -64,7 +64,7 @@ def rooms(context: Context) -> list[Sample]:
 
 def spread(context: Context, unit: bytes, most: int) -> list[tuple[int, bytes]]:
     """Rows of one character with their widths, up to a width."""
-    font = context.described.face.font(context.defaults[4])
+    font = context.described.face.known_font(context.defaults[4])
     width = font.glyphs[unit[0]][0]
     return [(count * width + (count - 1) * font.space, unit * count) for count in range(1, most // width + 1)]
 
@@ -91,7 +91,7 @@ def touching(context: Context) -> list[Sample]:
     for total in (face.width, face.width + 1):
         pairs = (b"[jl2]" + left + b"[jl4]" + right for a, left in rows for b, right in rows if a + b == total)
         found += list(itertools.islice(pairs, 1))
-    height = face.font(context.defaults[4]).height
+    height = face.known_font(context.defaults[4]).height
     for total in (face.height, face.height + 1):
         bottom = stacked(one, height, total - height)
         found += [b"[jp2]" + one + b"[jp4]" + bottom] if bottom else []
@@ -117,7 +117,7 @@ def mixed(context: Context) -> list[Sample]:
 
 def mixtures(context: Context, font: layout.Font) -> list[tuple[int, bytes]]:
     """Characters of the default's font and of another in turn, begun with either, with their widths."""
-    own = context.described.face.font(context.defaults[4])
+    own = context.described.face.known_font(context.defaults[4])
     found: list[tuple[int, bytes]] = []
     other = next((number for number in font.glyphs if number < 256 and number not in b"[]"), None)
     if other is None:

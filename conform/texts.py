@@ -96,7 +96,7 @@ def fonts(context: Context) -> list[Sample]:
 
 def characters(context: Context) -> list[Sample]:
     """Characters that a font has not, also by their numbers."""
-    one, font = context.character(), context.described.face.font(context.defaults[4])
+    one, font = context.character(), context.described.face.known_font(context.defaults[4])
     missing = next((number for number in range(1, 256) if number not in font.glyphs and number not in b"[]"), None)
     found = [one + bytes([missing]) + one] if missing is not None else []
     found += [

@@ -33,7 +33,9 @@ def foretold(store: Store, row: int, sign: fleet.Sign) -> list[str]:
                 ledger += [f"ledger {at} {code.octets(swapped).hex()} {how}" for at, code, how in centre.ledger]
             head = Head.of(str(line).encode())
             if head is not None and head.first is not None:
-                centre = text.World(text.described(description.with_first(sign.text, head.first))).centre
+                described = description.with_first(sign.text, head.first)
+                assert described is not None
+                centre = text.World(text.described(described)).centre
         elif centre is not None and words[0] == b"datagram":
             centre.receive(text.octets(words[1]))
         elif centre is not None and words[0] == b"tick":

@@ -32,7 +32,7 @@ class Call:
     stdin: bytes = b""
 
 
-def request(kind: int, community: bytes, *bindings: tuple, number: int = 1) -> bytes:
+def request(kind: int, community: bytes, *bindings: wire.Binding, number: int = 1) -> bytes:
     return wire.written(wire.Message(kind, community, number, 0, 0, list(bindings)))
 
 

@@ -14,7 +14,7 @@ from .ber_forms import BAD_TAGS, of_kind, raw, whole_changed
 from .block import Block, Chapter
 
 INSIDE = ("message", "pdu", "list", "binding")
-WRITE = {"kind": wire.SET, "name": wire.name_content(scalar(4, 8)), "value": b"\7", "tag": wire.INTEGER}
+WRITE: dict[str, object] = {"kind": wire.SET, "name": wire.name_content(scalar(4, 8)), "value": b"\7", "tag": wire.INTEGER}
 FITTING = {
     "message": (0x30,),
     "version": (0x02,),
@@ -35,7 +35,8 @@ def accepted_lengths() -> Iterator[Block]:
             yield Block("lengths that are accepted", "", [raw("needless octets", {place: spelling.length_of(octets)})])
     everywhere = {place: spelling.length_of(4) for place in PLACES}
     yield Block("lengths that are accepted", "", [raw("needless octets", everywhere)])
-    for more in ({"kind": wire.GET_NEXT}, WRITE):
+    kinds: list[dict[str, object]] = [{"kind": wire.GET_NEXT}, WRITE]
+    for more in kinds:
         steps = [raw("needless octets", {place: spelling.length_of(2)}, **more) for place in PLACES]
         yield Block("lengths that are accepted", "", [*steps, raw("needless octets", everywhere, **more)])
     long_value = {"value": spelling.length_of(2)}

@@ -39,7 +39,7 @@ def beginning(context: Context) -> list[bytes]:
     one = context.character()
     texts = [one, one + b"[jp3]" + one, one + b"[jl3]" + one]
     if len(context.described.face.fonts) > 1:
-        font = context.described.face.font(context.defaults[4])
+        font = context.described.face.known_font(context.defaults[4])
         texts += [bytes([number]) for number in list(font.glyphs)[:3] if number < 256]
         texts += [b"[nl]".join([one] * count) for count in range(1, 9)] + [one * count for count in (3, 8, 16, 20, 40)]
     return texts

@@ -4,7 +4,7 @@ import json
 import xml.etree.ElementTree as ET
 
 from model import text, wire
-from model.sign import Refused, Sign
+from model.sign import Change, Refused, Sign
 
 from conform import bench
 from conform.chapters import ALL
@@ -67,7 +67,7 @@ def test_another_spelling_and_no_answer_are_classes_of_their_own() -> None:
 class Stubborn(Sign):
     """A sign whose pages' time cannot be written."""
 
-    def change(self, name: Name, value: Value, is_writer: bool) -> object:
+    def change(self, name: Name, value: Value, is_writer: bool) -> Change:
         if name == scalar(4, 8):
             raise Refused(wire.GENERAL)
         return super().change(name, value, is_writer)

@@ -102,7 +102,7 @@ class Slipping(Sign):
 
     left = 1
 
-    def value(self, name: tuple[int, ...]) -> object:
+    def value(self, name: wire.Name) -> wire.Tagged | None:
         if name == TIME and self.defaults[7] == 9 and self.left:
             self.left -= 1
             return integer(10)

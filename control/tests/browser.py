@@ -64,7 +64,7 @@ def lamps_of(face: str, text: str) -> list[list[int]]:
     """The lamps that a text of one page lights, as the model lays it out."""
     held = described.described(description(face)).face
     pages, fault = layout.laid_out(held, held.defaults, text.encode("latin-1"))
-    assert fault is None and len(pages) == 1
+    assert fault is None and pages is not None and len(pages) == 1
     return [[x, y] for y, row in enumerate(layout.cells(held, pages[0])) for x, cell in enumerate(row) if cell]
 
 

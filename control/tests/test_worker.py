@@ -92,7 +92,7 @@ def test_a_sign_that_is_silent(tmp_path: pathlib.Path, where: str, monkeypatch: 
         worker = at.worker()
         assert at.ended(worker, at.ask(f"blank 1 65535 255 {ADDRESS}")) == "failed at step 7: no reply"
         assert at.store.ledger(at.row)[0].endswith(" noreply")
-        assert len(set(filter(lambda octets: wire.spelled(octets).number >= 0, at.live.requests))) == 1
+        assert len(set(filter(lambda octets: wire.read(octets).number >= 0, at.live.requests))) == 1
 
 
 def carried_on(found: Session, steps: int) -> bool:

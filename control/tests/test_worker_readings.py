@@ -20,7 +20,7 @@ def test_a_reading_says_what_is_shown(tmp_path: pathlib.Path, where: str) -> Non
             newest = at.store.readings(at.row)[:1]
             found = json.loads(newest[0][1]) if newest and newest[0][1] else {}
         assert found["text"] == b"HELLO".hex() and found["owner"] == b"me".hex() and found["mode"] == 8
-        sent = [message for message in map(wire.spelled, at.live.requests) if message is not None]
+        sent = [message for message in map(wire.read, at.live.requests) if message is not None]
         below = [message for message in sent if message.number < 0]
         assert below and all(message.kind == wire.GET and message.community == b"public" for message in below)
         lines = [str(line).split(" ") for (line,) in at.store.run("SELECT line FROM lines")]
@@ -60,5 +60,5 @@ def test_a_table_is_read_where_it_is_in_use(tmp_path: pathlib.Path, where: str) 
         assert rows[3, 1][1]["text"] == b"HELLO".hex() and rows[3, 1][1]["owner"] == b"me".hex()
         assert b"ROAD WORK" in bytes.fromhex(rows[2, 1][1]["text"]) and rows[2, 1][1]["priority"] == 100
         assert at.store.run("SELECT step FROM commands WHERE id = ?", command) == [(7,)]
-        numbers = [message.number for message in map(wire.spelled, at.live.requests) if message.number < 0]
+        numbers = [message.number for message in map(wire.read, at.live.requests) if message.number < 0]
         assert len(set(numbers)) >= 2 + 3, "a number for the status of each 30 rows, and one for each row in use"

@@ -1,6 +1,7 @@
 """The central system: commands, requests, replies, ticks and the ledger."""
 
 from dataclasses import dataclass
+from typing import Any
 
 from . import wire
 from .codes import BLANK, CHANGEABLE, VOLATILE, Activation, MessageId, checksum
@@ -8,173 +9,205 @@ from .sign import DMS
 
 BUSY, NO_NUMBER, BAD_COMMAND = "a job is not done yet", "no request number is left", "a value is out of its range"
 ODD, OTHER_CHECKSUM, STILL_VALIDATING, NO_REPLY, RESTARTED = (
-    "the reply does not answer what was asked", "the row has another checksum", "the row is still being validated", "no reply",
-    "the central system was restarted")
+    "the reply does not answer what was asked", "the row has another checksum", "the row is still being validated",
+    "no reply", "the central system was restarted")
 LAST_NUMBER = 2_147_483_647
 POLLS, SENDS, PATIENCE = 10, 3, 3
+Publication = tuple[int, int, bytes, bytes, int, int, int]  # memory, number, text, owner, beacon, pixel, priority
 
 
 @dataclass
 class Job:
     step: int
     code: Activation
-    publication: tuple | None = None  # memory, number, text, owner, beacon, pixel, priority
+    publication: Publication | None = None
     polls: int = 0
     due: bool = False  # the step's request goes out at the next tick
 
 
-class Centre:
-    def __init__(self, community, swapped, first):
-        self.community, self.swapped, self.next = community, swapped, first
-        self.job, self.waiting = None, None  # waiting: number, octets, age, sends
-        self.ledger = []  # [number, code, outcome]
-        self.last = None  # how the last job ended, in words
-        self.refusal = None  # why the last command was refused, in words
+@dataclass
+class Waiting:
+    """The request that waits for its reply."""
 
-    def command(self, event):
+    number: int
+    octets: bytes
+    name: wire.Name  # of the first binding
+    age: int = 0
+    sends: int = 1
+
+
+class Centre:
+    def __init__(self, community: bytes, swapped: bool, first: int) -> None:
+        self.community, self.swapped, self.next = community, swapped, first
+        self.job: Job | None = None
+        self.waiting: Waiting | None = None
+        self.ledger: list[tuple[int, Activation, str]] = []  # number, code, outcome
+        self.last: str | None = None  # how the last job ended, in words
+        self.refusal: str | None = None  # why the last command was refused, in words
+
+    def command(self, event: tuple[str, Any]) -> bytes | None:
         """What goes out for a command; a refused one changes nothing."""
         kind, held = event
         self.refusal = BUSY if self.job is not None else NO_NUMBER if self.next > LAST_NUMBER else None
         if self.refusal is not None:
             return None
-        self.refusal = BAD_COMMAND
-        if kind == "publish":
-            memory, number, text, owner, beacon, pixel, run, minutes, priority, address = held
-            if memory not in (CHANGEABLE, VOLATILE) or number == 0 or len(text) > 512 or len(owner) > 127 or beacon > 1 or pixel > 1 or run == 0:
-                return None
-            code = Activation(minutes, priority, MessageId(memory, number, checksum(text, beacon, pixel)), address)
-            self.job = Job(1, code, (memory, number, text, owner, beacon, pixel, run))
-        elif kind == "blank":
-            number, minutes, priority, address = held
-            if not 1 <= number <= 255:
-                return None
-            self.job = Job(7, Activation(minutes, priority, MessageId(BLANK, number, 0), address))
-        else:
-            self.job = Job(7, held)
-        self.refusal = None
-        return self.send()
+        job = asked(kind, held)
+        if job is None:
+            self.refusal = BAD_COMMAND
+            return None
+        self.job = job
+        return self.send(job)
 
-    def cell(self, column):
-        memory, number = self.job.publication[:2]
-        return DMS + (5, 8, 1, column, memory, number)
-
-    def send(self):
+    def send(self, job: Job) -> bytes | None:
         """The request of the job's step, under a new number."""
         if self.next > LAST_NUMBER:
-            return self.fail(NO_NUMBER)
-        job = self.job
-        kind, bindings = wire.GET, []
-        if job.step in (1, 4):
-            kind, bindings = wire.SET, [(self.cell(9), (wire.INTEGER, 6 if job.step == 1 else 7))]
-        elif job.step == 3:
-            _, _, text, owner, beacon, pixel, run = job.publication
-            kind, bindings = wire.SET, [(self.cell(3), (wire.OCTETS, text)), (self.cell(4), (wire.OCTETS, owner)),
-                                        (self.cell(6), (wire.INTEGER, beacon)), (self.cell(7), (wire.INTEGER, pixel)),
-                                        (self.cell(8), (wire.INTEGER, run))]
-        elif job.step in (2, 5):
-            bindings = [(self.cell(9), (wire.NULL, b""))]
-        elif job.step == 6:
-            bindings = [(self.cell(5), (wire.NULL, b""))]
-        elif job.step == 7:
-            kind, bindings = wire.SET, [(DMS + (6, 3, 0), (wire.OCTETS, job.code.octets(self.swapped)))]
-        else:
-            bindings = [(DMS + (6, 17, 0), (wire.NULL, b""))]
+            return self.fail(job, NO_NUMBER)
+        kind, bindings = request(job, self.swapped)
         number, self.next = self.next, self.next + 1
         if job.step == 7:
-            self.ledger.append([number, job.code, "waiting"])
+            self.ledger.append((number, job.code, "waiting"))
         job.due = False
         octets = wire.written(wire.Message(kind, self.community, number, 0, 0, bindings))
-        self.waiting = [number, octets, 0, 1, bindings[0][0]]
+        self.waiting = Waiting(number, octets, bindings[0][0])
         return octets
 
-    def end(self, how):
+    def end(self, how: str) -> bytes | None:
+        """Ends the job; nothing goes out."""
         self.last = how
         self.job = self.waiting = None
+        return None
 
-    def fail(self, why, step=None):
-        self.end(f"failed at step {step or self.job.step}: {why}")
+    def fail(self, job: Job, why: str, step: int | None = None) -> bytes | None:
+        return self.end(f"failed at step {step or job.step}: {why}")
 
-    def enter(self, number, outcome):
-        for entry in self.ledger:
-            if entry[0] == number:
-                entry[2] = outcome
+    def enter(self, number: int, outcome: str) -> None:
+        self.ledger = [(at, code, outcome if at == number else before) for at, code, before in self.ledger]
 
-    def receive(self, octets):
+    def receive(self, octets: bytes) -> bytes | None:
         """What goes out with a reply."""
         message = wire.spelled(octets)
-        if self.waiting is None or message is None or message.kind != wire.RESPONSE or message.community != self.community:
+        if self.job is None or self.waiting is None or message is None:
             return None
-        number, _, _, _, name = self.waiting
-        if message.number != number:
+        waiting = self.waiting
+        if (message.kind, message.community, message.number) != (wire.RESPONSE, self.community, waiting.number):
             return None
         self.waiting = None
-        return self.replied(message, number, name)
+        return self.replied(self.job, message, waiting)
 
-    def replied(self, message, number, name):
-        job = self.job
-        step = job.step
-        if step == 7:
-            if message.status == wire.NO_ERROR:
-                self.enter(number, "accepted")
-                return self.end("accepted")
-            self.enter(number, f"refused {message.status}")
-            job.step = 8
-            return self.send()
+    def replied(self, job: Job, message: wire.Message, waiting: Waiting) -> bytes | None:
+        """What goes out with the reply that was waited for."""
+        if job.step == 7:
+            return self.decided(job, message)
         if message.status != wire.NO_ERROR:
-            return self.fail(f"error-status {message.status}")
-        if step in (1, 3, 4):
+            return self.fail(job, f"error-status {message.status}")
+        if job.step in (1, 3, 4):
             job.step += 1
-            return self.send()
-        if len(message.bindings) != 1 or message.bindings[0][0] != name or message.bindings[0][1][0] != wire.INTEGER:
-            return self.fail(ODD)
-        held = message.bindings[0][1][1]
-        if step == 8:
-            return self.fail(f"the sign refused the activation for cause {held}", 7)
-        if step == 2:
+            return self.send(job)
+        if len(message.bindings) != 1:
+            return self.fail(job, ODD)
+        name, (tag, held) = message.bindings[0]
+        if name != waiting.name or tag != wire.INTEGER:
+            return self.fail(job, ODD)
+        if job.step == 8:
+            return self.fail(job, f"the sign refused the activation for cause {held}", 7)
+        if job.step == 2:
             if held != 2:
-                return self.fail(f"the row has status {held}")
+                return self.fail(job, f"the row has status {held}")
             job.step = 3
-            return self.send()
-        if step == 5:
-            if held == 4:
-                job.step = 6
-                return self.send()
-            job.polls += 1
-            if held != 3:
-                return self.fail(f"the row has status {held}")
-            if job.polls == POLLS:
-                return self.fail(STILL_VALIDATING)
-            job.due = True
-            return None
+            return self.send(job)
+        return self.polled(job, held) if job.step == 5 else self.summed(job, held)
+
+    def decided(self, job: Job, message: wire.Message) -> bytes | None:
+        """What goes out with the reply to an activation."""
+        if message.status == wire.NO_ERROR:
+            self.enter(message.number, "accepted")
+            return self.end("accepted")
+        self.enter(message.number, f"refused {message.status}")
+        job.step = 8
+        return self.send(job)
+
+    def polled(self, job: Job, status: int) -> bytes | None:
+        """What goes out with the status of a row that is being validated."""
+        if status == 4:
+            job.step = 6
+            return self.send(job)
+        job.polls += 1
+        if status != 3:
+            return self.fail(job, f"the row has status {status}")
+        if job.polls == POLLS:
+            return self.fail(job, STILL_VALIDATING)
+        job.due = True
+        return None
+
+    def summed(self, job: Job, held: int) -> bytes | None:
+        """What goes out with a row's checksum."""
         crc = job.code.id.crc
         if self.swapped:
             crc = int.from_bytes(crc.to_bytes(2, "little"), "big")
         if held != crc:
-            return self.fail(OTHER_CHECKSUM)
+            return self.fail(job, OTHER_CHECKSUM)
         job.step, job.due = 7, True
         return None
 
-    def tick(self):
+    def tick(self) -> bytes | None:
         """What goes out at a tick."""
-        if self.job is None:
+        job, waiting = self.job, self.waiting
+        if job is None:
             return None
-        if self.job.due:
-            return self.send()
-        number, octets, age, sends, _ = self.waiting
-        age += 1
-        if age < PATIENCE:
-            self.waiting[2] = age
+        if job.due:
+            return self.send(job)
+        assert waiting is not None
+        if waiting.age + 1 < PATIENCE:
+            waiting.age += 1
             return None
-        if sends < SENDS:
-            self.waiting[2], self.waiting[3] = 0, sends + 1
-            return octets
-        if self.job.step == 7:
-            self.enter(number, "noreply")
-        self.fail(NO_REPLY)
-        return None
+        if waiting.sends < SENDS:
+            waiting.age, waiting.sends = 0, waiting.sends + 1
+            return waiting.octets
+        if job.step == 7:
+            self.enter(waiting.number, "noreply")
+        return self.fail(job, NO_REPLY)
 
-    def restart(self):
+    def restart(self) -> None:
         if self.job is not None:
             if self.waiting is not None and self.job.step == 7:
-                self.enter(self.waiting[0], "unknown")
-            self.fail(RESTARTED)
+                self.enter(self.waiting.number, "unknown")
+            self.fail(self.job, RESTARTED)
+
+
+def asked(kind: str, held: Any) -> Job | None:
+    """The job of a command; None where a value is out of its range."""
+    if kind == "publish":
+        memory, number, text, owner, beacon, pixel, run, minutes, priority, address = held
+        if memory not in (CHANGEABLE, VOLATILE) or number == 0 or len(text) > 512 or len(owner) > 127:
+            return None
+        if beacon > 1 or pixel > 1 or run == 0:
+            return None
+        code = Activation(minutes, priority, MessageId(memory, number, checksum(text, beacon, pixel)), address)
+        return Job(1, code, (memory, number, text, owner, beacon, pixel, run))
+    if kind == "blank":
+        number, minutes, priority, address = held
+        if not 1 <= number <= 255:
+            return None
+        return Job(7, Activation(minutes, priority, MessageId(BLANK, number, 0), address))
+    return Job(7, held)
+
+
+def request(job: Job, swapped: bool) -> tuple[int, list[wire.Binding]]:
+    """The kind and the bindings of a step's request."""
+    if job.step == 7:
+        return wire.SET, [(DMS + (6, 3, 0), (wire.OCTETS, job.code.octets(swapped)))]
+    if job.step == 8:
+        return wire.GET, [(DMS + (6, 17, 0), (wire.NULL, b""))]
+    assert job.publication is not None
+    memory, number, text, owner, beacon, pixel, run = job.publication
+
+    def cell(column: int) -> wire.Name:
+        return DMS + (5, 8, 1, column, memory, number)
+
+    if job.step in (1, 4):
+        return wire.SET, [(cell(9), (wire.INTEGER, 6 if job.step == 1 else 7))]
+    if job.step == 3:
+        return wire.SET, [(cell(3), (wire.OCTETS, text)), (cell(4), (wire.OCTETS, owner)),
+                          (cell(6), (wire.INTEGER, beacon)), (cell(7), (wire.INTEGER, pixel)),
+                          (cell(8), (wire.INTEGER, run))]
+    return wire.GET, [(cell(5 if job.step == 6 else 9), (wire.NULL, b""))]

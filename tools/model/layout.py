@@ -3,13 +3,19 @@
 Each prefix of a text is laid out anew, so nothing here keeps running sums.
 """
 
+from collections.abc import Sequence
 from dataclasses import dataclass, field
 
 from . import multi
+from .multi import Fault, Item
 
 LEFT, CENTRE, RIGHT = TOP, MIDDLE, BOTTOM = 2, 3, 4
 VALUE, TOO_BIG, NO_FONT, NO_CHARACTER, CONFLICT, PAGES, VERSION = 4, 5, 6, 7, 11, 12, 13
 MOST_TEXT, MOST_PAGES = 512, 6
+
+Glyph = tuple[int, list[list[bool]]]  # the width, and the rows
+Flash = tuple[str, int, int]  # what it begins with, and the tenths of a second that it is lit and dark
+Cell = tuple[int, Flash | None]  # the colour
 
 
 @dataclass
@@ -19,64 +25,70 @@ class Font:
     space: int
     line: int
     version: int
-    glyphs: dict = field(default_factory=dict)  # number: (width, rows of booleans)
+    glyphs: dict[int, Glyph] = field(default_factory=dict)
 
 
 @dataclass
 class Face:
     width: int
     height: int
-    fonts: list
-    defaults: tuple  # in the order of the objects 4.1 to 4.9
+    fonts: list[Font]
+    defaults: tuple[int, ...]  # in the order of the objects 4.1 to 4.9
 
-    def font(self, number):
+    def font(self, number: int) -> Font | None:
         return next((font for font in self.fonts if font.number == number), None)
+
+    def known_font(self, number: int) -> Font:
+        """The font of this number, which there is."""
+        font = self.font(number)
+        assert font is not None
+        return font
 
 
 @dataclass
 class Character:
     font: Font
-    glyph: tuple
+    glyph: Glyph
     colour: int
-    flash: tuple
+    flash: Flash | None
     part: int
 
 
 @dataclass
 class Line:
     gap: int | None  # the value of the tag that opened it; None: the average of the spacings
-    characters: list = field(default_factory=list)
+    characters: list[Character] = field(default_factory=list)
     closed_font: Font | None = None  # the font current at the closing of a line
 
-    def counts(self):
+    def counts(self) -> object:
         return self.characters or self.closed_font
 
-    def height(self):
+    def height(self) -> int:
         return max((c.font.height for c in self.characters), default=self.closed_font.height if self.closed_font else 0)
 
-    def spacing(self):
+    def spacing(self) -> int:
         return max((c.font.line for c in self.characters), default=self.closed_font.line if self.closed_font else 0)
 
-    def parts(self):
+    def parts(self) -> dict[int, list[Character]]:
         return {part: [c for c in self.characters if c.part == part] for part in (LEFT, CENTRE, RIGHT)}
 
 
-def average(first, second):
+def average(first: int, second: int) -> int:
     return (first + second + 1) // 2
 
 
-def line_width(characters):
+def line_width(characters: list[Character]) -> int:
     width = sum(c.glyph[0] for c in characters)
     return width + sum(average(a.font.space, b.font.space) for a, b in zip(characters, characters[1:]))
 
 
-def gap_above(lines, at):
+def gap_above(lines: list[Line], at: int) -> int:
     """The rows between a line and the one before it."""
     line = lines[at]
     return line.gap if line.gap is not None else average(lines[at - 1].spacing(), line.spacing())
 
 
-def part_height(lines):
+def part_height(lines: list[Line]) -> int:
     height = 0
     for at, line in enumerate(lines):
         if line.counts():
@@ -84,12 +96,12 @@ def part_height(lines):
     return height
 
 
-def begin(part, room, size):
+def begin(part: int, room: int, size: int) -> int:
     """Where something of this size begins in a room, by its part: first, middle or last."""
     return {2: 0, 3: (room - size) // 2, 4: room - size}[part]
 
 
-def spans_fit(sizes, room):
+def spans_fit(sizes: dict[int, int], room: int) -> bool:
     """Whether parts of these sizes, 0 where a part is empty, lie in the room and do not overlap."""
     if any(size > room for size in sizes.values()):
         return False
@@ -98,22 +110,22 @@ def spans_fit(sizes, room):
 
 
 class Page:
-    def __init__(self, part, back, on, off):
-        self.parts = {TOP: [], MIDDLE: [], BOTTOM: []}
+    def __init__(self, part: int, back: int, on: int, off: int) -> None:
+        self.parts: dict[int, list[Line]] = {TOP: [], MIDDLE: [], BOTTOM: []}
         self.part = part
         self.parts[part].append(Line(0))
         self.back, self.on, self.off = back, on, off
 
-    def open_line(self):
+    def open_line(self) -> Line:
         return self.parts[self.part][-1]
 
-    def close_part(self, font):
+    def close_part(self, font: Font) -> None:
         """Closes the line and the part; a part with a single line without a character has no lines then."""
         self.open_line().closed_font = font
         if len(self.parts[self.part]) == 1 and not self.open_line().characters:
             self.parts[self.part] = []
 
-    def fits(self, face):
+    def fits(self, face: Face) -> bool:
         heights = {part: part_height(lines) for part, lines in self.parts.items()}
         if not spans_fit(heights, face.height):
             return False
@@ -124,15 +136,15 @@ class Page:
 class Layout:
     """A text that is laid out item by item, under the defaults handed in. `take` answers the code of a fault, or None."""
 
-    def __init__(self, face, defaults):
+    def __init__(self, face: Face, defaults: Sequence[int]) -> None:
         self.face, self.defaults = face, defaults
         self.back, self.colour, self.on, self.off = defaults[0], defaults[1], defaults[7], defaults[8]
-        self.font = face.font(defaults[4])
-        self.flash = None
+        self.font = face.known_font(defaults[4])
+        self.flash: Flash | None = None
         self.side, self.part = defaults[5], defaults[6]
         self.pages = [Page(self.part, self.back, self.on, self.off)]
 
-    def take(self, item):
+    def take(self, item: Item) -> int | None:
         page = self.pages[-1]
         kind = item[0]
         if kind == "character":
@@ -166,7 +178,7 @@ class Layout:
             self.change(item)
         return None
 
-    def change(self, item):
+    def change(self, item: Item) -> None:
         """An item that changes what holds from here on: colours, flash, page times."""
         page = self.pages[-1]
         kind = item[0]
@@ -184,7 +196,7 @@ class Layout:
         else:
             self.flash = None
 
-    def new_part(self, part):
+    def new_part(self, part: int) -> int | None:
         page = self.pages[-1]
         if part == self.part:
             return None
@@ -196,7 +208,7 @@ class Layout:
         page.parts[part].append(Line(0))
         return None if fits else TOO_BIG
 
-    def new_page(self):
+    def new_page(self) -> int | None:
         page = self.pages[-1]
         page.close_part(self.font)
         if not page.fits(self.face):
@@ -206,13 +218,13 @@ class Layout:
         self.pages.append(Page(self.part, self.back, self.on, self.off))
         return None
 
-    def end(self):
+    def end(self) -> int | None:
         page = self.pages[-1]
         page.close_part(self.font)
         return None if page.fits(self.face) else TOO_BIG
 
 
-def laid_out(face, defaults, text):
+def laid_out(face: Face, defaults: Sequence[int], text: bytes) -> tuple[list[Page], None] | tuple[None, Fault]:
     """The pages of a text, or its fault (code, offset)."""
     if len(text) > MOST_TEXT:
         return None, (TOO_BIG, MOST_TEXT)
@@ -230,9 +242,9 @@ def laid_out(face, defaults, text):
     return layout.pages, None
 
 
-def cells(face, page):
+def cells(face: Face, page: Page) -> list[list[Cell | None]]:
     """The page's cells, a list of rows: (colour, flash) where a cell is lit, else None."""
-    lit = [[None] * face.width for _ in range(face.height)]
+    lit: list[list[Cell | None]] = [[None] * face.width for _ in range(face.height)]
     for part, lines in page.parts.items():
         top = begin(part, face.height, part_height(lines)) if lines else 0
         for at, line in enumerate(lines):
@@ -254,7 +266,7 @@ def cells(face, page):
     return lit
 
 
-def drawn(face, pages):
+def drawn(face: Face, pages: list[Page]) -> list[str]:
     """The pages as the program prints them."""
     lines = []
     for number, page in enumerate(pages, 1):

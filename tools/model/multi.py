@@ -1,24 +1,30 @@
 """MULTI: the items of a text, its first fault, and the canonical text of items."""
 
+from collections.abc import Iterable
+from typing import Any
+
 NAMES = ("cb", "pb", "cf", "fo", "fl", "/fl", "hc", "jl", "jp", "nl", "np", "pt")
 UNSUPPORTED_TAG, UNSUPPORTED_VALUE = 3, 4
 
+Item = tuple[Any, ...]  # what it is in words, and what it says
+Fault = tuple[int, int]  # the code, and the offset
 
-def decimal(text, least, most):
+
+def decimal(text: str, least: int, most: int) -> int | None:
     """The number of one to five digits in this range, or None."""
     if 1 <= len(text) <= 5 and all(c in "0123456789" for c in text) and least <= int(text) <= most:
         return int(text)
     return None
 
 
-def hexadecimal(text, fewest):
+def hexadecimal(text: str, fewest: int) -> int | None:
     if fewest <= len(text) <= 4 and all(c in "0123456789abcdef" for c in text):
         return int(text, 16)
     return None
 
 
-def times(text, letters):
-    """The times after each of the letters in this order: (True, time or None) for each letter that is there."""
+def times(text: str, letters: str) -> list[int | None] | None:
+    """The times after each of the letters in this order: a time, or None, for each letter that is there."""
     found = []
     for at, letter in enumerate(letters):
         if not text.startswith(letter):
@@ -35,7 +41,7 @@ def times(text, letters):
     return None
 
 
-def tag(body):
+def tag(body: bytes) -> Item | None:
     """The item of a tag's body, or None where it spells none. Letters may be in either case."""
     text = "".join(chr(c).lower() if c < 128 else "?" for c in body)
     kind, rest = text[:2], text[2:]
@@ -80,9 +86,10 @@ def tag(body):
     return None
 
 
-def items(text):
+def items(text: bytes) -> tuple[list[tuple[Item, int]], Fault | None]:
     """The items with their offsets, and the fault (code, offset) or None."""
-    spots, at = [], 0
+    spots: list[tuple[Item, int]] = []
+    at = 0
     while at < len(text):
         octet = text[at]
         if octet not in b"[]":
@@ -107,17 +114,18 @@ def items(text):
     return spots, None
 
 
-def shown(number):
+def shown(number: int | None) -> str:
     """A number, or nothing where it is missing."""
     return "" if number is None else str(number)
 
 
-def canonical(found):
+def canonical(found: Iterable[Item]) -> bytes:
     """The canonical text of items."""
     return b"".join(map(canonical_item, found))
 
 
-def canonical_item(item):
+def canonical_item(item: Item) -> bytes:
+    body: str | None
     kind = item[0]
     if kind == "character":
         if item[1] >= 256:

@@ -2,10 +2,13 @@
 
 import bisect
 import copy
-from dataclasses import dataclass, field, replace
+from dataclasses import dataclass, replace
+from typing import Any
 
 from . import layout, wire
-from .codes import BLANK, BLANK_1, CHANGEABLE, CURRENT, NO_END, NOBODY, PERMANENT, VOLATILE, Activation, MessageId, checksum
+from .codes import BLANK, BLANK_1, CHANGEABLE, CURRENT, NO_END, NOBODY, PERMANENT, VOLATILE
+from .codes import Activation, MessageId, checksum
+from .multi import Fault
 
 DMS = (1, 3, 6, 1, 4, 1, 1206, 4, 2, 3)
 NOT_USED, MODIFYING, VALIDATING, VALID, ERROR = 1, 2, 3, 4, 5
@@ -13,6 +16,7 @@ MODIFY, VALIDATE, NOT_USE = 6, 7, 8
 CENTRAL, POWER_RECOVERY, COMMUNICATIONS_LOSS, POWER_LOSS, END_DURATION = 8, 10, 12, 13, 14
 NONE = 2
 FIXED = ("described", "face", "names")  # what no request changes
+Change = tuple[str, Any, Any]  # the kind of what is written, where it goes, and what it is
 
 
 @dataclass
@@ -24,7 +28,7 @@ class Row:
     priority: int = 1
     status: int = NOT_USED
 
-    def crc(self):
+    def crc(self) -> int:
         return checksum(self.text, self.beacon, self.pixel) if self.status == VALID else 0
 
 
@@ -39,9 +43,9 @@ class Shown:
     address: bytes
     remaining: int | None  # seconds; None: no end
     source: MessageId
-    defaults: tuple
+    defaults: tuple[int, ...]
 
-    def crc(self):
+    def crc(self) -> int:
         return 0 if self.source.memory == BLANK else checksum(self.text, self.beacon, self.pixel)
 
 
@@ -53,13 +57,13 @@ class Description:
     swapped: bool
     beacons: bool
     pixels: bool
-    permanent: list
+    permanent: list[Row]
     changeable: int
     volatile: int
     first: int
 
 
-def is_refused(described):
+def is_refused(described: Description) -> bool:
     """Whether no sign is made of it: its face, its communities or its table are not in order."""
     face = described.face
     back, colour, _, _, font, line, page, _, _ = face.defaults
@@ -84,13 +88,13 @@ def is_refused(described):
 class Refused(Exception):
     """A SET is refused: the error-status at this binding."""
 
-    def __init__(self, status):
+    def __init__(self, status: int) -> None:
         super().__init__(status)
         self.status = status
 
 
 class Sign:
-    def __init__(self, described):
+    def __init__(self, described: Description) -> None:
         self.described, self.face = described, described.face
         self.reader, self.writer, self.swapped = described.reader, described.writer, described.swapped
         self.defaults = list(self.face.defaults)
@@ -103,13 +107,14 @@ class Sign:
         self.verdict, self.activate_error = NONE, NONE
         self.syntax, self.syntax_at = NONE, 0
         self.last_code = self.refused_code = bytes(12)
-        self.power, self.kept = True, None
+        self.power = True
+        self.kept: Shown | None = None
         self.shown = self.blank_shown(BLANK_1, POWER_RECOVERY)
         self.names = self.instances()
 
     # --- rows -----------------------------------------------------------------------------------------------------
 
-    def row(self, memory, number):
+    def row(self, memory: int, number: int) -> Row | None:
         """The row of this name, blank ones and what is shown too; None where there is none."""
         if memory == BLANK and 1 <= number <= 255:
             return Row(priority=number, status=VALID)
@@ -120,15 +125,21 @@ class Sign:
             return self.rows[memory][number - 1]
         return None
 
-    def blank_shown(self, source, mode):
+    def known_row(self, memory: int, number: int) -> Row:
+        """The row of this name, which there is."""
+        row = self.row(memory, number)
+        assert row is not None
+        return row
+
+    def blank_shown(self, source: MessageId, mode: int) -> Shown:
         return Shown(b"", b"", 0, 0, 1, mode, NOBODY, None, source, tuple(self.defaults))
 
-    def is_validating(self):
+    def is_validating(self) -> bool:
         return any(row.status == VALIDATING for rows in self.rows.values() for row in rows)
 
-    def ask(self, memory, number, asked):
+    def ask(self, memory: int, number: int, asked: int) -> bool:
         """Whether the table takes what a row is asked; then it has done it."""
-        row = self.row(memory, number)
+        row = self.known_row(memory, number)
         if asked == MODIFY and row.status != VALIDATING:
             row.status = MODIFYING
         elif asked == NOT_USE and row.status != VALIDATING:
@@ -139,7 +150,7 @@ class Sign:
             return False
         return True
 
-    def settle(self):
+    def settle(self) -> None:
         for rows in self.rows.values():
             for row in rows:
                 if row.status == VALIDATING:
@@ -155,7 +166,7 @@ class Sign:
 
     # --- activation -----------------------------------------------------------------------------------------------
 
-    def cause(self, code, shown):
+    def cause(self, code: Activation, shown: Shown) -> tuple[int | None, Fault | None]:
         """Why an activation is refused, with the fault of a text; (None, None) where it is accepted."""
         named = code.id
         if named.memory not in (PERMANENT, CHANGEABLE, VOLATILE, CURRENT, BLANK):
@@ -177,20 +188,20 @@ class Sign:
                 return 8, fault
         return None, None
 
-    def put_up(self, code, mode):
+    def put_up(self, code: Activation, mode: int) -> Shown:
         """What is shown once the code is accepted."""
         remaining = None if code.minutes == NO_END else code.minutes * 60
         if code.id.memory == CURRENT:
             return replace(self.shown, mode=mode, address=code.address, remaining=remaining)
-        row = self.row(code.id.memory, code.id.number)
+        row = self.known_row(code.id.memory, code.id.number)
         return Shown(row.text, row.owner, row.beacon, row.pixel, row.priority, mode, code.address, remaining, code.id, tuple(self.defaults))
 
-    def refuse(self, code, cause, fault):
+    def refuse(self, code: Activation, cause: int, fault: Fault | None) -> None:
         self.activate_error, self.refused_code = cause, code.octets(self.swapped)
         if fault:
             self.syntax, self.syntax_at = fault
 
-    def activate_own(self, place, mode, kept=None):
+    def activate_own(self, place: int, mode: int, kept: Shown | None = None) -> None:
         """A code that the sign activates itself."""
         octets = self.own[place]
         if octets[0] == CURRENT:
@@ -206,7 +217,7 @@ class Sign:
 
     # --- events ---------------------------------------------------------------------------------------------------
 
-    def tick(self):
+    def tick(self) -> None:
         if not self.power:
             return
         self.settle()
@@ -221,7 +232,7 @@ class Sign:
             if self.silence == limit:
                 self.activate_own(12, COMMUNICATIONS_LOSS)
 
-    def ticks(self, seconds):
+    def ticks(self, seconds: int) -> None:
         """So many seconds; where one leaves all as it is, so do those after it."""
         for _ in range(seconds):
             before = (self.shown, self.silence, self.is_validating())
@@ -229,18 +240,18 @@ class Sign:
             if before == (self.shown, self.silence, False):
                 return
 
-    def heard(self):
+    def heard(self) -> None:
         """What a Get that is answered leaves."""
         if self.power:
             self.silence = 0
 
-    def power_lost(self):
+    def power_lost(self) -> None:
         if self.power:
             self.kept = self.shown
             self.activate_own(14, POWER_LOSS)
             self.power = False
 
-    def power_back(self, seconds):
+    def power_back(self, seconds: int) -> None:
         if self.power:
             return
         self.rows[VOLATILE] = [Row() for _ in self.rows[VOLATILE]]
@@ -251,7 +262,7 @@ class Sign:
         is_short = self.short_loss > 0 and seconds <= self.short_loss
         self.activate_own(8 if is_short else 9, POWER_RECOVERY, self.kept)
 
-    def receive(self, datagram):
+    def receive(self, datagram: bytes) -> tuple[bytes | None, Activation | None]:
         """The reply and the activation that was accepted, each None where there is none."""
         message = wire.spelled(datagram)
         if not self.power or message is None or message.kind == wire.RESPONSE or message.community not in (self.reader, self.writer):
@@ -263,10 +274,10 @@ class Sign:
             status, index, accepted = self.set(message)
         else:
             found = []
-            for at, (name, _) in enumerate(message.bindings, 1):
-                name = name if message.kind == wire.GET else self.after(name)
+            for at, (asked, _) in enumerate(message.bindings, 1):
+                name = asked if message.kind == wire.GET else self.after(asked)
                 value = None if name is None else self.value(name)
-                if value is None:
+                if name is None or value is None:
                     status, index = wire.NO_SUCH_NAME, at
                     break
                 found.append((name, value))
@@ -279,20 +290,21 @@ class Sign:
 
     # --- objects --------------------------------------------------------------------------------------------------
 
-    def instances(self):
+    def instances(self) -> list[wire.Name]:
         """All names, in order."""
         scalars = [(2, 3), (2, 4)] + [(4, n) for n in (1, 2, 3, 4, 5, 6, 7, 8, 9, 11)] + [(5, n) for n in (1, 2, 3, 4, 5, 6, 7)]
         after = [(5, 9)] + [(6, n) for n in (3, 4, 5, 6, 7, 8, 9, 10, 12, 13, 14, 15, 17, 18, 19, 24)]
         rows = [(memory, n + 1) for memory in (PERMANENT, CHANGEABLE, VOLATILE) for n in range(len(self.rows[memory]))]
         rows += [(CURRENT, 1)] + [(BLANK, n) for n in range(1, 256)]
         cells = [(5, 8, 1, column, *row) for column in range(1, 10) for row in rows]
-        return [DMS + (*name, 0) for name in scalars] + [DMS + cell for cell in cells] + [DMS + (*name, 0) for name in after]
+        found: list[wire.Name] = [DMS + (*name, 0) for name in scalars]
+        return found + [DMS + cell for cell in cells] + [DMS + (*name, 0) for name in after]
 
-    def after(self, name):
+    def after(self, name: wire.Name) -> wire.Name | None:
         at = bisect.bisect_right(self.names, name)
         return self.names[at] if at < len(self.names) else None
 
-    def value(self, name):
+    def value(self, name: wire.Name) -> wire.Tagged | None:
         """The value of an instance, with its tag; None where there is no such instance."""
         if name[:len(DMS)] != DMS:
             return None
@@ -301,16 +313,17 @@ class Sign:
             return self.cell(*rest[3:])
         if len(rest) != 3 or rest[2] != 0:
             return None
-        held = self.scalars().get(rest[:2])
+        held = self.scalars().get((rest[0], rest[1]))
         if isinstance(held, int):
             return wire.INTEGER, held
         return None if held is None else (wire.ADDRESS if rest[:2] == (6, 6) else wire.OCTETS, held)
 
-    def scalars(self):
-        def count(memory, status):
+    def scalars(self) -> dict[tuple[int, int], int | bytes]:
+        def count(memory: int, status: int) -> int:
             return sum(row.status == status for row in self.rows[memory])
         shown = self.shown
         remaining = NO_END if shown.remaining is None else (shown.remaining + 59) // 60
+        held: dict[tuple[int, int], int | bytes]
         held = {(2, 3): self.face.height, (2, 4): self.face.width, (4, 11): 3,
                 (5, 1): len(self.rows[PERMANENT]), (5, 2): count(CHANGEABLE, VALID), (5, 3): len(self.rows[CHANGEABLE]),
                 (5, 4): 512 * count(CHANGEABLE, NOT_USED), (5, 5): count(VOLATILE, VALID), (5, 6): len(self.rows[VOLATILE]),
@@ -321,7 +334,7 @@ class Sign:
         held |= {(4, n): self.defaults[n - 1] for n in range(1, 10)}
         return held | {(6, place): code for place, code in self.own.items()}
 
-    def cell(self, column, memory, number):
+    def cell(self, column: int, memory: int, number: int) -> wire.Tagged | None:
         row = self.row(memory, number)
         if row is None or not 1 <= column <= 9:
             return None
@@ -335,19 +348,19 @@ class Sign:
 
     # --- SET ------------------------------------------------------------------------------------------------------
 
-    def change(self, name, value, is_writer):
+    def change(self, name: wire.Name, value: wire.Tagged, is_writer: bool) -> Change:
         """What a binding writes: (kind, ..) with its range looked at; raises what it is refused with."""
         tag, held = value
         rest = name[len(DMS):] if name[:len(DMS)] == DMS else ()
         if not is_writer or self.value(name) is None:
             raise Refused(wire.NO_SUCH_NAME)
 
-        def number(least, most):
+        def number(least: int, most: int) -> int:
             if tag != wire.INTEGER or not least <= held <= most:
                 raise Refused(wire.BAD_VALUE)
             return held
 
-        def octets(least, most):
+        def octets(least: int, most: int) -> bytes:
             if tag != wire.OCTETS or not least <= len(held) <= most:
                 raise Refused(wire.BAD_VALUE)
             return held
@@ -377,7 +390,7 @@ class Sign:
             return "own", place[1], octets(5, 5)
         raise Refused(wire.NO_SUCH_NAME)
 
-    def set(self, message):
+    def set(self, message: wire.Message) -> tuple[int, int, Activation | None]:
         """The error-status, the index and the activation that was accepted."""
         changes, command = [], None
         for at, (name, value) in enumerate(message.bindings, 1):
@@ -389,7 +402,7 @@ class Sign:
                     if command is not None:
                         raise Refused(wire.GENERAL)
                     command = (at, change)
-                elif change[0] == "field" and self.row(*change[2][:2]).status != MODIFYING:
+                elif change[0] == "field" and self.known_row(*change[2][:2]).status != MODIFYING:
                     raise Refused(wire.GENERAL)
             except Refused as refused:
                 return refused.status, at, None

@@ -1,6 +1,8 @@
 """Descriptions of signs, scripts and reports as text."""
 
 import re
+from collections.abc import Callable
+from typing import Any, TypeVar
 
 from . import layout
 from .centre import Centre
@@ -8,6 +10,8 @@ from .codes import Activation
 from .sign import Description, Row, Sign, is_refused
 
 MOST_INPUT = 1_048_576
+Read = TypeVar("Read")
+Event = tuple[str, Any]  # the kind of event, and what it says
 BENCH = b"""size 23 14
 communities public admin
 rows 2 1
@@ -31,7 +35,7 @@ end
 class Bad(Exception):
     """A line that is not in order, by its number."""
 
-    def __init__(self, line):
+    def __init__(self, line: int) -> None:
         super().__init__(line)
         self.line = line
 
@@ -40,13 +44,13 @@ class TooLong(Exception):
     """An input of more than 1,048,576 octets."""
 
 
-def lines_of(text):
+def lines_of(text: bytes) -> "Lines":
     if len(text) > MOST_INPUT:
         raise TooLong
     return Lines(text)
 
 
-def kept_lines(text):
+def kept_lines(text: bytes) -> tuple[list[tuple[int, bytes]], int]:
     """The lines that are not skipped, with their numbers, and the number after the last line."""
     lines = text.split(b"\n")
     ended = lines.pop() if lines[-1] == b"" else None
@@ -59,13 +63,13 @@ def kept_lines(text):
     return found, len(lines) + 1
 
 
-def number(word, least=0, most=65535, digits=5):
+def number(word: bytes, least: int = 0, most: int = 65535, digits: int = 5) -> int:
     if not re.fullmatch(rb"[0-9]{1,%d}" % digits, word) or not least <= int(word) <= most:
         raise ValueError
     return int(word)
 
 
-def octets(word):
+def octets(word: bytes) -> bytes:
     if word == b"-":
         return b""
     if not word or len(word) % 2 or not re.fullmatch(rb"[0-9a-fA-F]+", word):
@@ -73,14 +77,14 @@ def octets(word):
     return bytes.fromhex(word.decode())
 
 
-def address(word):
+def address(word: bytes) -> bytes:
     parts = word.split(b".")
     if len(parts) != 4:
         raise ValueError
     return bytes(number(part, 0, 255, 3) for part in parts)
 
 
-def glyph(words, height):
+def glyph(words: list[bytes], height: int) -> tuple[int, layout.Glyph]:
     character, width = number(words[1], 1), number(words[2], 1, 32)
     held = octets(words[3])
     bits = [octet >> place & 1 == 1 for octet in held for place in range(7, -1, -1)]
@@ -89,7 +93,7 @@ def glyph(words, height):
     return character, (width, [bits[row * width:(row + 1) * width] for row in range(height)])
 
 
-def new_glyph(words, font):
+def new_glyph(words: list[bytes], font: layout.Font) -> tuple[int, layout.Glyph]:
     character, picture = glyph([words[0], *wants(words, b"glyph", 3)], font.height)
     if character in font.glyphs or len(font.glyphs) == 255:
         raise ValueError
@@ -97,11 +101,11 @@ def new_glyph(words, font):
 
 
 class Lines:
-    def __init__(self, text):
+    def __init__(self, text: bytes) -> None:
         self.kept, self.after = kept_lines(text)
         self.at = 0
 
-    def next(self, read):
+    def next(self, read: Callable[[list[bytes]], Read]) -> Read:
         """What a function of the words reads in the next line."""
         if self.at == len(self.kept):
             raise Bad(self.after)
@@ -115,46 +119,63 @@ class Lines:
         except (ValueError, IndexError):
             raise Bad(at) from None
 
-    def word(self):
+    def word(self) -> bytes | None:
         """The first word of the next line, none at the end."""
         return self.kept[self.at][1].split(b" ")[0] if self.at < len(self.kept) else None
 
 
-def wants(words, keyword, count):
+def wants(words: list[bytes], keyword: bytes, count: int) -> list[bytes]:
     if words[0] != keyword or len(words) != count + 1:
         raise ValueError
     return words[1:]
 
 
-def description(lines):
+def is_swapped(words: list[bytes]) -> bool:
+    if words not in ([b"order", b"high"], [b"order", b"swapped"]):
+        raise ValueError
+    return words[1] == b"swapped"
+
+
+def permanent_row(words: list[bytes]) -> Row:
+    shown, owner, *numbers = wants(words, b"permanent", 5)
+    return Row(octets(shown), octets(owner), *[number(word, 0, 255) for word in numbers])
+
+
+def font_head(words: list[bytes]) -> layout.Font:
+    """A font without a character yet."""
+    if len(words) != 10 or words[2::2] != [b"height", b"space", b"line", b"version"]:
+        raise ValueError
+    if not re.fullmatch(rb"[0-9a-fA-F]{4}", words[9]):
+        raise ValueError
+    height, space, leading = number(words[3], 1, 32), number(words[5], 0, 32), number(words[7], 0, 32)
+    return layout.Font(number(words[1], 1, 255), height, space, leading, int(words[9], 16))
+
+
+def font_of(lines: Lines) -> layout.Font:
+    """The font of the next lines, with its characters."""
+    font = lines.next(font_head)
+    while lines.word() == b"glyph":
+        character, picture = lines.next(lambda words: new_glyph(words, font))
+        font.glyphs[character] = picture
+    return font
+
+
+def description(lines: Lines) -> Description:
     """The sign that the next lines describe, up to `end`. Lines that no sign follows raise Bad."""
     width, height = lines.next(lambda w: (number(wants(w, b"size", 2)[0]), number(w[2])))
     reader, writer = lines.next(lambda w: wants(w, b"communities", 2))
     changeable, volatile = lines.next(lambda w: [number(x, 0, 255) for x in wants(w, b"rows", 2)])
 
-    def order(words):
-        if words not in ([b"order", b"high"], [b"order", b"swapped"]):
-            raise ValueError
-        return words[1] == b"swapped"
-    swapped = lines.next(order)
+    swapped = lines.next(is_swapped)
     beacons, pixels = lines.next(lambda w: [number(x, 0, 1) == 1 for x in wants(w, b"has", 2)])
     defaults = tuple(lines.next(lambda w: [number(x, 0, 255) for x in wants(w, b"defaults", 9)]))
     first = lines.next(lambda w: number(wants(w, b"first", 1)[0], 0, 2 ** 32 - 1, 10))
     permanent = []
     while lines.word() == b"permanent":
-        permanent.append(lines.next(lambda w: Row(octets(wants(w, b"permanent", 5)[0]), octets(w[2]), number(w[3], 0, 255),
-                                                  number(w[4], 0, 255), number(w[5], 0, 255))))
+        permanent.append(lines.next(permanent_row))
     fonts = []
     while lines.word() == b"font":
-        def head(words):
-            if len(words) != 10 or words[2::2] != [b"height", b"space", b"line", b"version"] or not re.fullmatch(rb"[0-9a-fA-F]{4}", words[9]):
-                raise ValueError
-            return layout.Font(number(words[1], 1, 255), number(words[3], 1, 32), number(words[5], 0, 32), number(words[7], 0, 32), int(words[9], 16))
-        font = lines.next(head)
-        while lines.word() == b"glyph":
-            character, picture = lines.next(lambda w: new_glyph(w, font))
-            font.glyphs[character] = picture
-        fonts.append(font)
+        fonts.append(font_of(lines))
     lines.next(lambda w: wants(w, b"end", 0))
     face = layout.Face(width, height, fonts, defaults)
     found = Description(face, reader, writer, swapped, beacons, pixels, permanent, changeable, volatile, first)
@@ -163,12 +184,12 @@ def description(lines):
     return found
 
 
-def event(words, swapped):
+def event(words: list[bytes], swapped: bool) -> Event:
     kind = words[0].decode("latin-1")
     if kind == "publish":
         memory, row, text, owner, beacon, pixel, run, minutes, priority, by = wants(words, b"publish", 10)
-        return kind, (number(memory, 0, 255), number(row), octets(text), octets(owner), number(beacon, 0, 255), number(pixel, 0, 255),
-                      number(run, 0, 255), number(minutes), number(priority, 0, 255), address(by))
+        return kind, (number(memory, 0, 255), number(row), octets(text), octets(owner), number(beacon, 0, 255),
+                      number(pixel, 0, 255), number(run, 0, 255), number(minutes), number(priority, 0, 255), address(by))
     if kind == "blank":
         row, minutes, priority, by = wants(words, b"blank", 4)
         return kind, (number(row), number(minutes), number(priority, 0, 255), address(by))
@@ -188,12 +209,15 @@ def event(words, swapped):
 
 
 class World:
-    def __init__(self, described):
+    def __init__(self, described: Description) -> None:
         self.sign = Sign(described)
         self.centre = Centre(described.writer, described.swapped, described.first)
-        self.to_sign, self.to_centre, self.accepted, self.events = [], [], [], 0
+        self.to_sign: list[bytes] = []
+        self.to_centre: list[bytes] = []
+        self.accepted: list[tuple[int, Activation]] = []  # after how many events, and what
+        self.events = 0
 
-    def happen(self, kind, held):
+    def happen(self, kind: str, held: Any) -> None:
         self.events += 1
         out = None
         if kind in ("publish", "blank", "activate"):
@@ -220,9 +244,10 @@ class World:
         if out is not None:
             self.to_sign.append(out)
 
-    def report(self):
+    def report(self) -> list[str]:
         shown, swapped = self.sign.shown, self.sign.swapped
         remaining = self.sign.scalars()[(6, 4)]
+        assert isinstance(remaining, int)
         source = shown.source
         lines = [f"events {self.events}", f"sent {len(self.to_sign)} {len(self.to_centre)}",
                  f"shown {source.memory} {source.number} {source.crc:04x} mode {shown.mode} priority {shown.priority} "
@@ -232,7 +257,7 @@ class World:
         return lines
 
 
-def described(text):
+def described(text: bytes) -> Description:
     """The sign that a text describes; raises Bad or TooLong."""
     lines = lines_of(text)
     found = description(lines)
@@ -241,11 +266,11 @@ def described(text):
     return found
 
 
-def bench():
+def bench() -> Description:
     return description(Lines(BENCH))
 
 
-def replayed(text):
+def replayed(text: bytes) -> list[str]:
     """The report of a script; raises Bad or TooLong."""
     lines = lines_of(text)
     if lines.word() == b"bench":
@@ -262,6 +287,6 @@ def replayed(text):
     return world.report()
 
 
-def answered(sign, datagram):
+def answered(sign: Description, datagram: bytes) -> bytes | None:
     reply, _ = Sign(sign).receive(datagram)
     return reply

@@ -1,6 +1,8 @@
 """Datagrams: BER elements and SNMPv1 messages, read with their first fault and written in their shortest form."""
 
+from collections.abc import Collection
 from dataclasses import dataclass, field
+from typing import Any
 
 MOST_DATAGRAM = 1472
 GET, GET_NEXT, RESPONSE, SET = 0xA0, 0xA1, 0xA2, 0xA3
@@ -8,12 +10,15 @@ INTEGER, OCTETS, NULL, NAME, SEQUENCE, ADDRESS, COUNTER, GAUGE, TICKS, OPAQUE = 
     0x02, 0x04, 0x05, 0x06, 0x30, 0x40, 0x41, 0x42, 0x43, 0x44)
 VALUES = (INTEGER, OCTETS, NULL, NAME, ADDRESS, COUNTER, GAUGE, TICKS, OPAQUE)
 NO_ERROR, TOO_BIG, NO_SUCH_NAME, BAD_VALUE, GENERAL = 0, 1, 2, 3, 5
+Name = tuple[int, ...]
+Tagged = tuple[int, Any]  # a tag, and the number, the octets or the name that it tells of
+Binding = tuple[Name, Tagged]
 
 
 class Fault(Exception):
     """Why octets spell no message: the kind of the first fault and its offset."""
 
-    def __init__(self, kind, offset):
+    def __init__(self, kind: str, offset: int) -> None:
         super().__init__(f"{kind} at {offset}")
         self.kind, self.offset = kind, offset
 
@@ -25,16 +30,16 @@ class Message:
     number: int
     status: int = 0
     index: int = 0
-    bindings: list = field(default_factory=list)
+    bindings: list[Binding] = field(default_factory=list)
 
 
 class Reader:
     """The octets of a datagram from `at` on, up to the end of the element around them."""
 
-    def __init__(self, octets, at, end):
+    def __init__(self, octets: bytes, at: int, end: int) -> None:
         self.octets, self.at, self.end = octets, at, end
 
-    def element(self, tags, outermost=False):
+    def element(self, tags: Collection[int], outermost: bool = False) -> tuple[int, "Reader"]:
         """The tag, the offset of the length and a reader of the content; the octets after it are next."""
         if self.at >= self.end:
             raise Fault("Truncated", self.end)
@@ -60,10 +65,10 @@ class Reader:
         self.at = after + size
         return tag, Reader(self.octets, after, after + size)
 
-    def content(self):
+    def content(self) -> bytes:
         return self.octets[self.at:self.end]
 
-    def integer(self, least=-2 ** 31):
+    def integer(self, least: int = -2 ** 31) -> int:
         content = self.content()
         if not content or len(content) > 1 and (content[0], content[1] >> 7) in ((0, 0), (255, 1)):
             raise Fault("BadInteger", self.at)
@@ -72,7 +77,7 @@ class Reader:
             raise Fault("BadInteger", self.at)
         return number
 
-    def name(self):
+    def name(self) -> Name:
         numbers, number, begun = [], 0, False
         for octet in self.content():
             if not begun and octet == 128:
@@ -88,7 +93,7 @@ class Reader:
         first = min(numbers[0] // 40, 2)
         return (first, numbers[0] - 40 * first, *numbers[1:])
 
-    def value(self):
+    def value(self) -> Tagged:
         tag, content = self.element(VALUES)
         if tag == INTEGER:
             return tag, content.integer()
@@ -98,12 +103,12 @@ class Reader:
             return tag, content.name()
         return tag, bytes(content.content())
 
-    def ended(self):
+    def ended(self) -> None:
         if self.at < self.end:
             raise Fault("TrailingBytes", self.at)
 
 
-def read(octets):
+def read(octets: bytes) -> Message:
     """The message that the octets spell; raises the first fault."""
     if len(octets) > MOST_DATAGRAM:
         raise Fault("TooLong", MOST_DATAGRAM)
@@ -129,10 +134,11 @@ def read(octets):
     pdu.ended()
     message.ended()
     datagram.ended()
-    return Message(kind, bytes(community.content()), *numbers, bindings)
+    number, status, index = numbers
+    return Message(kind, bytes(community.content()), number, status, index, bindings)
 
 
-def spelled(octets):
+def spelled(octets: bytes) -> Message | None:
     """The message, or None where the octets spell none."""
     try:
         return read(octets)
@@ -140,7 +146,7 @@ def spelled(octets):
         return None
 
 
-def element(tag, content):
+def element(tag: int, content: bytes) -> bytes:
     size = len(content)
     if size < 128:
         return bytes([tag, size]) + content
@@ -148,11 +154,11 @@ def element(tag, content):
     return bytes([tag, 128 + len(digits)]) + digits + content
 
 
-def integer(number, tag=INTEGER):
+def integer(number: int, tag: int = INTEGER) -> bytes:
     return element(tag, number.to_bytes((number if number >= 0 else ~number).bit_length() // 8 + 1, "big", signed=True))
 
 
-def name_content(numbers):
+def name_content(numbers: Name) -> bytes:
     content = b""
     for number in (40 * numbers[0] + numbers[1], *numbers[2:]):
         digits = [number % 128]
@@ -163,11 +169,11 @@ def name_content(numbers):
     return content
 
 
-def name(numbers):
+def name(numbers: Name) -> bytes:
     return element(NAME, name_content(numbers))
 
 
-def value(tagged):
+def value(tagged: Tagged) -> bytes:
     tag, held = tagged
     if tag in (INTEGER, COUNTER, GAUGE, TICKS):
         return integer(held, tag)
@@ -176,11 +182,11 @@ def value(tagged):
     return element(tag, held)
 
 
-def binding(bound):
+def binding(bound: Binding) -> bytes:
     return element(SEQUENCE, name(bound[0]) + value(bound[1]))
 
 
-def written(message):
+def written(message: Message) -> bytes:
     """The canonical octets; more than a datagram where they are too big."""
     listed = element(SEQUENCE, b"".join(map(binding, message.bindings)))
     pdu = element(message.kind, integer(message.number) + integer(message.status) + integer(message.index) + listed)

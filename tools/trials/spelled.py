@@ -54,7 +54,7 @@ class Spelled:
     def anew(self) -> None:
         """A new journal of a new sign."""
         self.path, self.sign = str(self.trial.new_folder() / "journal"), Sign(text.bench())
-        self.state, self.values = b"", dict[Name, tuple[int, object]]()
+        self.state, self.values = b"", dict[Name, wire.Tagged | None]()
         self.replies: list[bytes] = []
 
     def started(self) -> tuple[CoProcess, Keeper]:
@@ -100,7 +100,7 @@ class Spelled:
         values = self.values if state == self.state else {name: self.sign.value(name) for name in self.names}
         replies = process.hand(self.walk)
         if values != self.values or replies != self.replies:
-            found: dict[Name, tuple[int, object]] = {}
+            found: dict[Name, wire.Tagged | None] = {}
             for reply in replies:
                 message = wire.spelled(bytes.fromhex(reply.partition(b" ")[2].decode()))
                 found |= dict(message.bindings) if message is not None else {}
