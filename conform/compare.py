@@ -4,9 +4,10 @@ from dataclasses import dataclass
 from enum import Enum
 
 from model import wire
+from model.names import KINDS, TYPES
 
 from .messages import spelled
-from .objects import KINDS, STATUSES, TYPES, Name, spoken
+from .objects import STATUSES, Name, spoken
 
 
 class Kind(Enum):

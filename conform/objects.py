@@ -3,6 +3,7 @@
 from dataclasses import dataclass
 
 from model import wire
+from model.names import COLUMNS, SCALARS
 from model.sign import DMS
 
 Name = tuple[int, ...]
@@ -11,69 +12,8 @@ Binding = tuple[Name, Value]
 
 NULL: Value = (wire.NULL, b"")
 NO_ADDRESS = bytes(4)
-COLUMNS = {
-    1: "dmsMessageMemoryType",
-    2: "dmsMessageNumber",
-    3: "dmsMessageMultiString",
-    4: "dmsMessageOwner",
-    5: "dmsMessageCRC",
-    6: "dmsMessageBeacon",
-    7: "dmsMessagePixelService",
-    8: "dmsMessageRunTimePriority",
-    9: "dmsMessageStatus",
-}
-SCALARS = {
-    (2, 3): "vmsSignHeightPixels",
-    (2, 4): "vmsSignWidthPixels",
-    (4, 1): "defaultBackgroundColor",
-    (4, 2): "defaultForegroundColor",
-    (4, 3): "defaultFlashOn",
-    (4, 4): "defaultFlashOff",
-    (4, 5): "defaultFont",
-    (4, 6): "defaultJustificationLine",
-    (4, 7): "defaultJustificationPage",
-    (4, 8): "defaultPageOnTime",
-    (4, 9): "defaultPageOffTime",
-    (4, 11): "dmsColorScheme",
-    (5, 1): "dmsNumPermanentMsg",
-    (5, 2): "dmsNumChangeableMsg",
-    (5, 3): "dmsMaxChangeableMsg",
-    (5, 4): "dmsFreeChangeableMemory",
-    (5, 5): "dmsNumVolatileMsg",
-    (5, 6): "dmsMaxVolatileMsg",
-    (5, 7): "dmsFreeVolatileMemory",
-    (5, 9): "dmsValidateMessageError",
-    (6, 3): "dmsActivateMessage",
-    (6, 4): "dmsMessageTimeRemaining",
-    (6, 5): "dmsMsgTableSource",
-    (6, 6): "dmsMsgRequesterID",
-    (6, 7): "dmsMsgSourceMode",
-    (6, 8): "dmsShortPowerRecoveryMessage",
-    (6, 9): "dmsLongPowerRecoveryMessage",
-    (6, 10): "dmsShortPowerLossTime",
-    (6, 12): "dmsCommunicationsLossMessage",
-    (6, 13): "dmsTimeCommLoss",
-    (6, 14): "dmsPowerLossMessage",
-    (6, 15): "dmsEndDurationMessage",
-    (6, 17): "dmsActivateMsgError",
-    (6, 18): "dmsMultiSyntaxError",
-    (6, 19): "dmsMultiSyntaxErrorPosition",
-    (6, 24): "dmsActivateErrorMsgCode",
-}
 OWN_CODES = (8, 9, 12, 14, 15)
-KINDS = {wire.GET: "Get", wire.GET_NEXT: "GetNext", wire.RESPONSE: "Response", wire.SET: "Set"}
 STATUSES = {0: "noError", 1: "tooBig", 2: "noSuchName", 3: "badValue", 4: "readOnly", 5: "genErr"}
-TYPES = {
-    wire.INTEGER: "INTEGER",
-    wire.OCTETS: "OCTET STRING",
-    wire.NULL: "NULL",
-    wire.NAME: "OBJECT IDENTIFIER",
-    wire.ADDRESS: "IpAddress",
-    wire.COUNTER: "Counter",
-    wire.GAUGE: "Gauge",
-    wire.TICKS: "TimeTicks",
-    wire.OPAQUE: "Opaque",
-}
 
 
 def scalar(group: int, member: int) -> Name:

@@ -4,9 +4,10 @@ from dataclasses import dataclass, field
 from enum import Enum
 
 from model import wire
+from model.names import KINDS
 
 from .messages import spelled
-from .objects import KINDS, Name, column_of, row_of, scalar, scalar_of, spoken
+from .objects import Name, column_of, row_of, scalar, scalar_of, spoken
 
 RowName = tuple[int, int]
 ERROR = scalar(6, 17)

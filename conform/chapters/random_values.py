@@ -4,11 +4,11 @@ import random
 
 from hostile_datagrams import Maker
 from model import wire
+from model.names import SCALARS
 
 from ..context import ADDRESS, Context
 from ..objects import (
     OWN_CODES,
-    SCALARS,
     SHOWN_CELLS,
     STATE_SCALARS,
     Binding,
