@@ -28,31 +28,42 @@ def commanded(trial: Trial, port: int, lines: str, *words: str) -> tuple[int, li
     return status, door.output.decode().splitlines()
 
 
+COMMANDS = [  # what is commanded, the exit status, and what is told
+    ("blank 5 65535 255 127.0.0.1", 0, "last accepted"),
+    ("blank 5 65535 255 127.0.0.1\nnonsense", 1, "bad line"),
+    ("# nothing\n\n", 0, ""),
+    ("blank 0 65535 255 127.0.0.1", 1, "refused a value is out of its range"),
+    ("status", 0, "last none"),
+    ("tick", 1, "bad line"),
+    ("blank x", 1, "bad line"),
+    ('publish-text 3 1 "\u20ac" - 0 0 9 65535 255 127.0.0.1', 1, "bad line: TEXT: character 1, U+20AC"),
+    ('publish-text 3 1 "AB" "me" 0 0 9 65535 255 127.0.0.1', 0, "last accepted"),
+    (
+        'publish-text 3 2 "ABABABABAB" - 0 0 9 65535 255 127.0.0.1',
+        1,
+        "last failed at step 5: the row has status 5, error",
+    ),
+    ("blank 5 65535 8 127.0.0.1", 1, "last failed at step 7: the sign refused the activation for cause 3, priority"),
+]
+GIVEN_UP = [  # what is said of two commands to a silent sign
+    "given up after 0.3 seconds: the job is not done",
+    "busy",
+    "last none",
+    "ledger 1 ffffff07000500007f000001 waiting",
+    "idle",
+    "last failed at step 7: no reply",
+    "ledger 1 ffffff07000500007f000001 noreply",
+    "given up after 0.3 seconds: the job is not done",
+    "busy",
+    "last failed at step 7: no reply",
+    "ledger 2 ffffff07000600007f000001 waiting",
+]
+
+
 def operated(trial: Trial) -> None:
     """Commands, what they end as, and the exit status."""
     sign = trial.sign()
-    rows = [
-        ("blank 5 65535 255 127.0.0.1", 0, "last accepted"),
-        ("blank 5 65535 255 127.0.0.1\nnonsense", 1, "bad line"),
-        ("# nothing\n\n", 0, ""),
-        ("blank 0 65535 255 127.0.0.1", 1, "refused a value is out of its range"),
-        ("status", 0, "last none"),
-        ("tick", 1, "bad line"),
-        ("blank x", 1, "bad line"),
-        ('publish-text 3 1 "\u20ac" - 0 0 9 65535 255 127.0.0.1', 1, "bad line: TEXT: character 1, U+20AC"),
-        ('publish-text 3 1 "AB" "me" 0 0 9 65535 255 127.0.0.1', 0, "last accepted"),
-        (
-            'publish-text 3 2 "ABABABABAB" - 0 0 9 65535 255 127.0.0.1',
-            1,
-            "last failed at step 5: the row has status 5, error",
-        ),
-        (
-            "blank 5 65535 8 127.0.0.1",
-            1,
-            "last failed at step 7: the sign refused the activation for cause 3, priority",
-        ),
-    ]
-    for line, status, told in rows:
+    for line, status, told in COMMANDS:
         if trial.is_late():
             break
         found = commanded(trial, sign.port, line + "\n")
@@ -67,6 +78,10 @@ def operated(trial: Trial) -> None:
         ]
         trial.holds("a ledger's status in words", bool(last) and last[0].endswith(" refused 5, genErr"), last)
     trial.holds("a sign ends at a SIGTERM", sign.stop() == 0, sign.errors.decode())
+
+
+def unanswered(trial: Trial) -> None:
+    """Commands to a sign that is silent, and to a port where there is none."""
     with socket.socket(socket.AF_INET, socket.SOCK_DGRAM) as silent:
         silent.bind(("127.0.0.1", 0))
         status, lines = commanded(
@@ -75,22 +90,9 @@ def operated(trial: Trial) -> None:
             "blank 5 65535 255 127.0.0.1\nblank 6 65535 255 127.0.0.1\n",
             *("--wait", "0.3", "--tick", SHORT),
         )
-    wanted = [
-        "given up after 0.3 seconds: the job is not done",
-        "busy",
-        "last none",
-        "ledger 1 ffffff07000500007f000001 waiting",
-        "idle",
-        "last failed at step 7: no reply",
-        "ledger 1 ffffff07000500007f000001 noreply",
-        "given up after 0.3 seconds: the job is not done",
-        "busy",
-        "last failed at step 7: no reply",
-        "ledger 2 ffffff07000600007f000001 waiting",
-    ]
     trial.holds(
         "a silent sign is given up, and the next command waits for the job's end",
-        status == 1 and lines == wanted,
+        status == 1 and lines == GIVEN_UP,
         (status, lines),
     )
     status, lines = commanded(trial, silent_port(), "blank 5 65535 255 127.0.0.1\n", "--tick", SHORT)
@@ -157,5 +159,6 @@ def silent_port() -> int:
 def run(trial: Trial) -> None:
     """Everything."""
     operated(trial)
+    unanswered(trial)
     outsiders(trial)
     idles(trial)

@@ -1,6 +1,7 @@
 """What a door says to a user who is wrong: a line, a status, and never a traceback."""
 
 import os
+import pathlib
 import re
 import socket
 import subprocess
@@ -41,59 +42,72 @@ def refused(trial: Trial, tool: str, rows: list[Row]) -> None:
 def signs(trial: Trial) -> None:
     """The sign's door."""
     folder = trial.new_folder()
-    bad = folder / "bad.sign"
-    bad.write_text(
-        "size 300 27\n" + "".join((TOP / "signs/roadside.sign").read_text(encoding="utf-8").splitlines(True)[1:]),
-        encoding="utf-8",
-    )
-    short = folder / "short.sign"
-    short.write_text("size 23 14\n", encoding="utf-8")
-    more = folder / "more.sign"
-    more.write_bytes((TOP / "signs/roadside.sign").read_bytes() + b"tick\n")
-    pipe, ring = folder / "pipe", folder / "ring"
-    os.mkfifo(pipe)
-    ring.symlink_to(ring)
+    roadside = (TOP / "signs/roadside.sign").read_text(encoding="utf-8")
+    (folder / "bad.sign").write_text("size 300 27\n" + "".join(roadside.splitlines(True)[1:]), encoding="utf-8")
+    (folder / "short.sign").write_text("size 23 14\n", encoding="utf-8")
+    (folder / "more.sign").write_bytes((TOP / "signs/roadside.sign").read_bytes() + b"tick\n")
+    os.mkfifo(folder / "pipe")
+    (folder / "ring").symlink_to(folder / "ring")
     with socket.socket(socket.AF_INET, socket.SOCK_DGRAM) as other:
         other.bind(("127.0.0.1", 0))
         port = str(other.getsockname()[1])
-        rows: list[Row] = [
-            ("a refused description", ["--sign", str(bad)], "line "),
-            ("a description that breaks off", ["--sign", str(short)], "line "),
-            ("a description with more after it", ["--sign", str(more)], "there is more"),
-            ("no such description", ["--sign", str(folder / "none")], "No such file or directory"),
-            ("a folder for a description", ["--sign", str(folder)], "Is a directory"),
-            ("a port in use", ["--port", port], "in use"),
-            ("a port that is none", ["--port", "70000"], "is no port"),
-            ("no such host", ["--host", "no.such.host.invalid"], "no.such.host.invalid"),
-            ("an address of another machine", ["--host", "192.0.2.1"], "192.0.2.1"),
-            ("--fresh without a journal", ["--fresh"], "--journal"),
-            ("--json without a log", ["--json"], "--log"),
-            (
-                "a log that is the journal",
-                ["--log", str(more), "--journal", str(more)],
-                "cannot be the log and the journal",
-            ),
-            ("--down without a journal", ["--down", "power"], "--journal"),
-            ("a log that is a folder", ["--log", str(folder)], "Is a directory"),
-            ("no such program", ["--signtool", str(folder / "none")], "No such file or directory"),
-            ("a program that is none", ["--signtool", str(bad)], "Permission denied"),
-            ("another program", ["--signtool", "/bin/true"], "co-process ended"),
-            ("a program that answers otherwise", ["--signtool", "/usr/bin/yes"], "does not answer as signtool does"),
-            ("a journal without a name", ["--journal", ""], "--journal has no name"),
-            ("a log without a name", ["--log", ""], "--log has no name"),
-            ("a host without a name", ["--host", ""], "--host has no name"),
-            ("datagrams below none", ["--lose", "-1"], "--lose -1"),
-            ("a port in words", ["--port", "http"], "--port"),
-            ("another word", ["more"], "unrecognized"),
-            ("a journal that is a pipe", ["--journal", str(pipe)], "is no plain file"),
-            ("a journal that is a description", ["--journal", str(bad)], "is no journal"),
-            ("a journal of links in a ring", ["--journal", str(ring)], "symbolic links"),
-            ("a journal whose name is too long", ["--journal", str(folder / ("a" * 300))], "File name too long"),
-            ("a log that is the description", ["--log", str(more), "--sign", str(more)], "log and the description"),
-            ("a description that is none", ["--sign", "/bin/sh"], "no line `end`"),
-            ("a description without a line", ["--sign", "/dev/null"], "no line `end`"),
-        ]
+        rows = [*of_descriptions(folder), *of_addresses(port), *of_options(folder), *of_files(folder)]
         refused(trial, "udp_sign.py", [(name, ["--port", "0", *words], told) for name, words, told in rows])
+
+
+def of_descriptions(folder: pathlib.Path) -> list[Row]:
+    return [
+        ("a refused description", ["--sign", f"{folder}/bad.sign"], "line "),
+        ("a description that breaks off", ["--sign", f"{folder}/short.sign"], "line "),
+        ("a description with more after it", ["--sign", f"{folder}/more.sign"], "there is more"),
+        ("no such description", ["--sign", f"{folder}/none"], "No such file or directory"),
+        ("a folder for a description", ["--sign", str(folder)], "Is a directory"),
+    ]
+
+
+def of_addresses(port: str) -> list[Row]:
+    """Where this port is in use."""
+    return [
+        ("a port in use", ["--port", port], "in use"),
+        ("a port that is none", ["--port", "70000"], "is no port"),
+        ("no such host", ["--host", "no.such.host.invalid"], "no.such.host.invalid"),
+        ("an address of another machine", ["--host", "192.0.2.1"], "192.0.2.1"),
+    ]
+
+
+def of_options(folder: pathlib.Path) -> list[Row]:
+    more = f"{folder}/more.sign"
+    return [
+        ("--fresh without a journal", ["--fresh"], "--journal"),
+        ("--json without a log", ["--json"], "--log"),
+        ("a log that is the journal", ["--log", more, "--journal", more], "cannot be the log and the journal"),
+        ("--down without a journal", ["--down", "power"], "--journal"),
+        ("a log that is a folder", ["--log", str(folder)], "Is a directory"),
+        ("no such program", ["--signtool", f"{folder}/none"], "No such file or directory"),
+        ("a program that is none", ["--signtool", f"{folder}/bad.sign"], "Permission denied"),
+        ("another program", ["--signtool", "/bin/true"], "co-process ended"),
+        ("a program that answers otherwise", ["--signtool", "/usr/bin/yes"], "does not answer as signtool does"),
+        ("a journal without a name", ["--journal", ""], "--journal has no name"),
+        ("a log without a name", ["--log", ""], "--log has no name"),
+        ("a host without a name", ["--host", ""], "--host has no name"),
+        ("datagrams below none", ["--lose", "-1"], "--lose -1"),
+        ("a port in words", ["--port", "http"], "--port"),
+        ("another word", ["more"], "unrecognized"),
+    ]
+
+
+def of_files(folder: pathlib.Path) -> list[Row]:
+    """Files that are no journal, no log or no description."""
+    more = f"{folder}/more.sign"
+    return [
+        ("a journal that is a pipe", ["--journal", f"{folder}/pipe"], "is no plain file"),
+        ("a journal that is a description", ["--journal", f"{folder}/bad.sign"], "is no journal"),
+        ("a journal of links in a ring", ["--journal", f"{folder}/ring"], "symbolic links"),
+        ("a journal whose name is too long", ["--journal", f"{folder}/{'a' * 300}"], "File name too long"),
+        ("a log that is the description", ["--log", more, "--sign", more], "log and the description"),
+        ("a description that is none", ["--sign", "/bin/sh"], "no line `end`"),
+        ("a description without a line", ["--sign", "/dev/null"], "no line `end`"),
+    ]
 
 
 def described(trial: Trial) -> None:
