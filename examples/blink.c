@@ -45,7 +45,11 @@ int main(int count, char **words)
         return fprintf(stderr, "blink TEXT < DESCRIPTION (line %zu of it is refused)\n", fault), 2;
     }
     wisangub_sign_writer(&sign, request, sizeof request, &size);
-    wisangub_centre_new(&centre, request, size, strstr(description, "\norder swapped") != NULL, first);
+    if (wisangub_centre_new(&centre, request, size, strstr(description, "\norder swapped") != NULL, first)
+        != WISANGUB_DONE) {
+        wisangub_sign_free(&sign);
+        return fputs("blink: out of memory\n", stderr), 2;
+    }
     for (char *text = words[1], *to = line + strlen(line); *text != '\0'; to += sprintf(to, "%02x", *text++ & 255U)) {
     }
     int failed_at = carry_out(line, strlen(strcat(line, " - 0 0 200 65535 255 127.0.0.1")));

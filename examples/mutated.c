@@ -46,6 +46,10 @@ static uint8_t *mutated(size_t *size)
     uint64_t seed = any(count);
     size_t room = sizes[seed] + any(8);
     uint8_t *made = malloc(room > 0 ? room : 1);
+    if (made == NULL) {
+        fputs("out of memory\n", stderr);
+        exit(1);
+    }
     memset(made, (int)any(256), room);
     memcpy(made, seeds[seed], sizes[seed]);
     for (uint64_t times = any(4); times > 0 && room > 0; times--) {
@@ -70,12 +74,34 @@ static void look(enum wisangub_answer answer, size_t size)
     }
 }
 
+/* Hands a mutated datagram to both ends, now and then with a tick or a loss of power: whether the sign replied. */
+static int hand(struct wisangub_sign *sign, struct wisangub_centre *centre)
+{
+    size_t size = 0, told = 0;
+    uint8_t *made = mutated(&size);
+    enum wisangub_answer answer = wisangub_sign_receive(sign, made, size, reply, WISANGUB_DATAGRAM, &told);
+    look(answer, told);
+    look(wisangub_centre_receive(centre, made, size, reply, WISANGUB_DATAGRAM, &told), told);
+    free(made);
+    if (any(50) == 0) {
+        wisangub_sign_tick(sign);
+        look(wisangub_centre_tick(centre, reply, WISANGUB_DATAGRAM, &told), told);
+        wisangub_centre_command(centre, "blank 1 5 255 192.0.2.1", 23, reply, WISANGUB_DATAGRAM, &told);
+    }
+    if (any(2000) == 0) {
+        wisangub_sign_power_lost(sign);
+        wisangub_sign_power_back(sign, (uint32_t)any(100));
+        wisangub_centre_restart(centre);
+    }
+    return answer == WISANGUB_DONE;
+}
+
 int main(int words, char **word)
 {
     struct wisangub_sign sign = {NULL};
     struct wisangub_centre centre = {NULL};
     uint32_t first = 0;
-    size_t fault = 0, size = 0, told = 0;
+    size_t fault = 0;
     uint64_t done = 0, replies = 0;
     FILE *file = words == 4 ? fopen(word[1], "rb") : NULL;
     if (file == NULL
@@ -91,22 +117,7 @@ int main(int words, char **word)
     memset(reply, 0xA5, sizeof reply);
     for (time_t end = time(NULL) + strtol(word[2], NULL, 10); count > 0 && (done % 1000 != 0 || time(NULL) < end);
          done++) {
-        uint8_t *made = mutated(&size);
-        enum wisangub_answer answer = wisangub_sign_receive(&sign, made, size, reply, WISANGUB_DATAGRAM, &told);
-        replies += answer == WISANGUB_DONE;
-        look(answer, told);
-        look(wisangub_centre_receive(&centre, made, size, reply, WISANGUB_DATAGRAM, &told), told);
-        free(made);
-        if (any(50) == 0) {
-            wisangub_sign_tick(&sign);
-            look(wisangub_centre_tick(&centre, reply, WISANGUB_DATAGRAM, &told), told);
-            wisangub_centre_command(&centre, "blank 1 5 255 192.0.2.1", 23, reply, WISANGUB_DATAGRAM, &told);
-        }
-        if (any(2000) == 0) {
-            wisangub_sign_power_lost(&sign);
-            wisangub_sign_power_back(&sign, (uint32_t)any(100));
-            wisangub_centre_restart(&centre);
-        }
+        replies += (uint64_t)hand(&sign, &centre);
     }
     printf("%" PRIu64 " datagrams, %" PRIu64 " replies\n", done, replies);
     wisangub_centre_free(&centre);

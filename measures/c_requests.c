@@ -1,7 +1,7 @@
 /*
- * Requests a second of an agent at a UDP port of 127.0.0.1: c_requests PORT WINDOW SECONDS, with datagrams as digits on standard
- * input, a line each, which are sent one after the other and again from the first. WINDOW of them are in flight. It prints how many
- * replies came in a second, and ends with 1 where none comes for ten seconds.
+ * Requests a second of an agent at a UDP port of 127.0.0.1: c_requests PORT WINDOW SECONDS, with datagrams as digits on
+ * standard input, a line each, which are sent one after the other and again from the first. WINDOW of them are in
+ * flight. It prints how many replies came in a second, and ends with 1 where none comes for ten seconds.
  */
 #define _GNU_SOURCE
 #include <arpa/inet.h>
@@ -55,11 +55,14 @@ int main(int words, char **word)
         fputs("usage: c_requests PORT WINDOW SECONDS\n", stderr);
         return 2;
     }
-    struct sockaddr_in at = {.sin_family = AF_INET, .sin_port = htons((uint16_t)atoi(word[1])), .sin_addr = {htonl(INADDR_LOOPBACK)}};
+    struct sockaddr_in at = {.sin_family = AF_INET,
+                             .sin_port = htons((uint16_t)atoi(word[1])),
+                             .sin_addr = {htonl(INADDR_LOOPBACK)}};
     int to = socket(AF_INET, SOCK_DGRAM, 0);
     struct timeval most = {10, 0};
     read_datagrams();
-    if (to < 0 || connect(to, (struct sockaddr *)&at, sizeof at) != 0 || setsockopt(to, SOL_SOCKET, SO_RCVTIMEO, &most, sizeof most) != 0 || count == 0) {
+    if (to < 0 || connect(to, (struct sockaddr *)&at, sizeof at) != 0
+        || setsockopt(to, SOL_SOCKET, SO_RCVTIMEO, &most, sizeof most) != 0 || count == 0) {
         perror("socket");
         return 1;
     }

@@ -1,7 +1,7 @@
 /*
- * Times, heap and stack of the library for C: c_speed DESCRIPTION, with a name and the digits of a datagram in each line of standard
- * input. It prints a line `NAME NANOSECONDS` for each of these datagrams, a second, what is shown and its pages, the least of forty
- * passes; and `heap`, `calls after it is made` and `stack` in octets.
+ * Times, heap and stack of the library for C: c_speed DESCRIPTION, with a name and the digits of a datagram in each
+ * line of standard input. It prints a line `NAME NANOSECONDS` for each of these datagrams, a second, what is shown and
+ * its pages, the least of forty passes; and `heap`, `calls after it is made` and `stack` in octets.
  */
 #define _GNU_SOURCE
 #include <pthread.h>
@@ -130,9 +130,14 @@ static size_t stack_of_a_talk(void)
     size_t untouched = 0;
     pthread_attr_t attributes;
     pthread_t thread;
+    if (stack == NULL) {
+        return 0;
+    }
     memset(stack, 0xA5, STACK);
     pthread_attr_init(&attributes);
-    if (pthread_attr_setstack(&attributes, stack, STACK) != 0 || pthread_create(&thread, &attributes, talk, NULL) != 0) {
+    if (pthread_attr_setstack(&attributes, stack, STACK) != 0
+        || pthread_create(&thread, &attributes, talk, NULL) != 0) {
+        free(stack);
         return 0;
     }
     pthread_join(thread, NULL);
@@ -161,7 +166,8 @@ int main(int words, char **word)
     uint32_t first = 0;
     size_t line = 0;
     FILE *file = words == 2 ? fopen(word[1], "rb") : NULL;
-    if (file == NULL || wisangub_sign_new(&sign, description, fread(description, 1, sizeof description, file), &first, &line) != WISANGUB_DONE) {
+    size_t size = file == NULL ? 0 : fread(description, 1, sizeof description, file);
+    if (file == NULL || wisangub_sign_new(&sign, description, size, &first, &line) != WISANGUB_DONE) {
         fprintf(stderr, "usage: c_speed DESCRIPTION (line %zu is refused)\n", line);
         return 2;
     }
