@@ -13,17 +13,18 @@ import json
 import pathlib
 import socket
 import sys
+from typing import Any
 
 TOP = pathlib.Path(__file__).resolve().parent.parent
 MOST_SILENT = 3
 
 
-def cases(path):
+def cases(path: pathlib.Path) -> list[dict[str, Any]]:
     """The requests, a case each."""
     return [json.loads(line) for line in path.read_text(encoding="ascii").splitlines()]
 
 
-def asked(door, to, request):
+def asked(door: socket.socket, to: tuple[str, int], request: str) -> str | None:
     """The reply to a request, in hexadecimal digits; None where none comes."""
     door.sendto(bytes.fromhex(request), to)
     try:
@@ -32,7 +33,7 @@ def asked(door, to, request):
         return None
 
 
-def compare(door, to, wanted):
+def compare(door: socket.socket, to: tuple[str, int], wanted: list[dict[str, Any]]) -> tuple[int, int, bool]:
     """How many replies are as wanted and how many are not; the last is whether the sign is silent."""
     passed = failed = silent = 0
     for case in wanted:
@@ -49,7 +50,7 @@ def compare(door, to, wanted):
     return passed, failed, False
 
 
-def main():
+def main() -> int:
     words = argparse.ArgumentParser(description=__doc__, formatter_class=argparse.RawDescriptionHelpFormatter)
     words.add_argument("--to", default="127.0.0.1:1161", metavar="HOST:PORT", help="where the sign is")
     words.add_argument("--wait", type=float, default=0.5, metavar="SECONDS", help="how long a reply may take")

@@ -7,13 +7,17 @@ The octets are made here from NTCIP 1203's names, X.690's short forms and RFC 11
 repository's code. What it writes is laid out as by rt fmt.
 """
 
+from collections.abc import Sequence
+
+Bindings = list[tuple[bytes, bytes]]  # a name and a value, each in octets
+Step = tuple[str, bytes, bytes]  # what it is in words, the request and the reply
 COMMUNITY = b"admin"
 DMS = (1, 3, 6, 1, 4, 1, 1206, 4, 2, 3)
 GET, RESPONSE, SET = 0xA0, 0xA2, 0xA3
 TEXT, OWNER, CHECKSUM, BEACON, PIXEL_SERVICE, PRIORITY, STATUS = 3, 4, 5, 6, 7, 8, 9
 
 
-def element(tag, content):
+def element(tag: int, content: bytes) -> bytes:
     size = len(content)
     if size < 128:
         return bytes([tag, size]) + content
@@ -21,18 +25,18 @@ def element(tag, content):
     return bytes([tag, 128 + len(digits)]) + digits + content
 
 
-def integer(number):
+def integer(number: int) -> bytes:
     return element(2, number.to_bytes(number.bit_length() // 8 + 1, "big"))
 
 
-def octets(content):
+def octets(content: bytes) -> bytes:
     return element(4, content)
 
 
 NULL = element(5, b"")
 
 
-def name(numbers):
+def name(numbers: tuple[int, ...]) -> bytes:
     content = bytes([40 * numbers[0] + numbers[1]])
     for number in numbers[2:]:
         digits = [number % 128]
@@ -43,21 +47,23 @@ def name(numbers):
     return element(6, content)
 
 
-def cell(column, row):
+def cell(column: int, row: tuple[int, int]) -> bytes:
     return name(DMS + (5, 8, 1, column) + row)
 
 
-def scalar(number):
+def scalar(number: int) -> bytes:
     return name(DMS + (6, number, 0))
 
 
-def message(kind, number, bindings, status=0, index=0, community=COMMUNITY):
+def message(
+    kind: int, number: int, bindings: Bindings, status: int = 0, index: int = 0, community: bytes = COMMUNITY
+) -> bytes:
     listed = element(0x30, b"".join(element(0x30, one + value) for one, value in bindings))
     pdu = element(kind, integer(number) + integer(status) + integer(index) + listed)
     return element(0x30, integer(0) + octets(community) + pdu)
 
 
-def checksum(content):
+def checksum(content: bytes) -> int:
     register = 0xFFFF
     for octet in content:
         register ^= octet
@@ -70,7 +76,16 @@ assert checksum(b"123456789") == 0x906E
 
 
 class Publication:
-    def __init__(self, row, text, owner, beacon, pixel, run_priority, swapped):
+    def __init__(
+        self,
+        row: tuple[int, int],
+        text: bytes,
+        owner: bytes,
+        beacon: int,
+        pixel: int,
+        run_priority: int,
+        swapped: bool,
+    ) -> None:
         self.row = row
         crc = checksum(text + bytes([beacon, pixel])).to_bytes(2, "big")
         self.crc = crc[::-1] if swapped else crc
@@ -84,14 +99,14 @@ class Publication:
         memory, number = row
         self.code = bytes([255, 255, 255, memory]) + number.to_bytes(2, "big") + self.crc + bytes([192, 0, 2, 1])
 
-    def sets(self, number, bindings):
+    def sets(self, number: int, bindings: Bindings) -> tuple[bytes, bytes]:
         return message(SET, number, bindings), message(RESPONSE, number, bindings)
 
-    def reads(self, number, column, value):
+    def reads(self, number: int, column: int, value: int) -> tuple[bytes, bytes]:
         asked = cell(column, self.row)
         return message(GET, number, [(asked, NULL)]), message(RESPONSE, number, [(asked, integer(value))])
 
-    def steps(self):
+    def steps(self) -> list[Step]:
         status, row = cell(STATUS, self.row), "row {}.{}".format(*self.row)
         return [
             (f"{row} is to be modified", *self.sets(1, [(status, integer(6))])),
@@ -108,11 +123,11 @@ A = Publication((3, 1), b"A", b"", 0, 0, 200, False)
 LONG = Publication((4, 300), b"[jl2]" + b"A" * 150, b"operator", 1, 1, 1, True)
 
 
-def literal(content):
+def literal(content: bytes) -> str:
     return 'b"' + "".join(f"\\x{octet:02x}" for octet in content) + '"'
 
 
-def print_rows(title, about, kind, rows):
+def print_rows(title: str, about: str, kind: str, rows: Sequence[tuple[object, ...]]) -> None:
     """Rows of words and fields."""
     print(f"\n/// {about}\npub static {title}: [{kind}; {len(rows)}] = [")
     for words, *fields in rows:
@@ -123,16 +138,16 @@ def print_rows(title, about, kind, rows):
     print("];")
 
 
-def print_steps(title, about, steps):
+def print_steps(title: str, about: str, steps: list[Step]) -> None:
     rows = [(words, literal(request), literal(reply)) for words, request, reply in steps]
     print_rows(title, about, "(&[u8], &[u8])", rows)
 
 
-def print_octets(title, about, content):
+def print_octets(title: str, about: str, content: bytes) -> None:
     print(f"\n/// {about}\npub static {title}: [u8; {len(content)}] =\n    *{literal(content)};")
 
 
-def error(number, bindings, status, index=1):
+def error(number: int, bindings: Bindings, status: int, index: int = 1) -> bytes:
     return message(RESPONSE, number, bindings, status, index)
 
 

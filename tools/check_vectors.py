@@ -12,12 +12,15 @@ import pathlib
 import re
 import subprocess
 import sys
+from collections.abc import Iterator
+from typing import Any
 
 from door.places import SIGNTOOL, program
 
 TOP = pathlib.Path(__file__).resolve().parent.parent
 
-
+Case = dict[str, Any]  # a line of the vectors, or a part of one, as JSON has it
+Call = tuple[list[str], str, str, int]  # the words, the standard input, the output that is wanted, and the status
 FAULTS = {
     "Truncated": "truncated",
     "BadTag": "unexpected tag",
@@ -31,7 +34,7 @@ FAULTS = {
 }
 
 
-def objects_of_mib():
+def objects_of_mib() -> dict[str, str]:
     """The names of the MIB's objects by their dotted numbers."""
     text = "".join(path.read_text(encoding="ascii") for path in (TOP / "mibs").glob("DMS-PROFILE-MIB*"))
     found = {"enterprises": "1.3.6.1.4.1"}
@@ -46,7 +49,7 @@ def objects_of_mib():
 OBJECTS = objects_of_mib()
 
 
-def named(dotted):
+def named(dotted: str) -> str:
     """A name as `decode` prints it: the object and its instance follow in parentheses. A scalar's instance is 0, a cell's its row."""
     for places in (1, 2):
         name, *instance = dotted.rsplit(".", places)
@@ -56,13 +59,13 @@ def named(dotted):
     return dotted
 
 
-def octets_printed(digits):
+def octets_printed(digits: str) -> str:
     octets = bytes.fromhex(digits)
     text = f' "{octets.decode("ascii")}"' if octets and all(32 <= octet <= 126 for octet in octets) else ""
     return (digits or "-") + text
 
 
-def value_printed(kind, value):
+def value_printed(kind: str, value: Any) -> str:
     if kind in ("OCTET STRING", "Opaque"):
         return f"{kind} {octets_printed(value)}"
     if kind == "OBJECT IDENTIFIER":
@@ -72,7 +75,7 @@ def value_printed(kind, value):
     return "NULL" if kind == "NULL" else f"{kind} {value}"
 
 
-def fields(message):
+def fields(message: Case) -> Iterator[str]:
     """A message as `decode` prints it."""
     yield f"kind {message['kind']}"
     yield f"community {octets_printed(message['community'])}"
@@ -82,7 +85,7 @@ def fields(message):
         yield f"binding {named(binding['name'])}: {value_printed(binding['type'], binding['value'])}"
 
 
-def item_printed(item):
+def item_printed(item: list[Any]) -> str:
     """An item as `items` prints it."""
     offset, kind, *values = item
     if kind == "font":
@@ -91,15 +94,15 @@ def item_printed(item):
     return " ".join(str("default" if word is None else word) for word in [offset, kind, *values])
 
 
-def octets_of_json(octets):
+def octets_of_json(octets: Case) -> str:
     return (octets["octets"] or "-") + (f' "{octets["text"]}"' if "text" in octets else "")
 
 
-def name_of_json(names):
+def name_of_json(names: Case) -> str:
     return names["name"] + (f" ({names['object']})" if "object" in names else "")
 
 
-def value_of_json(kind, value):
+def value_of_json(kind: str, value: Any) -> str:
     if kind in ("OCTET STRING", "Opaque"):
         return f"{kind} {octets_of_json(value)}"
     if kind == "OBJECT IDENTIFIER":
@@ -107,7 +110,7 @@ def value_of_json(kind, value):
     return kind if value is None else f"{kind} {value}"
 
 
-def lines_of_json(text):
+def lines_of_json(text: str) -> Iterator[str]:
     """The lines that an object of `decode`, `items` or `check` with --json stands for."""
     found = json.loads(text)
     for item in found.get("items", []):
@@ -127,17 +130,17 @@ def lines_of_json(text):
         yield f"fault {found['fault']} at {place}"
 
 
-def as_lines(call, text):
+def as_lines(call: list[str], text: str) -> str:
     """What a call printed, an object of JSON as the lines that it stands for."""
     return "".join(line + "\n" for line in lines_of_json(text)) if "--json" in call else text
 
 
-def with_json(call):
+def with_json(call: list[str]) -> list[list[str]]:
     """The same call with --json, where it has this option."""
     return [[call[0], "--json", *call[1:]]] if call[0] in ("decode", "items", "check") else []
 
 
-def calls(kind, case):
+def calls(kind: str, case: Case) -> Iterator[Call]:
     """The words of each call for a case, its standard input, the output that is wanted and the status."""
     if kind == "texts":
         markup = case["markup"]
@@ -168,7 +171,7 @@ def calls(kind, case):
         yield ["decode", case["octets"]], "", "\n".join(fields(case["message"])) + "\n", 0
 
 
-def difference(program, call, stdin, wanted):
+def difference(program: str, call: list[str], stdin: str, wanted: tuple[str, int]) -> str:
     """How what a call prints, and its status, differ from what is wanted; nothing where they do not."""
     ended = subprocess.run([program, *call], input=stdin.encode(), capture_output=True, timeout=60, check=False)
     printed = as_lines(call, ended.stdout.decode())
@@ -177,7 +180,7 @@ def difference(program, call, stdin, wanted):
     return f"{call[0]} printed {printed[:200]!r} with {ended.returncode}, wanted {wanted[0][:200]!r} with {wanted[1]}"
 
 
-def main():
+def main() -> int:
     words = argparse.ArgumentParser(description=__doc__, formatter_class=argparse.RawDescriptionHelpFormatter)
     words.add_argument("--program", type=program, default=str(SIGNTOOL))
     words.add_argument("--count", type=int, help="the cases that are taken of each file")
@@ -187,8 +190,8 @@ def main():
         for line in path.read_text(encoding="ascii").splitlines()[:asked.count]:
             case = json.loads(line)
             for call, stdin, output, status in calls(path.stem, case):
-                for words in [call, *with_json(call)]:
-                    fault = difference(asked.program, words, stdin, (output, status))
+                for made in [call, *with_json(call)]:
+                    fault = difference(asked.program, made, stdin, (output, status))
                     passed, failed = (passed, failed + 1) if fault else (passed + 1, failed)
                     if fault:
                         print(f"{path.stem}, {case['name']}: {fault}")

@@ -23,7 +23,7 @@ WORDS = ["tick", "ticks", "heard", "state", "show", "status", "restart", "datagr
 TEXTS = ["41", "-", "41415b6e705d42", "5b6e6c395d", "5b6e6c305d41", "5b66315d41", "30"]
 
 
-def datagrams():
+def datagrams() -> list[str]:
     """Those of the vectors that have at most 1,472 octets."""
     found = set()
     for path in sorted((TOP / "vectors").glob("*.jsonl")):
@@ -34,17 +34,17 @@ def datagrams():
 class Lines:
     """Lines to one end, which depend on what the other sent last."""
 
-    def __init__(self, chance, octets):
+    def __init__(self, chance: random.Random, octets: list[str]) -> None:
         self.chance, self.octets, self.sent = chance, octets, {"sign": "", "centre": ""}
 
-    def datagram(self, end):
+    def datagram(self, end: str) -> str:
         octets = self.sent[end] if self.sent[end] and self.chance.random() < 0.8 else self.chance.choice(self.octets)
         if self.chance.random() < 0.15:
             place = self.chance.randrange(len(octets) // 2) * 2
             octets = octets[:place] + f"{self.chance.randrange(256):02x}" + octets[place + 2:]
         return f"datagram {octets}"
 
-    def command(self):
+    def command(self) -> str:
         address = ".".join(str(self.chance.choice([0, 1, 192, 255])) for _ in range(4))
         minutes, priority = self.chance.choice([0, 1, 65535]), self.chance.choice([0, 100, 255])
         if self.chance.random() < 0.7:
@@ -53,10 +53,10 @@ class Lines:
                     f"{self.chance.choice('01')} {self.chance.choice([0, 50, 255])} {minutes} {priority} {address}")
         return f"blank {self.chance.choice([1, 255, 65535])} {minutes} {priority} {address}"
 
-    def other(self):
+    def other(self) -> str:
         return " ".join(self.chance.choice(WORDS) for _ in range(self.chance.choice([1, 1, 2, 3])))
 
-    def line(self, end):
+    def line(self, end: str) -> str:
         kind = self.chance.random()
         if kind < 0.55:
             return self.datagram(end)
@@ -70,14 +70,14 @@ class Lines:
         return self.other()
 
 
-def begun(program, end, sign):
+def begun(program: str, end: str, sign: str | None) -> CoProcess:
     """A co-process that took the description."""
     process = CoProcess(program, [end], description.read(sign))
     process.begin(b"state" if end == "sign" else b"status", sign or program)
     return process
 
 
-def main():
+def main() -> int:
     words = argparse.ArgumentParser(description="random lines to signtool's co-processes and to the model's")
     words.add_argument("--signtool", type=program, default=str(SIGNTOOL))
     words.add_argument("--count", type=int, default=4000)

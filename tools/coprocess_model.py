@@ -17,12 +17,12 @@ from model.centre import Centre
 MOST_LINE = 65_536
 
 
-def without_newline(line):
+def without_newline(line: bytes) -> bytes:
     """A line without its newline, and without a carriage return before that."""
     return line[:-1].removesuffix(b"\r") if line.endswith(b"\n") else line
 
 
-def say(*lines):
+def say(*lines: str) -> None:
     """Writes lines; where nobody reads them any more, that is the end."""
     try:
         os.write(1, "".join(line + "\n" for line in lines).encode())
@@ -30,7 +30,7 @@ def say(*lines):
         os._exit(1)
 
 
-def sign_answer(world, words):
+def sign_answer(world: text.World, words: list[bytes]) -> list[str]:
     """The lines that answer a line to a sign."""
     keyword = words[0]
     if keyword == b"datagram":
@@ -58,13 +58,14 @@ def sign_answer(world, words):
     elif keyword == b"show":
         shown = world.sign.shown
         pages, _ = layout.laid_out(world.sign.face, shown.defaults, shown.text)
+        assert pages is not None
         return [*layout.drawn(world.sign.face, pages), "ok"]
     else:
         raise ValueError
     return ["ok"]
 
 
-def centre_answer(world, words):
+def centre_answer(world: text.World, words: list[bytes]) -> list[str]:
     """The lines that answer a line to a centre."""
     centre, keyword = world.centre, words[0].decode("latin-1")
     if keyword in ("publish", "blank", "activate"):
@@ -87,7 +88,7 @@ def centre_answer(world, words):
     raise ValueError
 
 
-def main():
+def main() -> int:
     words = argparse.ArgumentParser(description=__doc__, formatter_class=argparse.RawDescriptionHelpFormatter)
     words.add_argument("end", choices=("sign", "centre"))
     words.add_argument("--sign", action="store_true", help="a description comes first")

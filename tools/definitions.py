@@ -5,13 +5,14 @@ Without arguments it prints the table of docs/PROVED.md; with --check it fails w
 import argparse
 import pathlib
 import sys
+from collections.abc import Iterator
 
 TOP = pathlib.Path(__file__).resolve().parent.parent
 
 
-def believed(crate):
+def believed(crate: pathlib.Path) -> list[str]:
     """The files under the first comment of Lib.antt, which says that a reader must believe them."""
-    files = []
+    files: list[str] = []
     for line in (crate / "specs" / "Lib.antt").read_text().splitlines():
         if line.startswith("--"):
             if files:
@@ -21,7 +22,7 @@ def believed(crate):
     return files
 
 
-def rows():
+def rows() -> Iterator[str]:
     for line in (TOP / "crates.txt").read_text().splitlines():
         name = line.split(":")[0].split()
         if not name or name[0].startswith("#"):
@@ -36,7 +37,7 @@ def rows():
         yield f"| {name[0]} | {', '.join(files)} | {lines} |"
 
 
-def main():
+def main() -> None:
     words = argparse.ArgumentParser(description=__doc__)
     words.add_argument("--check", action="store_true", help="fails where docs/PROVED.md has another table")
     only_checks = words.parse_args().check

@@ -20,7 +20,7 @@ class Wrong(Exception):
     """A drawing or a font that is not in order, with its line."""
 
 
-def drawn(text):
+def drawn(text: str) -> tuple[str, list[tuple[int, list[str]]]]:
     """The font's line and the characters of a drawing: number and rows of each."""
     kept = [(number, line) for number, line in enumerate(text.splitlines(), 1) if line and not line.startswith("# ")]
     if not kept or not kept[0][1].startswith("font "):
@@ -45,7 +45,7 @@ def drawn(text):
     return head, characters
 
 
-def lines_of(text):
+def lines_of(text: str) -> list[str]:
     """The lines of a font, from its drawing."""
     head, characters = drawn(text)
     lines = [head]
@@ -56,22 +56,21 @@ def lines_of(text):
     return lines
 
 
-def drawing_of(lines):
+def drawing_of(lines: list[str]) -> list[str]:
     """The drawing of a font's lines."""
     kept = [line for line in lines if line and not line.startswith("#")]
     height = int(kept[0].split()[3])
     drawing = [kept[0]]
     for line in kept[1:]:
         _, number, width, digits = line.split(" ")
-        width = int(width)
         bits = f"{int(digits, 16):0{4 * len(digits)}b}".replace("0", ".").replace("1", "#")
         shown = chr(int(number)) if 32 < int(number) < 127 else ""
         drawing.append(f"character {number} {shown}".rstrip())
-        drawing += [bits[row * width:(row + 1) * width] for row in range(height)]
+        drawing += [bits[row * int(width):(row + 1) * int(width)] for row in range(height)]
     return drawing
 
 
-def with_fonts(path):
+def with_fonts(path: pathlib.Path) -> str:
     """A description with the lines of its drawings."""
     lines, skipping = [], False
     for line in path.read_text(encoding="ascii").splitlines():
@@ -86,7 +85,7 @@ def with_fonts(path):
     return "\n".join(lines) + "\n"
 
 
-def check(path):
+def check(path: pathlib.Path) -> bool:
     """Whether the description is what its drawings say, and each drawing comes back from its lines."""
     well = path.read_text(encoding="ascii") == with_fonts(path)
     for line in path.read_text(encoding="ascii").splitlines():
@@ -97,7 +96,7 @@ def check(path):
     return well
 
 
-def main(words):
+def main(words: list[str]) -> int:
     if words in (["--help"], ["-h"]):
         print(__doc__)
         return 0

@@ -26,8 +26,10 @@ import subprocess
 import sys
 import tempfile
 import time
+from collections.abc import Iterable, Iterator
+from typing import Protocol
 
-from hostile_datagrams import Maker, all_to_sign, is_answered, near, random_ones
+from hostile_datagrams import Datagram, Maker, all_to_sign, is_answered, near, random_ones
 from trials import hostile_udp
 from trials.bench import Trial
 
@@ -43,7 +45,19 @@ CODE = "ffffff0300019a66c0000201"
 ACCEPTED_BY = "to-sign 6"
 
 
-def script(count, shares):
+Script = tuple[str, int, list[str]]  # the script, how many hostile datagrams it has, and the report that is foretold
+
+
+class Shares(Protocol):
+    """Hostile datagrams before an event: by the number that the centre waits for, how many there may be, and the event."""
+
+    is_even: bool
+
+    def __call__(self, waiting: int, left: int, event: str, /) -> Iterable[Datagram]:
+        """Those before this event."""
+
+
+def script(count: int, shares: Shares) -> Script:
     """The script with at most this many hostile datagrams, how many it has, and the report that is foretold. `shares` gives
     those for each event, by the number that the centre waits for."""
     room = (MOST_INPUT - 2000) // len(PUBLICATION)
@@ -78,10 +92,10 @@ class Random:
 
     is_even = True
 
-    def __init__(self, maker, count):
+    def __init__(self, maker: Maker, count: int) -> None:
         self.maker, self.share = maker, max(1, count // len(PUBLICATION) + 1)
 
-    def __call__(self, waiting, left, _):
+    def __call__(self, waiting: int, left: int, _: str) -> Iterable[Datagram]:
         return itertools.islice(random_ones(self.maker, waiting), min(self.share, left))
 
 
@@ -90,14 +104,14 @@ class Given:
 
     is_even = False
 
-    def __init__(self, given):
+    def __init__(self, given: list[Datagram]) -> None:
         self.given = given
 
-    def __call__(self, _, __, event):
+    def __call__(self, _: int, __: int, event: str) -> Iterable[Datagram]:
         return self.given if event == "to-sign 0" else []
 
 
-def near_scripts():
+def near_scripts() -> Iterator[Script]:
     """The datagrams of `near` in scripts that are short enough."""
     given, size = [], 0
     for to, octets in near():
@@ -109,14 +123,14 @@ def near_scripts():
     yield script(len(given), Given(given))
 
 
-def random_scripts(maker, count):
+def random_scripts(maker: Maker, count: int) -> Iterator[Script]:
     while count > 0:
         made = script(count, Random(maker, count))
         count -= made[1]
         yield made
 
 
-def over_udp(asked, maker):
+def over_udp(asked: argparse.Namespace, maker: Maker) -> int:
     """To a sign's door."""
     with tempfile.TemporaryDirectory() as folder:
         trial = Trial(os.path.abspath(asked.program), False, maker.random, pathlib.Path(folder))
@@ -129,13 +143,13 @@ def over_udp(asked, maker):
     return 1 if trial.failed else 0
 
 
-def run(program, text):
+def run(program: str, text: str) -> tuple[subprocess.CompletedProcess[bytes], float]:
     before = time.monotonic()
     ended = subprocess.run([program, "replay"], input=text.encode(), capture_output=True, timeout=60, check=False)
     return ended, time.monotonic() - before
 
 
-def main():
+def main() -> int:
     words = argparse.ArgumentParser(description=__doc__, formatter_class=argparse.RawDescriptionHelpFormatter)
     top = pathlib.Path(__file__).resolve().parent.parent
     words.add_argument("--count", type=int, default=20000)

@@ -9,21 +9,22 @@ Taken are short texts of printable ASCII, as many as LIMIT.
 import argparse
 import json
 import pathlib
+from typing import Any
 
 LIMIT = 160
 LONGEST = 40
 NAMES = {"FontTag": "Font"}
 
 
-def value(word):
+def value(word: str) -> str:
     return "None" if word == "-" else f"Some({word})"
 
 
-def item(text):
+def item(text: str) -> str:
     """The item as its derived Debug shows it."""
-    name, words = text[:-1].split("(")
+    name, listed = text[:-1].split("(")
     name = NAMES.get(name, name)
-    words = [word for word in words.split(", ") if word]
+    words = [word for word in listed.split(", ") if word]
     if name == "Char":
         return f"Char({words[0]})"
     if name == "Font":
@@ -39,7 +40,7 @@ def item(text):
     return f"{name}({value(words[0])})"
 
 
-def read(vector):
+def read(vector: dict[str, Any]) -> str:
     parts = [f"{first}..{past} {item(text)}" for first, past, text in vector["spots"]]
     if vector["fault"]:
         code, place = vector["fault"]
@@ -47,11 +48,11 @@ def read(vector):
     return "".join(part + "; " for part in parts)
 
 
-def printable(octets):
+def printable(octets: bytes) -> bool:
     return all(32 <= octet < 127 and octet not in (34, 92, 124) for octet in octets)
 
 
-def main():
+def main() -> None:
     words = argparse.ArgumentParser(description=__doc__, formatter_class=argparse.RawDescriptionHelpFormatter)
     words.add_argument("vectors", type=pathlib.Path)
     cases = []

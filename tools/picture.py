@@ -13,6 +13,7 @@ import subprocess
 import sys
 import tempfile
 import zlib
+from collections.abc import Iterator
 
 from door.places import SIGNTOOL, program
 from model import layout, text
@@ -30,7 +31,7 @@ PICTURES = [
 ]
 
 
-def pixels(path):
+def pixels(path: pathlib.Path) -> Iterator[list[bytes]]:
     """The rows of a PNG file's pixels, each pixel as three octets."""
     octets = path.read_bytes()
     at, data = 8, b""
@@ -56,7 +57,7 @@ def pixels(path):
         yield [bytes(row[x:x + 3]) for x in range(0, stride, channels)]
 
 
-def predicted(kind, left, above, corner):
+def predicted(kind: int, left: int, above: int, corner: int) -> int:
     """What a PNG filter takes a sample for."""
     if kind == 4:
         guess = left + above - corner
@@ -64,13 +65,10 @@ def predicted(kind, left, above, corner):
     return [0, left, above, (left + above) // 2][kind]
 
 
-def wanted(face, pages, alone, tenth):
+def wanted(face: layout.Face, pages: list[layout.Page], alone: int | None, tenth: int) -> list[list[str]]:
     """The shade of each lamp at a moment."""
     dark = [[SHADES[0]] * face.width for _ in range(face.height)]
-    if alone is not None:
-        page, since = pages[alone - 1], None
-    else:
-        page, since = up(pages, tenth)
+    page, since = up(pages, tenth) if alone is None else (pages[alone - 1], None)
     if page is None:
         return dark
     rows = []
@@ -79,7 +77,7 @@ def wanted(face, pages, alone, tenth):
     return rows
 
 
-def up(pages, tenth):
+def up(pages: list[layout.Page], tenth: int) -> tuple[layout.Page | None, int]:
     """The page that is up, and for how long it has been; a message of one page without an off time stays."""
     if len(pages) == 1 and pages[0].off == 0:
         return pages[0], tenth
@@ -94,7 +92,7 @@ def up(pages, tenth):
     raise AssertionError
 
 
-def is_lit(flash, since):
+def is_lit(flash: layout.Flash | None, since: int | None) -> bool:
     if flash is None or since is None:
         return True
     first, lit, dark = flash
@@ -102,7 +100,7 @@ def is_lit(flash, since):
     return at < lit if first == "lit" else dark <= at
 
 
-def shot(svg, tenth, face, folder, name):
+def shot(svg: str, tenth: int, face: layout.Face, folder: pathlib.Path, name: str) -> pathlib.Path:
     """The picture at the middle of a tenth of a second."""
     page = folder / f"{name}.html"
     page.write_text(f"<body style='margin:0'>{svg}<script>const svg = document.querySelector('svg'); svg.style.display = 'block'; svg.pauseAnimations(); "
@@ -115,7 +113,7 @@ def shot(svg, tenth, face, folder, name):
     return png
 
 
-def compare(rows, shades):
+def compare(rows: list[list[bytes]], shades: list[list[str]]) -> int:
     """How many lamps have another colour in their middle."""
     wrong = 0
     for y, row in enumerate(shades):
@@ -124,20 +122,21 @@ def compare(rows, shades):
     return wrong
 
 
-def main():
+def main() -> int:
     words = argparse.ArgumentParser(description="the program's pictures in a browser")
     words.add_argument("--program", type=program, default=str(SIGNTOOL))
     words.add_argument("--keep", help="a folder for the PNG files")
-    words = words.parse_args()
+    asked = words.parse_args()
     passed = failed = 0
     with tempfile.TemporaryDirectory() as temporary:
-        folder = pathlib.Path(words.keep or temporary)
+        folder = pathlib.Path(asked.keep or temporary)
         for name, sign, shown, alone, moments in PICTURES:
             description = (TOP / "signs" / f"{sign}.sign").read_bytes()
             face = text.World(text.described(description)).sign.face
             pages, _ = layout.laid_out(face, face.defaults, shown.encode())
+            assert pages is not None
             call = ["pages", "--sign", "--svg", *([] if alone is None else ["--page", str(alone)]), "--", shown]
-            ended = subprocess.run([words.program, *call], input=description, capture_output=True, timeout=60, check=True)
+            ended = subprocess.run([asked.program, *call], input=description, capture_output=True, timeout=60, check=True)
             if len(ended.stdout) >= 400_000:
                 print(f"{name}: the document has {len(ended.stdout)} octets")
                 failed += 1

@@ -3,8 +3,10 @@
 from model import layout, text
 from model.codes import Activation, MessageId, checksum
 
+Answer = tuple[str, int]  # the output and the status
 
-def answer(words, stdin):
+
+def answer(words: list[str], stdin: bytes) -> Answer:
     """The output and the status of a call with these words, whose standard input has these octets."""
     try:
         rest = [word for word in words[1:] if word not in ("--sign", "--")]
@@ -18,6 +20,7 @@ def answer(words, stdin):
         pages, fault = layout.laid_out(sign.face, sign.face.defaults, rest[0].encode("utf-8"))
         if fault:
             return f"fault {fault[0]} at {fault[1]}\n", 1
+        assert pages is not None
         if words[0] == "check":
             return f"ok pages {len(pages)}\n", 0
         return "\n".join(layout.drawn(sign.face, pages)) + "\n", 0
@@ -27,7 +30,7 @@ def answer(words, stdin):
         return "too long\n", 1
 
 
-def reply(digits, is_described, stdin):
+def reply(digits: str, is_described: bool, stdin: bytes) -> Answer:
     if len(digits) % 2 or any(c not in "0123456789abcdefABCDEF" for c in digits):
         return "not hex\n", 2
     sign = text.described(stdin) if is_described else text.bench()
@@ -35,7 +38,7 @@ def reply(digits, is_described, stdin):
     return ("dropped\n", 1) if octets is None else (octets.hex() + "\n", 0)
 
 
-def code(words):
+def code(words: list[str]) -> Answer:
     """Of `code TYPE NUMBER TEXT` with its options."""
     options = {"--duration": "65535", "--priority": "255", "--address": "0.0.0.0"}
     flags, plain = set(), []

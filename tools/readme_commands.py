@@ -16,13 +16,14 @@ import socket
 import subprocess
 import sys
 import tempfile
+from collections.abc import Iterator
 
 from door.places import SIGNTOOL, program
 
 TOP = pathlib.Path(__file__).resolve().parent.parent
 
 
-def commands(block):
+def commands(block: str) -> Iterator[str]:
     """The commands of a block, a here-document with its lines as one."""
     lines = iter(block.splitlines())
     for line in lines:
@@ -36,14 +37,14 @@ def commands(block):
             yield "\n".join(command) + "\n"
 
 
-def free_port():
+def free_port() -> int:
     """A UDP port that nobody has now."""
     with socket.socket(socket.AF_INET, socket.SOCK_DGRAM) as door:
         door.bind(("127.0.0.1", 0))
         return door.getsockname()[1]
 
 
-def with_snmp_tools(block, after, program):
+def with_snmp_tools(block: str, after: str, program: str) -> bool:
     """Whether the block of the SNMP tools prints what README says, on a port that is free."""
     port = free_port()
     width = f"snmpget -v1 -c public -t 1 -r 0 127.0.0.1:{port} 1.3.6.1.4.1.1206.4.2.3.2.4.0"
@@ -62,7 +63,7 @@ def with_snmp_tools(block, after, program):
     return well
 
 
-def runs(block, after, folder):
+def runs(block: str, after: str, folder: str) -> Iterator[bool]:
     """For each command of a block whether it runs, the last with the output that README says."""
     made = list(commands(block))
     for at, command in enumerate(made):
@@ -75,7 +76,7 @@ def runs(block, after, folder):
         yield bool(well)
 
 
-def main():
+def main() -> int:
     words = argparse.ArgumentParser(description=__doc__, formatter_class=argparse.RawDescriptionHelpFormatter)
     words.add_argument("--program", type=program, default=str(SIGNTOOL))
     words.add_argument("--short", action="store_true", help="without the block of the SNMP tools")

@@ -16,8 +16,9 @@ import pathlib
 import re
 import subprocess
 import sys
+from collections.abc import Iterator
 
-from upkeep.edits import BadEdit, applied, edits_of
+from upkeep.edits import BadEdit, Edit, applied, edits_of
 
 TOP = pathlib.Path(__file__).resolve().parent.parent
 
@@ -35,13 +36,13 @@ class Said:
     bad: str | None = None
 
 
-def owner(path):
+def owner(path: str) -> str:
     """The function, or that of a closure: `module::fn::Type::function::closure` stands in `module::Type::function`."""
     module, is_closure, rest = re.sub(r"\+Fn\w*::\w+$", "", path).partition("::fn::")
     return f"{module}::{rest.rpartition('::')[0]}" if is_closure else path
 
 
-def heard(crate, lines):
+def heard(crate: pathlib.Path, lines: list[str]) -> Said:
     said = Said(collections.defaultdict(list), [], set())
     for line in lines:
         of_source = re.match(r"(?:\./)?src/\S+: error\S*: (`[^`]*`: )?(.*)", line)
@@ -61,9 +62,9 @@ def heard(crate, lines):
     return said
 
 
-def checked(crate, edits):
+def checked(crate: pathlib.Path, edits: list[Edit]) -> Said:
     """What a check says with these edits in place, each of a text of its own."""
-    texts = {}
+    texts: dict[pathlib.Path, str] = {}
     for edit in edits:
         texts = applied(edit, texts)
     saved = {file: file.read_text(encoding="utf-8") for file in texts}
@@ -80,9 +81,9 @@ def checked(crate, edits):
     return said
 
 
-def are_apart(edits):
+def are_apart(edits: list[Edit]) -> bool:
     """Whether each can be applied where the others are: none makes a text twice that another one changes."""
-    texts = {}
+    texts: dict[pathlib.Path, str] = {}
     try:
         for edit in edits:
             texts = applied(edit, texts)
@@ -91,9 +92,9 @@ def are_apart(edits):
     return True
 
 
-def groups(edits):
+def groups(edits: list[Edit]) -> list[list[Edit]]:
     """Edits that change functions of their own, and each other one alone."""
-    made = []
+    made: list[list[Edit]] = []
     for edit in edits:
         place = next((group for group in made if None not in edit.functions and not any(
             None in other.functions or other.functions & edit.functions for other in group)
@@ -105,22 +106,22 @@ def groups(edits):
     return made
 
 
-def goals_of(said, paths):
+def goals_of(said: Said, paths: list[str]) -> list[str]:
     """The open goals of these functions, each after the function's name; none of one whose proof files do not read."""
     read = [path for path in paths if path not in said.unread]
     return [f"{path.rpartition('::')[2]}: {goal}" for path in read for goal in said.goals.get(path, [])]
 
 
-def tried(crate, edits):
+def tried(crate: pathlib.Path, edits: list[Edit]) -> Iterator[tuple[Edit, list[str], str]]:
     """Each edit with the goals that it leaves open, or with why there is none."""
     for group in groups(edits):
         said = checked(crate, group) if len(group) > 1 else None
         for edit in group:
-            goals = goals_of(said, sorted(edit.functions)) if said and not said.bad else []
+            goals = goals_of(said, sorted(path for path in edit.functions if path)) if said and not said.bad else []
             yield edit, *((goals, "") if goals else tried_alone(crate, edit))
 
 
-def tried_alone(crate, edit):
+def tried_alone(crate: pathlib.Path, edit: Edit) -> tuple[list[str], str]:
     said = checked(crate, [edit])
     goals = goals_of(said, sorted(said.goals))
     if said.bad:
@@ -128,7 +129,7 @@ def tried_alone(crate, edit):
     return goals, next(iter(said.unknown), "not refused")
 
 
-def applicable(crate, edits):
+def applicable(crate: pathlib.Path, edits: list[Edit]) -> tuple[int, int]:
     """How many edits can be applied, and how many cannot."""
     stands = 0
     for edit in edits:
@@ -139,7 +140,7 @@ def applicable(crate, edits):
     return stands, len(edits) - stands
 
 
-def refused(crate, edits, says_goals):
+def refused(crate: pathlib.Path, edits: list[Edit], says_goals: bool) -> tuple[int, int]:
     """How many edits are refused, and how many are not."""
     passed = 0
     for edit, goals, why in tried(crate, edits):
@@ -151,7 +152,7 @@ def refused(crate, edits, says_goals):
     return passed, len(edits) - passed
 
 
-def main():
+def main() -> int:
     words = argparse.ArgumentParser(description=__doc__, formatter_class=argparse.RawDescriptionHelpFormatter)
     words.add_argument("crates", nargs="*", metavar="CRATE", help="a crate whose edits are tried")
     words.add_argument("--only", action="append", metavar="NAME", help="of these names alone")

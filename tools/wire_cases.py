@@ -10,9 +10,12 @@ with words before each row: what the message is, or in which of its elements the
 
 import json
 import sys
+from collections.abc import Iterator, Sequence
+from typing import Any
 
 KINDS = ["", "TRUNCATED", "BAD_TAG", "BAD_LENGTH", "LENGTH_PAST", "BAD_INTEGER", "BAD_NAME", "BAD_VERSION",
          "TRAILING_BYTES", "TOO_LONG"]
+Case = dict[str, Any]  # a line of CASES.jsonl
 LONGEST = 160
 MOST_SPELLED = 80
 CHUNK = 20
@@ -28,7 +31,7 @@ MESSAGES = {0xA0: "Get", 0xA1: "GetNext", 0xA2: "Response", 0xA3: "Set"}
 OF_MESSAGE, OF_PDU = ("version", "community", "PDU"), ("request-id", "error-status", "error-index", "list of bindings")
 
 
-def elements(octets, at, end):
+def elements(octets: bytes, at: int, end: int) -> Iterator[tuple[int, int, int, int]]:
     """The tag, the first octet, the first of the content and the end of each element, whatever its length says."""
     while at + 1 < end:
         size, content = octets[at + 1], at + 2
@@ -40,7 +43,7 @@ def elements(octets, at, end):
         at = after
 
 
-def around(octets, place):
+def around(octets: bytes, place: int) -> tuple[str, str]:
     """The kind of message, and the element around a place."""
     kind, found = "message", "outermost element"
     for _, _, content, after in elements(octets, 0, len(octets)):
@@ -61,7 +64,7 @@ def around(octets, place):
     return kind, found
 
 
-def bindings_of(octets):
+def bindings_of(octets: bytes) -> int:
     """How many bindings a message has."""
     [message] = elements(octets, 0, len(octets))
     *_, pdu = elements(octets, *message[2:])
@@ -69,16 +72,16 @@ def bindings_of(octets):
     return len(list(elements(octets, *listed[2:])))
 
 
-def fault_words(case):
+def fault_words(case: Case) -> str:
     kind, found = around(bytes.fromhex(case["octets"]), case["place"])
     return f"a {kind} with a fault in {found if found.startswith('binding') else 'the ' + found}"
 
 
-def is_shortest(case):
+def is_shortest(case: Case) -> bool:
     return case["canonical"] == case["octets"]
 
 
-def message_words(case):
+def message_words(case: Case) -> str:
     octets = bytes.fromhex(case["octets"])
     count = bindings_of(octets)
     kind, _ = around(octets, 0)
@@ -86,11 +89,11 @@ def message_words(case):
     return f"a {kind} of {bound}, {'in' if is_shortest(case) else 'not in'} its shortest spelling"
 
 
-def literal(digits):
+def literal(digits: str) -> str:
     return 'b"' + "".join(f"\\x{digits[i:i + 2]}" for i in range(0, len(digits), 2)) + '"'
 
 
-def print_row(words, *row):
+def print_row(words: str, *row: str) -> None:
     print(f"    // {words}")
     if len(row) == 1:
         print(f"    {row[0]},")
@@ -105,7 +108,7 @@ def print_row(words, *row):
     print("    ),")
 
 
-def tables(name, row_type, rows):
+def tables(name: str, row_type: str, rows: Sequence[tuple[str, ...]]) -> None:
     for first in range(0, len(rows), CHUNK):
         chunk = rows[first:first + CHUNK]
         print()
@@ -115,7 +118,7 @@ def tables(name, row_type, rows):
         print("];")
 
 
-def main():
+def main() -> None:
     with open(sys.argv[1], encoding="utf-8") as source:
         cases = [json.loads(line) for line in source]
     kept = [case for case in cases if len(case["octets"]) <= 2 * LONGEST]

@@ -3,6 +3,7 @@
 import dataclasses
 import pathlib
 import re
+from collections.abc import Iterator
 
 FUNCTION = re.compile(r"^(?P<indent> *)(?:pub(?:\([a-z]+\))? )?(?:const )?fn (?P<name>\w+)")
 BLOCK = re.compile(r"^(?:pub(?:\([a-z]+\))? )?(?P<kind>impl|trait|mod)\b(?P<head>[^{]*)\{")
@@ -27,39 +28,41 @@ class Edit:
     functions: set[str | None]
 
 
-def read_pairs(crate, path):
-    file = old = None
+def read_pairs(crate: pathlib.Path, path: pathlib.Path) -> Iterator[Pair]:
+    file: pathlib.Path | None = None
+    old: str | None = None
     for line in path.read_text(encoding="utf-8").splitlines():
         if line.startswith("file: "):
             file = crate / line.removeprefix("file: ").strip()
         elif line.startswith("old: "):
             old = line.removeprefix("old: ")
         elif line.startswith("new:"):
+            assert file is not None and old is not None
             yield Pair(file, old, line.removeprefix("new:").removeprefix(" "))
 
 
-def read_edit(crate, path):
+def read_edit(crate: pathlib.Path, path: pathlib.Path) -> Edit:
     pairs = list(read_pairs(crate, path))
     return Edit(f"{path.parent.name}/{path.stem}", pairs, {function_at(crate, pair) for pair in pairs})
 
 
-def edits_of(crate):
+def edits_of(crate: pathlib.Path) -> list[Edit]:
     folders = [crate / "must-fail", crate / "wrong-bodies"]
     return [read_edit(crate, path) for folder in folders for path in sorted(folder.glob("*.edit"))]
 
 
-def type_word(text):
+def type_word(text: str) -> str:
     """A type as paths have it: `&[u8]` is `RefSliceU8`, and what it is generic over is left out."""
     text = re.sub(r"<[^<>]*>", "", re.sub(r"<[^<>]*>", "", text)).replace("&", "Ref ").replace("[", "Slice ")
     return "".join(word[0].upper() + word[1:] for word in re.findall(r"\w+", text.split("::")[-1]))
 
 
-def module_of(crate, file):
+def module_of(crate: pathlib.Path, file: pathlib.Path) -> list[str]:
     parts = file.relative_to(crate / "src").with_suffix("").parts
     return [] if parts in (("lib",), ("main",)) else [*parts]
 
 
-def module_of_type(crate, word, otherwise):
+def module_of_type(crate: pathlib.Path, word: str, otherwise: list[str]) -> list[str]:
     """The module that has a type of this name, in whose path its methods stand."""
     for file in sorted((crate / "src").rglob("*.rt")):
         if re.search(rf"(?m)^(?:pub(?:\([a-z]+\))? )?(?:struct|enum) {word}\b", file.read_text(encoding="utf-8")):
@@ -67,11 +70,13 @@ def module_of_type(crate, word, otherwise):
     return otherwise
 
 
-def block_path(crate, module, kind, head):
+def block_path(crate: pathlib.Path, module: list[str], kind: str, head: str) -> list[str]:
     """The path of a block of functions, as `object_identifier::Oid`, `object_identifier::OidDisplay`, `sign::mode`."""
     head = head.split(" where ")[0]
     if kind != "impl":
-        return [*module, re.match(r"\s*(\w+)", head).group(1)]
+        named = re.match(r"\s*(\w+)", head)
+        assert named is not None
+        return [*module, named.group(1)]
     of_trait, is_of_trait, of_type = re.sub(r"^<[^>]*>", "", head).strip().rpartition(" for ")
     word = type_word(of_type)
     if not is_of_trait:
@@ -80,7 +85,7 @@ def block_path(crate, module, kind, head):
     return [*module, word + type_word(of_trait) + (type_word(over.group(1)) if over else "")]
 
 
-def function_at(crate, pair):
+def function_at(crate: pathlib.Path, pair: Pair) -> str | None:
     """The path of the function in which a text stands, from the crate's name on, or None where it stands in none."""
     if pair.file.suffix != ".rt":
         return None
@@ -97,7 +102,7 @@ def function_at(crate, pair):
     return "::".join([crate.name, *function]) if function else None
 
 
-def applied(edit, texts):
+def applied(edit: Edit, texts: dict[pathlib.Path, str]) -> dict[pathlib.Path, str]:
     """These texts of files with the edit in place."""
     texts = dict(texts)
     for pair in edit.pairs:

@@ -2,6 +2,7 @@
 
 import pathlib
 import re
+from collections.abc import Callable
 
 import pytest
 
@@ -9,9 +10,11 @@ from upkeep import code, crates, documents, drawing, rows, tools, words
 from upkeep.bars import BARS, NOT_YET, Bar
 from upkeep.tree import Tree
 
+MakesTree = Callable[..., Tree]  # files by their names
+
 
 @pytest.fixture
-def made(tmp_path: pathlib.Path):
+def made(tmp_path: pathlib.Path) -> MakesTree:
     """A tree of these files."""
 
     def tree(**texts: str) -> Tree:
@@ -24,24 +27,24 @@ def made(tmp_path: pathlib.Path):
     return tree
 
 
-def test_widths(made) -> None:
+def test_widths(made: MakesTree) -> None:
     wide = "a " * 61
     tree = made(README_md=f"{wide}\n```\n{wide}\n```\n", other_md=f"```\n{wide}\n```\n{'b' * 130}\n{'c ' * 60}\n")
     assert documents.wide_lines(tree) == [f"README.md:{line}: 122 columns, 120 at most" for line in (1, 3)]
 
 
-def test_rows(made) -> None:
+def test_rows(made: MakesTree) -> None:
     tree = made(page_md=f"| {'a' * 194} |\n| {'a' * 197} |\n```\n| {'a' * 300} |\n```\n")
     assert documents.wide_rows(tree) == ["page.md:2: a row of 201 columns, 200 at most"]
     assert documents.wide_lines(tree) == []
 
 
-def test_lengths(made) -> None:
+def test_lengths(made: MakesTree) -> None:
     tree = made(README_md="a\n" * 171, docs__MAP_md="a\n" * 200)
     assert documents.long_pages(tree) == ["README.md: 171 lines, 170 at most"]
 
 
-def test_links(made) -> None:
+def test_links(made: MakesTree) -> None:
     tree = made(docs__one_md="# First part, `x`\n[a](two.md) [b](three.md) [c](#first-part-x) [d](#second) <x>\n",
                 docs__two_md="[e](one.md#first-part-x) [f](one.md#no) ![g](picture.png) [h](https://nobody)\n")
     assert documents.links(tree) == [
@@ -52,14 +55,14 @@ def test_links(made) -> None:
     ]
 
 
-def test_crates(made) -> None:
+def test_crates(made: MakesTree) -> None:
     pages = {"docs__ARCHITECTURE_md": "one two", "docs__MAP_md": "two", "docs__PROVED_md": "one_more two"}
     tree = made(crates_txt="# a comment\none: two\ntwo staticlib:\n", **pages)
     assert crates.names(tree) == ["one", "two"]
     assert crates.named(tree) == ["docs/MAP.md: one is not named", "docs/PROVED.md: one is not named"]
 
 
-def test_houses(made) -> None:
+def test_houses(made: MakesTree) -> None:
     listed = "# NAME: a sentence.\n\n# octets\none: two\n\n# both ends\ntwo:\n"
     heads = "# Page\n## Octets\none\n## Both ends\ntwo\n"
     table = "| **Octets**: one | |\n| **Both ends**: none | |\n"
@@ -73,7 +76,7 @@ def test_houses(made) -> None:
     ]
 
 
-def test_what_crates_owe(made) -> None:
+def test_what_crates_owe(made: MakesTree) -> None:
     pages = {"crates__one__src__lib_rt": "//! A crate.\n//!\n//! ```\n//! call();\n//! ```\n", "docs__DECISIONS_md": "one is small"}
     code = "//! Another.\n\n/// Said.\npub fn said() {}\n\n    #[inline]\n    pub fn unsaid() {}\n\npub fn used() {}\n"
     tree = made(crates_txt="one: two\ntwo:\ntwo_tests: two\n", crates__two_tests__src__lib_rt="used();\n",
@@ -83,7 +86,7 @@ def test_what_crates_owe(made) -> None:
     assert crates.unsaid(tree) == ["crates/two/src/lib.rt: nothing uses, names or documents unsaid"]
 
 
-def test_sizes(made) -> None:
+def test_sizes(made: MakesTree) -> None:
     texts = {
         "crates__one__src__lib_rt": "fn called() {}\n" * 99 + "// a line\n" * 1000,
         "crates__one__src__more_rt": "// a line\n" * 401,
@@ -99,14 +102,14 @@ def test_sizes(made) -> None:
 LISTED = "# low\nfirst:\nsecond: first\n# high\nthird: first second other\nthird_tests: third\n"
 
 
-def test_nearest(made) -> None:
+def test_nearest(made: MakesTree) -> None:
     tree = made(crates_txt=LISTED)
     assert drawing.nearest(tree)["third"] == {"second"}
     assert "third -> second;" in drawing.as_dot(tree)
     assert "third_tests" not in drawing.as_dot(tree)
 
 
-def test_drawing(made) -> None:
+def test_drawing(made: MakesTree) -> None:
     titles = "<title>first</title><title>second</title><title>second&#45;&gt;first</title><title>third-&gt;first</title>"
     tree = made(crates_txt=LISTED, docs__pictures__houses_svg=titles)
     assert [line.split(" (")[0].removeprefix("docs/pictures/houses.svg: ") for line in drawing.drawn(tree)] == [
@@ -116,13 +119,13 @@ def test_drawing(made) -> None:
     ]
 
 
-def test_stands_on(made) -> None:
+def test_stands_on(made: MakesTree) -> None:
     rows = "| **Low** | | |\n| first | does this | |\n| second | does that | third |\n| third | more | second |\n"
     tree = made(crates_txt=LISTED, docs__ARCHITECTURE_md=rows)
     assert drawing.told(tree) == ["docs/ARCHITECTURE.md: second stands on first"]
 
 
-def test_crossed(made) -> None:
+def test_crossed(made: MakesTree) -> None:
     short = "dms_sign:\ndms_low: dms_sign\ndms_sign_lines: dms_sign dms_low\nsigntool: dms_sign_lines\n"
     page = "It crosses 3 crates before `Sign::receive`."
     assert drawing.crossed(made(crates_txt=short, docs__ARCHITECTURE_md=page)) == []
@@ -136,7 +139,7 @@ def test_crossed(made) -> None:
     assert len(drawing.crossed(made(crates_txt="dms_sign:\nsigntool: dms_sign\n", docs__ARCHITECTURE_md=page))) == 1
 
 
-def test_tools(made, tmp_path: pathlib.Path) -> None:
+def test_tools(made: MakesTree, tmp_path: pathlib.Path) -> None:
     script = "#!/usr/bin/env python3\n"
     texts = {"tools__first_py": f"{script}argparse.ArgumentParser()\n", "tools__second_py": script}
     tree = made(**texts, tools__part_py="x = 1\n", tools__folder__third_py=script,
@@ -148,7 +151,7 @@ def test_tools(made, tmp_path: pathlib.Path) -> None:
     assert tools.executable(tree) == ["tools/second.py: not executable"]
 
 
-def test_words(made) -> None:
+def test_words(made: MakesTree) -> None:
     later = "TO" "DO"
     tree = made(tools__a_py=f"# {later}: more\n# {later}S is another word\n",
                 page_md="`tools/a.py`, tools/b.py, `crates/x/out/y`, tools/*.sh, a/tools/c.py, docs/NNN.md, tools/.\n")
@@ -156,7 +159,7 @@ def test_words(made) -> None:
     assert words.gone(tree) == ["page.md:1: there is no tools/b.py"]
 
 
-def test_what_is_left_for_later(made) -> None:
+def test_what_is_left_for_later(made: MakesTree) -> None:
     bar = Bar("two", lambda tree: ["docs/MAP.md: one", "README.md: two"], ("docs/MAP.md",))
     assert bar.findings(made()) == ["README.md: two"]
     assert bar.findings(made(), is_all=True) == ["docs/MAP.md: one", "README.md: two"]
@@ -212,7 +215,7 @@ tick 1
 """.replace("HEX", "302e02010004067075626c6963").replace("ESCAPES", r"\x30" * 8)
 
 
-def test_rows_of_hexadecimal(made) -> None:
+def test_rows_of_hexadecimal(made: MakesTree) -> None:
     tree = made()
     tree.names = [name := "crates/some_tests/src/some/cases.rt", other := "crates/some/src/some/cases.rt"]
     tree.read = {name: ROWS, other: ROWS}
@@ -242,7 +245,7 @@ LONG
 '''.replace("LONG", "long " * 30)
 
 
-def test_lines_of_code(made) -> None:
+def test_lines_of_code(made: MakesTree) -> None:
     tree = made()
     names = ["crates/some_tests/src/some/cases.rt", "crates/some/src/cases.rt", "crates/some/specs/Some.antt"]
     tree.names = [*names, "crates/some/proofs/Some.antt"]

@@ -3,6 +3,8 @@
 import pathlib
 import subprocess
 
+import pytest
+
 import try_edits
 from upkeep.edits import edits_of
 
@@ -12,26 +14,26 @@ OPEN = ("fn dms_face::checking::check_with: no proof: expected answers in ./proo
         "`search` did not prove `then-ge`")
 
 
-def goals(lines):
+def goals(lines: list[str]) -> list[str]:
     said = try_edits.heard(CRATE, lines)
     return try_edits.goals_of(said, sorted(said.goals))
 
 
-def test_an_open_goal_refuses_an_edit():
+def test_an_open_goal_refuses_an_edit() -> None:
     assert goals([OPEN]) == ["check_with: then-ge"]
 
 
-def test_a_goal_beside_a_proof_file_that_does_not_read_says_nothing():
+def test_a_goal_beside_a_proof_file_that_does_not_read_says_nothing() -> None:
     assert goals([RENAMED, OPEN]) == []
 
 
-def test_a_check_that_was_ended_tells_nothing_of_an_edit(monkeypatch):
+def test_a_check_that_was_ended_tells_nothing_of_an_edit(monkeypatch: pytest.MonkeyPatch) -> None:
     ended = subprocess.CompletedProcess([], -9, "so far: 0 of 26 functions checked\n", "")
     monkeypatch.setattr(subprocess, "run", lambda *_, **__: ended)
     assert try_edits.checked(CRATE, []).unknown == ["the check ended with -9 and said nothing"]
 
 
-def test_edits_go_together_where_none_makes_a_text_twice(tmp_path):
+def test_edits_go_together_where_none_makes_a_text_twice(tmp_path: pathlib.Path) -> None:
     crate = tmp_path / "dms_one"
     (crate / "src").mkdir(parents=True)
     (crate / "src/lib.rt").write_text("fn one() {\n    first();\n}\n\nfn two() {\n    second();\n}\n", encoding="utf-8")
