@@ -38,6 +38,21 @@ class Context:
         return [Row(2, number + 1) for number in range(len(self.described.permanent))]
 
     @property
+    def beyond(self) -> list[tuple[int, int]]:
+        """Rows that the sign has not, by one, of those memories whose rows are counted."""
+        described = self.described
+        return [
+            (2, 0),
+            (2, len(described.permanent) + 1),
+            (3, 0),
+            (3, described.changeable + 1),
+            (4, 0),
+            (4, described.volatile + 1),
+            (5, 0),
+            (5, 2),
+        ]
+
+    @property
     def defaults(self) -> tuple[int, ...]:
         return tuple(self.described.face.defaults)
 

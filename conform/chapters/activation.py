@@ -18,20 +18,8 @@ def tried(
 def without_rows(context: Context) -> Iterator[Block]:
     for memory in (0, 1, 6, 8, 255):
         yield Block("no type of memory", "deciding", tried(context, Row(memory, 1), 0))
-    described = context.described
-    numbers = [
-        (2, 0),
-        (2, len(described.permanent) + 1),
-        (3, 0),
-        (3, described.changeable + 1),
-        (4, 0),
-        (4, described.volatile + 1),
-        (5, 0),
-        (5, 2),
-        (7, 0),
-        (7, 256),
-        *[(memory, number) for memory in (2, 3, 4, 5, 7) for number in (257, 65535)],
-    ]
+    above = [(memory, number) for memory in (2, 3, 4, 5, 7) for number in (257, 65535)]
+    numbers = [*context.beyond, (7, 0), (7, 256), *above]
     for row in numbers:
         yield Block("no such row", "deciding", tried(context, Row(*row), 0))
     for number, crc in ((1, 0), (2, 0), (255, 0x1234), (77, 0xFFFF)):

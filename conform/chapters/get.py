@@ -52,17 +52,9 @@ NO_INSTANCES: list[Name] = [
 
 def no_rows(context: Context) -> list[Name]:
     """Cells of rows that the sign has not, by one."""
-    described = context.described
     rows = [
         (1, 1),
-        (2, 0),
-        (2, len(described.permanent) + 1),
-        (3, 0),
-        (3, described.changeable + 1),
-        (4, 0),
-        (4, described.volatile + 1),
-        (5, 0),
-        (5, 2),
+        *context.beyond,
         (6, 1),
         (7, 0),
         (7, 256),

@@ -42,6 +42,18 @@ def response() -> Raw:
 
 def blocks(context: Context) -> Iterator[Block]:
     blank = context.message_code(Row(7, 7), 0)
+    yield from silences(context, blank)
+    yield from heard(context, blank)
+    yield Block("a code that is refused", "own refused", [*begun(context, b"\6\0\1\0\0"), Wait(60), *look()], True)
+    yield Block(
+        "a code of the current buffer", "own current", [*begun(context, b"\5\0\1\0\0"), Wait(60), *look()], True
+    )
+    yield from acted(context, blank)
+    yield from at_one_tick(context, blank)
+
+
+def silences(context: Context, blank: bytes) -> Iterator[Block]:
+    """What is no answer lets a silence go on."""
     short: list[Step] = [*begun(context, blank), Wait(59), reports(), Wait(59), reports(), Wait(60), reports(), *look()]
     yield Block("a minute of silence", "silence", short, True)
     quiet: list[Step] = [dropped(b"nobody"), replace(fixed(b"\x30\0"), is_quiet=True), response(), dropped(b"")]
@@ -49,6 +61,10 @@ def blocks(context: Context) -> Iterator[Block]:
     yield Block(
         "a datagram that is dropped is silence", "heard", [*begun(context, blank), *waits, Wait(12), *look()], True
     )
+
+
+def heard(context: Context, blank: bytes) -> Iterator[Block]:
+    """What is answered ends a silence, an error too."""
     refused = Ask(wire.SET, ((scalar(2, 3), integer(1)),))
     yield Block(
         "an error is no silence",
@@ -62,13 +78,13 @@ def blocks(context: Context) -> Iterator[Block]:
     )
     answered: list[Step] = [get_next(scalar(2, 3)), get(scalar(2, 5)), get_next(scalar(6, 24)), put()]
     answered += [put((scalar(4, 8), integer(9)), is_writer=False), get(*[scalar(6, 3)] * 60)]
-    heard: list[Step] = [step for ask in answered for step in (Wait(30), ask)]
-    steps = [*begun(context, blank), *heard, Wait(59), reports(), Wait(60), reports()]
+    asked: list[Step] = [step for ask in answered for step in (Wait(30), ask)]
+    steps = [*begun(context, blank), *asked, Wait(59), reports(), Wait(60), reports()]
     yield Block("no answer is silence", "heard", steps, True)
-    yield Block("a code that is refused", "own refused", [*begun(context, b"\6\0\1\0\0"), Wait(60), *look()], True)
-    yield Block(
-        "a code of the current buffer", "own current", [*begun(context, b"\5\0\1\0\0"), Wait(60), *look()], True
-    )
+
+
+def acted(context: Context, blank: bytes) -> Iterator[Block]:
+    """What a silence does it does once, and at its limit."""
     yield Block(
         "a silence acts once",
         "silence once",
@@ -84,7 +100,6 @@ def blocks(context: Context) -> Iterator[Block]:
     )
     yield Block("two minutes", "silence", [*begun(context, blank, 2), Wait(119), reports(), Wait(120), reports()], True)
     yield Block("no limit", "silence", [*begun(context, blank, 0), Wait(125), *look()], True)
-    yield from at_one_tick(context, blank)
 
 
 def at_one_tick(context: Context, blank: bytes) -> Iterator[Block]:
