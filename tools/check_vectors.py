@@ -39,7 +39,8 @@ def objects_of_mib() -> dict[str, str]:
     text = "".join(path.read_text(encoding="ascii") for path in (TOP / "mibs").glob("DMS-PROFILE-MIB*"))
     found = {"enterprises": "1.3.6.1.4.1"}
     names = {}
-    for name, kind, parent, number in re.findall(r"(?ms)^(\w+)\s+OBJECT(-TYPE| IDENTIFIER).*?::=\s*\{\s*(\w+)\s+(\d+)\s*\}", text):
+    object_of_mib = r"(?ms)^(\w+)\s+OBJECT(-TYPE| IDENTIFIER).*?::=\s*\{\s*(\w+)\s+(\d+)\s*\}"
+    for name, kind, parent, number in re.findall(object_of_mib, text):
         found[name] = f"{found[parent]}.{number}"
         if kind == "-TYPE" and name not in ("dmsMessageTable", "dmsMessageEntry"):
             names[found[name]] = name
@@ -50,7 +51,8 @@ OBJECTS = objects_of_mib()
 
 
 def named(dotted: str) -> str:
-    """A name as `decode` prints it: the object and its instance follow in parentheses. A scalar's instance is 0, a cell's its row."""
+    """A name as `decode` prints it: the object and its instance follow in parentheses. A scalar's instance is 0, a
+    cell's its row."""
     for places in (1, 2):
         name, *instance = dotted.rsplit(".", places)
         is_cell = name.count(".") == 13
@@ -145,7 +147,8 @@ def calls(kind: str, case: Case) -> Iterator[Call]:
     if kind == "texts":
         markup = case["markup"]
         items = "".join(item_printed(item) + "\n" for item in case["items"])
-        yield ["items", "--", case["text"]], "", items + (f"fault {markup['code']} at {markup['offset']}\n" if markup else ""), 1 if markup else 0
+        items += f"fault {markup['code']} at {markup['offset']}\n" if markup else ""
+        yield ["items", "--", case["text"]], "", items, 1 if markup else 0
         fault = case.get("fault")
         refused = fault and f"fault {fault['code']} at {fault['offset']}\n"
         pages = [line for line in case.get("pages", []) if line.startswith("page ")]
@@ -153,8 +156,8 @@ def calls(kind: str, case: Case) -> Iterator[Call]:
         yield ["pages", "--", case["text"]], "", refused or "\n".join(case["pages"]) + "\n", 1 if fault else 0
     elif kind == "codes":
         flags = [f"--{word}" for word in ("beacon", "pixel", "swapped") if case[word]]
-        words = ["code", str(case["type"]), str(case["number"]), *flags, f"--duration={case['duration']}", f"--priority={case['priority']}",
-                 f"--address={case['address']}", "--", case["text"]]
+        words = ["code", str(case["type"]), str(case["number"]), *flags, f"--duration={case['duration']}",
+                 f"--priority={case['priority']}", f"--address={case['address']}", "--", case["text"]]
         yield words, "", f"crc {case['checksum']}\ncode {case['code']}\n", 0
         terms = [word for word in words[3:-2] if word not in ("--beacon", "--pixel")]
         yield ["activation", *words[1:3], case["checksum"], *terms], "", f"code {case['code']}\n", 0

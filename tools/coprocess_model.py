@@ -84,7 +84,8 @@ def centre_answer(world: text.World, words: list[bytes]) -> list[str]:
         centre.restart()
         return ["ok"]
     if keyword == "status":
-        return ["busy" if centre.job else "idle", f"last {centre.last or 'none'}", *world.report()[3 + len(world.accepted):], "ok"]
+        ledger = world.report()[3 + len(world.accepted):]
+        return ["busy" if centre.job else "idle", f"last {centre.last or 'none'}", *ledger, "ok"]
     raise ValueError
 
 

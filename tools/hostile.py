@@ -49,7 +49,8 @@ Script = tuple[str, int, list[str]]  # the script, how many hostile datagrams it
 
 
 class Shares(Protocol):
-    """Hostile datagrams before an event: by the number that the centre waits for, how many there may be, and the event."""
+    """Hostile datagrams before an event: by the number that the centre waits for, how many there may be, and the
+    event."""
 
     is_even: bool
 
@@ -58,8 +59,8 @@ class Shares(Protocol):
 
 
 def script(count: int, shares: Shares) -> Script:
-    """The script with at most this many hostile datagrams, how many it has, and the report that is foretold. `shares` gives
-    those for each event, by the number that the centre waits for."""
+    """The script with at most this many hostile datagrams, how many it has, and the report that is foretold. `shares`
+    gives those for each event, by the number that the centre waits for."""
     room = (MOST_INPUT - 2000) // len(PUBLICATION)
     lines, done, waiting, replies, events, accepted = ["bench"], 0, 1, 0, 0, 0
     own = []
@@ -83,7 +84,8 @@ def script(count: int, shares: Shares) -> Script:
             waiting += 1
         else:
             lines.append(event)
-    report = [f"events {events}", f"sent 7 {replies}", SHOWN, f"accepted {accepted} {CODE}", f"ledger 7 {CODE} accepted"]
+    report = [f"events {events}", f"sent 7 {replies}", SHOWN, f"accepted {accepted} {CODE}"]
+    report.append(f"ledger 7 {CODE} accepted")
     return "\n".join(lines) + "\n", done, report
 
 

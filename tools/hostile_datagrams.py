@@ -16,12 +16,14 @@ Datagram = tuple[str, bytes]  # the end that it is for, and its octets
 Message = tuple[int, bytes, int, int, int, list[wire.Binding]]
 
 
-# --- what each end makes of a datagram ----------------------------------------------------------------------------------
+# --- what each end makes of a datagram --------------------------------------------------------------------------------
 
 def message_of(octets: bytes) -> Message | None:
     """Kind, community, request number, error-status, error-index and bindings, or None where no message is spelled."""
     message = wire.spelled(octets)
-    return None if message is None else (message.kind, message.community, message.number, message.status, message.index, message.bindings)
+    if message is None:
+        return None
+    return message.kind, message.community, message.number, message.status, message.index, message.bindings
 
 
 def is_answered(octets: bytes) -> bool:
@@ -74,10 +76,10 @@ def is_in_order(octets: bytes) -> bool:
 BOUNDS = [0, 1, -1, 127, 128, -128, -129, 255, 256, 32767, 32768, 65535, 65536, 2 ** 31 - 1, 2 ** 31, -2 ** 31,
           -2 ** 31 - 1, 2 ** 32 - 1, 2 ** 32, 2 ** 63, -2 ** 63]
 IN_RANGE = [number for number in BOUNDS if -2 ** 31 <= number < 2 ** 32]
-COMMUNITIES = [READER, WRITER, b"", b"p", b"Admin", b"admi", b"admin ", b"admin\0", b"\0", b"a" * 32, b"a" * 33, b"a" * 127,
-               b"a" * 128, b"a" * 255, b"a" * 600]
-TAGS = [0x02, 0x04, 0x05, 0x06, 0x30, 0x40, 0x41, 0x42, 0x43, 0x44, 0x45, 0x22, 0x24, 0x10, 0x00, 0x1F, 0x5F, 0xA0, 0xA1, 0xA2,
-        0xA3, 0xA4, 0xA5, 0xB0, 0xBF, 0xFF]
+COMMUNITIES = [READER, WRITER, b"", b"p", b"Admin", b"admi", b"admin ", b"admin\0", b"\0", b"a" * 32, b"a" * 33,
+               b"a" * 127, b"a" * 128, b"a" * 255, b"a" * 600]
+TAGS = [0x02, 0x04, 0x05, 0x06, 0x30, 0x40, 0x41, 0x42, 0x43, 0x44, 0x45, 0x22, 0x24, 0x10, 0x00, 0x1F, 0x5F, 0xA0,
+        0xA1, 0xA2, 0xA3, 0xA4, 0xA5, 0xB0, 0xBF, 0xFF]
 
 
 class Maker:
@@ -102,7 +104,8 @@ class Maker:
             count = self.random.randrange(1, 5)
             return bytes([128 + count]) + (size % 256 ** count).to_bytes(count, "big")
         if form == 1:
-            return self.one([b"\x80", b"\x85\x00\x00\x00\x00\x00", b"\xff", b"\x84\xff\xff\xff\xff", b"\x81", b"\x82\x00"])
+            return self.one([b"\x80", b"\x85\x00\x00\x00\x00\x00", b"\xff", b"\x84\xff\xff\xff\xff", b"\x81",
+                             b"\x82\x00"])
         if form == 2:
             return bytes([self.random.randrange(256)])
         return bytes([max(0, min(127, size + self.one([-2, -1, 1, 2, 64])))])
@@ -115,18 +118,19 @@ class Maker:
         number = self.one(BOUNDS) if self.happens() else number
         content = number.to_bytes((number if number >= 0 else ~number).bit_length() // 8 + 1, "big", signed=True)
         if self.happens():
-            content = self.one([b"", b"\0" + content, b"\xff" + content, content[1:], content + b"\0", b"\0" * 5, b"\x80" * 9])
+            content = self.one([b"", b"\0" + content, b"\xff" + content, content[1:], content + b"\0", b"\0" * 5,
+                                b"\x80" * 9])
         return self.element(tag, content)
 
     def name(self, numbers: wire.Name) -> bytes:
         if self.happens():
-            numbers = self.one([(1, 3), numbers[:-1] if len(numbers) > 2 else DMS[:-1], numbers + (0,), numbers + (2 ** 32 - 1,), (2, 2 ** 32 - 81),
-                                (1, 3) + (1,) * 126, (1, 3) + (1,) * 127, (0, 0), (2, 999), DMS, DMS + (5, 8, 1, 9, 7, 255),
-                                DMS + (99, 0)])
+            numbers = self.one([(1, 3), numbers[:-1] if len(numbers) > 2 else DMS[:-1], numbers + (0,),
+                                numbers + (2 ** 32 - 1,), (2, 2 ** 32 - 81), (1, 3) + (1,) * 126, (1, 3) + (1,) * 127,
+                                (0, 0), (2, 999), DMS, DMS + (5, 8, 1, 9, 7, 255), DMS + (99, 0)])
         content = wire.name_content(numbers)
         if self.happens():
-            content = self.one([b"", b"\x80" + content, content + b"\x80", content + b"\xff" * 5 + b"\x7f", content[:-1] + b"\xff",
-                                b"\x90\x80\x80\x80\x00"])
+            content = self.one([b"", b"\x80" + content, content + b"\x80", content + b"\xff" * 5 + b"\x7f",
+                                content[:-1] + b"\xff", b"\x90\x80\x80\x80\x00"])
         return self.element(0x06, content)
 
     def bound(self) -> int:
@@ -149,7 +153,8 @@ class Maker:
         if kind == 7:
             inner = b""
             for _ in range(self.one([1, 2, 40, 300])):
-                inner = b"\x30" + (bytes([len(inner)]) if len(inner) < 128 else b"\x82" + len(inner).to_bytes(2, "big")) + inner
+                size = bytes([len(inner)]) if len(inner) < 128 else b"\x82" + len(inner).to_bytes(2, "big")
+                inner = b"\x30" + size + inner
             return inner
         return self.element(0x05, b"")
 
@@ -157,18 +162,22 @@ class Maker:
         rows = list(ROWS) + [(2, 1), (2, 2), (3, 0), (3, 3), (3, 65535), (5, 1), (7, 255), (7, 256), (9, 1)]
         if self.random.randrange(2):
             return DMS + (5, 8, 1, self.random.randrange(11)) + self.one(rows)
-        return DMS + self.one(list(NUMBERS) + list(LENGTHS) + [(2, 3), (5, 1), (5, 9), (6, 6), (6, 17), (6, 24), (6, 11), (7, 1)]) + (0,)
+        others = [(2, 3), (5, 1), (5, 9), (6, 6), (6, 17), (6, 24), (6, 11), (7, 1)]
+        return DMS + self.one([*NUMBERS, *LENGTHS, *others]) + (0,)
 
     def message(self, kind: int, number: int) -> bytes:
         """A request or a reply with this number, of which each field may be changed."""
-        bindings = [self.element(0x30, self.name(self.object()) + self.value()) for _ in range(self.one([0, 1, 1, 1, 1, 2, 3]))]
+        count = self.one([0, 1, 1, 1, 1, 2, 3])
+        bindings = [self.element(0x30, self.name(self.object()) + self.value()) for _ in range(count)]
         if self.happens():
             bindings = (bindings or [self.element(0x30, self.name((1, 3)) + b"\x05\x00")]) * self.one([2, 3, 20])
         listed = self.element(0x30, b"".join(bindings))
         status = self.one([0, 0, 0, 1, 2, 3, 5, 6, -1])
-        pdu = self.element(kind, self.integer(number) + self.integer(status) + self.integer(self.one([0, 0, 1, 2, 255])) + listed)
+        numbers = self.integer(number) + self.integer(status) + self.integer(self.one([0, 0, 1, 2, 255]))
+        pdu = self.element(kind, numbers + listed)
         community = self.one(COMMUNITIES) if self.happens() else self.one([READER, WRITER])
-        return self.element(0x30, self.integer(0 if not self.happens() else self.one([1, 2, 3])) + self.element(0x04, community) + pdu)
+        version = self.integer(0 if not self.happens() else self.one([1, 2, 3]))
+        return self.element(0x30, version + self.element(0x04, community) + pdu)
 
     def changed(self, octets: bytes) -> bytes:
         """The octets with a change of their own: one octet, a cut end, octets after the end, neighbours."""
@@ -214,7 +223,8 @@ class Maker:
 
     def to_centre(self, waiting: int) -> bytes:
         while True:
-            octets = self.hostile([RESPONSE] * 6 + [GET, SET, TRAP], self.one(BOUNDS[:4] + [waiting] * 6 + [waiting + 1, waiting - 1]))
+            number = self.one(BOUNDS[:4] + [waiting] * 6 + [waiting + 1, waiting - 1])
+            octets = self.hostile([RESPONSE] * 6 + [GET, SET, TRAP], number)
             if not is_waited_for(octets, waiting):
                 return octets
 

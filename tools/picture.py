@@ -73,7 +73,8 @@ def wanted(face: layout.Face, pages: list[layout.Page], alone: int | None, tenth
         return dark
     rows = []
     for row in layout.cells(face, page):
-        rows.append([SHADES[page.back] if cell is None or not is_lit(cell[1], since) else SHADES[cell[0]] for cell in row])
+        shades = [page.back if cell is None or not is_lit(cell[1], since) else cell[0] for cell in row]
+        rows.append([SHADES[shade] for shade in shades])
     return rows
 
 
@@ -103,11 +104,13 @@ def is_lit(flash: layout.Flash | None, since: int | None) -> bool:
 def shot(svg: str, tenth: int, face: layout.Face, folder: pathlib.Path, name: str) -> pathlib.Path:
     """The picture at the middle of a tenth of a second."""
     page = folder / f"{name}.html"
-    page.write_text(f"<body style='margin:0'>{svg}<script>const svg = document.querySelector('svg'); svg.style.display = 'block'; svg.pauseAnimations(); "
+    page.write_text(f"<body style='margin:0'>{svg}<script>const svg = document.querySelector('svg'); "
+                    "svg.style.display = 'block'; svg.pauseAnimations(); "
                     f"svg.setCurrentTime({tenth / 10 + 0.05});</script>", encoding="ascii")
     png = folder / f"{name}.png"
-    subprocess.run(["chromium", "--headless", "--no-sandbox", "--disable-gpu", "--hide-scrollbars", "--force-device-scale-factor=1",
-                    f"--window-size={LAMP * (face.width + 1)},{LAMP * (face.height + 1)}", f"--screenshot={png}", page.as_uri()],
+    size = f"{LAMP * (face.width + 1)},{LAMP * (face.height + 1)}"
+    subprocess.run(["chromium", "--headless", "--no-sandbox", "--disable-gpu", "--hide-scrollbars",
+                    "--force-device-scale-factor=1", f"--window-size={size}", f"--screenshot={png}", page.as_uri()],
                    check=True, capture_output=True, timeout=120)
     page.unlink()
     return png

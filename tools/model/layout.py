@@ -134,7 +134,8 @@ class Page:
 
 
 class Layout:
-    """A text that is laid out item by item, under the defaults handed in. `take` answers the code of a fault, or None."""
+    """A text that is laid out item by item, under the defaults handed in. `take` answers the code of a fault, or
+    None."""
 
     def __init__(self, face: Face, defaults: Sequence[int]) -> None:
         self.face, self.defaults = face, defaults

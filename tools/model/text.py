@@ -189,7 +189,8 @@ def event(words: list[bytes], swapped: bool) -> Event:
     if kind == "publish":
         memory, row, text, owner, beacon, pixel, run, minutes, priority, by = wants(words, b"publish", 10)
         return kind, (number(memory, 0, 255), number(row), octets(text), octets(owner), number(beacon, 0, 255),
-                      number(pixel, 0, 255), number(run, 0, 255), number(minutes), number(priority, 0, 255), address(by))
+                      number(pixel, 0, 255), number(run, 0, 255), number(minutes), number(priority, 0, 255),
+                      address(by))
     if kind == "blank":
         row, minutes, priority, by = wants(words, b"blank", 4)
         return kind, (number(row), number(minutes), number(priority, 0, 255), address(by))
