@@ -19,7 +19,8 @@ struct journal {
     int heard;            /* the silence is over since the last second */
     char *owed;           /* lines that wait for the next record */
     size_t owed_size, owed_room;
-    size_t owed_ticks;    /* where the last of them that counts seconds begins; SIZE_MAX where more than a clock follows */
+    size_t owed_ticks;    /* where the last of them that counts seconds begins; SIZE_MAX where more than a clock
+                             follows */
 };
 
 /* What the time without a process was: told by the boot's id, a loss of power, or seconds. */

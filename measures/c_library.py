@@ -45,7 +45,9 @@ def column(number: int, row: tuple[int, int] = ROW) -> tuple[int, ...]:
     return (*SIGN, 5, 8, 1, number, *row)
 
 
-def request(kind: int, name: tuple[int, ...], value: tuple[int, object] = (wire.NULL, b""), community: bytes = b"") -> bytes:
+def request(
+    kind: int, name: tuple[int, ...], value: tuple[int, object] = (wire.NULL, b""), community: bytes = b""
+) -> bytes:
     """A request of one binding."""
     community = community or (b"administrator" if kind == wire.SET else b"public")
     return wire.written(wire.Message(kind, community, 1, 0, 0, [(name, value)]))
@@ -111,7 +113,8 @@ def compiled(folder: pathlib.Path, library: pathlib.Path) -> None:
     measures = TOP / "measures"
     subprocess.run([*cc, "-o", folder / "speed", measures / "c_speed.c", library, "-lpthread"], check=True)
     subprocess.run([*cc, "-o", folder / "requests", measures / "c_requests.c"], check=True)
-    subprocess.run(["make", "-s", f"LIBRARY={library}", f"OUT={folder}", folder / "signd"], cwd=TOP / "examples", check=True)
+    make = ["make", "-s", f"LIBRARY={library}", f"OUT={folder}", str(folder / "signd")]
+    subprocess.run(make, cwd=TOP / "examples", check=True)
 
 
 def calls(folder: pathlib.Path, library: pathlib.Path) -> None:

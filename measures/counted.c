@@ -1,4 +1,5 @@
-/* Marks for callgrind, between which it counts: nothing, where valgrind's header is not there or valgrind does not run. */
+/* Marks for callgrind, between which it counts: nothing, where valgrind's header is not there or valgrind does not
+ * run. */
 #if __has_include(<valgrind/callgrind.h>)
 #include <valgrind/callgrind.h>
 #else

@@ -11,7 +11,8 @@ u_char *snmp_comstr_parse(u_char *, size_t *, u_char *, size_t *, long *);
 enum { RUNS = 400, MOST_OCTETS = 1472 };
 static const double RUN_NANOSECONDS = 1e6;
 
-// Reads the opening and the community, and then the PDU with its bindings, as Net-SNMP does for a datagram that it received.
+// Reads the opening and the community, and then the PDU with its bindings, as Net-SNMP does for a datagram that it
+// received.
 static int parse(u_char *datagram, size_t size) {
     u_char community[256];
     size_t community_size = sizeof community;

@@ -14,7 +14,12 @@ from .ber_forms import BAD_TAGS, of_kind, raw, whole_changed
 from .block import Block, Chapter
 
 INSIDE = ("message", "pdu", "list", "binding")
-WRITE: dict[str, object] = {"kind": wire.SET, "name": wire.name_content(scalar(4, 8)), "value": b"\7", "tag": wire.INTEGER}
+WRITE: dict[str, object] = {
+    "kind": wire.SET,
+    "name": wire.name_content(scalar(4, 8)),
+    "value": b"\7",
+    "tag": wire.INTEGER,
+}
 FITTING = {
     "message": (0x30,),
     "version": (0x02,),

@@ -152,7 +152,8 @@ def test_a_validation_that_the_sign_took_after_a_tick_is_no_difference() -> None
     assert session.beginning.begin()
     result = ChapterResult(ALL[0])
     session.results.chapters.append(result)
-    steps: list[Step] = [put(ROW.status(6)), put(ROW.status(7)), get(scalar(5, 2)), Wait(1), get(scalar(5, 2), ROW.cell(9))]
+    steps: list[Step] = [put(ROW.status(6)), put(ROW.status(7)), get(scalar(5, 2)), Wait(1)]
+    steps.append(get(scalar(5, 2), ROW.cell(9)))
     session.known.reach_or_end()
     session.pair.clock.sleep_until(session.pair.ticks.upcoming() - 0.1)
     session.block(result, Block("a validation at a tick", "settled", steps), [])

@@ -39,7 +39,8 @@ def run(trial: Trial) -> None:
 def shell(line: str, call: list[str]) -> subprocess.Popen[bytes]:
     """A call that a shell makes with other standard files."""
     pipe = subprocess.PIPE
-    return subprocess.Popen(["sh", "-c", line, "sh", *call], stdin=subprocess.DEVNULL, stdout=pipe, stderr=pipe, process_group=0)
+    words = ["sh", "-c", line, "sh", *call]
+    return subprocess.Popen(words, stdin=subprocess.DEVNULL, stdout=pipe, stderr=pipe, process_group=0)
 
 
 def has_begun(path: pathlib.Path) -> bool:
