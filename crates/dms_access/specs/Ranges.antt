@@ -1,8 +1,8 @@
--- The ranges of the settings of a sign (NTCIP 1203, multiCfg).
+-- That each default is an octet (this profile); its range is that of `fit` in dms_face.
 use Rattle.std.specs.Prelude.{◌≤◌}
 use Rattle.dms_face.specs.declared.defaults.Defaults.{Defaults}
 
--- each default is an octet (NTCIP 1203, multiCfg)
+-- each default is an octet
 pub record AreDefaultsInRange (defaults : Defaults) : Type 0 where
   pub background : defaults.background ≤ 255
   pub foreground : defaults.foreground ≤ 255

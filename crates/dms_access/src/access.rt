@@ -17,17 +17,24 @@ use dms_wire::Value;
 /// What a binding writes. The last three are commands.
 #[derive(Clone, Copy, Debug, PartialEq, Eq)]
 pub enum Change<'a> {
+    /// The number of an object that is a setting.
+    /// The number of an object that is a setting.
     Number(Scalar, u16),
     /// The code of a message that the sign activates by itself.
     Code(Scalar, [u8; 5]),
+    /// A field of a row.
     Field(RowId, Field<'a>),
+    /// What is asked of a row (dmsMessageStatus).
     Ask(RowId, Ask),
+    /// The code of the message that is to be shown (dmsActivateMessage).
     Activate([u8; 12]),
     /// Minutes.
     Remaining(u16),
 }
 
 impl<'a> Change<'a> {
+    /// Whether it is a command, which assigns no value.
+    /// Whether it is a command, which assigns no value.
     pub fn is_command(&self) -> bool
         ensures { result ≡ is_command (write_by self.now) }
     {

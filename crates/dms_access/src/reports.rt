@@ -9,7 +9,7 @@ use dms_codes::ValidationError;
 use dms_face::MultiFault;
 use dms_table::{Cause, Verdict};
 
-/// None, as the error of an activation and that of a text: `Cause` and `FaultCode` have what is wrong alone.
+/// "none" of dmsActivateMsgError and dmsMultiSyntaxError: what is reported where nothing is wrong.
 const NO_ERROR: u8 = 2;
 
 /// Errors by the numbers of their objects; codes are the twelve octets that came (MessageActivationCode).

@@ -8,7 +8,7 @@ pub mod ObjectIdentifier
 pub mod NameOrder
 pub mod NameText
 pub mod FaultText
--- What only proofs go through: reading as functions on lists, which the code mirrors.
+-- Reading from the beginning, which finds the first fault: what the calls say of themselves.
 pub mod NameReading
 pub mod NameWalk
 pub mod Reading

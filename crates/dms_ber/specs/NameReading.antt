@@ -1,4 +1,4 @@
--- Reading an object identifier's content octet by octet, on lists.
+-- Reading an object identifier's content octet by octet, on lists (X.690, 8.19).
 use Rattle.std.specs.Prelude.{ℕ, ◌+◌, ◌*◌, ◌%◌, ◌^◌, Bool, false, ◌&&◌, ◌||◌, nat_lt, nat_le}
 use Rattle.std.specs.Prelude.{◌==◌, List, [], ◌∷◌, Option, Some, None, if◌then◌else◌}
 use Rattle.std.specs.Option.{option_map_or}

@@ -1,4 +1,4 @@
--- The walk of an object identifier's numbers over its content.
+-- The walk of an object identifier's numbers over its content (X.690, 8.19).
 use Rattle.std.specs.Prelude.{ℕ, ◌+◌, ◌*◌, ◌%◌, ◌^◌, Bool, true, ◌&&◌, nat_lt}
 use Rattle.std.specs.Prelude.{List, [], ◌∷◌, ◌++◌, Option, if◌then◌else◌}
 use Rattle.std.specs.Option.{option_to_list}

@@ -1,4 +1,5 @@
--- Reading elements on lists, from left to right: what is found and the octets after it, or the first fault.
+-- Reading elements on lists, from left to right: what is found and the octets after it, or the first fault (X.690,
+-- 8.1).
 use Rattle.std.specs.Prelude.{◌≡◌, ℕ, ℤ, pos, ◌-◌, nat_lt, ◌==◌, List, [], ◌∷◌, length, take, drop}
 use Rattle.std.specs.Prelude.{Option, Some, None, ok_or, option_and_then, Result, Ok, Err, if◌then◌else◌}
 use Rattle.std.specs.Int.Digits.{number_from_digits}

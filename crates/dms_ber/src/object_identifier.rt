@@ -307,7 +307,7 @@ pub fn is_name(octets: &[u8]) -> bool
     }
 }
 
-/// The octets after those of dms, which eight octets of ten are compared with as one number.
+/// The octets after the ten of dms, of which the first eight are compared as one number.
 #[inline(always)]
 fn below_dms(octets: &[u8]) -> Option<&[u8]>
     ensures { IfSome result (λ rest. octets.now ≡ 43 ∷ 6 ∷ 1 ∷ 4 ∷ 1 ∷ 137 ∷ 54 ∷ 4 ∷ 2 ∷ 3 ∷ rest.now) }

@@ -1,4 +1,4 @@
-//! Why a line of a description is refused, in words: a word of it, what it stands behind, or the sign that it ends.
+//! Why a line of a description is refused, in words: a word of it, the line that it follows, or the sign that it ends.
 //!
 //! ```
 //! assert!(rt; communities_cause(b"public", b"public") == Some(SignCause::SameCommunities));

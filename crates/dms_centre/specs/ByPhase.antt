@@ -1,5 +1,5 @@
 -- The moves of Sending, Replies and Inputs as functions of a state and its phase, whatever the phase is: where the
--- phase cannot be, nothing happens.
+-- phase cannot be, nothing happens (this profile).
 use Rattle.std.specs.Prelude.{ℕ, ℤ, Bool, true, false, List, []}
 use Rattle.dms_wire.specs.Message.{VarBind, SnmpMessage}
 use Rattle.dms_requests.specs.declared.step.Step.{Step}

@@ -1,4 +1,4 @@
--- The central system under one input after another, with all that it sent.
+-- The central system under one input after another, with all that it sent (this profile).
 use Rattle.std.specs.Prelude.{ℕ, List, [], ◌∷◌, ◌++◌, option_to_list}
 use Rattle.dms_requests.specs.Job.{SettingsModel}
 use Rattle.dms_centre.specs.State.{CentreState, start}

@@ -1,4 +1,4 @@
--- What holds of a central system between its calls.
+-- What holds of a central system between its calls (this profile).
 use Rattle.std.specs.Prelude.{ℕ, ◌<◌, ◌≤◌, List, length, All}
 use Rattle.dms_centre.specs.State.{CentreState, Pending, Phase, Idle, Awaits, Due, Entry}
 use Rattle.dms_centre.specs.Replies.{most_polls}

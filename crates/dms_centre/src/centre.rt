@@ -34,7 +34,7 @@ use std::marker::Model;
 /// The most octets of a community.
 const MAX_COMMUNITY: usize = 32;
 
-/// The last number that a request can have (RFC 1157, 4.1.1).
+/// The last number that a request can have (this profile).
 const LAST_NUMBER: u32 = 2_147_483_647;
 
 /// The central system of one sign.
@@ -231,7 +231,7 @@ impl Centre {
         self.order
     }
 
-    /// The first reason to refuse a command, want of memory aside.
+    /// The first reason to refuse a command, other than out of memory.
     pub fn refusal(&self, command: &Command<'_>) -> Option<CommandFault>
         ensures { result ≡ refusal_of self.now.state (command_model command.now) }
     {

@@ -1,4 +1,4 @@
--- What becomes of the ledger, whatever comes in.
+-- What becomes of the ledger, whatever comes in (this profile).
 use Rattle.std.specs.Prelude.{◌≡◌, ℕ, ◌<◌, ◌⊎◌, pos, List, length, Some, None, slice_get, take}
 use Rattle.dms_wire.specs.declared.message.Kind.TheVariants.{Response}
 use Rattle.dms_wire.specs.Message.{SnmpMessage}

@@ -1,4 +1,4 @@
--- What the central system keeps up so that numbers are used once.
+-- What the central system keeps up so that numbers are used once (this profile).
 use Rattle.std.specs.Prelude.{◌≡◌, ℕ, ◌+◌, ◌≤◌, List, count_by, Some, slice_get, option_to_list, ◌++◌}
 use Rattle.dms_requests.specs.Job.{SettingsModel}
 use Rattle.dms_centre.specs.State.{Pending, Phase, Idle, Awaits, Due}

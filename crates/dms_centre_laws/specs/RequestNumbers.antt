@@ -1,4 +1,5 @@
--- What holds of the numbers of requests, whatever comes in: commands, datagrams of anyone, ticks and restarts.
+-- What holds of the numbers of requests, whatever comes in: commands, datagrams of anyone, ticks and restarts (this
+-- profile).
 use Rattle.std.specs.Prelude.{◌≡◌, ℕ, ◌+◌, ◌<◌, ◌≤◌, pos, Bool, false, List, count_by, Option, Some, None, slice_get}
 use Rattle.std.specs.Ordering.{int_eq}
 use Rattle.dms_wire.specs.Message.{SnmpMessage}

@@ -1,4 +1,4 @@
--- A register of sixteen bits in place of the bits that a division has still to add.
+-- A register of sixteen bits in place of the bits that a division has still to add (ISO/IEC 3309).
 use Rattle.std.specs.Prelude.{◌≡◌, ℕ, Bool, List, ◌++◌, length}
 use Rattle.dms_codes.specs.Checksum.{low_bits, add, divided}
 

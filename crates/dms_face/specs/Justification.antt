@@ -8,11 +8,11 @@ use Rattle.dms_face.specs.declared.justification.Part.TheVariants.{Top, Middle, 
 use Rattle.dms_face.specs.declared.justification.Place.{Place}
 use Rattle.dms_face.specs.declared.justification.Place.TheVariants.{Start, Halfway, End}
 
--- left 2, centre 3, right 4
+-- left 2, centre 3; 4 and every other number is right
 abbrev pub side_of : ℕ → Side
 side_of number = if number == 2 then Left else if number == 3 then Centre else Right
 
--- top 2, middle 3, bottom 4
+-- top 2, middle 3; 4 and every other number is bottom
 abbrev pub part_of : ℕ → Part
 part_of number = if number == 2 then Top else if number == 3 then Middle else Bottom
 

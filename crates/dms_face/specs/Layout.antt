@@ -33,9 +33,11 @@ pub record Style : Type 0 where
   pub on : ℕ
   pub off : ℕ
 
+-- stands where a face has no default font
 abbrev pub no_font : FontModel
 no_font = record { number = 0; height = 0; character_spacing = 0; line_spacing = 0; version = 0; glyphs = [] }
 
+-- the style before the first item: the defaults
 abbrev pub first_style : FaceModel → Style
 first_style face = record {
   font = unwrap_or (font_of face face.defaults.font) no_font;
@@ -70,6 +72,7 @@ styled face style _ = style
 
 -- ---- pages of lines of characters
 
+-- a character and its style
 pub record Character : Type 0 where
   pub glyph : GlyphModel
   pub style : Style
@@ -81,6 +84,7 @@ pub record Line : Type 0 where
   pub font : FontModel
   pub gap : Option ℕ
 
+-- a page: its lines, its background and its times
 pub record PageModel : Type 0 where
   pub lines : List Line
   pub background : ℕ

@@ -1,5 +1,5 @@
 -- One walk over the items of a text: whether a prefix of one turn more fits is known by the open line and the open page
--- alone.
+-- alone (this profile).
 use Rattle.std.specs.Prelude.{ℕ, ◌+◌, ◌&&◌, Bool, if◌then◌else◌, List, [], ◌∷◌, ◌++◌, length}
 use Rattle.std.specs.Prelude.{map, Option, Some, None, unwrap_or, nat_le, Result, Ok, Err}
 use Rattle.dms_multi.specs.declared.item.Item.TheVariants.{Char, JustPage, NewLine, NewPage}

@@ -1,4 +1,4 @@
--- What running sums say of the blocks that they were made of, and of a layout.
+-- What running sums say of the blocks that they were made of, and of a layout (this profile).
 use Rattle.std.specs.Prelude.{◌≡◌, ℕ, ◌≤◌, true, not, List, [], ◌∷◌, map, fold, max, length, Option, IfNone}
 use Rattle.dms_face.specs.declared.justification.Place.TheVariants.{Start, Halfway, End}
 use Rattle.dms_face.specs.declared.multi_fault.MultiFaultCode.{MultiFaultCode}

@@ -18,7 +18,7 @@ impl FaceFault {
     ghost use Rattle.std.specs.Prelude.{◌≡◌};
     ghost use Rattle.dms_face.specs.Fault.{fault_number};
 
-    /// The fault's number.
+    /// The number that stands for it, 1 to 3 (this profile).
     pub fn number(self) -> u8
         ensures { result ≡ fault_number self }
     {

@@ -37,7 +37,7 @@ pub enum Place {
 }
 
 impl Side {
-    /// The side that a number of the markup names: 2 left, 3 centre, 4 right.
+    /// The side that a number of the markup names: 2 left, 3 centre; 4 and every other number is right.
     pub fn of_number(number: u8) -> Side
         ensures { result ≡ side_of number }
     {
@@ -61,7 +61,7 @@ impl Side {
 }
 
 impl Part {
-    /// The part that a number of the markup names: 2 top, 3 middle, 4 bottom.
+    /// The part that a number of the markup names: 2 top, 3 middle; 4 and every other number is bottom.
     pub fn of_number(number: u8) -> Part
         ensures { result ≡ part_of number }
     {

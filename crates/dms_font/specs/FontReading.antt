@@ -1,4 +1,4 @@
--- Reading a font from the beginning of its text: the font, or the first fault and its line.
+-- Reading a font from the beginning of its text: the font, or the first fault and its line (this profile).
 use Rattle.std.specs.Prelude.{ℕ, ◌+◌, ◌*◌, ◌/◌, ◌==◌, Bool, if◌then◌else◌, List, [], ◌∷◌, ◌++◌}
 use Rattle.std.specs.Prelude.{length, codes, nat_le, Option, Some, None, Result, Ok, Err}
 use Rattle.dms_text.specs.Lines.{NumberedLine, TextLeft, lines_left, number_after}

@@ -1,4 +1,4 @@
--- What the code's answers are, where memory does not fail.
+-- What the code's answers are, where memory does not fail (this profile).
 use Rattle.std.specs.Prelude.{◌≡◌, ◌⊎◌, Result, Ok, Err}
 use Rattle.dms_font.specs.declared.fault.FontFault.{FontFault}
 use Rattle.dms_font.specs.declared.fault.FontFaultKind.{FontFaultKind}

@@ -24,7 +24,7 @@ impl FontFaultKind {
     ghost use Rattle.std.specs.Prelude.{◌≡◌};
     ghost use Rattle.dms_font.specs.Fault.{kind_number};
 
-    /// The kind's number.
+    /// The number that stands for it, 1 to 6 (this profile).
     pub fn number(self) -> u8
         ensures { result ≡ kind_number self }
     {

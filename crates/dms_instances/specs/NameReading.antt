@@ -36,7 +36,7 @@ abbrev pub scalar_at : (group number : ℕ) → Option Scalar
 scalar_at group number =
     find (λ object. ((scalar_number object).0 == group) && ((scalar_number object).1 == number)) scalars
 
--- the octets of the numbers of a name behind its first two (X.690, 8.19)
+-- the octets of the numbers of a name after its first two (X.690, 8.19)
 abbrev pub octets_below : List ℕ → List ℕ
 octets_below numbers = flat_map sub_identifier_octets numbers
 

@@ -11,7 +11,7 @@ ghost use Rattle.dms_instances.specs.NameReading.{column_at, scalar_at, octets_b
 use dms_codes::RowId;
 use dms_objects::{Column, Instance, Scalar};
 
-/// The first octets of all names.
+/// The first eight of the ten octets with which the name of each object begins.
 const ABOVE_DMS: [u8; 8] = [43, 6, 1, 4, 1, 137, 54, 4];
 
 /// The instance whose name has these content octets, where it is an object's, or a cell's of a row of at most 255.
@@ -121,7 +121,7 @@ fn vms_object(number: u8) -> Option<Scalar>
     }
 }
 
-/// That in multiCfg, group 4.
+/// The object of this number in multiCfg, group 4.
 #[inline]
 fn multi_object(number: u8) -> Option<Scalar>
     ensures named { IfSome result (λ s. scalar_number s ≡ (4, number)) }
@@ -142,7 +142,7 @@ fn multi_object(number: u8) -> Option<Scalar>
     }
 }
 
-/// That in dmsMessage, group 5.
+/// The object of this number in dmsMessage, group 5.
 #[inline]
 fn message_object(number: u8) -> Option<Scalar>
     ensures named { IfSome result (λ s. scalar_number s ≡ (5, number)) }
@@ -161,7 +161,7 @@ fn message_object(number: u8) -> Option<Scalar>
     }
 }
 
-/// That in signControl, group 6.
+/// The object of this number in signControl, group 6.
 #[inline]
 fn control_object(number: u8) -> Option<Scalar>
     ensures named { IfSome result (λ s. scalar_number s ≡ (6, number)) }
@@ -218,7 +218,7 @@ pub(crate) fn last_object(group: u8) -> u8
     }
 }
 
-/// The first octet and those behind it.
+/// The first octet and those after it.
 #[inline(always)]
 pub(crate) fn first_octet(octets: &[u8]) -> Option<(u8, &[u8])>
     ensures some { IfSome result (λ x. octets.now ≡ x.0 ∷ x.1.now) }

@@ -5,7 +5,7 @@ pub mod Grammar
 pub mod Canonical
 pub mod Fault
 pub mod FaultTexts
--- reading from the beginning, as the code reads; the laws of `laws` join it to the grammar
+-- reading from the beginning, which the calls say of themselves; the laws of `laws` join it to the grammar
 pub mod Outcomes
 pub mod Reading
 pub mod TagReading

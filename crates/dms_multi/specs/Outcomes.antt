@@ -1,4 +1,4 @@
--- What a text is read as: its spots from the beginning, and at most one fault after them.
+-- What a text is read as: its spots from the beginning, and at most one fault after them (NTCIP 1203, MULTI).
 use Rattle.std.specs.Prelude.{ℕ, zero, suc, ◌-◌, List, [], ◌∷◌, length, Option, Some, None, Result, Ok, Err}
 use Rattle.dms_multi.specs.declared.fault.FaultCode.{FaultCode}
 use Rattle.dms_multi.specs.declared.fault.SyntaxFault.{SyntaxFault}

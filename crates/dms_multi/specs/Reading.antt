@@ -1,4 +1,5 @@
--- Reading a text from its beginning: the next item and what follows it, or the code of the fault that stands there.
+-- Reading a text from its beginning: the next item and what follows it, or the code of the fault that stands there
+-- (NTCIP 1203, MULTI).
 use Rattle.std.specs.Prelude.{ℕ, ◌+◌, ◌==◌, Bool, List, [], ◌∷◌, take, drop, position}
 use Rattle.std.specs.Prelude.{Option, Some, None, option_map, option_and_then}
 use Rattle.std.specs.Char.{to_ascii_lowercase}

@@ -1,4 +1,4 @@
--- Reading items: the item that a tag's body spells, and the item at the beginning of a text.
+-- Reading items: the item that a tag's body spells, and the item at the beginning of a text (NTCIP 1203, MULTI).
 use Rattle.std.specs.Prelude.{◌≡◌, ℕ, ◌==◌, ◌&&◌, if◌then◌else◌, List, [], ◌∷◌}
 use Rattle.std.specs.Prelude.{Option, Some, None, Result, Ok, Err, option_map, ok_or}
 use Rattle.std.specs.Char.{to_ascii_lowercase}

@@ -1,4 +1,4 @@
--- What holds of the table of objects.
+-- What holds of the table of objects (NTCIP 1203).
 use Rattle.std.specs.Prelude.{◌≡◌, ℕ, ◌&&◌, Bool, true, List, [], ◌∷◌, map, Some, slice_get}
 use Rattle.std.specs.Ordering.{is_lt}
 use Rattle.dms_ber.specs.NameOrder.{numbers_cmp}

@@ -1,4 +1,4 @@
--- What cells show while the characters of a page are drawn one by one.
+-- What cells show while the characters of a page are drawn one by one (this profile).
 use Rattle.std.specs.Prelude.{◌≡◌, ℕ, ◌+◌, ◌-◌, ◌/◌, ◌%◌, ◌==◌, ◌<◌, ◌&&◌, Bool, true}
 use Rattle.std.specs.Prelude.{if◌then◌else◌, List, length, slice_index_or, nat_lt, nat_le}
 use Rattle.std.specs.List.{find, flat_map}

@@ -1,4 +1,4 @@
--- Cells as the numbers of their styles.
+-- Cells as the numbers of their styles (this profile).
 use Rattle.std.specs.Prelude.{◌≡◌, ℕ, ◌<◌, Bool, true, false, List, length, slice_index_or}
 use Rattle.dms_face.specs.declared.cell.Cell.{Cell}
 use Rattle.dms_pages.specs.Drawn.{unlit}

@@ -1,4 +1,4 @@
--- What the code keeps of a text's items, as the definitions have it.
+-- What the code keeps of a text's items, as the definitions have it (this profile).
 use Rattle.dms_pages.specs.declared.text_layout.Styling.{Styling}
 use Rattle.dms_face.specs.Layout.{Style}
 

@@ -101,8 +101,8 @@ fn laid_out<'a>(
     Ok(layout.into_pages())
 }
 
-/// The pages of a text of any length, as lines of characters, or its fault. Where memory ends, the walk has not seen
-/// the rest of the text, in which a fault may stand: a fault comes before want of memory.
+/// The pages of a text of any length, as lines of characters, or its fault. A walk that runs out of memory has not read
+/// the rest of the text: a fault there is reported before out of memory.
 fn laid_text<'a>(
     alloc: Global,
     face: &'a Face,

@@ -1,4 +1,4 @@
--- The requests that go out, and what their values have to be for it.
+-- The requests that go out, and what their values have to be for it (RFC 1157, 4.1).
 use Rattle.std.specs.Prelude.{◌≡◌, ℕ, ◌≤◌, true, List, length, Some}
 use Rattle.std.specs.Int.Digits.{AllBelowBase}
 use Rattle.dms_wire.specs.MessageOf.{message_of}

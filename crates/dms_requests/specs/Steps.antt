@@ -102,7 +102,7 @@ kind_of Comparing = Get
 kind_of Activating = Set
 kind_of Explaining = Get
 
--- request numbers end here
+-- the last number that a request can have (this profile)
 abbrev pub last_number : ℕ
 last_number = 2147483647
 

@@ -1,4 +1,4 @@
--- Under which defaults the text of each valid row is good.
+-- Under which defaults the text of each valid row is good (this profile).
 use Rattle.std.specs.Prelude.{ℕ, ◌+◌, ◌-◌, ◌<◌, Option, Some, None, get_or, set, replicate}
 use Rattle.dms_face.specs.declared.defaults.Defaults.{Defaults}
 use Rattle.dms_face.specs.Face.{FaceModel}

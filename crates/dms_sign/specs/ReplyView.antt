@@ -1,5 +1,5 @@
 -- What the code sends and answers; only proofs go through these, but for `sent` and `accepted_by`, which say what a
--- receipt is.
+-- receipt is (this profile).
 use Rattle.std.specs.Prelude.{ℕ, ◌&&◌, ◌||◌, Bool, List, length, nat_le, Option, Some, None, if◌then◌else◌, ⊤}
 use Rattle.dms_wire.specs.declared.message.Kind.{Kind}
 use Rattle.dms_wire.specs.declared.message.Kind.TheVariants.{Get, GetNext, Response, Set}

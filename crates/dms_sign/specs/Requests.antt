@@ -34,6 +34,7 @@ abbrev pub refused : SignState → List VarBind → ErrorStatus → ℕ → Answ
 refused s bindings status index =
     record { status = status; index = index; bindings = bindings; after = s; accepted = None }
 
+-- no error, and these bindings
 abbrev pub granted : SignState → List VarBind → Answer
 granted s bindings = record { status = NoError; index = 0; bindings = bindings; after = s; accepted = None }
 
@@ -44,21 +45,27 @@ abbrev pub found_unless : SignState → List VarBind → List VarBind → Option
 found_unless s bindings found None = granted s found
 found_unless s bindings found (Some index) = refused s bindings NoSuchName index
 
+-- no instance has this name
 abbrev pub has_no_value : SignState → VarBind → Bool
 has_no_value s binding = is_none (value_of s binding.name)
 
+-- the binding with the value that its name has
 abbrev pub with_value : SignState → VarBind → VarBind
 with_value s binding = record { name = binding.name; value = unwrap_or (value_of s binding.name) binding.value }
 
+-- a Get: each value, or noSuchName at the first name that has none (RFC 1157, 4.1.2)
 abbrev pub get : SignState → List VarBind → Answer
 get s bindings = found_unless s bindings (map (with_value s) bindings) (position_from (has_no_value s) 1 bindings)
 
+-- no instance comes after this name
 abbrev pub is_last : SignState → VarBind → Bool
 is_last s binding = is_none (value_after s binding.name)
 
+-- the binding of the instance that comes next
 abbrev pub next_after : SignState → VarBind → VarBind
 next_after s binding = unwrap_or (value_after s binding.name) binding
 
+-- a GetNext: what comes after each name, or noSuchName at the first that is the last (RFC 1157, 4.1.3)
 abbrev pub get_next : SignState → List VarBind → Answer
 get_next s bindings = found_unless s bindings (map (next_after s) bindings) (position_from (is_last s) 1 bindings)
 
@@ -68,6 +75,7 @@ get_next s bindings = found_unless s bindings (map (next_after s) bindings) (pos
 abbrev pub activated : SignState → List ℕ → ShownModel → SignState
 activated s octets shown = record (showing s shown) { reports = accepted_reports s.reports octets }
 
+-- the answer to a code that was decided on
 abbrev pub as_decided : SignState → SignState → List VarBind → ℕ → List ℕ → Result ShownModel Cause → Answer
 as_decided old new bindings index octets (Ok shown) = record {
   status = NoError;
@@ -79,6 +87,7 @@ as_decided old new bindings index octets (Ok shown) = record {
 as_decided old new bindings index octets (Err cause) =
     refused (with_refused_code old cause octets) bindings GenErr index
 
+-- the answer to what was asked of a row
 abbrev pub as_asked : SignState → SignState → List VarBind → ℕ → Option TableModel → Answer
 as_asked old new bindings index None = refused old bindings GenErr index
 as_asked old new bindings index (Some table) = granted (record new { table = table }) bindings
@@ -89,6 +98,7 @@ with_remaining s minutes =
     if minutes == 0 then put_up_code s s.fallbacks.end_duration end_duration_mode
     else showing s (record s.shown { remaining = seconds_of minutes })
 
+-- the answer to a command
 abbrev pub commanded : SignState → SignState → List VarBind → ℕ → Write → Answer
 commanded old new bindings index (AskRow id ask) = as_asked old new bindings index (asked new.table id ask)
 commanded old new bindings index (Activate octets) = as_decided old new bindings index octets
@@ -98,12 +108,14 @@ commanded old new bindings index (SetNumber object number) = granted new binding
 commanded old new bindings index (SetCode object octets) = granted new bindings
 commanded old new bindings index (SetField id field) = granted new bindings
 
+-- the answer to a SET that has a command, or none
 abbrev pub commanded_if : SignState → SignState → List VarBind → ℕ → Option Write → Answer
 commanded_if old new bindings index None = granted new bindings
 commanded_if old new bindings index (Some command) = commanded old new bindings index command
 
 -- ---- writing (RFC 1157, 4.1.5)
 
+-- what the bindings write
 abbrev pub writes_of : SignState → List VarBind → List Write
 writes_of s bindings = filter_map (write_at s) bindings
 
@@ -117,6 +129,7 @@ set_unless s bindings (cause ∷ more) = refused s bindings cause.status cause.i
 set_unless s bindings [] = commanded_if s (assigned s (writes_of s bindings)) bindings (command_index s bindings)
     (find is_command (writes_of s bindings))
 
+-- a SET (RFC 1157, 4.1.5)
 abbrev pub set : SignState → Bool → List VarBind → Answer
 set s may_write bindings = set_unless s bindings (causes s may_write bindings)
 

@@ -1,4 +1,4 @@
--- What the code answers to a SET; only proofs go through these.
+-- What the code answers to a SET; only proofs go through these (this profile).
 use Rattle.std.specs.Prelude.{◌≡◌, Bool, true, false, List, Option, None, Result, Ok, Err, ⊤}
 use Rattle.dms_wire.specs.Message.{VarBind}
 use Rattle.dms_wire.specs.declared.error_status.ErrorStatus.TheVariants.{NoError}

@@ -1,4 +1,4 @@
--- The state that the code's fields are.
+-- The state that the code's fields are (this profile).
 use Rattle.std.specs.Prelude.{◌≡◌}
 use Rattle.dms_codes.specs.Codes.{octets_of_id}
 use Rattle.dms_sign.specs.declared.sign.Sign.TheInside.{Inside}

@@ -11,7 +11,7 @@ use dms_table::{Place, Writable};
 pub(crate) struct KnownTexts {
     /// Those of the permanent rows, which are valid as the sign is made.
     first: Defaults,
-    /// Those of the rows that can be changed: of the changeable ones, at most 64, and behind them of the volatile ones.
+    /// Those of the rows that can be changed: of the changeable ones, at most 64, and after them of the volatile ones.
     rows: [Defaults; 80],
 }
 

@@ -228,7 +228,7 @@ impl Sign {
         self.reports = self.reports.with_refusal(cause, code);
     }
 
-    /// What is shown is what was shown at the loss of power.
+    /// Keeps what is shown, as what was shown at the loss of power.
     fn keep(&mut self)
         ensures { self.new ≡ record self.old { shown_at_power_loss = self.old.shown } }
     {

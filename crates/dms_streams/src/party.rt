@@ -4,7 +4,7 @@ ghost use Rattle.std.specs.Prelude.{◌≡◌, ℕ, List, IfOk, OnOk, OnErr};
 
 use std::alloc::{AllocError, Global};
 
-/// A party to a conversation: it answers a line, and may be another after it.
+/// A party to a conversation: it answers a line, and its state may be another afterwards.
 pub trait Party {
     // What its answers depend on.
     ghost State: { Type 0 };

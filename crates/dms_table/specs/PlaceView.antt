@@ -1,4 +1,4 @@
--- The rows that can be changed, and where the one stands that is being validated.
+-- The rows that can be changed, and where the one stands that is being validated (this profile).
 use Rattle.std.specs.Prelude.{◌≡◌, ℕ, ◌+◌, true, if◌then◌else◌}
 use Rattle.std.specs.Prelude.{List, Option, Some, None, option_map, slice_get, count_by}
 use Rattle.dms_codes.specs.declared.status.Ask.{Ask}

@@ -18,6 +18,7 @@ use Rattle.dms_codes.specs.Status.{next_status, is_not_used, is_modifying, is_va
 
 -- ---- rows
 
+-- a row of dmsMessageTable
 pub record RowModel : Type 0 where
   pub text : List ℕ
   pub owner : List ℕ
@@ -73,6 +74,7 @@ pub record RowReading : Type 0 where
   pub row : RowModel
   pub checksum : ℕ
 
+-- the checksum of a row's text, beacon and pixel service
 abbrev pub row_checksum : RowModel → ℕ
 row_checksum row = message_checksum row.text row.beacon row.pixel
 
@@ -80,9 +82,11 @@ row_checksum row = message_checksum row.text row.beacon row.pixel
 abbrev pub reading : RowModel → RowReading
 reading row = record { row = row; checksum = if is_valid row.status then row_checksum row else 0 }
 
+-- a blank message as it is read
 abbrev pub blank_reading : RowModel → RowReading
 blank_reading row = record { row = row; checksum = 0 }
 
+-- what is read of the row of a name, where it is there
 abbrev pub row_read : TableModel → RowId → Option RowReading
 row_read table id =
     if id.memory == blank_memory then option_map blank_reading (blank_at id.number)
@@ -95,12 +99,13 @@ valid_count table memory = count_by (λ (row : RowModel). is_valid row.status) (
 abbrev pub unused_count : TableModel → ℕ → ℕ
 unused_count table memory = count_by (λ (row : RowModel). is_not_used row.status) (rows_of table memory)
 
+-- how many rows a type of memory has
 abbrev pub row_count : TableModel → ℕ → ℕ
 row_count table memory = length (rows_of table memory)
 
 -- ---- changing a row
 
--- the table with a row of it changed; changeable and volatile rows can be, and None is a refusal
+-- the rows with the one of a number changed; None where it is not there, or does not take the change
 abbrev pub changed_in : List RowModel → ℕ → (RowModel → Option RowModel) → Option (List RowModel)
 changed_in rows number change =
     option_and_then (λ row. option_map (slice_set rows (number - 1)) (change row)) (numbered rows number)
@@ -111,7 +116,7 @@ with_changeable table rows = record table { changeable = rows }
 abbrev pub with_volatile : TableModel → List RowModel → TableModel
 with_volatile table rows = record table { volatile = rows }
 
--- the table with a row of a type of memory changed
+-- the table with a row of a type of memory changed: changeable and volatile rows can be, and None is a refusal
 abbrev pub changed_by : TableModel → Option Memory → ℕ → (RowModel → Option RowModel) → Option TableModel
 changed_by table (Some Changeable) number change =
     option_map (with_changeable table) (changed_in table.changeable number change)
@@ -119,6 +124,7 @@ changed_by table (Some Volatile) number change =
     option_map (with_volatile table) (changed_in table.volatile number change)
 changed_by table memory number change = None
 
+-- the table with the row of a name changed
 abbrev pub changed : TableModel → RowId → (RowModel → Option RowModel) → Option TableModel
 changed table id change = changed_by table (memory_of id.memory) id.number change
 
@@ -129,13 +135,15 @@ abbrev pub with_status : RowModel → Status → RowModel
 with_status row NotUsed = unused
 with_status row status = record row { status = status }
 
+-- a row that was asked, where the table of statuses has the step
 abbrev pub asked_row : Ask → RowModel → Option RowModel
 asked_row ask row = option_map (with_status row) (next_status row.status ask)
 
+-- a row is being validated
 abbrev pub row_is_validating : RowModel → Bool
 row_is_validating row = is_validating row.status
 
--- a row is being validated
+-- one of the rows is being validated
 abbrev pub is_settling : TableModel → Bool
 is_settling table = list_any row_is_validating table.changeable || list_any row_is_validating table.volatile
 
@@ -157,6 +165,7 @@ pub data FieldModel : Type 0 where
   Pixel : ℕ → FieldModel
   Priority : ℕ → FieldModel
 
+-- the range of each field
 abbrev pub is_in_range : FieldModel → Bool
 is_in_range (Text octets) = nat_le (length octets) longest_text
 is_in_range (Owner octets) = nat_le (length octets) longest_owner
@@ -164,6 +173,7 @@ is_in_range (Beacon on) = nat_le on 1
 is_in_range (Pixel on) = nat_le on 1
 is_in_range (Priority priority) = nat_le 1 priority && nat_le priority 255
 
+-- the row with a field of this value
 abbrev pub with_field : RowModel → FieldModel → RowModel
 with_field row (Text octets) = record row { text = octets }
 with_field row (Owner octets) = record row { owner = octets }
@@ -185,6 +195,7 @@ written table id field = changed table id (written_row field)
 abbrev pub interrupted : RowModel → RowModel
 interrupted row = if row_is_validating row then record row { status = Modifying } else row
 
+-- a volatile row after a loss of power
 abbrev pub released : RowModel → RowModel
 released row = unused
 
@@ -197,6 +208,7 @@ after_power table = record table {
 
 -- ---- every table
 
+-- how many rows are being validated
 abbrev pub validating_count : TableModel → ℕ
 validating_count table = count_by row_is_validating table.changeable + count_by row_is_validating table.volatile
 

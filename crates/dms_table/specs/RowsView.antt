@@ -1,4 +1,4 @@
--- What the code's fields and views of rows are.
+-- What the code's fields and views of rows are (this profile).
 use Rattle.std.specs.Prelude.{◌≡◌, ◌≤◌, ℕ, List, length, true}
 use Rattle.dms_codes.specs.declared.status.Status.{Status}
 use Rattle.dms_codes.specs.Checksum.{message_checksum}

@@ -1,4 +1,4 @@
--- The checksum that what is shown keeps.
+-- The checksum that what is shown keeps (this profile).
 use Rattle.std.specs.Prelude.{◌≡◌, ◌==◌, ℕ, if◌then◌else◌, List, true}
 use Rattle.dms_codes.specs.Checksum.{message_checksum}
 use Rattle.dms_codes.specs.Memory.{blank_memory}

@@ -1,4 +1,4 @@
--- What messages are validated against, and what comes of it.
+-- What messages are validated against, and what comes of it (this profile).
 use Rattle.std.specs.Prelude.{◌≡◌, true}
 use Rattle.dms_face.specs.Face.{FaceModel}
 use Rattle.dms_face.specs.Layout.{under}

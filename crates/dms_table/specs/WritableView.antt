@@ -1,4 +1,4 @@
--- What the rows that can be changed end as, where those of a type of memory are lent.
+-- What the rows that can be changed end as, where those of a type of memory are lent (this profile).
 use Rattle.std.specs.Prelude.{List}
 use Rattle.std.specs.Borrow.{Lends, MutBor, Fml, Array}
 use Rattle.std.specs.Vec.{with_items}

@@ -87,7 +87,7 @@ impl Shown {
         }
     }
 
-    /// It stays, with this mode and without an end.
+    /// Keeps what is shown, in this mode and without an end.
     pub fn stay(&mut self, mode: Mode)
         ensures { self.new ≡ record self.old { mode = mode_number mode; remaining = None } }
     {
@@ -95,14 +95,14 @@ impl Shown {
         self.remain(None);
     }
 
-    /// This put it up (dmsMsgSourceMode).
+    /// Records what put the message up (dmsMsgSourceMode).
     pub fn set_mode(&mut self, mode: Mode)
         ensures { self.new ≡ record self.old { mode = mode_number mode } }
     {
         self.mode = mode.number();
     }
 
-    /// It has so many seconds left, or no end.
+    /// Sets the seconds that are left; none is without an end.
     pub fn remain(&mut self, remaining: Option<u32>)
         ensures { self.new ≡ record self.old { remaining = remaining } }
     {
@@ -161,7 +161,7 @@ impl Shown {
         self.checksum
     }
 
-    /// It stays, and is up again by this code.
+    /// Records the code that put the message up again: its mode, its address and its duration.
     pub(crate) fn renew(&mut self, code: &Activation)
         ensures { self.new ≡ record self.old {
           mode = mode_number Central;
@@ -174,7 +174,7 @@ impl Shown {
         self.remaining = seconds_of(code.minutes);
     }
 
-    /// This row is up in its place, by a code that names it.
+    /// Copies a row that a code names, and records the code.
     pub(crate) fn take(&mut self, code: &Activation, row: &RowView<'_>, defaults: &Defaults)
         requires short { IsShort row.now }
         requires stored { (code.now.id.memory == current_buffer) ≡ false }

@@ -162,7 +162,7 @@ impl TableFault {
     ghost use Rattle.std.specs.Prelude.{◌≡◌};
     ghost use Rattle.dms_table.specs.Stock.{fault_number};
 
-    /// The fault's number.
+    /// The number that stands for it, 1 to 3 (this profile).
     pub fn number(self) -> u8
         ensures { result ≡ fault_number self }
     {

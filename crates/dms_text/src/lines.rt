@@ -1,4 +1,4 @@
-//! A text as lines: each ends at a newline, before which one carriage return is dropped; the last may want its newline.
+//! A text as lines: each ends at a newline, before which one carriage return is dropped; the last may lack its newline.
 //! Empty lines, and lines that begin with `#`, are skipped.
 
 ghost use Rattle.std.specs.Prelude.{◌≡◌, ◌+◌, ◌^◌, ◌<◌, ◌∷◌, [], length, IfSome, IfNone};

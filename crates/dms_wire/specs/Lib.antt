@@ -8,8 +8,9 @@ pub mod Response
 pub mod Written
 -- The message that octets spell, as a function: the laws say that it is the one that they spell.
 pub mod MessageOf
--- What only proofs go through: reading as functions on lists, which the code mirrors, and what the code's types say.
+-- Reading from the beginning, which finds the first fault: what the calls say of themselves. Laws join it to Spelling.
 pub mod Reading
+-- What only proofs go through, and what the code's types say.
 pub mod Walk
 pub mod Prefix
 pub mod View

@@ -1,4 +1,4 @@
--- The message that octets spell, where they spell one: it can be computed.
+-- The message that octets spell, where they spell one: it can be computed (RFC 1157, 4.1).
 use Rattle.std.specs.Prelude.{ℕ, Bool, nat_lt, List, Option, None, if◌then◌else◌}
 use Rattle.std.specs.List.{list_all}
 use Rattle.std.specs.Result.{result_ok}

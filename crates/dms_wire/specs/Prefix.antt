@@ -1,4 +1,4 @@
--- The octets of a message before those of its bindings, of which there are `size`.
+-- The octets of a message before those of its bindings, of which there are `size` (RFC 1157, 4.1).
 use Rattle.std.specs.Prelude.{ℕ, ◌+◌, List, [], ◌∷◌, ◌++◌, length}
 use Rattle.dms_wire.specs.Message.{SnmpMessage}
 use Rattle.dms_wire.specs.Spelling.{tag_of}

@@ -1,5 +1,5 @@
 -- Reading on lists, from left to right, with the first fault that is met. The laws that join it to Spelling stand in
--- proofs/.
+-- proofs/ (RFC 1157, 4.1).
 use Rattle.std.specs.Prelude.{ℕ, ℤ, pos, negsuc, zero, suc, ◌+◌, ◌-◌, Bool, false, nat_lt, nat_le}
 use Rattle.std.specs.Prelude.{◌==◌, ◌&&◌, List, [], ◌∷◌, length, take, drop, Option, Some, None}
 use Rattle.std.specs.Prelude.{ok_or, option_map, ◌||◌, Result, Ok, Err, if◌then◌else◌}

@@ -358,7 +358,7 @@ pub fn write_around(
 }
 
 /// Writes the Response to a message that was read, with this error-status and error-index, and with the bindings of the
-/// message (RFC 1157, 4.1.2: "identical to the message"), as `write` does.
+/// message (RFC 1157, 4.1.2 to 4.1.5: "of identical form"), as `write` does.
 pub fn write_response(
     message: &Message<'_>,
     status: ErrorStatus,

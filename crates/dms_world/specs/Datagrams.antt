@@ -20,7 +20,7 @@ datagrams_at octets places = map (octets_at octets) places
 abbrev pub IsWithin : ℕ → ℕ × ℕ → Type 0
 IsWithin count place = (place.0 ≤ place.1) × (place.1 ≤ count)
 
--- room for the most octets of a datagram behind so many, and for one place behind so many
+-- after so many octets and places there is room for the longest datagram and for one more place
 abbrev pub is_room : (octets most_octets places most_places : ℕ) → Bool
 is_room octets most_octets places most_places =
     nat_le (octets + longest_datagram) most_octets && nat_le (places + 1) most_places

@@ -6,7 +6,7 @@ use dms_wire::{MAX_DATAGRAM, Out};
 use std::alloc::{AllocError, Global};
 use std::marker::Model;
 
-/// Datagrams, the oldest first. Their octets stand in one list, one datagram behind another.
+/// Datagrams, the oldest first. Their octets stand in one list, one datagram after another.
 #[derive(Drop)]
 pub struct Datagrams {
     octets: Vec<u8>,

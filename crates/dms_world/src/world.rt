@@ -178,7 +178,7 @@ fn hand_to_centre(
     Ok(())
 }
 
-/// The operator gives the centre a command; one that is refused, but for want of memory, changes nothing.
+/// The operator gives the centre a command; one that is refused, other than out of memory, changes nothing.
 #[tactic(auto, unfolding(dms_centre::specs::Commands::commanded))]
 fn command_centre(
     centre: &mut Centre,

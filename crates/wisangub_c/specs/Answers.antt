@@ -24,7 +24,7 @@ no_memory = 3
 abbrev pub at_fault : ℕ
 at_fault = 4
 
--- the octets stand first in the buffer, and what was behind them stays
+-- the octets stand first in the buffer, and those after them stay
 abbrev pub put_first : List ℕ → List ℕ → List ℕ
 put_first octets buffer = octets ++ drop (length octets) buffer
 
