@@ -24,6 +24,18 @@ no_memory = 3
 abbrev pub at_fault : ℕ
 at_fault = 4
 
+-- a command is not taken: a job is not done yet
+abbrev pub busy : ℕ
+busy = 6
+
+-- a command is not taken: no request number is left
+abbrev pub numbers_used_up : ℕ
+numbers_used_up = 7
+
+-- a command is not taken: a value of it is out of its range
+abbrev pub out_of_range : ℕ
+out_of_range = 8
+
 -- the octets stand first in the buffer, and those after them stay
 abbrev pub put_first : List ℕ → List ℕ → List ℕ
 put_first octets buffer = octets ++ drop (length octets) buffer

@@ -19,7 +19,8 @@ use Rattle.dms_centre_lines.specs.CallReading.{or_command}
 use Rattle.wisangub_c.specs.declared.code_calls.CodeParts.{CodeParts}
 use Rattle.wisangub_c.specs.declared.centre_calls.LedgerEntry.{LedgerEntry}
 use Rattle.wisangub_c.specs.declared.centre_calls.CentreStatus.{CentreStatus}
-use Rattle.wisangub_c.specs.Answers.{done, no_memory, at_fault, answer_of, size_of, buffer_with}
+use Rattle.wisangub_c.specs.Answers.{done, no_memory, at_fault, busy, numbers_used_up, out_of_range}
+use Rattle.wisangub_c.specs.Answers.{answer_of, size_of, buffer_with}
 
 -- ---- making one
 
@@ -39,9 +40,9 @@ command_in state line = or_command None (command_of state.settings.order line)
 
 -- why a command is not taken
 abbrev pub refusal_answer : CommandFault → ℕ
-refusal_answer faults.Busy = 6
-refusal_answer faults.NumbersUsedUp = 7
-refusal_answer faults.BadCommand = 8
+refusal_answer faults.Busy = busy
+refusal_answer faults.NumbersUsedUp = numbers_used_up
+refusal_answer faults.BadCommand = out_of_range
 refusal_answer faults.Memory = no_memory
 
 abbrev pub given_command_answer : CentreState → CommandModel → Option CommandFault → ℕ

@@ -18,6 +18,15 @@ pub(crate) const NO_MEMORY: u32 = 3;
 /// What was given is at fault, and nothing is done.
 pub(crate) const AT_FAULT: u32 = 4;
 
+/// A command is not taken: a job is not done yet.
+pub(crate) const BUSY: u32 = 6;
+
+/// A command is not taken: no request number is left.
+pub(crate) const NUMBERS_USED_UP: u32 = 7;
+
+/// A command is not taken: a value of it is out of its range.
+pub(crate) const OUT_OF_RANGE: u32 = 8;
+
 /// Puts the octets first in a buffer that has room for them.
 pub(crate) fn put_first(octets: &[u8], buffer: &mut [u8])
     requires { length octets.now ≤ length buffer.old }

@@ -18,7 +18,10 @@ ghost use Rattle.wisangub_c.specs.Centre.{outcome_number, outcome_status, ledger
 ghost use Rattle.wisangub_c.specs.Centre.{ended_number, ended_step, ended_why, ended_value, why_number, why_value};
 ghost use Rattle.wisangub_c.specs.Centre.{busy_number, centre_status};
 
-use crate::answers::{AT_FAULT, DONE, NO_MEMORY, NOTHING_SENT, TOO_SMALL, put_first};
+use crate::answers::{
+    AT_FAULT, BUSY, DONE, NO_MEMORY, NOTHING_SENT, NUMBERS_USED_UP, OUT_OF_RANGE, TOO_SMALL,
+    put_first,
+};
 use crate::centre_handle::CentreHandle;
 use crate::centre_place::CentrePlace;
 use crate::code_calls::{CodeParts, order_of};
@@ -138,9 +141,9 @@ fn refusal_answer(fault: CommandFault) -> u32
     ensures { result ≡ refusal_answer fault }
 {
     match fault {
-        CommandFault::Busy => 6,
-        CommandFault::NumbersUsedUp => 7,
-        CommandFault::BadCommand => 8,
+        CommandFault::Busy => BUSY,
+        CommandFault::NumbersUsedUp => NUMBERS_USED_UP,
+        CommandFault::BadCommand => OUT_OF_RANGE,
         CommandFault::Memory => NO_MEMORY,
     }
 }
