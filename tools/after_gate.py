@@ -59,6 +59,9 @@ STEPS = (
     Step("control room", "python3 -m control.short --signtool {program}", 600),
     Step("house", "tools/house.py --check", 60),
     Step("table of objects", "tools/objects.py --check", 60),
+    Step("table of definitions", "tools/definitions.py --check", 60),
+    Step("worked rows", "tools/worked_rows.py --check", 60),
+    Step("vectors as made", "tools/make_vectors.py --check", 120),
 )
 
 
