@@ -11,6 +11,7 @@ use Rattle.dms_codes.specs.declared.status.Ask.{Ask}
 use Rattle.dms_codes.specs.declared.status.Ask.TheVariants as asks
 use Rattle.dms_table.specs.Rows.{FieldModel, Text, Owner, Beacon, Pixel, Priority}
 use Rattle.dms_codes.specs.Memory.{changeable_memory, volatile_memory}
+use Rattle.dms_codes.specs.Status.{ask_number}
 use Rattle.dms_objects.specs.declared.scalar.Scalar.{Scalar}
 use Rattle.dms_objects.specs.declared.scalar.Scalar.TheVariants.{DefaultFont, ActivateMessage, MessageTimeRemaining}
 use Rattle.dms_objects.specs.declared.objects.Syntax.{Syntax}
@@ -84,9 +85,12 @@ font_in face value =
     option_and_then (λ number. if has_font face.fonts number then Some number else None)
     (writable_number (scalar_row DefaultFont).syntax value)
 
--- What is asked of a row: modifyReq 6, validateReq 7, notUsedReq 8 (NTCIP 1203, dmsMessageStatus).
+-- what is asked of a row (NTCIP 1203, dmsMessageStatus)
 abbrev pub ask_of : ℕ → Ask
-ask_of number = if number == 6 then asks.Modify else if number == 7 then asks.Validate else asks.NotUsed
+ask_of number =
+    if number == ask_number asks.Modify then asks.Modify
+    else if number == ask_number asks.Validate then asks.Validate
+    else asks.NotUsed
 
 -- a setting: a code where the object has octets, a number where it has an integer
 abbrev pub setting_in : Syntax → Scalar → ObjectValue → Option Write

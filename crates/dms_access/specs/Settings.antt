@@ -10,18 +10,18 @@ use Rattle.dms_objects.specs.declared.scalar.Scalar.TheVariants.{DefaultJustific
 use Rattle.dms_objects.specs.declared.scalar.Scalar.TheVariants.{DefaultPageOffTime, ShortPowerLossTime, TimeCommLoss}
 use Rattle.dms_access.specs.declared.settings.Fallbacks.{Fallbacks}
 use Rattle.dms_access.specs.declared.settings.Settings.{Settings}
-use Rattle.dms_table.specs.Activation.{blank_code}
+use Rattle.dms_table.specs.Activation.{blank_octets}
 use Rattle.dms_access.specs.Access.{Write}
 use Rattle.dms_access.specs.Assignment.{given, number_for, code_for}
 
 -- each code is that of blank message 1
 abbrev pub first_fallbacks : Fallbacks
 first_fallbacks = record {
-  short_power_recovery = blank_code;
-  long_power_recovery = blank_code;
-  power_loss = blank_code;
-  end_duration = blank_code;
-  communications_loss = blank_code;
+  short_power_recovery = blank_octets;
+  long_power_recovery = blank_octets;
+  power_loss = blank_octets;
+  end_duration = blank_octets;
+  communications_loss = blank_octets;
 }
 
 -- the settings as a sign is made: the times are 0

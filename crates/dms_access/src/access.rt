@@ -130,14 +130,16 @@ fn font_in(face: &Face, value: &Value<'_>) -> Option<u16>
     }
 }
 
-/// What is asked of a row: modifyReq 6, validateReq 7, notUsedReq 8.
+/// What is asked of a row by a number that dmsMessageStatus may be set to.
 fn ask_of(number: u16) -> Ask
     ensures { result ≡ ask_of number }
 {
-    match number {
-        6 => Ask::Modify,
-        7 => Ask::Validate,
-        _ => Ask::NotUsed,
+    if number == u16::from(Ask::Modify.number()) {
+        Ask::Modify
+    } else if number == u16::from(Ask::Validate.number()) {
+        Ask::Validate
+    } else {
+        Ask::NotUsed
     }
 }
 

@@ -2,7 +2,6 @@
 
 ghost use Rattle.std.specs.Prelude.{◌≡◌};
 ghost use Rattle.dms_wire.specs.View.{object_value};
-ghost use Rattle.dms_codes.specs.Codes.{in_order};
 ghost use Rattle.dms_table.specs.RowsView.{reading_of};
 ghost use Rattle.dms_table.specs.Activation.{shown_reading};
 ghost use Rattle.dms_access.specs.Cells.{number_value, cell_value};
@@ -28,7 +27,7 @@ pub fn cell_value<'a>(order: Order, column: Column, id: RowId, message: &RowView
         Column::Number => number_value(id.number),
         Column::MultiString => Value::Octets(message.text),
         Column::Owner => Value::Octets(message.owner),
-        Column::Crc => number_value(in_order(order, message.checksum)),
+        Column::Crc => number_value(order.in_order(message.checksum)),
         Column::Beacon => small_value(message.beacon),
         Column::PixelService => small_value(message.pixel),
         Column::RunTimePriority => small_value(message.priority),
@@ -45,7 +44,7 @@ pub fn shown_value<'a>(order: Order, column: Column, id: RowId, shown: &'a Shown
         Column::Number => number_value(id.number),
         Column::MultiString => Value::Octets(shown.text.as_slice()),
         Column::Owner => Value::Octets(shown.owner.as_slice()),
-        Column::Crc => number_value(in_order(order, shown.checksum())),
+        Column::Crc => number_value(order.in_order(shown.checksum())),
         Column::Beacon => small_value(shown.beacon),
         Column::PixelService => small_value(shown.pixel),
         Column::RunTimePriority => small_value(shown.priority),
@@ -58,14 +57,4 @@ pub fn small_value<'a>(number: u8) -> Value<'a>
     ensures { object_value result ≡ number_value number }
 {
     number_value(u16::from(number))
-}
-
-/// A checksum as the number that its two octets are in an order.
-fn in_order(order: Order, checksum: u16) -> u16
-    ensures { result ≡ in_order order checksum }
-{
-    match order {
-        Order::High => checksum,
-        Order::Swapped => checksum.swap_bytes(),
-    }
 }

@@ -22,8 +22,8 @@ const OBJECT_FACTOR: usize = 305;
 /// A bit for each slot.
 pub type Slots = [u64; SLOTS / 64];
 
-/// Whether the name is that of one of the first `count` bindings, whose names have their slots taken: they are looked
-/// at only where its slot is.
+/// Whether the name is that of one of the first `count` bindings, whose names must have their slots taken: they
+/// are looked at only where its slot is.
 pub fn was_given(slots: &Slots, name: &Oid<'_>, before: &Binds<'_>, count: u32) -> bool
     requires { AreTaken slots.now (take count before.now) }
     ensures { result ≡ is_among name.now (take count before.now) }

@@ -45,7 +45,7 @@ impl Reports {
     }
 
     /// With the verdict on the row that was settled, where one was: dmsValidateMessageError, and its text's fault or
-    /// none.
+    /// none. The fault's offset must be at most `MAX_TEXT`.
     pub fn with_verdict(self, verdict: &Option<Verdict>) -> Reports
         requires { IfSome verdict.now (λ verdict. IfSome verdict.fault (λ fault. fault.place ≤ longest_text)) }
         ensures { result ≡ settled_reports self verdict.now }
@@ -60,6 +60,7 @@ impl Reports {
     }
 
     /// With the cause for which a code was refused (dmsActivateMsgError), and the code (dmsActivateErrorMsgCode).
+    /// The offset of a text's fault must be at most `MAX_TEXT`.
     pub fn with_refusal(self, cause: &Cause, code: [u8; 12]) -> Reports
         requires { IsCauseInRange cause.now }
         ensures { result ≡ refused_reports self cause.now code }

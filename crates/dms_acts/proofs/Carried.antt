@@ -10,7 +10,8 @@ use Rattle.dms_text.proofs.Splits.{first_part, only_part}
 use Rattle.dms_text.proofs.LineLaws.{line_first, line_only}
 use Rattle.dms_streams.specs.DescriptionText.{TakesDescription, lines_through_end, is_end}
 use Rattle.dms_description.specs.Before.{NotDescribed}
-use Rattle.dms_description.specs.Description.{Description, SpellsSign, longest_input}
+use Rattle.dms_description.specs.Description.{Description, SpellsSign}
+use Rattle.dms_streams.specs.DescriptionText.{longest_input}
 use Rattle.dms_description.specs.declared.reading_fault.ReplayFault.{ReplayFault}
 use Rattle.dms_description.specs.declared.reading_fault.ReplayFault.TheVariants as faults
 use Rattle.dms_description.specs.declared.setup.Setup.{Setup}

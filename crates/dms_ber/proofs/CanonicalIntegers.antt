@@ -1,6 +1,6 @@
 -- The shortest octets of a number in range are its content.
 use Rattle.std.specs.Prelude.{IsTrue, if◌then◌else◌, slice_index_or, nat_lt}
-use Rattle.std.proofs.Common.{◌≡◌, ℕ, ℤ, pos, negsuc, ◌-◌, ◌<◌, true, false, List, [], ◌∷◌, length, get_or, refl, sym, ap, ◌∙◌, arith, ap₂}
+use Rattle.std.proofs.Common.{◌≡◌, ℕ, ℤ, pos, negsuc, ◌<◌, true, false, List, [], ◌∷◌, length, get_or, refl, sym, ap, arith, ap₂}
 use Rattle.std.specs.Int.Digits.{number_from_digits, digits_of, AllBelowBase}
 use Rattle.std.proofs.lemmas.Int.Digits.{number_digits_of, all_below_base_digits_of, first_digits_of}
 use Rattle.dms_ber.specs.Integer.{is_shortest, is_negative, inverted, in_range, IsInteger}

@@ -1,7 +1,7 @@
 -- Which contents are no shorter than the canonical ones: of lengths, numbers and names.
-use Rattle.std.proofs.Common.{◌≡◌, ℕ, ℤ, pos, negsuc, suc, ◌+◌, ◌-◌, ◌*◌, ◌^◌, ◌<◌, ◌≤◌, Bool, cond, nat_lt, nat_le, List, [], ◌∷◌, length, ap, ◌∙◌, ⊎_elim, arith, lt-ltb, le-ltb, leb-true, leb-false, le_trans}
+use Rattle.std.proofs.Common.{◌≡◌, ℕ, ℤ, pos, negsuc, suc, ◌+◌, ◌*◌, ◌^◌, ◌<◌, ◌≤◌, Bool, cond, nat_lt, nat_le, List, [], ◌∷◌, length, ap, ⊎_elim, arith, lt-ltb, le-ltb, leb-true, leb-false, le_trans}
 use Rattle.std.specs.Int.Digits.{digits_of, number_from_digits, AllBelowBase}
-use Rattle.std.proofs.lemmas.Bool.{cond-true, cond-false, cases_lt, cases_eq, false≢true}
+use Rattle.std.proofs.lemmas.Bool.{cond-true, cond-false, cases_lt, cases_eq}
 use Rattle.std.proofs.lemmas.List.{length-map}
 use Rattle.std.proofs.lemmas.Int.Digits.{number_lt, number_digits_of, all_below_base_digits_of, length-digits_of-le}
 use Rattle.dms_ber.specs.Length.{IsLength}

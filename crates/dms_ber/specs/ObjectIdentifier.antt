@@ -59,3 +59,7 @@ IsNameInLimits [] = ⊥
 IsNameInLimits (a ∷ []) = ⊥
 IsNameInLimits (a ∷ b ∷ ns) =
     (a ≤ 2) × (a < 2 → b < 40) × (40 * a + b < 2 ^ 32) × AllBelowBase (2 ^ 32) ns × (length ns ≤ 126)
+
+-- the octets of a name below dms, 1.3.6.1.4.1.1206.4.2.3 (NTCIP 1203), under which all objects of a sign stand
+abbrev pub under_dms : List ℕ → List ℕ
+under_dms rest = 43 ∷ 6 ∷ 1 ∷ 4 ∷ 1 ∷ 137 ∷ 54 ∷ 4 ∷ 2 ∷ 3 ∷ rest

@@ -15,7 +15,7 @@ use crate::fault::{FaultKind, WireFault, fault_at, offset_of};
 use crate::length::{read_length, size_of_length};
 
 /// What follows a tag: a content, and the octets after it. `LengthPast` at the length where the content passes the
-/// octets, or the fault of `read_length`.
+/// octets, or the fault of `read_length`. The octets must end at the offset `end` of the datagram.
 #[inline]
 #[tactic(auto, unfolding(crate::specs::Reading::content_at))]
 pub fn read_content(octets: &[u8], end: usize) -> Result<(&[u8], &[u8]), WireFault>
@@ -31,7 +31,7 @@ pub fn read_content(octets: &[u8], end: usize) -> Result<(&[u8], &[u8]), WireFau
 }
 
 /// The content of an element with this tag, and the octets after it. `Truncated` at the end where there is no octet,
-/// `BadTag` at another tag, or the fault of `read_content`.
+/// `BadTag` at another tag, or the fault of `read_content`. The octets must end at the offset `end`.
 #[inline]
 #[tactic(auto, unfolding(crate::specs::Reading::element_at))]
 pub fn read_element(tag: u8, octets: &[u8], end: usize) -> Result<(&[u8], &[u8]), WireFault>
@@ -51,7 +51,8 @@ pub fn read_element(tag: u8, octets: &[u8], end: usize) -> Result<(&[u8], &[u8])
     }
 }
 
-/// Whether nothing is left after the last member of an element: `TrailingBytes` at the first octet that is.
+/// Whether nothing is left after the last member of an element: `TrailingBytes` at the first octet that is. They must
+/// end at the offset `end`.
 #[inline]
 #[tactic(auto, unfolding(crate::specs::Reading::ended))]
 pub fn ended(octets: &[u8], end: usize) -> Result<(), WireFault>
@@ -64,7 +65,8 @@ pub fn ended(octets: &[u8], end: usize) -> Result<(), WireFault>
     }
 }
 
-/// How many octets an element with a content of `size` octets takes, its length in the shortest form.
+/// How many octets an element with a content of `size` octets takes, its length in the shortest form;
+/// `size` must be below 2^63.
 #[inline]
 pub fn size_of_element(size: usize) -> usize
     requires { size < 2 ^ 63 }
@@ -75,7 +77,7 @@ pub fn size_of_element(size: usize) -> usize
 }
 
 /// Appends a tag and the shortest form of the length of a content of `size` octets: below 128 one octet, else 128 more
-/// than the number of its octets, and those.
+/// than the number of its octets, and those. There must be room for them and for the content.
 #[inline]
 #[tactic(auto, using(crate::proofs::Shortest::length_steps))]
 pub fn put_head(out: &mut Out, tag: u8, size: usize)
@@ -91,7 +93,7 @@ pub fn put_head(out: &mut Out, tag: u8, size: usize)
     }
 }
 
-/// Appends the element with this tag and no content.
+/// Appends the element with this tag and no content, for which there must be room.
 #[inline]
 #[tactic(auto, unfolding(crate::specs::Element::element))]
 pub fn put_empty(out: &mut Out, tag: u8)
@@ -101,7 +103,7 @@ pub fn put_empty(out: &mut Out, tag: u8)
     put_content(out, &[tag, 0]);
 }
 
-/// Appends the octets of a content.
+/// Appends the octets of a content, for which there must be room.
 #[inline(always)]
 pub fn put_content(out: &mut Out, content: &[u8])
     requires { array_vec_len out.old + length content.now ≤ longest_datagram }
@@ -120,7 +122,7 @@ pub fn size_of_octets(content: &[u8]) -> usize
     size_of_element(content.len())
 }
 
-/// Appends the element with this tag and this content, its length in the shortest form.
+/// Appends the element with this tag and this content, its length in the shortest form. There must be room for it.
 #[inline]
 #[tactic(auto, using(crate::proofs::Shortest::element_steps), unfolding(crate::specs::Element::element))]
 pub fn put_octets(out: &mut Out, tag: u8, content: &[u8])

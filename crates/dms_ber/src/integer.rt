@@ -93,6 +93,7 @@ pub fn natural_of(content: &[u8]) -> Option<u32>
 }
 
 /// An INTEGER, and the octets after it; `BadInteger` at its content where `integer_of` is none. Most have one octet.
+/// The octets must end at the offset `end`.
 #[inline(always)]
 pub fn read_integer(octets: &[u8], end: usize) -> Result<(i64, &[u8]), WireFault>
     requires { length octets.now ≤ end }
@@ -266,7 +267,7 @@ pub fn size_of_integer(number: &i64) -> usize
     size_of_element(size_of_integer_content(number))
 }
 
-/// Appends the shortest element of an INTEGER.
+/// Appends the shortest element of an INTEGER, for which there must be room.
 #[inline]
 #[tactic(auto, unfolding(crate::specs::Integer::integer_octets))]
 pub fn put_integer(out: &mut Out, number: &i64)
@@ -281,6 +282,7 @@ pub fn put_integer(out: &mut Out, number: &i64)
 }
 
 /// Appends the shortest elements of two INTEGERs: at once where each has one octet and is not below 0.
+/// There must be room for them.
 #[inline]
 #[tactic(auto, using(crate::proofs::Shortest::element_steps), unfolding(crate::specs::Integer::integer_octets))]
 pub fn put_integers(out: &mut Out, first: &i64, second: &i64)
@@ -324,6 +326,7 @@ pub fn size_of_unsigned(number: u32) -> usize
 }
 
 /// Appends the shortest element of a number from 0 to 2^32 - 1, with this tag (Counter, Gauge, TimeTicks).
+/// There must be room for it.
 #[inline]
 #[tactic(auto, unfolding(crate::specs::Integer::integer_octets))]
 pub fn put_unsigned(out: &mut Out, tag: u8, number: u32)

@@ -13,7 +13,7 @@ use crate::integer::big_endian;
 
 /// The length that follows a tag, in any accepted form, and the octets after it. `Truncated` at the end where octets of
 /// the length are missing, `BadLength` at a first octet of 128 or of more than 132 (the indefinite form, and more than
-/// four octets).
+/// four octets). The octets must end at the offset `end`.
 #[inline]
 #[tactic(auto, unfolding(crate::specs::Reading::length_at))]
 pub fn read_length(octets: &[u8], end: usize) -> Result<(usize, &[u8]), WireFault>

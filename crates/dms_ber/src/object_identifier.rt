@@ -12,7 +12,7 @@ ghost use Rattle.dms_ber.specs.NameWalk.{fits_after};
 ghost use Rattle.std.specs.Prelude.{◌≤◌, IfOk};
 ghost use Rattle.dms_ber.specs.Reading.{Gives, name_at};
 ghost use Rattle.dms_ber.specs.NameOrder.{numbers_cmp};
-ghost use Rattle.dms_ber.specs.ObjectIdentifier.{name_octets};
+ghost use Rattle.dms_ber.specs.ObjectIdentifier.{name_octets, under_dms};
 ghost use Rattle.dms_ber.specs.Limits.{most_sub_identifiers};
 
 use crate::element::read_element;
@@ -25,8 +25,10 @@ use std::marker::Model;
 /// The most sub-identifiers of an object identifier, and so at most 128 numbers (this profile).
 pub const MAX_SUB_IDENTIFIERS: usize = 127;
 
-/// The octets that stand before 2 and 3 in those of dms, 1.3.6.1.4.1.1206.4.2.3, under which all objects of a sign
-/// stand.
+/// The content octets of dms, 1.3.6.1.4.1.1206.4.2.3, under which all objects of a sign stand (NTCIP 1203).
+pub const DMS: [u8; 10] = [43, 6, 1, 4, 1, 137, 54, 4, 2, 3];
+
+/// Those that stand before 2 and 3.
 const ABOVE_DMS: [u8; 8] = [43, 6, 1, 4, 1, 137, 54, 4];
 
 /// How many sub-identifiers the octets of dms are.
@@ -268,7 +270,8 @@ fn sub_identifiers_cmp(a: &[u8], b: &[u8]) -> Ordering
     }
 }
 
-/// An OBJECT IDENTIFIER, and the octets after it; `BadName` at its content where it is none's.
+/// An OBJECT IDENTIFIER, and the octets after it; `BadName` at its content where it is none's. The octets must end
+/// at the offset `end`.
 #[inline(always)]
 #[tactic(auto, unfolding(crate::specs::Reading::name_at))]
 pub fn read_name(octets: &[u8], end: usize) -> Result<(Oid<'_>, &[u8]), WireFault>
@@ -307,10 +310,11 @@ pub fn is_name(octets: &[u8]) -> bool
     }
 }
 
-/// The octets after the ten of dms, of which the first eight are compared as one number.
+/// The octets after the ten of dms, where a name's content begins with them: eight are compared as one number.
 #[inline(always)]
-fn below_dms(octets: &[u8]) -> Option<&[u8]>
-    ensures { IfSome result (λ rest. octets.now ≡ 43 ∷ 6 ∷ 1 ∷ 4 ∷ 1 ∷ 137 ∷ 54 ∷ 4 ∷ 2 ∷ 3 ∷ rest.now) }
+pub fn below_dms(octets: &[u8]) -> Option<&[u8]>
+    ensures some { IfSome result (λ rest. octets.now ≡ under_dms rest.now) }
+    ensures none { IfNone result ((rest : List ℕ) → octets.now ≡ under_dms rest → ⊥) }
 {
     match octets {
         [a, b, c, d, e, f, g, h, 2, 3, rest @ ..]

@@ -4,7 +4,9 @@ use Rattle.std.specs.Prelude.{length, nat_eq, nat_lt, nat_le, Option, Some, None
 use Rattle.std.specs.Option.{option_or}
 use Rattle.std.specs.Cmp.Lexicographic.{pointwise}
 use Rattle.dms_font.specs.Font.{FontModel}
-use Rattle.dms_face.specs.Face.{FaceModel, has_font}
+use Rattle.dms_codes.specs.Limits.{widest_matrix, highest_matrix, has_community_size}
+use Rattle.dms_codes.specs.Limits.{most_permanent_rows, most_changeable_rows, most_volatile_rows}
+use Rattle.dms_face.specs.Face.{FaceModel, has_font, most_fonts}
 use Rattle.dms_face.specs.declared.defaults.Defaults.{Defaults}
 use Rattle.dms_table.specs.declared.row.Services.{Services}
 use Rattle.dms_table.specs.Rows.{RowModel}
@@ -18,9 +20,9 @@ use Rattle.dms_causes.specs.declared.sign_causes.SignCause.TheVariants as sign
 abbrev pub matrix_cause : ℕ → ℕ → Option SignCause
 matrix_cause width height =
     if nat_lt width 1 then Some sign.NoColumns
-    else if nat_lt 256 width then Some sign.Wide
+    else if nat_lt widest_matrix width then Some sign.Wide
     else if nat_lt height 1 then Some sign.NoRows
-    else if nat_lt 64 height then Some sign.High
+    else if nat_lt highest_matrix height then Some sign.High
     else None
 
 -- the first number that two fonts have
@@ -31,7 +33,7 @@ number_twice (font ∷ fonts) = if has_font fonts font.number then Some font.num
 abbrev pub fonts_cause : List FontModel → Option SignCause
 fonts_cause fonts =
     if nat_lt (length fonts) 1 then Some sign.NoFont
-    else if nat_lt 4 (length fonts) then Some sign.FifthFont
+    else if nat_lt most_fonts (length fonts) then Some sign.FifthFont
     else option_map sign.FontTwice (number_twice fonts)
 
 abbrev pub defaults_cause : List FontModel → Defaults → Option SignCause
@@ -49,13 +51,10 @@ face_cause face = option_or (matrix_cause face.width face.height)
 
 -- ---- the communities
 
-abbrev pub has_size : List ℕ → Bool
-has_size community = nat_le 1 (length community) && nat_le (length community) 32
-
 abbrev pub communities_cause : List ℕ → List ℕ → Option SignCause
 communities_cause reader writer =
-    if not (has_size reader) then Some sign.Reader
-    else if not (has_size writer) then Some sign.Writer
+    if not (has_community_size reader) then Some sign.Reader
+    else if not (has_community_size writer) then Some sign.Writer
     else if pointwise nat_eq reader writer then Some sign.SameCommunities
     else None
 
@@ -63,9 +62,9 @@ communities_cause reader writer =
 
 abbrev pub counts_cause : ℕ → ℕ → ℕ → Option SignCause
 counts_cause permanent changeable volatile =
-    if nat_lt 16 permanent then Some sign.PermanentRows
-    else if nat_lt 64 changeable then Some sign.ChangeableRows
-    else if nat_lt 16 volatile then Some sign.VolatileRows
+    if nat_lt most_permanent_rows permanent then Some sign.PermanentRows
+    else if nat_lt most_changeable_rows changeable then Some sign.ChangeableRows
+    else if nat_lt most_volatile_rows volatile then Some sign.VolatileRows
     else None
 
 abbrev pub numbered_cause : ℕ → Option SignCause → Option RowCause → Option SignCause

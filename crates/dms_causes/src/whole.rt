@@ -4,11 +4,13 @@ ghost use Rattle.std.specs.Prelude.{◌≡◌, ◌+◌, ◌<◌, ◌^◌, length
 ghost use Rattle.dms_face.specs.Face.{has_font};
 ghost use Rattle.dms_table.specs.Stock.{permanent_row};
 ghost use Rattle.dms_causes.specs.SignCauses.{matrix_cause, fonts_cause, number_twice, defaults_cause};
-ghost use Rattle.dms_causes.specs.SignCauses.{face_cause, has_size, communities_cause, counts_cause, rows_cause};
+ghost use Rattle.dms_causes.specs.SignCauses.{face_cause, communities_cause, counts_cause, rows_cause};
 
 use crate::row_causes::row_cause;
 use crate::sign_causes::SignCause;
-use dms_face::{Defaults, Face};
+use dms_codes::limits::has_community_size;
+use dms_codes::{MAX_CHANGEABLE, MAX_MATRIX_HEIGHT, MAX_MATRIX_WIDTH, MAX_PERMANENT, MAX_VOLATILE};
+use dms_face::{Defaults, Face, MAX_FONTS};
 use dms_font::Font;
 use dms_table::{Permanent, Services};
 
@@ -30,11 +32,11 @@ fn matrix_cause(width: u16, height: u16) -> Option<SignCause>
 {
     if width < 1 {
         Some(SignCause::NoColumns)
-    } else if width > 256 {
+    } else if width > MAX_MATRIX_WIDTH {
         Some(SignCause::Wide)
     } else if height < 1 {
         Some(SignCause::NoRows)
-    } else if height > 64 {
+    } else if height > MAX_MATRIX_HEIGHT {
         Some(SignCause::High)
     } else {
         None
@@ -47,7 +49,7 @@ fn fonts_cause(fonts: &[Font]) -> Option<SignCause>
     if fonts.is_empty() {
         return Some(SignCause::NoFont);
     }
-    if fonts.len() > 4 {
+    if fonts.len() > MAX_FONTS {
         return Some(SignCause::FifthFont);
     }
     number_twice(fonts).map(SignCause::FontTwice)
@@ -97,9 +99,9 @@ fn defaults_cause(fonts: &[Font], defaults: Defaults) -> Option<SignCause>
 pub fn communities_cause(reader: &[u8], writer: &[u8]) -> Option<SignCause>
     ensures { result ≡ communities_cause reader.now writer.now }
 {
-    if !has_size(reader) {
+    if !has_community_size(reader) {
         Some(SignCause::Reader)
-    } else if !has_size(writer) {
+    } else if !has_community_size(writer) {
         Some(SignCause::Writer)
     } else if reader == writer {
         Some(SignCause::SameCommunities)
@@ -108,28 +110,23 @@ pub fn communities_cause(reader: &[u8], writer: &[u8]) -> Option<SignCause>
     }
 }
 
-fn has_size(community: &[u8]) -> bool
-    ensures { result ≡ has_size community.now }
-{
-    1 <= community.len() && community.len() <= 32
-}
-
 /// The first reason why a table has not so many rows.
 pub fn counts_cause(permanent: usize, changeable: u8, volatile: u8) -> Option<SignCause>
     ensures { result ≡ counts_cause permanent changeable volatile }
 {
-    if permanent > 16 {
+    if permanent > MAX_PERMANENT {
         Some(SignCause::PermanentRows)
-    } else if changeable > 64 {
+    } else if changeable > MAX_CHANGEABLE {
         Some(SignCause::ChangeableRows)
-    } else if volatile > 16 {
+    } else if volatile > MAX_VOLATILE {
         Some(SignCause::VolatileRows)
     } else {
         None
     }
 }
 
-/// The first of these rows that can not stand on this face, and why. The first of them has this number.
+/// The first of these rows that can not stand on this face, and why. The first of them has this number; the
+/// number of the last must be below 2^64.
 pub fn rows_cause(
     services: Services,
     face: &Face,

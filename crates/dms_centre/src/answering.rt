@@ -210,11 +210,7 @@ impl Centre {
         requires { is_awaiting self.now.state.phase ≡ true }
         ensures { result ≡ checksum_of_job self.now.state self.now.state.phase }
     {
-        let crc = self.job.work.code().id.crc;
-        match self.order() {
-            Order::High => crc,
-            Order::Swapped => crc.swap_bytes(),
-        }
+        self.order().in_order(self.job.work.code().id.crc)
     }
 
     /// Sends the request of another step of the job.

@@ -1,9 +1,10 @@
 //! The central system.
 
-ghost use Rattle.std.specs.Prelude.{◌≡◌, ◌≤◌, ◌<◌, ◌↔◌, ◌⊎◌, [], true, false, length, IsOk, IfOk, IfErr, OnOk, OnErr};
-ghost use Rattle.std.specs.Prelude.{Some, None, Err};
+ghost use Rattle.std.specs.Prelude.{◌≡◌, ◌≤◌, ◌<◌, ◌↔◌, ◌⊎◌, [], true, false, length};
+ghost use Rattle.std.specs.Prelude.{Some, None, Err, IsTrue, IsOk, IfOk, IfErr, OnOk, OnErr};
 ghost use Rattle.std.specs.Int.Digits.{AllBelowBase};
 ghost use Rattle.dms_centre.specs.declared.fault.CommandFault.TheVariants as faults;
+ghost use Rattle.dms_codes.specs.Limits.{has_community_size};
 ghost use Rattle.dms_centre.specs.State.{start, is_busy};
 ghost use Rattle.dms_requests.specs.Steps.{is_activating};
 ghost use Rattle.dms_requests.specs.Commands.{job_of};
@@ -24,15 +25,13 @@ use crate::pending::{MOST_SENDS, Pending, TICKS_TO_WAIT};
 use crate::settings::{CentreFault, Settings};
 use crate::stage::Stage;
 use arrayvec::ArrayVec;
-use dms_codes::Order;
+use dms_codes::limits::has_community_size;
+use dms_codes::{MAX_COMMUNITY, Order};
 use dms_requests::{Command, Job, put_request};
 use dms_wire::Out;
 use indexmap::IndexMap;
 use std::alloc::Global;
 use std::marker::Model;
-
-/// The most octets of a community.
-const MAX_COMMUNITY: usize = 32;
 
 /// The last number that a request can have (this profile).
 const LAST_NUMBER: u32 = 2_147_483_647;
@@ -99,11 +98,10 @@ impl Centre {
     #[tactic(auto, using(crate::proofs::Fine::begins))]
     pub fn new(alloc: Global, settings: Settings<'_>, first: u32) -> Result<Centre, CentreFault>
         ensures made { IfOk result (λ centre. centre.state ≡ start (settings_model settings.entry) first) }
-        ensures community { IsOk result
-            ↔ ((1 ≤ length settings.entry.community.now) × (length settings.entry.community.now ≤ 32)) }
+        ensures community { IsOk result ↔ IsTrue (has_community_size settings.entry.community.now) }
     {
         let community = settings.community;
-        if community.is_empty() || community.len() > MAX_COMMUNITY {
+        if !has_community_size(community) {
             return Err(CentreFault::Community);
         }
         Ok(Centre {

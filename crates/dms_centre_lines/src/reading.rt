@@ -5,9 +5,9 @@ ghost use Rattle.dms_text.specs.Words.{words_of};
 ghost use Rattle.dms_centre_lines.specs.CallReading.{plain_call_at};
 ghost use Rattle.dms_centre_lines.specs.CodeView.{call_model};
 
-use dms_forms::fields::{are_same, last_octets};
+use dms_forms::fields::last_octets;
 use dms_lines::alone;
-use dms_text::Words;
+use dms_text::{Words, are_same};
 use std::alloc::{AllocError, Global};
 
 /// What a line asks of a central system, but for an operator's commands.

@@ -44,6 +44,16 @@ impl Order {
     ghost use Rattle.std.specs.Prelude.{◌≡◌};
     ghost use Rattle.dms_codes.specs.Codes.{octets_of_checksum, in_order, number_at};
 
+    /// A checksum as the number that its two octets are in this order.
+    pub fn in_order(self, crc: u16) -> u16
+        ensures { result ≡ in_order self crc }
+    {
+        match self {
+            Order::High => crc,
+            Order::Swapped => crc.swap_bytes(),
+        }
+    }
+
     /// The two octets of a checksum.
     fn octets(self, crc: u16) -> [u8; 2]
         ensures { result ≡ octets_of_checksum self crc }

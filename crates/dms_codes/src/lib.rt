@@ -20,7 +20,10 @@ pub mod validation_error;
 
 pub use checksum::crc;
 pub use codes::{Activation, MessageId, Order};
-pub use limits::{MAX_OWNER, MAX_TEXT};
+pub use limits::{
+    MAX_CHANGEABLE, MAX_COMMUNITY, MAX_MATRIX_HEIGHT, MAX_MATRIX_WIDTH, MAX_OWNER, MAX_PERMANENT,
+    MAX_TEXT, MAX_VOLATILE,
+};
 pub use memory::Memory;
 pub use mode::Mode;
 pub use row_id::RowId;

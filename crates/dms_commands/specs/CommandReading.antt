@@ -2,6 +2,7 @@
 -- `command_only` in proofs/ join it to the lines that spell commands (this profile).
 use Rattle.std.specs.Prelude.{ℕ, ◌==◌, if◌then◌else◌, List, [], ◌∷◌, length, codes, Option, Some, None, option_map}
 use Rattle.std.specs.Prelude.{Result, Ok, Err}
+use Rattle.std.specs.Str.{byte}
 use Rattle.hex.specs.Hex.{decode_of}
 use Rattle.hex.specs.declared.error.FromHexError.{FromHexError}
 use Rattle.dms_text.specs.Words.{parts_of, words_of}
@@ -30,7 +31,7 @@ address_at parts = do
   if_last (first.0 ∷ second.0 ∷ third.0 ∷ fourth.0 ∷ []) fourth.1
 
 abbrev pub address_of : List ℕ → Option (List ℕ)
-address_of word = address_at (parts_of 46 word)
+address_of word = address_at (parts_of (byte ".") word)
 
 -- the code of twelve octets
 abbrev pub code_from : Order → Result (List ℕ) FromHexError → Option Activation

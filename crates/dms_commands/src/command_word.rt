@@ -1,6 +1,6 @@
 //! The words with which the lines of commands begin.
 
-use dms_forms::fields::are_same;
+use dms_text::are_same;
 
 /// The word with which a command's line begins.
 #[derive(Clone, Copy, Debug, PartialEq, Eq)]

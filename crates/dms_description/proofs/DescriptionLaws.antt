@@ -9,7 +9,7 @@ use Rattle.dms_text.proofs.WordLaws.{begun, goes_on, same_found}
 use Rattle.dms_font.specs.Font.{FontModel}
 use Rattle.dms_font.specs.FontText.{SpellsHeader}
 use Rattle.dms_table.specs.Rows.{RowModel}
-use Rattle.dms_sign.specs.Communities.{has_community_size}
+use Rattle.dms_codes.specs.Limits.{has_community_size}
 use Rattle.dms_sign.specs.Construction.{CanBeMade}
 use Rattle.dms_forms.specs.Fields.{SpellsEach}
 use Rattle.dms_description.specs.Description.{Description, SpellsSign, SpellsPermanentLine, SpellsFonts}

@@ -15,9 +15,10 @@ use Rattle.dms_table.specs.Stock.{permanent_row, services_of, may_not_stand, are
 use Rattle.dms_sign.specs.declared.config.Config.{Config}
 use Rattle.dms_sign.specs.declared.config.ConfigFault.{ConfigFault}
 use Rattle.dms_sign.specs.declared.config.ConfigFault.TheVariants as config_faults
-use Rattle.dms_sign.specs.Communities.{has_community_size, are_communities}
+use Rattle.dms_codes.specs.Limits.{has_community_size}
+use Rattle.dms_sign.specs.Communities.{are_communities}
 use Rattle.dms_sign.specs.Configuration.{config_of, config_fault, IsFirstConfigFault}
-use Rattle.dms_sign.specs.Construction.{may_stand, CanBeMade}
+use Rattle.dms_sign.specs.Construction.{row_may_stand, CanBeMade}
 use Rattle.dms_font.specs.Font.{FontModel}
 use Rattle.dms_codes.proofs.Options.{mapped_none}
 use Rattle.dms_description.specs.declared.head.Head.{Head}
@@ -55,18 +56,18 @@ counts_found stock e = grind arith
 
 -- the rows of a stock without a fault may all stand
 rows_found : (face : FaceModel) (stock : Stock) → position (may_not_stand (services_of stock) face) stock.permanent.now ≡ None
-    → list_all (may_stand (services_of stock) face) (map permanent_row stock.permanent.now) ≡ true
+    → list_all (row_may_stand (services_of stock) face) (map permanent_row stock.permanent.now) ≡ true
 rows_found face stock e =
-    list_all-map (may_stand (services_of stock) face) permanent_row stock.permanent.now
-    ∙ all_pass (λ (message : Permanent). may_stand (services_of stock) face (permanent_row message)) 0 stock.permanent.now
+    list_all-map (row_may_stand (services_of stock) face) permanent_row stock.permanent.now
+    ∙ all_pass (λ (message : Permanent). row_may_stand (services_of stock) face (permanent_row message)) 0 stock.permanent.now
     (sym (position_from-zero (may_not_stand (services_of stock) face) stock.permanent.now) ∙ e)
 
-rows_only : (face : FaceModel) (stock : Stock) → list_all (may_stand (services_of stock) face) (map permanent_row stock.permanent.now) ≡ true
+rows_only : (face : FaceModel) (stock : Stock) → list_all (row_may_stand (services_of stock) face) (map permanent_row stock.permanent.now) ≡ true
     → position (may_not_stand (services_of stock) face) stock.permanent.now ≡ None
 rows_only face stock e =
     position_from-zero (may_not_stand (services_of stock) face) stock.permanent.now
-    ∙ none_fails (λ (message : Permanent). may_stand (services_of stock) face (permanent_row message)) 0 stock.permanent.now
-    (sym (list_all-map (may_stand (services_of stock) face) permanent_row stock.permanent.now) ∙ e)
+    ∙ none_fails (λ (message : Permanent). row_may_stand (services_of stock) face (permanent_row message)) 0 stock.permanent.now
+    (sym (list_all-map (row_may_stand (services_of stock) face) permanent_row stock.permanent.now) ∙ e)
 
 -- ---- a configuration
 

@@ -4,7 +4,8 @@ use Rattle.std.specs.Prelude.{IfSome}
 use Rattle.std.specs.Str.Lines.{lines}
 use Rattle.dms_text.specs.Lines.{is_skipped, kept_lines}
 use Rattle.dms_description.specs.declared.setup.Setup.{Setup}
-use Rattle.dms_description.specs.Description.{Description, SpellsSign, SpellsDescription, longest_input}
+use Rattle.dms_description.specs.Description.{Description, SpellsSign, SpellsDescription}
+use Rattle.dms_streams.specs.DescriptionText.{longest_input}
 use Rattle.dms_description.specs.Setups.{IsMade}
 use Rattle.dms_streams.specs.DescriptionText.{TakesDescription, lines_through_end}
 use Rattle.dms_description.specs.Before.{Describes, NotDescribed, description_lines}

@@ -1,6 +1,7 @@
 -- Signs as text, a line for each part (this profile).
 use Rattle.std.specs.Prelude.{◌≡◌, ℕ, ◌≤◌, List, [], ◌∷◌, ◌++◌, length, codes}
 use Rattle.dms_face.specs.declared.defaults.Defaults.{Defaults}
+use Rattle.dms_streams.specs.DescriptionText.{longest_input}
 use Rattle.dms_text.specs.Lines.{kept_lines}
 use Rattle.dms_text.specs.Words.{words_of}
 use Rattle.dms_text.specs.Octets.{SpellsOctets}
@@ -123,10 +124,6 @@ pub record SpellsSign (lines : List (List ℕ)) (sign : Description) : Type 0 wh
   pub can_be_made : CanBeMade sign.config sign.table
 
 -- ---- as an input
-
--- inputs have at most so many octets
-abbrev pub longest_input : ℕ
-longest_input = 1048576
 
 -- an input that is a sign's description and nothing else
 pub record SpellsDescription (octets : List ℕ) (sign : Description) : Type 0 where

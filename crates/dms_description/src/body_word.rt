@@ -2,8 +2,7 @@
 
 ghost use Rattle.std.specs.Prelude.{◌≡◌};
 
-use dms_forms::fields::are_same;
-use dms_text::Words;
+use dms_text::{Words, are_same};
 
 /// The word with which a line after the first seven begins.
 #[derive(Clone, Copy)]

@@ -3,9 +3,9 @@
 ghost use Rattle.std.specs.Prelude.{◌≡◌, ◌≢◌, ◌≤◌, ◌<◌, ℕ, length, Err, IfOk, IfSome};
 ghost use Rattle.dms_streams.specs.Calls.{one_more};
 ghost use Rattle.dms_streams.specs.Lines.{left};
-ghost use Rattle.dms_streams.specs.DescriptionText.{TakesDescription};
+ghost use Rattle.dms_streams.specs.DescriptionText.{TakesDescription, longest_input};
 ghost use Rattle.dms_description.specs.Before.{Describes, NotDescribed};
-ghost use Rattle.dms_description.specs.Description.{Description, SpellsDescription, longest_input};
+ghost use Rattle.dms_description.specs.Description.{Description, SpellsDescription};
 ghost use Rattle.dms_description.specs.Setups.{IsMade};
 ghost use Rattle.dms_description.specs.declared.reading_fault.ReplayFault.TheVariants as faults;
 
@@ -13,11 +13,8 @@ use crate::fault::DescriptionFault;
 use crate::reader::description;
 use crate::reading_fault::ReplayFault;
 use crate::setup::Setup;
-use dms_streams::{Input, Source, description_text, read_whole};
+use dms_streams::{Input, LONGEST_INPUT, Source, description_text, read_whole};
 use std::alloc::Global;
-
-/// The most octets that an input has.
-pub const LONGEST_INPUT: usize = 1_048_576;
 
 /// Reads a sign's description to its end.
 pub fn described<R: Source>(alloc: Global, reader: &mut R) -> Result<Setup, ReplayFault>
@@ -62,7 +59,7 @@ pub fn described_before<S: Source>(
     ensures sign { IfOk result (λ setup. Describes (left S.remaining input.old) setup (left S.remaining input.new)) }
     ensures line { (number : ℕ) → result ≡ Err (faults.Line number) → NotDescribed (left S.remaining input.old) }
     ensures too_long { result ≡ Err faults.TooLong
-        → IfSome (left S.remaining input.old) (λ octets. 1048576 < length octets) }
+        → IfSome (left S.remaining input.old) (λ octets. longest_input < length octets) }
     ensures read { result ≡ Err faults.Read → S.failed input.new.source ≡ one_more (S.failed input.old.source) }
     ensures all_read { result ≢ Err faults.Read → S.failed input.new.source ≡ S.failed input.old.source }
     ensures no_write { result ≢ Err faults.Write }
@@ -80,7 +77,7 @@ pub fn text_before<S: Source>(alloc: Global, input: &mut Input<S>) -> Result<Vec
     ensures text { IfOk result
         (λ text. TakesDescription (left S.remaining input.old) text.items (left S.remaining input.new)) }
     ensures too_long { result ≡ Err faults.TooLong
-        → IfSome (left S.remaining input.old) (λ octets. 1048576 < length octets) }
+        → IfSome (left S.remaining input.old) (λ octets. longest_input < length octets) }
     ensures read { result ≡ Err faults.Read → S.failed input.new.source ≡ one_more (S.failed input.old.source) }
     ensures all_read { result ≢ Err faults.Read → S.failed input.new.source ≡ S.failed input.old.source }
     ensures no_write { result ≢ Err faults.Write }

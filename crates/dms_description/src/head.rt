@@ -11,9 +11,9 @@ ghost use Rattle.dms_description.specs.DescriptionReading.{defaults_of, first_of
 use crate::fault::DescriptionFault;
 use dms_codes::Order;
 use dms_face::Defaults;
-use dms_forms::fields::{are_same, octet, two_octets};
+use dms_forms::fields::{octet, two_octets};
 use dms_table::Services;
-use dms_text::{Line, Lines, Words};
+use dms_text::{Line, Lines, Words, are_same};
 
 /// The columns and rows of a matrix.
 #[derive(Clone, Copy)]

@@ -32,7 +32,8 @@ mod sign_reasons;
 mod upcoming;
 
 pub use bench_sign::{BENCH, bench};
-pub use describing::{LONGEST_INPUT, described, described_before};
+pub use describing::{described, described_before};
+pub use dms_streams::LONGEST_INPUT;
 pub use fault::DescriptionFault;
 pub use reader::{description, sign_of_lines};
 pub use reading_fault::ReplayFault;

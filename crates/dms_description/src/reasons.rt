@@ -18,9 +18,8 @@ use crate::sign_reasons::sign_cause;
 use crate::upcoming::Upcoming;
 use dms_causes::{Cause, Form};
 use dms_font::{Font, FontFaultKind};
-use dms_forms::fields::are_same;
 use dms_forms::word_fault;
-use dms_text::Lines;
+use dms_text::{Lines, are_same};
 use std::alloc::{AllocError, Global};
 
 /// The lines with which a description begins.

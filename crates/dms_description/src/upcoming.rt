@@ -4,8 +4,7 @@ ghost use Rattle.std.specs.Prelude.{◌≡◌, ◌∷◌, [], IfSome, IfNone, If
 ghost use Rattle.dms_description.specs.Setups.{octets_left};
 ghost use Rattle.dms_description.specs.Views.{after, EndsOrNot};
 
-use dms_forms::fields::are_same;
-use dms_text::{Line, Lines};
+use dms_text::{Line, Lines, are_same};
 use std::marker::Model;
 
 /// The line that comes next, and the lines after it.

@@ -19,7 +19,7 @@ use Rattle.dms_face.specs.Face.{FaceModel, IsFace, font_of}
 use Rattle.dms_face.specs.Layout.{Style, Character, Line, PageModel, Turn, is_blank, no_font, blank_layout, layout_of}
 use Rattle.dms_face.specs.Room.{is_at, Span, gap_between, extent, placed_from, character_block, line_block, line_height, at_place, extent_at, begin, spread, span, overlap, have_room, blocks_fit, characters_fit, lines_fit, page_fits, has_room}
 use Rattle.dms_face.specs.Fit.{are_allowed, fits, turns_of, IsGood}
-use Rattle.dms_face.specs.Cells.{pages_of, placed_on, line_characters, page_characters, is_lit_by}
+use Rattle.dms_face.specs.Cells.{pages_of, placed_on, placed_in_line, page_characters, is_lit_by}
 use Rattle.dms_face.specs.Rules.{font_said, last_said, style_after, character_with, character_said, characters_said, characters_from, LightsEachCellOnce}
 use Rattle.dms_face.specs.Rules as rules
 use Rattle.dms_face.proofs.Bools.{both}
@@ -229,7 +229,7 @@ heights_of line (it ∷ more) is =
     ((bounded (λ (character : Character). character.style.font.height) (it ∷ more) 0).1)
 
 line_lights : (face : FaceModel) (x y : ℕ) (line : Line) → (characters_fit face line.characters ≡ true) × AllByRecursion IsPictured line.characters
-    → (top : ℕ) → tally (is_lit_by x y) (line_characters face (top, line)) ≤ cond (covers line_block y (top, line)) 1 0
+    → (top : ℕ) → tally (is_lit_by x y) (placed_in_line face (top, line)) ≤ cond (covers line_block y (top, line)) 1 0
 line_lights face x y line holds top =
     let placed : List (ℕ × Character) = spread character_block face.width line.characters in
     let Low : Character → Type 0 = λ it. it.style.font.height ≤ line_height line in
@@ -241,7 +241,7 @@ line_lights face x y line holds top =
     every (λ (it : ℕ × Character). IsPictured it.1 × Low it.1) (λ it. test it ≡ true → covers character_block x it ≡ true) (λ it both lit. (lit_covers x y top line it both.0 both.1 lit).0) placed each in
     let on_line : AllByRecursion (λ (it : ℕ × Character). test it ≡ true → covers line_block y (top, line) ≡ true) placed =
     every (λ (it : ℕ × Character). IsPictured it.1 × Low it.1) (λ it. test it ≡ true → covers line_block y (top, line) ≡ true) (λ it both lit. (lit_covers x y top line it both.0 both.1 lit).1) placed each in
-    let same : tally (is_lit_by x y) (line_characters face (top, line)) ≡ tally test placed = tally_map (is_lit_by x y) (placed_on top line) placed in
+    let same : tally (is_lit_by x y) (placed_in_line face (top, line)) ≡ tally test placed = tally_map (is_lit_by x y) (placed_on top line) placed in
     let one : tally test placed ≤ 1 =
     (let few : tally test placed ≤ tally (covers character_block x) placed = fewer test (covers character_block x) placed inside in
     let most : tally (covers character_block x) placed ≤ 1 = spread_cover character_block face.width line.characters holds.0 x in
@@ -269,8 +269,8 @@ page_lights face x y page fit pictured =
     let placed : List (ℕ × Line) = spread line_block face.height page.lines in
     let each : AllByRecursion (λ (it : ℕ × Line). Holds it.1) placed = every_spread line_block face.height Holds page.lines lines in
     let few : tally (is_lit_by x y) (page_characters face page) ≤ tally (covers line_block y) placed =
-    tally_flat (is_lit_by x y) (line_characters face) (covers line_block y) placed
-    (every (λ (it : ℕ × Line). Holds it.1) (λ it. tally (is_lit_by x y) (line_characters face it) ≤ cond (covers line_block y it) 1 0)
+    tally_flat (is_lit_by x y) (placed_in_line face) (covers line_block y) placed
+    (every (λ (it : ℕ × Line). Holds it.1) (λ it. tally (is_lit_by x y) (placed_in_line face it) ≤ cond (covers line_block y it) 1 0)
     (λ it holds. line_lights face x y it.1 holds it.0) placed each) in
     let most : tally (covers line_block y) placed ≤ 1 = spread_cover line_block face.height page.lines parts.1 y in
     omega (arith, few, most)

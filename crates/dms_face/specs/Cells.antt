@@ -24,12 +24,12 @@ abbrev pub placed_on : ℕ → Line → ℕ × Character → PlacedCharacter
 placed_on top line at_x =
     record { x = at_x.0; y = top + line_height line - at_x.1.style.font.height; character = at_x.1 }
 
-abbrev pub line_characters : FaceModel → ℕ × Line → List PlacedCharacter
-line_characters face at_y = map (placed_on at_y.0 at_y.1) (spread character_block face.width at_y.1.characters)
+abbrev pub placed_in_line : FaceModel → ℕ × Line → List PlacedCharacter
+placed_in_line face at_y = map (placed_on at_y.0 at_y.1) (spread character_block face.width at_y.1.characters)
 
 -- the characters of a page
 abbrev pub page_characters : FaceModel → PageModel → List PlacedCharacter
-page_characters face page = flat_map (line_characters face) (spread line_block face.height page.lines)
+page_characters face page = flat_map (placed_in_line face) (spread line_block face.height page.lines)
 
 -- the character's picture has its bit there
 abbrev pub is_lit_by : ℕ → ℕ → PlacedCharacter → Bool

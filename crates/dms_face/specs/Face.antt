@@ -3,6 +3,7 @@
 use Rattle.std.specs.Prelude.{All, IsTrue, ℕ, ◌==◌, ◌&&◌, Bool, true, not, if◌then◌else◌}
 use Rattle.std.specs.Prelude.{List, [], ◌∷◌, length, nat_le, Option, Result, Ok, Err}
 use Rattle.std.specs.List.{find, list_any}
+use Rattle.dms_codes.specs.Limits.{widest_matrix, highest_matrix}
 use Rattle.dms_font.specs.Font.{FontModel, IsFont}
 use Rattle.dms_face.specs.declared.defaults.Defaults.{Defaults}
 use Rattle.dms_face.specs.declared.fault.FaceFault.{FaceFault}
@@ -26,18 +27,20 @@ font_of face number = font_in face.fonts number
 abbrev pub is_within : ℕ → ℕ → ℕ → Bool
 is_within low high number = nat_le low number && nat_le number high
 
--- a matrix of 1 to 256 columns and 1 to 64 rows
 abbrev pub is_matrix : ℕ → ℕ → Bool
-is_matrix width height = is_within 1 256 width && is_within 1 64 height
+is_matrix width height = is_within 1 widest_matrix width && is_within 1 highest_matrix height
 
 -- no number has two fonts
 abbrev pub have_own_numbers : List FontModel → Bool
 have_own_numbers [] = true
 have_own_numbers (font ∷ fonts) = not (has_font fonts font.number) && have_own_numbers fonts
 
+abbrev pub most_fonts : ℕ
+most_fonts = 4
+
 -- one to four fonts, each with a number of its own
 abbrev pub are_fonts : List FontModel → Bool
-are_fonts fonts = is_within 1 4 (length fonts) && have_own_numbers fonts
+are_fonts fonts = is_within 1 most_fonts (length fonts) && have_own_numbers fonts
 
 -- Colours are 0 to 9, justifications 2 to 4, times any octet, and the default font is one of the fonts.
 abbrev pub fit : List FontModel → Defaults → Bool

@@ -22,7 +22,8 @@ pub fn check(face: &Face, text: &[u8]) -> Result<usize, MultiFault>
     check_with(face, &face.defaults(), text)
 }
 
-/// The number of the text's pages, or why it can not be shown under these defaults.
+/// The number of the text's pages, or why it can not be shown under these defaults, which must fit the face: its
+/// font is one of the face's, and its numbers are in their ranges.
 pub fn check_with(face: &Face, defaults: &Defaults, text: &[u8]) -> Result<usize, MultiFault>
     requires { IsTrue (fit face.now.fonts defaults.now) }
     ensures exact { result ≡ checked_text (under face.now defaults.now) text.now }

@@ -3,14 +3,19 @@
 ghost use Rattle.std.specs.Prelude.{◌≡◌, ◌≤◌, IsTrue, ◌↔◌, All};
 ghost use Rattle.std.specs.Option.{option_copied};
 ghost use Rattle.dms_font.specs.Font.{IsFont};
+ghost use Rattle.dms_codes.specs.Limits.{widest_matrix, highest_matrix};
 ghost use Rattle.dms_face.specs.Face.{font_in, font_of, has_font, have_own_numbers};
 ghost use Rattle.dms_face.specs.Face.{is_within, is_matrix, are_fonts, fit, checked, IsFace};
 
 use crate::defaults::Defaults;
 use crate::fault::FaceFault;
+use dms_codes::{MAX_MATRIX_HEIGHT, MAX_MATRIX_WIDTH};
 use dms_font::Font;
 use dms_font::laws::fonts_are_within_their_limits;
 use std::marker::Model;
+
+/// The most fonts of a sign.
+pub const MAX_FONTS: usize = 4;
 
 /// What a sign is made with.
 #[derive(Debug, Drop)]
@@ -71,7 +76,7 @@ impl Face {
     /// The columns of the matrix, 1 to 256.
     pub fn width(&self) -> u16
         ensures value { result ≡ self.now.width }
-        ensures most { result ≤ 256 }
+        ensures most { result ≤ widest_matrix }
     {
         self.width
     }
@@ -79,7 +84,7 @@ impl Face {
     /// The rows of the matrix, 1 to 64.
     pub fn height(&self) -> u16
         ensures value { result ≡ self.now.height }
-        ensures most { result ≤ 64 }
+        ensures most { result ≤ highest_matrix }
     {
         self.height
     }
@@ -135,7 +140,7 @@ fn is_within(low: u8, high: u8, number: u8) -> bool
 fn is_matrix(width: u16, height: u16) -> bool
     ensures { result ≡ is_matrix width height }
 {
-    1 <= width && width <= 256 && 1 <= height && height <= 64
+    1 <= width && width <= MAX_MATRIX_WIDTH && 1 <= height && height <= MAX_MATRIX_HEIGHT
 }
 
 fn has_font(fonts: &[Font], number: u8) -> bool
@@ -154,7 +159,7 @@ fn are_fonts(fonts: &[Font]) -> bool
     ensures value { result ≡ are_fonts fonts.now }
     ensures limits { IsTrue result → All IsFont fonts.now }
 {
-    1 <= fonts.len() && fonts.len() <= 4 && have_own_numbers(fonts)
+    1 <= fonts.len() && fonts.len() <= MAX_FONTS && have_own_numbers(fonts)
 }
 
 fn have_own_numbers(fonts: &[Font]) -> bool

@@ -95,10 +95,8 @@ fn glyph(alloc: Global, height: u8, line: &[u8]) -> Result<Glyph, FontFaultKind>
     let Some(said) = glyph_line(line) else {
         return Err(FontFaultKind::Glyph);
     };
-    match bitmap(alloc, said.width, height, said.bits) {
-        Ok(bits) => Ok(Glyph::new(said.character, said.width, height, bits.as_slice())),
-        Err(kind) => Err(kind),
-    }
+    let bits = bitmap(alloc, said.width, height, said.bits)?;
+    Ok(Glyph::new(said.character, said.width, height, bits.as_slice()))
 }
 
 fn fault_at(kind: FontFaultKind, line: usize) -> FontFault

@@ -1,20 +1,13 @@
 //! What words of a line spell: numbers of one, two and four octets, and octets.
 
 ghost use Rattle.std.specs.Prelude.{◌≡◌, IfOk, option_map};
-ghost use Rattle.dms_text.specs.Reading.{same_octets};
 ghost use Rattle.dms_forms.specs.FieldsReading.{octet_at, two_octets_at, last_number_at};
 ghost use Rattle.dms_forms.specs.FieldsReading.{octets_at, last_octets_at};
-ghost use Rattle.dms_forms.specs.FieldsView.{octets_and_rest, octets_found};
+ghost use Rattle.dms_text.specs.Views.{octets_found};
+ghost use Rattle.dms_forms.specs.FieldsView.{octets_and_rest};
 
 use dms_text::{Words, octets};
 use std::alloc::{AllocError, Global};
-
-/// Whether these are the same octets.
-pub fn are_same(word: &[u8], other: &[u8]) -> bool
-    ensures { result ≡ same_octets word.now other.now }
-{
-    word == other
-}
 
 /// A number of one octet, and the words after it.
 pub fn octet(words: Words<'_>) -> Option<(u8, Words<'_>)>

@@ -2,12 +2,11 @@
 
 ghost use Rattle.std.specs.Prelude.{◌≡◌, ◌+◌, ◌<◌, ◌^◌, [], length, IfOk};
 ghost use Rattle.dms_text.specs.Words.{words_of};
-ghost use Rattle.dms_text.specs.Reading.{same_octets};
 ghost use Rattle.dms_forms.specs.Form.{is_wanted, is_number, is_address, address_at, is_code, word_fault, fault_from};
 
 use crate::fault::{WordFault, WordFaultKind};
 use crate::wanted::Wanted;
-use dms_text::{Words, number, octets, version};
+use dms_text::{Words, are_same, number, octets, version};
 use hex::FromHexError;
 use std::alloc::{AllocError, Global};
 
@@ -88,12 +87,6 @@ fn is_wanted(alloc: Global, wanted: Wanted, word: &[u8]) -> Result<bool, AllocEr
         Wanted::Address => Ok(is_address(word)),
         Wanted::Code => is_code(alloc, word),
     }
-}
-
-fn are_same(word: &[u8], keyword: &[u8]) -> bool
-    ensures { result ≡ same_octets word.now keyword.now }
-{
-    word == keyword
 }
 
 /// Whether a word is a number of one to `most` decimal digits, from `low` to `high`.

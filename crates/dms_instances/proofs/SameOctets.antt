@@ -2,14 +2,14 @@
 use Rattle.std.proofs.Common.{◌≡◌, ℕ, List, [], ◌∷◌, true, refl, sym, ap, subst, ◌∙◌, arith}
 use Rattle.std.specs.Cmp.Lexicographic.{bytes_decides}
 use Rattle.dms_ber.specs.NameReading.{numbers_of, sub_identifiers_after}
-use Rattle.dms_ber.specs.ObjectIdentifier.{IsName, IsNameInLimits, name_octets}
+use Rattle.dms_ber.specs.ObjectIdentifier.{IsName, IsNameInLimits, name_octets, under_dms}
 use Rattle.dms_ber.proofs.CanonicalNames.{name_spelled}
 use Rattle.dms_ber.proofs.Names.{name_only}
 use Rattle.dms_objects.specs.declared.instance.Instance.{Instance}
 use Rattle.dms_objects.specs.Names.{name_of, below_dms}
 use Rattle.dms_objects.specs.NameOctets.{IsNamed}
 use Rattle.dms_instances.specs.Objects.{has_name}
-use Rattle.dms_instances.specs.NameReading.{octets_below, under_dms}
+use Rattle.dms_instances.specs.NameReading.{octets_below}
 
 -- a name is what is read of its octets
 read_back : (name : List ℕ) → IsNameInLimits name → name ≡ numbers_of (name_octets name)

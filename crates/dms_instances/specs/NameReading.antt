@@ -2,7 +2,7 @@
 use Rattle.std.specs.Prelude.{◌≡◌, ◌<◌, ◌+◌, ◌==◌, ◌&&◌, ℕ, List, []}
 use Rattle.std.specs.Prelude.{◌∷◌, Option, Some, nat_lt, get_or, if◌then◌else◌}
 use Rattle.std.specs.List.{find, flat_map}
-use Rattle.dms_ber.specs.ObjectIdentifier.{sub_identifier_octets}
+use Rattle.dms_ber.specs.ObjectIdentifier.{sub_identifier_octets, under_dms}
 use Rattle.dms_objects.specs.Names.{column_number, scalar_number}
 use Rattle.dms_objects.specs.declared.column.Column.{Column}
 use Rattle.dms_objects.specs.declared.scalar.Scalar.{Scalar}
@@ -45,11 +45,7 @@ octets_below numbers = flat_map sub_identifier_octets numbers
 abbrev pub row_number_of : List ℕ → ℕ
 row_number_of numbers = if nat_lt (get_or numbers 0 0) 256 then get_or numbers 0 0 else 255
 
--- the content octets of a name below dms, 1.3.6.1.4.1.1206.4.2.3
-abbrev pub under_dms : List ℕ → List ℕ
-under_dms rest = 43 ∷ 6 ∷ 1 ∷ 4 ∷ 1 ∷ 137 ∷ 54 ∷ 4 ∷ 2 ∷ 3 ∷ rest
-
--- those of the name of an object's instance
+-- the content octets of the name of an object's instance
 abbrev pub object_content : Scalar → List ℕ
 object_content object = under_dms ((scalar_number object).0 ∷ (scalar_number object).1 ∷ 0 ∷ [])
 

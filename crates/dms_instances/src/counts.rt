@@ -16,9 +16,10 @@ ghost use Rattle.dms_instances.specs.NameReading.{octets_below};
 
 use crate::names::{comes_before_dms, known_below_dms, known_by_octets};
 use crate::octets::{
-    self, below_dms, column_of, first_octet, last_object, number_after, row_number, scalar_of,
+    self, column_of, first_octet, last_object, number_after, row_number, scalar_of,
 };
 use dms_ber::Oid;
+use dms_ber::object_identifier::below_dms;
 use dms_codes::{Memory, RowId, memory};
 use dms_objects::{Column, Instance};
 use dms_table::Table;
@@ -44,7 +45,7 @@ pub struct Counts {
 }
 
 impl Counts {
-    /// Those of a table.
+    /// Those of a table, which must have at most 255 rows of each type of memory.
     pub fn of(table: &Table) -> Counts
         requires permanent { length table.now.permanent ≤ 255 }
         requires changeable { length table.now.changeable ≤ 255 }

@@ -1,18 +1,16 @@
 //! What a name's octets say of its numbers.
 
 ghost use Rattle.std.specs.Prelude.{◌≡◌, ◌∷◌, [], ℕ, List, true};
-ghost use Rattle.dms_ber.specs.ObjectIdentifier.{name_octets};
+ghost use Rattle.dms_ber.specs.ObjectIdentifier.{name_octets, under_dms};
 ghost use Rattle.dms_objects.specs.NameOctets.{IsNamed};
 ghost use Rattle.dms_objects.specs.Names.{below_dms};
 ghost use Rattle.dms_instances.specs.Objects.{has_name, is_before};
-ghost use Rattle.dms_instances.specs.NameReading.{octets_below, under_dms};
+ghost use Rattle.dms_instances.specs.NameReading.{octets_below};
 
+use dms_ber::object_identifier::DMS;
 use dms_ber::{Oid, oid_cmp};
 use dms_objects::Instance;
 use std::cmp::Ordering;
-
-/// The content octets of the name of dms, 1.3.6.1.4.1.1206.4.2.3.
-const DMS: [u8; 10] = [43, 6, 1, 4, 1, 137, 54, 4, 2, 3];
 
 /// The name is that of the instance, since its octets are those of the instance's name: for the proof alone, nothing
 /// runs.

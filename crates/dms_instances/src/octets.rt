@@ -8,11 +8,9 @@ ghost use Rattle.dms_objects.specs.Names.{column_number, scalar_number};
 ghost use Rattle.dms_objects.specs.NameOctets.{IsNamed};
 ghost use Rattle.dms_instances.specs.NameReading.{column_at, scalar_at, octets_below, row_number_of, IsFoundBy};
 
+use dms_ber::object_identifier::below_dms;
 use dms_codes::RowId;
 use dms_objects::{Column, Instance, Scalar};
-
-/// The first eight of the ten octets with which the name of each object begins.
-const ABOVE_DMS: [u8; 8] = [43, 6, 1, 4, 1, 137, 54, 4];
 
 /// The instance whose name has these content octets, where it is an object's, or a cell's of a row of at most 255.
 #[inline(always)]
@@ -184,22 +182,6 @@ fn control_object(number: u8) -> Option<Scalar>
         18 => Some(Scalar::MultiSyntaxError),
         19 => Some(Scalar::MultiSyntaxErrorPosition),
         24 => Some(Scalar::ActivateErrorMsgCode),
-        _ => None,
-    }
-}
-
-/// The octets after those that all names begin with, those of dms, 1.3.6.1.4.1.1206.4.2.3: eight of the ten are
-/// compared as one number.
-#[inline]
-pub(crate) fn below_dms(content: &[u8]) -> Option<&[u8]>
-    ensures named { IfSome result (λ rest. content.now ≡ 43 ∷ 6 ∷ 1 ∷ 4 ∷ 1 ∷ 137 ∷ 54 ∷ 4 ∷ 2 ∷ 3 ∷ rest.now) }
-    ensures found { IfNone result
-        ((rest : List ℕ) → content.now ≡ 43 ∷ 6 ∷ 1 ∷ 4 ∷ 1 ∷ 137 ∷ 54 ∷ 4 ∷ 2 ∷ 3 ∷ rest → ⊥) }
-{
-    match content {
-        [a, b, c, d, e, f, g, h, 2, 3, rest @ ..]
-            if u64::from_le_bytes([*a, *b, *c, *d, *e, *f, *g, *h])
-                == u64::from_le_bytes(ABOVE_DMS) => Some(rest),
         _ => None,
     }
 }

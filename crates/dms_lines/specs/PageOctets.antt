@@ -7,6 +7,8 @@ use Rattle.dms_multi.specs.declared.item.Lead.TheVariants.{Lit, Dark}
 use Rattle.dms_face.specs.declared.cell.Flash.{Flash}
 use Rattle.dms_face.specs.declared.cell.Cell.{Cell}
 use Rattle.dms_pages.specs.Drawn.{DrawnPage, cell_at}
+use Rattle.dms_lines.specs.declared.page_octets.Layer.{Layer}
+use Rattle.dms_lines.specs.declared.page_octets.Layer.TheVariants.{Look, LitTime, DarkTime}
 
 -- ---- a cell
 
@@ -31,26 +33,30 @@ abbrev pub dark_time : Option Flash → ℕ
 dark_time None = 0
 dark_time (Some flash) = flash.dark
 
--- what is asked of each cell: at 0 its look, at 1 how long it is lit while it flashes, else how long it is dark
-abbrev pub cell_octet : ℕ → Cell → ℕ
-cell_octet layer cell =
-    if layer == 0 then look cell else if layer == 1 then lit_time cell.flash else dark_time cell.flash
+abbrev pub layer_of : ℕ → Layer
+layer_of number = if number == 0 then Look else if number == 1 then LitTime else DarkTime
+
+-- what a layer says of a cell: its look, or how long it is lit or dark while it flashes
+abbrev pub cell_octet : Layer → Cell → ℕ
+cell_octet Look cell = look cell
+cell_octet LitTime cell = lit_time cell.flash
+cell_octet DarkTime cell = dark_time cell.flash
 
 -- ---- pages
 
 -- row y from the left
-abbrev pub row_octets : ℕ → DrawnPage → ℕ → List ℕ
+abbrev pub row_octets : Layer → DrawnPage → ℕ → List ℕ
 row_octets layer page y = flat_map (λ x. cell_octet layer (cell_at page x y) ∷ []) (range_with_len 0 page.width)
 
 -- the rows from the top
-abbrev pub rows_octets : ℕ → DrawnPage → List ℕ
+abbrev pub rows_octets : Layer → DrawnPage → List ℕ
 rows_octets layer page = flat_map (row_octets layer page) (range_with_len 0 page.height)
 
 -- its times in tenths of a second, its background, and its cells
-abbrev pub page_octets : ℕ → DrawnPage → List ℕ
+abbrev pub page_octets : Layer → DrawnPage → List ℕ
 page_octets layer page = (page.on ∷ page.off ∷ page.background ∷ []) ++ rows_octets layer page
 
-abbrev pub pages_octets : ℕ → List DrawnPage → List ℕ
+abbrev pub pages_octets : Layer → List DrawnPage → List ℕ
 pages_octets layer pages = flat_map (page_octets layer) pages
 
 -- ---- a row as bits

@@ -32,7 +32,7 @@ pub fn bad_line(alloc: Global) -> Result<Vec<u8>, AllocError>
     Vec::from_slice(alloc, b"bad line\n")
 }
 
-/// Appends octets, for which there is room.
+/// Appends octets, for which there must be room.
 pub fn put(text: &mut Vec<u8>, octets: &[u8])
     requires { vec_len text.old + length octets.now ≤ vec_capacity text.old }
     ensures items { text.new.items ≡ text.old.items ++ octets.now }
@@ -42,7 +42,8 @@ pub fn put(text: &mut Vec<u8>, octets: &[u8])
     text.extend_from_slice(octets).unwrap();
 }
 
-/// Appends octets as pairs of lower case hexadecimal digits, for which there is room.
+/// Appends octets as pairs of lower case hexadecimal digits, for which there must be room: at most
+/// `MAX_DATAGRAM` octets.
 pub fn put_digits(text: &mut Vec<u8>, octets: &[u8])
     requires short { length octets.now ≤ longest_datagram }
     requires room { vec_len text.old + 2 * length octets.now ≤ vec_capacity text.old }

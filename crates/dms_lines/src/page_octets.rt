@@ -9,9 +9,35 @@ use dms_multi::Lead;
 use dms_pages::Page;
 use std::alloc::{AllocError, Global};
 
-/// Pages as octets. Of each cell they say, by `layer`, its look (0), or how long it is lit (1) or dark (2) while it
-/// flashes.
-pub fn pages_octets(alloc: Global, layer: u8, pages: &[Page]) -> Result<Vec<u8>, AllocError>
+/// What pages as octets say of each cell.
+#[derive(Clone, Copy, Debug, PartialEq, Eq)]
+pub enum Layer {
+    /// Its look: its colour, and how it is lit.
+    Look,
+    /// How long it is lit while it flashes, in tenths of a second: 0 where it does not.
+    LitTime,
+    /// How long it is dark while it flashes, in tenths of a second: 0 where it does not.
+    DarkTime,
+}
+
+impl Layer {
+    ghost use Rattle.std.specs.Prelude.{◌≡◌};
+    ghost use Rattle.dms_lines.specs.PageOctets.{layer_of};
+
+    /// The layer of a number: 0 looks, 1 lit times, any other dark times.
+    pub fn of(number: u8) -> Layer
+        ensures { result ≡ layer_of number }
+    {
+        match number {
+            0 => Layer::Look,
+            1 => Layer::LitTime,
+            _ => Layer::DarkTime,
+        }
+    }
+}
+
+/// Pages as octets, which say of each cell what `layer` names.
+pub fn pages_octets(alloc: Global, layer: Layer, pages: &[Page]) -> Result<Vec<u8>, AllocError>
     ensures { IfOk result (λ octets. octets.items ≡ pages_octets layer pages.now) }
 {
     let mut octets = Vec::new(alloc);
@@ -19,7 +45,7 @@ pub fn pages_octets(alloc: Global, layer: u8, pages: &[Page]) -> Result<Vec<u8>,
     Ok(octets)
 }
 
-fn put_pages(octets: &mut Vec<u8>, layer: u8, pages: &[Page]) -> Result<(), AllocError>
+fn put_pages(octets: &mut Vec<u8>, layer: Layer, pages: &[Page]) -> Result<(), AllocError>
     ensures { OnOk result (octets.new.items ≡ octets.old.items ++ pages_octets layer pages.now) }
 {
     for page in pages {
@@ -28,7 +54,7 @@ fn put_pages(octets: &mut Vec<u8>, layer: u8, pages: &[Page]) -> Result<(), Allo
     Ok(())
 }
 
-fn put_page(octets: &mut Vec<u8>, layer: u8, page: &Page) -> Result<(), AllocError>
+fn put_page(octets: &mut Vec<u8>, layer: Layer, page: &Page) -> Result<(), AllocError>
     ensures { OnOk result (octets.new.items ≡ octets.old.items ++ page_octets layer page.now) }
 {
     put_times(octets, page)?;
@@ -43,7 +69,7 @@ fn put_times(octets: &mut Vec<u8>, page: &Page) -> Result<(), AllocError>
     octets.extend_from_slice(&[page.on(), page.off(), page.back()])
 }
 
-fn put_rows(octets: &mut Vec<u8>, layer: u8, page: &Page) -> Result<(), AllocError>
+fn put_rows(octets: &mut Vec<u8>, layer: Layer, page: &Page) -> Result<(), AllocError>
     ensures { OnOk result (octets.new.items ≡ octets.old.items ++ rows_octets layer page.now) }
 {
     for y in 0..page.height() {
@@ -52,7 +78,7 @@ fn put_rows(octets: &mut Vec<u8>, layer: u8, page: &Page) -> Result<(), AllocErr
     Ok(())
 }
 
-fn put_row(octets: &mut Vec<u8>, layer: u8, page: &Page, y: u16) -> Result<(), AllocError>
+fn put_row(octets: &mut Vec<u8>, layer: Layer, page: &Page, y: u16) -> Result<(), AllocError>
     requires { y < page.now.height }
     ensures { OnOk result (octets.new.items ≡ octets.old.items ++ row_octets layer page.now y) }
 {
@@ -62,22 +88,20 @@ fn put_row(octets: &mut Vec<u8>, layer: u8, page: &Page, y: u16) -> Result<(), A
     Ok(())
 }
 
-fn put_cell(octets: &mut Vec<u8>, layer: u8, cell: Cell) -> Result<(), AllocError>
+fn put_cell(octets: &mut Vec<u8>, layer: Layer, cell: Cell) -> Result<(), AllocError>
     ensures { OnOk result (octets.new.items ≡ octets.old.items ++ cell_octet layer cell ∷ []) }
 {
     octets.push(cell_octet(layer, cell))?;
     Ok(())
 }
 
-fn cell_octet(layer: u8, cell: Cell) -> u8
+fn cell_octet(layer: Layer, cell: Cell) -> u8
     ensures { result ≡ cell_octet layer cell }
 {
-    if layer == 0 {
-        look(cell)
-    } else if layer == 1 {
-        lit_time(cell.flash)
-    } else {
-        dark_time(cell.flash)
+    match layer {
+        Layer::Look => look(cell),
+        Layer::LitTime => lit_time(cell.flash),
+        Layer::DarkTime => dark_time(cell.flash),
     }
 }
 
@@ -139,8 +163,8 @@ pub fn bits_needed(looks: &[u8]) -> usize
     looks.len().div_ceil(8)
 }
 
-/// Which cells of a row are lit, eight an octet from the left, the first in the highest bit: first in a buffer that has
-/// room for them.
+/// Which cells of a row are lit, eight an octet from the left, the first in the highest bit: first in a buffer, which
+/// must have room for them.
 pub fn put_bits(looks: &[u8], bits: &mut [u8])
     requires { (length looks.now + 7) / 8 ≤ length bits.old }
     ensures { bits.new ≡ row_bits looks.now ++ drop (length (row_bits looks.now)) bits.old }

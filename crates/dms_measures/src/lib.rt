@@ -21,15 +21,9 @@ use dms_codes::crc;
 use dms_face::{Cell, Face, Font, check};
 use dms_pages::{Page, pages};
 use dms_text::Lines;
-use dms_wire::{Bind, MessageParts, Oid, Out, Value, read, write};
+use dms_wire::{Bind, MAX_BINDINGS, MAX_DATAGRAM, MessageParts, Oid, Out, Value, read, write};
 use std::alloc::Global;
 use std::array;
-
-/// The most octets of a datagram.
-const MAX_DATAGRAM: usize = 1472;
-
-/// The most bindings of a datagram.
-const MAX_BINDINGS: usize = 210;
 
 /// Reads the datagram, and sums its request-ids up to their signs.
 #[unsafe(no_mangle)]

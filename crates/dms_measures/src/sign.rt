@@ -2,12 +2,12 @@
 
 ghost use Rattle.std.specs.Prelude.{◌<◌, length, IfSome};
 
-use crate::{MAX_DATAGRAM, face_of};
+use crate::face_of;
 use dms_bench_sign::stock;
 use dms_codes::Order;
 use dms_sign::{Config, Sign};
 use dms_table::{Permanent, Stock};
-use dms_wire::Out;
+use dms_wire::{MAX_DATAGRAM, Out};
 use std::alloc::Global;
 
 const PERMANENT: Permanent<'static> = Permanent {

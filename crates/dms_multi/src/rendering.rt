@@ -238,7 +238,8 @@ fn put_item(text: &mut Text, item: Item) -> Result<(), TooLong>
     }
 }
 
-/// Writes the canonical text of the items, or nothing where it has more than 512 octets.
+/// Writes the canonical text of the items, or nothing where it has more than 512 octets. Each number of an
+/// item must be in its range (`Item::in_range`).
 pub fn render(items: &[Item], text: &mut ArrayVec<u8, MAX_TEXT>) -> Result<(), TooLong>
     requires { All IsInRange items.now }
     ensures fits { IsOk result ↔ (length (text_of items.now) ≤ longest_text) }

@@ -13,7 +13,7 @@ use Rattle.dms_face.specs.declared.room.Run.{Run}
 use Rattle.dms_face.specs.Face.{FaceModel}
 use Rattle.dms_face.specs.Layout.{Character, Line}
 use Rattle.dms_face.specs.Room.{gap_between, extent, placed_from, at_place, extent_at, begin, spread, character_block, line_block, line_height}
-use Rattle.dms_face.specs.Cells.{PlacedCharacter, line_characters}
+use Rattle.dms_face.specs.Cells.{PlacedCharacter, placed_in_line}
 use Rattle.dms_pages.specs.Drawing.{has_place, placed_above, lines_characters}
 use Rattle.dms_face.specs.Totals.{Sums}
 
@@ -120,7 +120,7 @@ pub line_is : (face : FaceModel) (top : ℕ) (line : Line) (characters : List Ch
     → right ≡ begin End face.width (extent_at End (map character_block characters)) → bottom ≡ top + line_height line
     → ((before ++ map (placed_above bottom) (row character_block characters left Start)) ++ map (placed_above bottom) (row character_block characters centre Halfway))
     ++ map (placed_above bottom) (row character_block characters right End)
-    ≡ before ++ line_characters face (top, line)
+    ≡ before ++ placed_in_line face (top, line)
 line_is face top line characters left centre right bottom before same one two three bottom_is =
     three_parts (placed_above bottom) before (row character_block characters left Start) (row character_block characters centre Halfway) (row character_block characters right End)
     ∙ ap (λ l. before ++ map (placed_above bottom) l) (rows_are character_block face.width characters line.characters left centre right same one two three)
@@ -129,8 +129,8 @@ line_is face top line characters left centre right bottom before same one two th
 pub lines_are : (face : FaceModel) (lines : List Line) (top middle bottom : ℕ) (before : List PlacedCharacter)
     → top ≡ begin Start face.height (extent_at Start (map line_block lines)) → middle ≡ begin Halfway face.height (extent_at Halfway (map line_block lines))
     → bottom ≡ begin End face.height (extent_at End (map line_block lines))
-    → ((before ++ flat_map (line_characters face) (row line_block lines top Start)) ++ flat_map (line_characters face) (row line_block lines middle Halfway))
-    ++ flat_map (line_characters face) (row line_block lines bottom End)
+    → ((before ++ flat_map (placed_in_line face) (row line_block lines top Start)) ++ flat_map (placed_in_line face) (row line_block lines middle Halfway))
+    ++ flat_map (placed_in_line face) (row line_block lines bottom End)
     ≡ before ++ lines_characters face lines
 lines_are face lines top middle bottom before one two three = grind (arith, three_parts_of, rows_are)
 

@@ -9,7 +9,7 @@ use Rattle.dms_face.specs.Layout.{Style, Character, Line, PageModel}
 use Rattle.dms_face.specs.declared.justification.Place.{Place}
 use Rattle.dms_face.specs.declared.room.Block.{Block}
 use Rattle.dms_face.specs.Room.{is_at, line_block, spread}
-use Rattle.dms_face.specs.Cells.{PlacedCharacter, line_characters, is_lit_by, cell_by}
+use Rattle.dms_face.specs.Cells.{PlacedCharacter, placed_in_line, is_lit_by, cell_by}
 
 -- the cell that a character lights
 abbrev pub lit_cell : Style → Cell
@@ -43,7 +43,7 @@ placed_above bottom at_x = record { x = at_x.0; y = bottom - at_x.1.style.font.h
 
 -- the characters of a page's lines
 abbrev pub lines_characters : FaceModel → List Line → List PlacedCharacter
-lines_characters face lines = flat_map (line_characters face) (spread line_block face.height lines)
+lines_characters face lines = flat_map (placed_in_line face) (spread line_block face.height lines)
 
 -- the cells show these characters of a page
 pub record Shows (face : FaceModel) (page : PageModel) (placed : List PlacedCharacter)

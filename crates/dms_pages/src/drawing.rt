@@ -9,7 +9,7 @@ ghost use Rattle.dms_face.specs.declared.room.Block.{Block as BlockModel};
 ghost use Rattle.dms_face.specs.Layout.{Character, Line, PageModel};
 ghost use Rattle.dms_face.specs.Room.{begin, extent_at, placed_from, character_block, line_block};
 ghost use Rattle.dms_face.specs.Room.{line_height, greatest, characters_fit, page_fits};
-ghost use Rattle.dms_face.specs.Cells.{PlacedCharacter, is_lit_by, line_characters};
+ghost use Rattle.dms_face.specs.Cells.{PlacedCharacter, is_lit_by, placed_in_line};
 ghost use Rattle.dms_pages.specs.Drawing.{has_place, covered, is_in_picture, is_lit_in_row};
 ghost use Rattle.dms_pages.specs.Drawing.{is_lit_on_row, lit_cell, placed_above, lines_characters, Shows};
 ghost use Rattle.dms_pages.specs.StylingView.{style_of};
@@ -275,7 +275,7 @@ fn draw_line(
     ensures len { OnOk result (length cells.new.cells ≡ length cells.old.cells) }
     ensures cells { OnOk result
         ((page : PageModel) (before : List PlacedCharacter) → Shows face.now page before cells.old.cells
-        → Shows face.now page (before ++ line_characters face.now (top, line.now)) cells.new.cells) }
+        → Shows face.now page (before ++ placed_in_line face.now (top, line.now)) cells.new.cells) }
 {
     let width = u32::from(face.width());
     let bottom = top + u32::from(line.height());
@@ -304,7 +304,7 @@ fn draw_part(
     ensures len { OnOk result (length cells.new.cells ≡ length cells.old.cells) }
     ensures cells { OnOk result
         ((page : PageModel) (before : List PlacedCharacter) → Shows face.now page before cells.old.cells
-        → Shows face.now page (before ++ flat_map (line_characters face.now)
+        → Shows face.now page (before ++ flat_map (placed_in_line face.now)
         (placed_from line_block first (filter (has_place line_block part) lines.now))) cells.new.cells) }
 {
     let mut run = Run::EMPTY;

@@ -98,7 +98,8 @@ impl Page {
         self.off
     }
 
-    /// What the cell in column x and row y shows, both from 0 at the left top corner.
+    /// What the cell in column x and row y shows, both from 0 at the left top corner: x must be below the
+    /// width, y below the height.
     pub fn cell(&self, x: u16, y: u16) -> Cell
         requires column { x < self.now.width }
         requires row { y < self.now.height }

@@ -138,7 +138,7 @@ fn drawn_pages(alloc: Global, face: &Face, laid: &[TextPage<'_>]) -> Result<Vec<
     Ok(pages)
 }
 
-/// The pages of a text, or its fault, where these defaults hold in place of the face's own.
+/// The pages of a text, or its fault, where these defaults hold in place of the face's own. They must fit the face.
 pub fn pages_with(
     alloc: Global,
     face: &Face,

@@ -65,9 +65,6 @@ closing = codes "</svg>\n"
 
 -- ---- a message
 
-abbrev pub most_pages : ℕ
-most_pages = 6
-
 abbrev pub page_time : DrawnPage → ℕ
 page_time page = page.on + page.off
 

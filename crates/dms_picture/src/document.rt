@@ -2,23 +2,21 @@
 
 ghost use Rattle.std.specs.Prelude.{◌≡◌, ◌≤◌, ◌++◌, length, take, IfOk, OnOk};
 ghost use Rattle.std.specs.List.{flat_map};
+ghost use Rattle.dms_face.specs.Fit.{most_pages};
 ghost use Rattle.dms_picture.specs.Lamps.{styles_of};
 ghost use Rattle.dms_picture.specs.Picture.{page_time, board, svg_tag, view, title, plate, dashes_start, dots_start};
 ghost use Rattle.dms_picture.specs.Picture.{plain_path, style_animation, style_path, page_group, opening, closing};
-ghost use Rattle.dms_picture.specs.Picture.{round_of, groups_from, most_pages, picture_of, still_of};
+ghost use Rattle.dms_picture.specs.Picture.{round_of, groups_from, picture_of, still_of};
 
 use crate::lamps::{put_lamps, put_whole_rows, styles_of};
 use crate::motion::{Motion, put_flash_animation, put_page_animation};
 use crate::shade::shade;
 use crate::text::{put, put_number};
-use dms_face::{Cell, Flash};
+use dms_face::{Cell, Flash, MAX_PAGES};
 use dms_pages::Page;
 use std::alloc::{AllocError, Global};
 use std::io;
 use std::io::Write;
-
-/// The most pages of a message.
-const MOST_PAGES: usize = 6;
 
 /// A message of these pages as a document that a browser plays, on a matrix of so many columns and rows. A page is
 /// shown for its time, and none is in its off time; then the first comes again. A message of one page without an off
@@ -33,7 +31,7 @@ pub fn picture(
     ensures { IfOk result (λ document. document.items ≡ picture_of width height (take most_pages pages.now)) }
 {
     let mut out = Vec::new(alloc);
-    let shown = &pages[..pages.len().min(MOST_PAGES)];
+    let shown = &pages[..pages.len().min(MAX_PAGES)];
     match put_picture(alloc, &mut out, width, height, shown) {
         Ok(()) => Ok(out),
         Err(_) => Err(AllocError),

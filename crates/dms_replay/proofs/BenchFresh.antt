@@ -43,6 +43,6 @@ bench_is_fresh = record {
   first = bench_sign.first;
   can_be_made = can_be_made;
   made_of_octets = made_of_octets;
-  are_settings = record { some = omega arith; few = omega arith; octets = writer_octets };
+  are_settings = record { size = refl; octets = writer_octets };
   is_beginning = refl;
 }

@@ -14,7 +14,6 @@ use Rattle.dms_forms.proofs.WordReading.{last_found, by_text}
 use Rattle.dms_forms.proofs.FieldLaws.{last_number_found, last_number_only, last_octets_found, last_octets_only}
 use Rattle.dms_commands.specs.CommandReading.{command_word}
 use Rattle.dms_commands.specs.declared.command_word.CommandWord.{CommandWord}
-use Rattle.dms_commands.specs.declared.command_word.CommandWord.TheVariants as word_of
 use Rattle.dms_commands.proofs.CommandLaws.{command_text, command_some, command_word_found, command_after_found, is_read}
 use Rattle.dms_replay.specs.EventLine.{SpellsEventWords, SpellsEvent}
 use Rattle.dms_replay.specs.EventReading.{keyword_of, own_keyword, later_keyword, if_command, event_after, event_of}

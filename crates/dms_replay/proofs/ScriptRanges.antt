@@ -1,8 +1,7 @@
 -- A script's commands are in the ranges of their types, and the world that it begins with is fresh.
-use Rattle.std.proofs.Common.{◌≡◌, ℕ, zero, suc, ◌<◌, ◌≤◌, ◌^◌, true, List, [], ◌∷◌, ◌++◌, length, Some, slice_get, refl, sym, ap, ◌∙◌, subst, arith}
-use Rattle.std.specs.List.{All, AllByRecursion}
+use Rattle.std.proofs.Common.{◌≡◌, ℕ, zero, suc, ◌<◌, ◌≤◌, ◌^◌, List, [], ◌∷◌, ◌++◌, Some, slice_get, refl, subst, arith}
+use Rattle.std.specs.List.{AllByRecursion}
 use Rattle.std.specs.Int.Digits.{AllBelowBase}
-use Rattle.std.proofs.lemmas.Bool.{and_parts, leb-true}
 use Rattle.std.proofs.lemmas.Option.{none-some, same_Some}
 use Rattle.std.proofs.lemmas.List.Elements.{All-from_recursion}
 use Rattle.dms_text.specs.Lines.{kept_lines}
@@ -11,23 +10,20 @@ use Rattle.dms_face.specs.declared.defaults.Defaults.{Defaults}
 use Rattle.dms_access.specs.Ranges.{AreDefaultsInRange}
 use Rattle.dms_table.specs.Rows.{RowModel}
 use Rattle.dms_codes.specs.declared.codes.Order.{Order}
-use Rattle.dms_sign.specs.Communities.{has_community_size}
 use Rattle.dms_sign.specs.InRange.{IsMadeOfOctets}
 use Rattle.dms_requests.specs.Commands.{CommandModel, Publish, Blank, Activate, IsAddress, IsPublication, IsCommand, OfPublish, OfBlank, OfActivate}
 use Rattle.dms_requests.specs.Job.{PublicationModel}
-use Rattle.dms_requests.specs.Requests.{AreSettings}
 use Rattle.dms_world.specs.Event.{EventModel, command, sign_tick, centre_tick, to_sign, to_centre, power_lost, power_back, centre_restart, forge_sign, forge_centre}
 use Rattle.dms_world.specs.World.{IsFresh}
-use Rattle.dms_world.specs.Backed.{Has}
 use Rattle.dms_world.specs.Headline.{IsEvent, AreEvents}
 use Rattle.dms_description.specs.BenchSign.{bench_text}
-use Rattle.dms_description.specs.Description.{Description, SpellsSign, SpellsPermanent, SpellsPermanentLine, numbers_of}
-use Rattle.dms_forms.specs.Fields.{SpellsEach, SpellsOctet, SpellsTwoOctets}
+use Rattle.dms_description.specs.Description.{Description, SpellsSign, SpellsPermanentLine, numbers_of}
+use Rattle.dms_forms.specs.Fields.{SpellsEach, SpellsOctet}
 use Rattle.dms_description.proofs.BenchValue.{bench_sign}
 use Rattle.dms_description.proofs.BenchText.{spells_the_bench_sign}
 use Rattle.dms_description.proofs.DescriptionLaws.{one_sign}
 use Rattle.dms_commands.specs.CommandFields.{SpellsAddress, SpellsAddressPart}
-use Rattle.dms_commands.specs.CommandLine.{SpellsPublication, SpellsBlank, SpellsCommand}
+use Rattle.dms_commands.specs.CommandLine.{SpellsPublication, SpellsCommand}
 use Rattle.dms_replay.specs.EventLine.{SpellsEvent, SpellsEventWords}
 use Rattle.dms_replay.specs.Script.{NamesSign, the_bench, described, SpellsScript, beginning_of}
 use Rattle.dms_replay.proofs.BenchFresh.{bench_is_fresh}
@@ -144,7 +140,6 @@ made_of_octets lines it all spelled =
 described_is_fresh : (lines : List (List ℕ)) (it : Description) → Each lines → SpellsSign lines it → IsFresh (beginning_of it)
 described_is_fresh lines it all spelled =
     let made = made_of_octets lines it all spelled in
-    let sizes = and_parts _ _ spelled.can_be_made.writer in
     record {
       config = it.config;
       table = it.table;
@@ -152,7 +147,7 @@ described_is_fresh lines it all spelled =
       first = it.first;
       can_be_made = spelled.can_be_made;
       made_of_octets = made;
-      are_settings = record { some = leb-true 1 (length it.config.writer) sizes.0; few = leb-true (length it.config.writer) 32 sizes.1; octets = made.writer };
+      are_settings = record { size = spelled.can_be_made.writer; octets = made.writer };
       is_beginning = refl;
     }
 

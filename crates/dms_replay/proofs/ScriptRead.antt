@@ -13,7 +13,8 @@ use Rattle.dms_centre.specs.State as centre
 use Rattle.dms_world.specs.Event.{EventModel}
 use Rattle.dms_world.specs.World.{WorldModel, beginning, world_after}
 use Rattle.dms_description.specs.BenchSign.{bench_text}
-use Rattle.dms_description.specs.Description.{Description, SpellsSign, longest_input}
+use Rattle.dms_description.specs.Description.{Description, SpellsSign}
+use Rattle.dms_streams.specs.DescriptionText.{longest_input}
 use Rattle.dms_forms.specs.Fields.{SpellsEach}
 use Rattle.dms_description.specs.Setups.{octets_left, BeginsWith, IsMade}
 use Rattle.dms_description.specs.declared.setup.Setup.{Setup}

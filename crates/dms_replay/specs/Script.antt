@@ -6,7 +6,8 @@ use Rattle.dms_forms.specs.Fields.{SpellsEach}
 use Rattle.dms_replay.specs.EventLine.{SpellsEvent}
 use Rattle.dms_sign.specs.State.{start}
 use Rattle.dms_centre.specs.State as centre
-use Rattle.dms_description.specs.Description.{Description, SpellsSign, longest_input}
+use Rattle.dms_description.specs.Description.{Description, SpellsSign}
+use Rattle.dms_streams.specs.DescriptionText.{longest_input}
 use Rattle.dms_world.specs.World.{WorldModel, beginning}
 use Rattle.dms_description.specs.BenchSign.{bench_text}
 

@@ -1,7 +1,7 @@
 //! The words with which the lines of events begin.
 
 use dms_commands::CommandWord;
-use dms_forms::fields::are_same;
+use dms_text::are_same;
 
 /// The word with which an event's line begins.
 #[derive(Clone, Copy, Debug, PartialEq, Eq)]

@@ -2,7 +2,7 @@
 
 ghost use Rattle.std.specs.Prelude.{◌≡◌, ◌≤◌, IfOk, IfSome, length, option_map};
 ghost use Rattle.dms_text.specs.Lines.{lines_left};
-ghost use Rattle.dms_description.specs.Description.{longest_input};
+ghost use Rattle.dms_streams.specs.DescriptionText.{longest_input};
 ghost use Rattle.dms_replay.specs.Replayed.{NoScript};
 ghost use Rattle.dms_replay.specs.Reasons.{event_form, event_cause, line_numbered, line_found, event_cause_at};
 ghost use Rattle.dms_replay.specs.Reasons.{IsCauseOf};
@@ -64,7 +64,7 @@ impl fmt::Display for ScriptCause {
 }
 
 /// Why the line of this number is the one for which the script is refused. None is said of any other line, and none
-/// where the text spells a script.
+/// where the text spells a script. It must have at most `LONGEST_INPUT` octets.
 pub fn why(alloc: Global, octets: &[u8], number: usize) -> Result<Option<ScriptCause>, AllocError>
     requires { length octets.now ≤ longest_input }
     ensures cause { IfOk result (λ found. IfSome found (IsCauseOf octets.now number)) }

@@ -3,7 +3,8 @@
 ghost use Rattle.std.specs.Prelude.{◌≡◌, ◌⊎◌, ◌≤◌, ◌∷◌, List, ℕ, codes, length, IfOk, IfErr, IfSome, IfNone};
 ghost use Rattle.dms_text.specs.Lines.{kept_lines};
 ghost use Rattle.dms_world.specs.Event.{EventModel};
-ghost use Rattle.dms_description.specs.Description.{Description, longest_input};
+ghost use Rattle.dms_description.specs.Description.{Description};
+ghost use Rattle.dms_streams.specs.DescriptionText.{longest_input};
 ghost use Rattle.dms_description.specs.Setups.{octets_left, IsMade};
 ghost use Rattle.dms_replay.specs.EventView.{script_events_model};
 ghost use Rattle.dms_description.specs.ReadingFaults.{IsLine};

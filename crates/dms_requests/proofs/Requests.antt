@@ -26,7 +26,7 @@ use Rattle.dms_requests.specs.Commands.{is_publishable}
 use Rattle.dms_requests.specs.Requests.{AreSettings, IsWork, OfPublishing, OfShowing}
 use Rattle.dms_requests.proofs.Checksums.{message_checksum_below}
 use Rattle.dms_requests.proofs.Lengths.{length-element, length-number_element, length-binding, length-request}
-use Rattle.dms_codes.specs.Limits.{longest_text, longest_owner}
+use Rattle.dms_codes.specs.Limits.{longest_text, longest_owner, longest_community, has_community_size}
 use Rattle.dms_ber.specs.Limits.{longest_datagram}
 
 -- ---- names
@@ -227,11 +227,14 @@ request_within settings number work step fine few is = record {
   bindings = (fine_bindings settings.order work step is).within;
 }
 
+community_few : (community : List ℕ) → has_community_size community ≡ true → length community ≤ longest_community
+community_few community e = grind arith
+
 pub request_fits : (settings : SettingsModel) (number : ℕ) (work : Work) (step : Step) → AreSettings settings → number ≤ last_number → IsWork work
     → length (canonical (request_of settings number work step)) ≤ longest_datagram
 unfolding request_of
 request_fits settings number work step fine few is =
-    length-request (request_of settings number work step) number refl (omega (arith, few)) refl refl fine.few (fine_bindings settings.order work step is).room
+    length-request (request_of settings number work step) number refl (omega (arith, few)) refl refl (community_few settings.community fine.size) (fine_bindings settings.order work step is).room
 
 -- A request is read as it was meant.
 pub request_reads : (settings : SettingsModel) (number : ℕ) (work : Work) (step : Step) → AreSettings settings → number ≤ last_number → IsWork work

@@ -1,18 +1,18 @@
 -- The requests that go out, and what their values have to be for it (RFC 1157, 4.1).
-use Rattle.std.specs.Prelude.{◌≡◌, ℕ, ◌≤◌, true, List, length, Some}
+use Rattle.std.specs.Prelude.{◌≡◌, ℕ, true, IsTrue, List, Some}
 use Rattle.std.specs.Int.Digits.{AllBelowBase}
 use Rattle.dms_wire.specs.MessageOf.{message_of}
 use Rattle.dms_codes.specs.declared.codes.Activation.{Activation}
 use Rattle.dms_codes.specs.Codes.{IsActivation}
+use Rattle.dms_codes.specs.Limits.{has_community_size}
 use Rattle.dms_requests.specs.declared.step.Step.{Step}
 use Rattle.dms_requests.specs.Job.{SettingsModel, PublicationModel, Work, Publishing, Showing}
 use Rattle.dms_requests.specs.Steps.{request_of}
 use Rattle.dms_requests.specs.Commands.{IsPublication, is_publishable}
 
--- a community of 1 to 32 octets
+-- the community has its size, and is of octets
 pub record AreSettings (settings : SettingsModel) : Type 0 where
-  pub some : 1 ≤ length settings.community
-  pub few : length settings.community ≤ 32
+  pub size : IsTrue (has_community_size settings.community)
   pub octets : AllBelowBase 256 settings.community
 
 -- the values of what a job is to activate

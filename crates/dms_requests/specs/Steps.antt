@@ -11,6 +11,8 @@ use Rattle.dms_objects.specs.declared.column.Column.TheVariants.{MultiString, Ow
 use Rattle.dms_objects.specs.declared.column.Column.TheVariants.{RunTimePriority, Status}
 use Rattle.dms_codes.specs.declared.row_id.RowId.{RowId}
 use Rattle.dms_codes.specs.Checksum.{message_checksum}
+use Rattle.dms_codes.specs.Status.{ask_number}
+use Rattle.dms_codes.specs.declared.status.Ask.TheVariants as asks
 use Rattle.dms_codes.specs.Codes.{row_id, octets_of_activation}
 use Rattle.dms_objects.specs.Names.{activate_message, activate_message_error, cell_name}
 use Rattle.dms_requests.specs.declared.step.Step.{Step}
@@ -63,10 +65,10 @@ cell work column = cell_name column (row_of work)
 
 -- the values of dmsMessageStatus that ask for a change
 abbrev pub modify_request : ℕ
-modify_request = 6
+modify_request = ask_number asks.Modify
 
 abbrev pub validate_request : ℕ
-validate_request = 7
+validate_request = ask_number asks.Validate
 
 abbrev pub field : Work → Column → ObjectValue → VarBind
 field work column value = record { name = cell work column; value = value }

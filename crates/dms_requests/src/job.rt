@@ -189,7 +189,7 @@ impl Job {
         }
     }
 
-    /// The job that a command begins, in the place of the last one.
+    /// The job that a command begins, in the place of the last one. The numbers of the command must be in their ranges.
     pub fn begin(&mut self, command: &Command<'_>)
         requires { is_good (command_model command.now) ≡ true }
         ensures job { job_model self.new ≡ job_of (command_model command.now) }

@@ -6,6 +6,7 @@ ghost use Rattle.dms_wire.specs.Canonical.{canonical};
 ghost use Rattle.dms_wire.specs.declared.message.Kind.TheVariants as kinds;
 ghost use Rattle.dms_wire.specs.Written.{octets_of_bindings};
 ghost use Rattle.dms_wire.specs.View.{message_around, object_value, var_bind};
+ghost use Rattle.dms_codes.specs.Status.{ask_number};
 ghost use Rattle.dms_objects.specs.Names.{cell_name, name_of};
 ghost use Rattle.dms_requests.specs.Steps.{fields, request_of, last_number};
 ghost use Rattle.dms_requests.specs.Requests.{AreSettings, IsWork};
@@ -14,17 +15,12 @@ ghost use Rattle.dms_ber.specs.Limits.{longest_datagram};
 
 use crate::job::Work;
 use crate::step::Step;
-use dms_codes::{Order, RowId};
+use dms_codes::{Ask, Order, RowId};
 use dms_objects::{Column, Instance, Name, Scalar};
 use dms_wire::{Bind, BindingOctets, Header, Kind, MessageParts, Out, Value, write, write_around};
 
-/// Asks that a row may be modified (dmsMessageStatus, modifyReq).
-const MODIFY_REQUEST: i64 = 6;
-
-/// Asks that a row be validated (dmsMessageStatus, validateReq).
-const VALIDATE_REQUEST: i64 = 7;
-
-/// Writes the request of a step, under a number, over what `out` holds.
+/// Writes the request of a step, under a number, over what `out` holds. The community must have its size, the number
+/// must be at most 2147483647, and the work must be a command's that is in range.
 #[tactic(auto, unfolding(crate::specs::Steps::request_of, dms_objects::specs::Names::name_of))]
 pub fn put_request(
     community: &[u8],
@@ -44,16 +40,16 @@ pub fn put_request(
     let status = Instance::Cell(Column::Status, row);
     match step {
         Step::Opening => {
-            let value = Value::Integer(MODIFY_REQUEST);
-            put_one(community, Kind::Set, number, status, value, out);
+            let asked = ask_value(Ask::Modify);
+            put_one(community, Kind::Set, number, status, asked, out);
         }
         Step::Opened | Step::Polling => {
             put_one(community, Kind::Get, number, status, Value::Null, out);
         }
         Step::Filling => put_fields(community, number, work, out),
         Step::Validating => {
-            let value = Value::Integer(VALIDATE_REQUEST);
-            put_one(community, Kind::Set, number, status, value, out);
+            let asked = ask_value(Ask::Validate);
+            put_one(community, Kind::Set, number, status, asked, out);
         }
         Step::Comparing => {
             let checksum = Instance::Cell(Column::Crc, row);
@@ -76,6 +72,13 @@ pub fn put_request(
             put_one(community, Kind::Get, number, object, Value::Null, out);
         }
     }
+}
+
+/// What asks for a change of a row's status, as the value of dmsMessageStatus.
+fn ask_value<'a>(ask: Ask) -> Value<'a>
+    ensures { object_value result ≡ integer (pos (ask_number ask)) }
+{
+    Value::Integer(i64::from(ask.number()))
 }
 
 /// Writes the request that sets the fields of a row.

@@ -7,6 +7,7 @@ use Rattle.dms_face.specs.declared.defaults.Defaults.{Defaults}
 use Rattle.dms_face.specs.declared.multi_fault.MultiFault.{MultiFault}
 use Rattle.dms_face.specs.Face.{FaceModel}
 use Rattle.dms_face.specs.Fit.{fault_of}
+use Rattle.dms_face.specs.Layout.{under}
 use Rattle.dms_face.proofs.Lists.{if_either}
 use Rattle.dms_codes.specs.declared.codes.Order.{Order}
 use Rattle.dms_codes.specs.declared.codes.MessageId.{MessageId}
@@ -18,7 +19,7 @@ use Rattle.dms_codes.specs.Memory.{current_buffer}
 use Rattle.dms_codes.specs.Limits.{longest_text}
 use Rattle.dms_codes.specs.Codes.{number_at, id_of, activation_of, IsMessageId}
 use Rattle.dms_codes.specs.Codes.{row_id}
-use Rattle.dms_table.specs.Activation.{ShownModel, is_memory, named, text_error, activation_error, cause_number, seconds_of, put_up, unless_refused, decided_on, decided}
+use Rattle.dms_table.specs.Activation.{ShownModel, is_memory, named, text_error, activation_error, cause_number, seconds_of, put_up, put_up_row, shown_by, row_refusal, unless_refused, decided}
 use Rattle.dms_codes.specs.declared.mode.Mode.{Mode}
 use Rattle.dms_codes.specs.Mode.{mode_number}
 use Rattle.dms_table.specs.Activation.{blank_shown}
@@ -119,14 +120,15 @@ unless_in_range : (shown : ShownModel) (o : Option Cause) → IsShownInRange sho
 unless_in_range shown o is cause = grind arith
 
 on_in_range : (face : FaceModel) (defaults : Defaults) (shown : ShownModel) (code : Activation) (o : Option RowReading) → AreDefaultsInRange defaults
-    → IsShownInRange shown → IsCodeInRange code → IfSome o IsReadingInRange → IsDecisionInRange (decided_on face defaults shown code o)
+    → IsShownInRange shown → IsCodeInRange code → IfSome o IsReadingInRange → IsDecisionInRange (unless_refused (put_up_row defaults shown code o) (row_refusal (under face defaults) shown code o))
 on_in_range face defaults shown code o are is coded read = grind (arith, unless_in_range, put_up_in_range, error_in_range)
 
 pub decided_in_range : (face : FaceModel) (defaults : Defaults) (table : TableModel) (shown : ShownModel) (code : Activation)
     → AreDefaultsInRange defaults
     → IsTableInRange table → IsShownInRange shown → IsCodeInRange code → IsDecisionInRange (decided face defaults table shown code)
 decided_in_range face defaults table shown code are rows is coded =
-    either IsDecisionInRange (is_memory code.id.memory) (decided_on face defaults shown code (named table shown code.id)) (Err causes.MemoryType)
+    either (λ refused. IsDecisionInRange (unless_refused (shown_by defaults table shown code) refused)) (is_memory code.id.memory)
+    (row_refusal (under face defaults) shown code (named table shown code.id)) (Some causes.MemoryType)
     (on_in_range face defaults shown code (named table shown code.id) are is coded (message_in_range table shown (row_id code.id) rows is)) tt
 
 -- ---- codes that are refused

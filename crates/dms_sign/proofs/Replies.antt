@@ -24,20 +24,21 @@ use Rattle.dms_face.proofs.Lists.{all_append}
 use Rattle.dms_sign.specs.State.{SignState}
 use Rattle.dms_access.specs.Access.{Write, SetNumber, SetCode, SetField, AskRow, Activate, SetRemaining, is_command}
 use Rattle.dms_sign.specs.SetRequest.{SetCause, is_command_at, cause_if, causes_at, causes_after, causes, assigned}
+use Rattle.dms_ber.specs.Limits.{longest_datagram}
 use Rattle.dms_sign.specs.Reply.{too_big}
 use Rattle.dms_sign.specs.Requests.{Answer, refused, granted, as_decided, as_asked, commanded, commanded_if, with_remaining, command_index, writes_of, set_unless, answer_by, answer_of_any_size}
-use Rattle.dms_sign.specs.Reply.{response_of, most_octets, reply_to, is_heard, heard, dropped, on_message_if, received}
+use Rattle.dms_sign.specs.Reply.{response_of, reply_to, is_heard, heard, dropped, on_message_if, received}
 use Rattle.dms_sign.specs.Promises.{IsResponseTo, IsReplyTo}
 
 -- ---- a reply names its request
 
 response_either : (m : SnmpMessage) (a : Answer) (b : Bool)
-    → IsResponseTo m (cond b (canonical (response_of m a)) (canonical (response_to m too_big 0)))
+    → IsResponseTo m (canonical (cond b (response_of m a) (response_to m too_big 0)))
 response_either m a b = grind arith
 
 responds : (m : SnmpMessage) (a : Answer) → IsResponseTo m (reply_to m a)
 unfolding reply_to
-responds m a = response_either m a (nat_le (length (canonical (response_of m a))) most_octets)
+responds m a = response_either m a (nat_le (length (canonical (response_of m a))) longest_datagram)
 
 asks_by : (powered : Bool) (b c : Bool) → (powered && b && c) ≡ true → b ≡ true
 asks_by powered b c h = (and_parts powered b (and_parts (powered && b) c h).0).1

@@ -1,5 +1,5 @@
 -- What a code puts up: the message of its row, a blank one, or what is shown already.
-use Rattle.std.proofs.Common.{◌≡◌, ℕ, ◌==◌, ◌||◌, Bool, true, false, not, cond, List, Option, Some, None, Result, Ok, Err, refl, arith}
+use Rattle.std.proofs.Common.{◌≡◌, ℕ, ◌==◌, ◌||◌, Bool, true, false, not, cond, List, Option, Some, None, Result, Ok, Err, refl, sym, ◌∙◌, arith}
 use Rattle.std.specs.Prelude.{option_map, nat_lt}
 use Rattle.std.proofs.lemmas.Bool.{eqb-true, not-false}
 use Rattle.dms_face.specs.declared.defaults.Defaults.{Defaults}
@@ -18,7 +18,7 @@ use Rattle.dms_table.specs.Rows.{RowModel, TableModel, RowReading, blank, rows_o
 use Rattle.dms_codes.specs.Memory.{current_buffer, blank_memory}
 use Rattle.dms_codes.specs.declared.mode.Mode.TheVariants.{Central}
 use Rattle.dms_codes.specs.Mode.{mode_number}
-use Rattle.dms_table.specs.Activation.{ShownModel, shown_reading, is_memory, named, seconds_of, unless_refused, decided}
+use Rattle.dms_table.specs.Activation.{ShownModel, shown_reading, is_memory, named, seconds_of, put_up_row, shown_by, row_refusal, unless_refused, decided}
 use Rattle.dms_table.proofs.KnownTexts.{valid_status}
 use Rattle.dms_sign.specs.State.{SignState}
 use Rattle.dms_sign.specs.OwnCodes.{own_activation, put_up_as_decided, staying, put_up_code}
@@ -128,9 +128,25 @@ known_displays true face defaults table shown code new e =
     named_displays (code.id.memory == current_buffer) (code.id.memory == blank_memory) face defaults table shown code new refl e
 known_displays false face defaults table shown code new e = absurd (cc)
 
+by_row : (face : FaceModel) (defaults : Defaults) (shown : ShownModel) (code : Activation) (o : Option RowReading)
+    → unless_refused (put_up_row defaults shown code o) (row_refusal (under face defaults) shown code o)
+    ≡ decided_if (code.id.memory == current_buffer) (code.id.memory == blank_memory) face defaults shown code o
+by_row face defaults shown code None = refl
+by_row face defaults shown code (Some message) = refl
+
+by_memory : (b : Bool) (face : FaceModel) (defaults : Defaults) (table : TableModel) (shown : ShownModel) (code : Activation)
+    → cond b (decided_if (code.id.memory == current_buffer) (code.id.memory == blank_memory) face defaults shown code (named table shown code.id))
+    (Err causes.MemoryType)
+    ≡ unless_refused (shown_by defaults table shown code)
+    (cond b (row_refusal (under face defaults) shown code (named table shown code.id)) (Some causes.MemoryType))
+by_memory true face defaults table shown code = sym (by_row face defaults shown code (named table shown code.id))
+by_memory false face defaults table shown code = refl
+
 pub decided_displays : (face : FaceModel) (defaults : Defaults) (table : TableModel) (shown : ShownModel) (code : Activation) (new : ShownModel)
     → decided face defaults table shown code ≡ Ok new → Displays face defaults table shown code.id new
-decided_displays face defaults table shown code new e = known_displays (is_memory code.id.memory) face defaults table shown code new e
+decided_displays face defaults table shown code new e =
+    known_displays (is_memory code.id.memory) face defaults table shown code new
+    (by_memory (is_memory code.id.memory) face defaults table shown code ∙ e)
 
 -- ---- codes of the sign's own
 

@@ -25,7 +25,7 @@ use Rattle.dms_access.specs.declared.reports.Reports.{Reports}
 use Rattle.dms_sign.specs.declared.sign.Sign.TheInside.{Inside}
 use Rattle.dms_sign.specs.Communities.{are_communities}
 use Rattle.dms_table.specs.Activation.{blank_id, blank_shown}
-use Rattle.dms_table.specs.Activation.{blank_code}
+use Rattle.dms_table.specs.Activation.{blank_octets}
 use Rattle.dms_sign.specs.State.{ConfigModel, SignState, start, power_recovery_mode}
 use Rattle.dms_sign.specs.Kept.{IsKept}
 use Rattle.dms_access.specs.declared.settings.Settings.{Settings}
@@ -172,7 +172,7 @@ own_refused a s octets id code mode cause blank told i own other e b t =
 
 -- ---- a sign as it is made
 
-pub blank_source : (order : Order) → blank_code ≡ octets_of_id order blank_id
+pub blank_source : (order : Order) → blank_octets ≡ octets_of_id order blank_id
 blank_source order = grind arith
 
 pub made_kept : (config : ConfigModel) (table : TableModel) → config.face.width ≤ 256 → config.face.height ≤ 64 → IsTrue (fit config.face.fonts config.face.defaults)
@@ -206,5 +206,5 @@ pub made_state : (config : ConfigModel) (table : TableModel) (defaults : Default
 made_state config table defaults settings reports shown kept d e r s k is = grind arith
 
 pub made_source : (order : Order) (defaults : Defaults) (shown : ShownModel) → shown ≡ blank_shown defaults power_recovery_mode
-    → blank_code ≡ octets_of_id order shown.source
+    → blank_octets ≡ octets_of_id order shown.source
 made_source order defaults shown s = blank_source order ∙ ap (λ (x : ShownModel). octets_of_id order x.source) (sym s)

@@ -1,5 +1,5 @@
 -- What the writes of a SET leave: rows that are not being modified stay as they are, so a command is judged alike before and after them.
-use Rattle.std.proofs.Common.{◌≡◌, ◌⊎◌, inl, ℕ, zero, suc, ◌-◌, ◌==◌, ◌&&◌, Bool, true, cond, List, [], ◌∷◌, Option, Some, None, is_some, refl, sym, ap, subst, ◌∙◌, arith}
+use Rattle.std.proofs.Common.{◌≡◌, ◌⊎◌, inl, ℕ, zero, suc, ◌-◌, ◌==◌, ◌&&◌, Bool, true, cond, List, [], ◌∷◌, Option, Some, None, is_some, Result, refl, sym, ap, subst, ◌∙◌, arith}
 use Rattle.std.specs.Prelude.{option_map, option_and_then, unwrap_or, slice_get, slice_set, ⊤}
 use Rattle.std.specs.Option.{IfSome}
 use Rattle.std.specs.List.{list_any}
@@ -8,6 +8,9 @@ use Rattle.dms_face.specs.Face.{FaceModel}
 use Rattle.dms_codes.specs.declared.status.Status.{Status}
 use Rattle.dms_codes.specs.declared.status.Status.TheVariants.{Modifying}
 use Rattle.dms_codes.specs.declared.status.Ask.{Ask}
+use Rattle.dms_table.specs.declared.activation.Cause.{Cause}
+use Rattle.dms_table.specs.declared.activation.Cause.TheVariants as causes
+use Rattle.dms_face.specs.Layout.{under}
 use Rattle.dms_codes.specs.declared.row_id.RowId.{RowId}
 use Rattle.dms_codes.specs.declared.codes.Activation.{Activation}
 use Rattle.dms_codes.specs.Status.{next_status, is_modifying}
@@ -16,7 +19,7 @@ use Rattle.dms_codes.specs.declared.memory.Memory.TheVariants.{Permanent, Change
 use Rattle.dms_codes.specs.Memory.{memory_of}
 use Rattle.dms_table.specs.Rows.{RowModel, TableModel, FieldModel, Text, Owner, Beacon, Pixel, Priority, RowReading, reading, rows_by, numbered, changed_in, with_changeable, with_volatile, changed_by, with_status, asked_row, asked, row_is_validating, with_field, written_row, written}
 use Rattle.dms_codes.proofs.Options.{is_some_mapped}
-use Rattle.dms_table.specs.Activation.{ShownModel, decided_on, decided}
+use Rattle.dms_table.specs.Activation.{ShownModel, put_up_row, row_refusal, unless_refused, decided}
 use Rattle.dms_access.specs.Access.{Write, SetNumber, SetCode, SetField, AskRow, Activate, SetRemaining}
 use Rattle.dms_sign.specs.SetRequest.{with_write, with_writes}
 use Rattle.dms_sign.proofs.InRangeLists.{if_mapped}
@@ -196,19 +199,28 @@ asked_alike old new id ask like = grind (arith, any_like, if_some, asked_by, is_
 
 -- ---- decisions
 
+-- the decision on a code of a type of memory, of this row
+abbrev on_row : FaceModel → Defaults → ShownModel → Activation → Option RowReading → Result ShownModel Cause
+on_row face defaults shown code o =
+    unless_refused (put_up_row defaults shown code o) (row_refusal (under face defaults) shown code o)
+
 both_alike : (face : FaceModel) (defaults : Defaults) (shown : ShownModel) (code : Activation) (o p : Option RowModel) → BothLike o p
-    → decided_on face defaults shown code (option_map reading o) ≡ decided_on face defaults shown code (option_map reading p)
+    → on_row face defaults shown code (option_map reading o) ≡ on_row face defaults shown code (option_map reading p)
 both_alike face defaults shown code o p both = grind arith
 
 rows_alike : (memory : Option Memory) (old new : TableModel) → IsTableLike old new → AreLike (rows_by old memory) (rows_by new memory)
 rows_alike memory old new like = grind (arith, all_like)
 
 read_by : (face : FaceModel) (defaults : Defaults) (shown : ShownModel) (code : Activation) (b : Bool) (o p q : Option RowReading)
-    → decided_on face defaults shown code p ≡ decided_on face defaults shown code q
-    → decided_on face defaults shown code (cond b o p) ≡ decided_on face defaults shown code (cond b o q)
+    → on_row face defaults shown code p ≡ on_row face defaults shown code q
+    → on_row face defaults shown code (cond b o p) ≡ on_row face defaults shown code (cond b o q)
 read_by face defaults shown code b o p q e = grind arith
+
+by_memory : (b : Bool) (x y : ShownModel) (o p : Option Cause) → unless_refused x o ≡ unless_refused y p
+    → unless_refused x (cond b o (Some causes.MemoryType)) ≡ unless_refused y (cond b p (Some causes.MemoryType))
+by_memory b x y o p e = grind arith
 
 -- a code is decided on alike before and after the writes
 pub decided_alike : (face : FaceModel) (defaults : Defaults) (old new : TableModel) (shown : ShownModel) (code : Activation) → IsTableLike old new
     → decided face defaults old shown code ≡ decided face defaults new shown code
-decided_alike face defaults old new shown code like = grind (arith, rows_alike, both_alike, numbered_like, read_by)
+decided_alike face defaults old new shown code like = grind (arith, rows_alike, both_alike, numbered_like, read_by, by_memory)

@@ -1,28 +1,27 @@
 -- The ranges of what a sign holds. They hold of a sign as it is made and after every event, so that each value which
 -- its objects read can be said in a message (this profile).
-use Rattle.std.specs.Prelude.{◌≡◌, ℕ, ◌*◌, ◌≤◌, if◌then◌else◌, List, length, nat_le}
+use Rattle.std.specs.Prelude.{◌≡◌, ℕ, ◌*◌, ◌≤◌, List, length}
 use Rattle.std.specs.Prelude.{Option, Some, None, ⊤, IsTrue, All, replicate}
 use Rattle.std.specs.List.{AllByRecursion}
 use Rattle.std.specs.Int.Digits.{AllBelowBase}
 use Rattle.dms_wire.specs.declared.message.Kind.TheVariants.{Response}
 use Rattle.dms_wire.specs.Message.{VarBind, SnmpMessage}
+use Rattle.dms_ber.specs.Limits.{longest_datagram}
 use Rattle.dms_ber.specs.ObjectIdentifier.{IsNameInLimits}
 use Rattle.dms_wire.specs.Limits.{IsValueInLimits}
 use Rattle.dms_wire.specs.MessageOf.{message_of}
-use Rattle.dms_wire.specs.Canonical.{canonical}
-use Rattle.dms_wire.specs.Response.{response_to}
 use Rattle.dms_codes.specs.Codes.{IsMessageId}
 use Rattle.dms_table.specs.Rows.{RowModel, TableModel, unused}
-use Rattle.dms_codes.specs.Limits.{longest_text, longest_owner}
+use Rattle.dms_codes.specs.Limits.{longest_text, longest_owner, widest_matrix, highest_matrix}
+use Rattle.dms_codes.specs.Limits.{most_permanent_rows, most_changeable_rows, most_volatile_rows}
 use Rattle.dms_table.specs.Stock.{has_ranges}
 use Rattle.dms_table.specs.Activation.{ShownModel, shown_row}
 use Rattle.dms_access.specs.declared.reports.Reports.{Reports}
 use Rattle.dms_access.specs.declared.settings.Fallbacks.{Fallbacks}
 use Rattle.dms_access.specs.Ranges.{AreDefaultsInRange}
 use Rattle.dms_sign.specs.State.{ConfigModel, SignState}
-use Rattle.dms_sign.specs.Reply.{too_big}
-use Rattle.dms_sign.specs.Requests.{Answer, answer_of_any_size}
-use Rattle.dms_sign.specs.Reply.{response_of, most_octets}
+use Rattle.dms_sign.specs.Requests.{answer_of_any_size}
+use Rattle.dms_sign.specs.Reply.{response_sent}
 
 -- ---- parts
 
@@ -36,10 +35,10 @@ pub record AreOctetsUpTo (most : ℕ) (octets : List ℕ) : Type 0 where
   pub size : length octets ≤ most
   pub below : AllBelowBase 256 octets
 
--- a matrix of at most 256 columns and 64 rows, and communities that are octets
+-- the size of the matrix, and communities that are octets
 pub record IsConfigInRange (config : ConfigModel) : Type 0 where
-  pub width : config.face.width ≤ 256
-  pub height : config.face.height ≤ 64
+  pub width : config.face.width ≤ widest_matrix
+  pub height : config.face.height ≤ highest_matrix
   pub reader : AllBelowBase 256 config.reader
   pub writer : AllBelowBase 256 config.writer
 
@@ -52,14 +51,14 @@ pub record IsRowInRange (row : RowModel) : Type 0 where
   pub least : 1 ≤ row.priority
   pub priority : row.priority ≤ 255
 
--- at most 16 permanent, 64 changeable and 16 volatile rows, each in range
+-- the rows, each in range
 pub record IsTableInRange (table : TableModel) : Type 0 where
   pub permanent : AllByRecursion IsRowInRange table.permanent
   pub changeable : AllByRecursion IsRowInRange table.changeable
   pub volatile : AllByRecursion IsRowInRange table.volatile
-  pub permanent_count : length table.permanent ≤ 16
-  pub changeable_count : length table.changeable ≤ 64
-  pub volatile_count : length table.volatile ≤ 16
+  pub permanent_count : length table.permanent ≤ most_permanent_rows
+  pub changeable_count : length table.changeable ≤ most_changeable_rows
+  pub volatile_count : length table.volatile ≤ most_volatile_rows
 
 -- each code is five octets (NTCIP 1203, MessageIDCode)
 pub record AreFallbacksInRange (fallbacks : Fallbacks) : Type 0 where
@@ -114,14 +113,14 @@ pub record IsSignInRange (s : SignState) : Type 0 where
 
 -- ---- how a sign is made
 
--- at most 16 permanent rows, each with its ranges, and 64 changeable and 16 volatile rows that are not used
+-- the permanent rows, each with its ranges, and changeable and volatile rows that are not used
 pub record IsStocked (table : TableModel) : Type 0 where
   pub permanent : All (λ (row : RowModel). IsTrue (has_ranges row)) table.permanent
-  pub permanent_count : length table.permanent ≤ 16
+  pub permanent_count : length table.permanent ≤ most_permanent_rows
   pub changeable : table.changeable ≡ replicate (length table.changeable) unused
-  pub changeable_count : length table.changeable ≤ 64
+  pub changeable_count : length table.changeable ≤ most_changeable_rows
   pub volatile : table.volatile ≡ replicate (length table.volatile) unused
-  pub volatile_count : length table.volatile ≤ 16
+  pub volatile_count : length table.volatile ≤ most_volatile_rows
 
 -- the communities, the defaults, and the texts and owners of permanent rows are octets
 pub record IsMadeOfOctets (config : ConfigModel) (table : TableModel) : Type 0 where
@@ -138,12 +137,6 @@ pub record IsBindingInLimits (binding : VarBind) : Type 0 where
   pub name : IsNameInLimits binding.name
   pub value : IsValueInLimits binding.value
 
--- the Response that is sent: what is answered, or that it is too big
-abbrev pub response_sent : SnmpMessage → Answer → SnmpMessage
-response_sent m answer =
-    if nat_le (length (canonical (response_of m answer))) most_octets then response_of m answer
-    else response_to m too_big 0
-
 -- The reply fits a datagram, and its octets spell the Response that is sent to the request, which has the community and
 -- the request-id of the request.
 pub record IsSpelledReply (s : SignState) (datagram reply : List ℕ) : Type 0 where
@@ -155,4 +148,4 @@ pub record IsSpelledReply (s : SignState) (datagram reply : List ℕ) : Type 0 w
   pub community : response.community ≡ request.community
   pub number : response.request ≡ request.request
   pub spelled : message_of reply ≡ Some response
-  pub short : length reply ≤ most_octets
+  pub short : length reply ≤ longest_datagram

@@ -1,5 +1,6 @@
 -- Under which defaults the text of each valid row is good (this profile).
 use Rattle.std.specs.Prelude.{ℕ, ◌+◌, ◌-◌, ◌<◌, Option, Some, None, get_or, set, replicate}
+use Rattle.dms_codes.specs.Limits.{most_changeable_rows, most_writable_rows}
 use Rattle.dms_face.specs.declared.defaults.Defaults.{Defaults}
 use Rattle.dms_face.specs.Face.{FaceModel}
 use Rattle.dms_face.specs.Layout.{under}
@@ -12,11 +13,11 @@ use Rattle.dms_sign.specs.declared.known_texts.KnownTexts.{KnownTexts}
 
 -- what is known of the permanent rows of a sign that is made with these defaults
 abbrev pub first_known : Defaults → KnownTexts
-first_known first = record { first = first; rows = replicate 80 first }
+first_known first = record { first = first; rows = replicate most_writable_rows first }
 
 -- where the defaults of the first row of a type of memory are kept
 abbrev pub first_entry : Writable → ℕ
-first_entry memory = of_type memory 0 64
+first_entry memory = of_type memory 0 most_changeable_rows
 
 -- the defaults that are kept for the row of a number
 abbrev pub kept_in : KnownTexts → Option Writable → ℕ → Defaults
@@ -28,7 +29,7 @@ kept_for known memory number = kept_in known (writable memory) number
 
 -- there is room for the defaults of a row at this place
 abbrev pub HasRoom : Place → Type 0
-HasRoom place = first_entry place.memory + place.index < 80
+HasRoom place = first_entry place.memory + place.index < most_writable_rows
 
 -- the same, with these defaults for the row at a place
 abbrev pub noted : KnownTexts → Place → Defaults → KnownTexts

@@ -23,14 +23,18 @@ response_of m answer =
 abbrev pub too_big : ℕ
 too_big = error_status_number TooBig
 
-abbrev pub most_octets : ℕ
-most_octets = longest_datagram
+-- this Response to a request, or tooBig where its octets do not fit a datagram (RFC 1157, 4.1.2)
+abbrev pub or_too_big : SnmpMessage → SnmpMessage → SnmpMessage
+or_too_big m response =
+    if nat_le (length (canonical response)) longest_datagram then response else response_to m too_big 0
 
--- the octets of the reply; one that is too big for a datagram is replaced (RFC 1157, 4.1.2, tooBig)
+-- the Response that is sent
+abbrev pub response_sent : SnmpMessage → Answer → SnmpMessage
+response_sent m answer = or_too_big m (response_of m answer)
+
+-- its octets
 unfoldable pub reply_to : SnmpMessage → Answer → List ℕ
-reply_to m answer =
-    if nat_le (length (canonical (response_of m answer))) most_octets then canonical (response_of m answer)
-    else canonical (response_to m too_big 0)
+reply_to m answer = canonical (response_sent m answer)
 
 -- ---- datagrams
 

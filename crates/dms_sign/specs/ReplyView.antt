@@ -1,18 +1,18 @@
 -- What the code sends and answers; only proofs go through these, but for `sent` and `accepted_by`, which say what a
 -- receipt is (this profile).
-use Rattle.std.specs.Prelude.{ℕ, ◌&&◌, ◌||◌, Bool, List, length, nat_le, Option, Some, None, if◌then◌else◌, ⊤}
+use Rattle.std.specs.Prelude.{ℕ, ◌&&◌, ◌||◌, Bool, List, Option, Some, None, ⊤}
 use Rattle.dms_wire.specs.declared.message.Kind.{Kind}
 use Rattle.dms_wire.specs.declared.message.Kind.TheVariants.{Get, GetNext, Response, Set}
 use Rattle.dms_wire.specs.Message.{VarBind, SnmpMessage}
 use Rattle.dms_wire.specs.Spelling.{Spells}
 use Rattle.dms_wire.specs.Canonical.{canonical}
-use Rattle.dms_wire.specs.Response.{response_to, response_with}
+use Rattle.dms_wire.specs.Response.{response_with}
 use Rattle.dms_codes.specs.declared.codes.Activation.{Activation}
 use Rattle.dms_sign.specs.declared.sign.reply.Receipt.{Receipt}
 use Rattle.dms_sign.specs.declared.sign.reply.Receipt.TheVariants.{Dropped, Replied, Accepted}
 use Rattle.dms_sign.specs.State.{SignState}
 use Rattle.dms_sign.specs.Requests.{is_community}
-use Rattle.dms_sign.specs.Reply.{too_big, most_octets, Received, dropped, heard}
+use Rattle.dms_sign.specs.Reply.{or_too_big, Received, dropped, heard}
 
 -- what was sent, of the octets that were left
 abbrev pub sent : Receipt → List ℕ → Option (List ℕ)
@@ -27,10 +27,7 @@ accepted_by (Accepted activation) = Some activation
 
 -- the octets of a Response, or those of tooBig where they do not fit a datagram
 abbrev pub reply_with : SnmpMessage → ℕ → ℕ → List VarBind → List ℕ
-reply_with m status index bindings =
-    if nat_le (length (canonical (response_with m status index bindings))) most_octets
-    then canonical (response_with m status index bindings)
-    else canonical (response_to m too_big 0)
+reply_with m status index bindings = canonical (or_too_big m (response_with m status index bindings))
 
 -- octets spell the message, and they fit a datagram
 pub record IsRead (m : SnmpMessage) : Type 0 where

@@ -3,6 +3,7 @@
 ghost use Rattle.std.specs.Prelude.{◌≡◌};
 ghost use Rattle.dms_sign.specs.Communities.{are_communities};
 
+use dms_codes::limits::has_community_size;
 use dms_face::Face;
 use dms_table::{Stock, TableFault};
 use std::error::Error;
@@ -47,13 +48,9 @@ impl fmt::Display for ConfigFault {
 
 impl Error for ConfigFault {}
 
-/// Communities have 1 to 32 octets, and differ.
+/// Communities have their size, and differ.
 pub(crate) fn are_communities(reader: &[u8], writer: &[u8]) -> bool
     ensures { result ≡ are_communities reader.now writer.now }
 {
-    !reader.is_empty()
-        && reader.len() <= 32
-        && !writer.is_empty()
-        && writer.len() <= 32
-        && reader != writer
+    has_community_size(reader) && has_community_size(writer) && reader != writer
 }

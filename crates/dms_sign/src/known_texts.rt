@@ -1,18 +1,23 @@
 //! Under which defaults the text of each valid row is good.
 
 ghost use Rattle.std.specs.Prelude.{◌≡◌, ◌≤◌};
+ghost use Rattle.dms_codes.specs.Limits.{most_changeable_rows};
 ghost use Rattle.dms_sign.specs.KnownTexts.{first_known, first_entry, kept_for, noted, HasRoom};
 
+use dms_codes::{MAX_CHANGEABLE, MAX_VOLATILE};
 use dms_face::Defaults;
 use dms_table::{Place, Writable};
+
+/// A row that can be changed has a place for its defaults.
+const ENTRIES: usize = MAX_CHANGEABLE as usize + MAX_VOLATILE as usize;
 
 /// For each row the defaults under which its text was found good, where the row is valid.
 #[derive(Drop)]
 pub(crate) struct KnownTexts {
     /// Those of the permanent rows, which are valid as the sign is made.
     first: Defaults,
-    /// Those of the rows that can be changed: of the changeable ones, at most 64, and after them of the volatile ones.
-    rows: [Defaults; 80],
+    /// Those of the rows that can be changed: of the changeable ones, and after them of the volatile ones.
+    rows: [Defaults; ENTRIES],
 }
 
 impl KnownTexts {
@@ -22,7 +27,7 @@ impl KnownTexts {
     {
         KnownTexts {
             first,
-            rows: [first; 80],
+            rows: [first; ENTRIES],
         }
     }
 
@@ -51,10 +56,10 @@ impl KnownTexts {
 /// Where the defaults of the first row of a type of memory stand.
 fn first_entry(memory: Writable) -> usize
     ensures value { result ≡ first_entry memory }
-    ensures bound { result ≤ 64 }
+    ensures bound { result ≤ most_changeable_rows }
 {
     match memory {
         Writable::Changeable => 0,
-        Writable::Volatile => 64,
+        Writable::Volatile => usize::from(MAX_CHANGEABLE),
     }
 }

@@ -22,7 +22,7 @@ use crate::config::{Config, ConfigFault, are_communities};
 use crate::known_texts::KnownTexts;
 use arrayvec::ArrayVec;
 use dms_access::{Fallbacks, Reports, Settings};
-use dms_codes::{Activation, Order};
+use dms_codes::{Activation, MAX_COMMUNITY, Order};
 use dms_face::{Defaults, Face};
 use dms_table::row::copy_of;
 use dms_table::{Cause, Mode, Shown, Table};
@@ -36,9 +36,6 @@ pub mod reply;
 mod requests;
 mod set_request;
 mod values;
-
-/// The most octets of a community.
-const MAX_COMMUNITY: usize = 32;
 
 /// A sign: what it is made with, its message table, what was set, and what it shows. A contract sees the state of the
 /// sign's machine.

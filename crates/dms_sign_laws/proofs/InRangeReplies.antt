@@ -27,10 +27,10 @@ use Rattle.dms_sign.specs.State.{SignState}
 use Rattle.dms_sign.specs.Values.{value_of, value_after}
 use Rattle.dms_access.specs.Access.{Write, SetNumber, SetCode, SetField, AskRow, Activate, SetRemaining, is_command}
 use Rattle.dms_sign.specs.SetRequest.{SetCause, is_command_at, cause_if, causes_at, causes_after, causes, assigned}
-use Rattle.dms_sign.specs.Reply.{too_big}
+use Rattle.dms_ber.specs.Limits.{longest_datagram}
 use Rattle.dms_sign.specs.Requests.{Answer, refused, granted, found_unless, has_no_value, with_value, get, is_last, next_after, get_next, as_decided, as_asked, with_remaining, commanded, commanded_if, writes_of, command_index, set_unless, may_write, answer_by, answer_of_any_size}
-use Rattle.dms_sign.specs.Reply.{response_of, most_octets, reply_to, dropped, heard, on_message_if, received}
-use Rattle.dms_sign.specs.InRange.{IsSignInRange, IsBindingInLimits, response_sent, IsSpelledReply}
+use Rattle.dms_sign.specs.Reply.{too_big, response_of, response_sent, reply_to, dropped, heard, on_message_if, received}
+use Rattle.dms_sign.specs.InRange.{IsSignInRange, IsBindingInLimits, IsSpelledReply}
 use Rattle.dms_sign.proofs.InRangeLists.{if_position}
 use Rattle.dms_sign.proofs.InRangeValues.{value_of_within, value_after_within}
 
@@ -179,13 +179,13 @@ too_big_within m is = record { community = is.community; request = is.request; s
 
 -- the reply to a message that octets spell spells the Response that is sent
 sent_if : (m : SnmpMessage) (a : Answer) (octets : List ℕ) (b : Bool) → Spells m octets → IsAnswerInLimits m.bindings a
-    → nat_le (length (canonical (response_of m a))) most_octets ≡ b
-    → Spells (cond b (response_of m a) (response_to m too_big 0)) (cond b (canonical (response_of m a)) (canonical (response_to m too_big 0)))
+    → nat_le (length (canonical (response_of m a))) longest_datagram ≡ b
+    → Spells (cond b (response_of m a) (response_to m too_big 0)) (canonical (cond b (response_of m a) (response_to m too_big 0)))
 sent_if m a octets true spells within e =
     let few : 7 * length m.bindings ≤ length octets = few_bindings m octets spells in
     let size : length octets ≤ 1472 = spells.size in
     canonical_spells (response_of m a) (response_within m a (spelled_in_limits m octets spells) (omega arith) within)
-    (leb-true (length (canonical (response_of m a))) most_octets e)
+    (leb-true (length (canonical (response_of m a))) longest_datagram e)
 sent_if m a octets false spells within e =
     let short : length (canonical (response_to m too_big 0)) ≤ length octets = response_no_longer m octets too_big 0 spells (omega arith) (omega arith) in
     let size : length octets ≤ 1472 = spells.size in
@@ -194,7 +194,7 @@ sent_if m a octets false spells within e =
 reply_spells : (m : SnmpMessage) (a : Answer) (octets : List ℕ) → Spells m octets → IsAnswerInLimits m.bindings a
     → Spells (response_sent m a) (reply_to m a)
 unfolding reply_to
-reply_spells m a octets spells within = sent_if m a octets (nat_le (length (canonical (response_of m a))) most_octets) spells within refl
+reply_spells m a octets spells within = sent_if m a octets (nat_le (length (canonical (response_of m a))) longest_datagram) spells within refl
 
 record IsResponse (m response : SnmpMessage) : Type 0 where
   kind : response.kind ≡ Response
@@ -208,7 +208,7 @@ spelled_reply : (s : SignState) (m : SnmpMessage) (octets : List ℕ) → messag
     → Spells (response_sent m (answer_of_any_size s m)) (reply_to m (answer_of_any_size s m))
     → IsSpelledReply s octets (reply_to m (answer_of_any_size s m))
 spelled_reply s m octets asked spells =
-    let is = sent_is m (answer_of_any_size s m) (nat_le (length (canonical (response_of m (answer_of_any_size s m)))) most_octets) in
+    let is = sent_is m (answer_of_any_size s m) (nat_le (length (canonical (response_of m (answer_of_any_size s m)))) longest_datagram) in
     record {
       request = m;
       asked = asked;

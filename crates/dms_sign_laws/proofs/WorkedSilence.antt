@@ -5,7 +5,7 @@ use Rattle.dms_wire.specs.declared.message.Kind.TheVariants.{GetNext}
 use Rattle.dms_wire.specs.Message.{null}
 use Rattle.dms_objects.specs.declared.scalar.Scalar.TheVariants.{ShortPowerLossTime, CommunicationsLossMessage, TimeCommLoss, EndDurationMessage}
 use Rattle.dms_objects.specs.declared.instance.Instance.TheVariants.{Scalar}
-use Rattle.dms_table.specs.Activation.{blank_code}
+use Rattle.dms_table.specs.Activation.{blank_octets}
 use Rattle.dms_sign.specs.State.{SignState}
 use Rattle.dms_sign.specs.Values.{bound}
 use Rattle.dms_sign.specs.Reply.{dropped}
@@ -13,7 +13,7 @@ use Rattle.dms_sign_laws.proofs.BenchSign.{octets_of, bench_sign, lettered_sign,
 
 -- after dmsShortPowerLossTime.0 comes dmsCommunicationsLossMessage.0
 after_short_power_loss_time : (answer bench_sign GetNext (bound (Scalar ShortPowerLossTime) null ∷ [])).bindings
-    ≡ octets (Scalar CommunicationsLossMessage) blank_code ∷ []
+    ≡ octets (Scalar CommunicationsLossMessage) blank_octets ∷ []
 unfolding answer
 after_short_power_loss_time = refl
 

@@ -1,6 +1,6 @@
 //! The words with which the lines to a live sign begin.
 
-use dms_forms::fields::are_same;
+use dms_text::are_same;
 
 /// The word with which a line begins.
 #[derive(Clone, Copy)]

@@ -3,6 +3,10 @@ use Rattle.std.specs.Prelude.{◌≡◌, ℕ, Bool, nat_eq, if◌then◌else◌,
 use Rattle.std.specs.Cmp.Lexicographic.{pointwise}
 use Rattle.std.specs.Str.Lines.{lines}
 
+-- the most octets of an input that is read as a whole, and of a description
+abbrev pub longest_input : ℕ
+longest_input = 1048576
+
 abbrev pub is_end : List ℕ → Bool
 is_end line = pointwise nat_eq line (codes "end")
 

@@ -4,7 +4,7 @@ ghost use Rattle.std.specs.Prelude.{◌≡◌, ◌≢◌, ◌≤◌, ◌<◌, le
 ghost use Rattle.dms_streams.specs.Calls.{one_more};
 ghost use Rattle.dms_streams.specs.declared.fault.InputFault.TheVariants as faults;
 ghost use Rattle.dms_streams.specs.Lines.{left, line_of};
-ghost use Rattle.dms_streams.specs.DescriptionText.{TakesDescription, is_end};
+ghost use Rattle.dms_streams.specs.DescriptionText.{TakesDescription, is_end, longest_input};
 
 use crate::conversation::without_newline;
 use crate::fault::InputFault;
@@ -12,8 +12,8 @@ use crate::input::Input;
 use crate::source::Source;
 use std::alloc::Global;
 
-/// The most octets of a description.
-pub const LONGEST_DESCRIPTION: usize = 1_048_576;
+/// The most octets of an input that is read as a whole, and of a description.
+pub const LONGEST_INPUT: usize = 1_048_576;
 
 /// The line that ends a description.
 const END: &[u8] = b"end";
@@ -27,16 +27,16 @@ pub fn description_text<S: Source>(
 ) -> Result<Vec<u8>, InputFault>
     ensures text { IfOk result
         (λ text. TakesDescription (left S.remaining input.old) text.items (left S.remaining input.new)) }
-    ensures short { IfOk result (λ text. length text.items ≤ 1048576) }
+    ensures short { IfOk result (λ text. length text.items ≤ longest_input) }
     ensures too_long { result ≡ Err faults.TooLong
-        → IfSome (left S.remaining input.old) (λ octets. 1048576 < length octets) }
+        → IfSome (left S.remaining input.old) (λ octets. longest_input < length octets) }
     ensures failed { result ≡ Err faults.Read → S.failed input.new.source ≡ one_more (S.failed input.old.source) }
     ensures unfailed { result ≢ Err faults.Read → S.failed input.new.source ≡ S.failed input.old.source }
 {
     let mut text = Vec::new(alloc);
     let mut line = Vec::new(alloc);
     loop {
-        let room = LONGEST_DESCRIPTION - text.len();
+        let room = LONGEST_INPUT - text.len();
         match input.take_line(&mut line, room + 1) {
             Ok(()) => {}
             Err(fault) => return Err(fault),

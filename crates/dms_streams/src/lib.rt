@@ -29,7 +29,7 @@ pub mod writing;
 
 pub use conversation::{LONGEST_LINE, converse};
 pub use counted::Counted;
-pub use describing::{LONGEST_DESCRIPTION, description_text};
+pub use describing::{LONGEST_INPUT, description_text};
 pub use failed::Failed;
 pub use fault::{ConversationFault, InputFault};
 pub use gathered::Gathered;

@@ -6,15 +6,7 @@ use Rattle.dms_face.specs.Layout.{under}
 use Rattle.dms_codes.specs.declared.codes.Activation.{Activation}
 use Rattle.dms_table.specs.declared.activation.Cause.{Cause}
 use Rattle.dms_table.specs.Rows.{TableModel, RowReading}
-use Rattle.dms_table.specs.Activation.{ShownModel, row_refusal, refusal, put_up_row, shown_by, unless_refused, decided_on, decided}
-
-on_row : (face : FaceModel) (defaults : Defaults) (shown : ShownModel) (code : Activation) (o : Option RowReading)
-    → decided_on face defaults shown code o ≡ unless_refused (put_up_row defaults shown code o) (row_refusal (under face defaults) shown code o)
-on_row face defaults shown code o = grind arith
-
-pub decided_is : (face : FaceModel) (defaults : Defaults) (table : TableModel) (shown : ShownModel) (code : Activation)
-    → decided face defaults table shown code ≡ unless_refused (shown_by defaults table shown code) (refusal face defaults table shown code)
-decided_is face defaults table shown code = grind arith
+use Rattle.dms_table.specs.Activation.{ShownModel, refusal, shown_by, unless_refused, decided}
 
 accepted_by : {A B : Type 0} (a : A) (b : B) (o : Option Cause) → Ok a ≡ unless_refused a o → Ok b ≡ unless_refused b o
 accepted_by a b o e = grind arith

@@ -44,8 +44,8 @@ abbrev pub blank_id : MessageId
 blank_id = record { memory = blank_memory; number = 1; crc = 0 }
 
 -- the octets of its code, in either order
-abbrev pub blank_code : List ℕ
-blank_code = 7 ∷ 0 ∷ 1 ∷ 0 ∷ 0 ∷ []
+abbrev pub blank_octets : List ℕ
+blank_octets = 7 ∷ 0 ∷ 1 ∷ 0 ∷ 0 ∷ []
 
 -- blank message 1, activated by nobody under these defaults, without an end
 abbrev pub blank_shown : Defaults → ℕ → ShownModel
@@ -171,14 +171,7 @@ abbrev pub unless_refused : {A : Type 0} → A → Option Cause → Result A Cau
 unless_refused value None = Ok value
 unless_refused value (Some cause) = Err cause
 
--- the decision on a code of this row
-abbrev pub decided_on : FaceModel → Defaults → ShownModel → Activation → Option RowReading → Result ShownModel Cause
-decided_on face defaults shown code None = Err causes.Number
-decided_on face defaults shown code (Some message) =
-    unless_refused (put_up defaults shown code message) (activation_error (under face defaults) shown code message)
-
--- The decision on a code: its type of memory, then its number, then its row may be wrong; else it puts its message up.
+-- the decision on a code: it puts its message up, unless it is refused
 abbrev pub decided : FaceModel → Defaults → TableModel → ShownModel → Activation → Result ShownModel Cause
 decided face defaults table shown code =
-    if is_memory code.id.memory then decided_on face defaults shown code (named table shown code.id)
-    else Err causes.MemoryType
+    unless_refused (shown_by defaults table shown code) (refusal face defaults table shown code)

@@ -1,5 +1,6 @@
 -- What the faults of the table print (this profile).
-use Rattle.std.specs.Prelude.{ℕ, List, ◌++◌, Option, Some, None, codes, decimal}
+use Rattle.std.specs.Prelude.{ℕ, List, ◌++◌, codes, decimal}
+use Rattle.dms_face.specs.FaultTexts.{multi_fault_text}
 use Rattle.dms_table.specs.declared.stock.TableFault.{TableFault}
 use Rattle.dms_table.specs.declared.stock.TableFault.TheVariants as faults
 use Rattle.dms_table.specs.declared.activation.Cause.{Cause}
@@ -13,11 +14,10 @@ table_fault_text faults.Counts = codes "too many rows"
 table_fault_text (faults.Permanent number) = codes "permanent row " ++ (decimal number ++ codes " is not valid")
 table_fault_text faults.Memory = codes "out of memory"
 
--- Of a text, its fault prints what it says of itself, which is not said here.
-abbrev pub cause_text : Cause → Option (List ℕ)
-cause_text causes.MemoryType = Some (codes "no type of memory")
-cause_text causes.Number = Some (codes "no such row")
-cause_text causes.Status = Some (codes "the row is not valid")
-cause_text causes.Checksum = Some (codes "another checksum")
-cause_text causes.Priority = Some (codes "what is shown has a higher priority")
-cause_text (causes.Syntax fault) = None
+abbrev pub cause_text : Cause → List ℕ
+cause_text causes.MemoryType = codes "no type of memory"
+cause_text causes.Number = codes "no such row"
+cause_text causes.Status = codes "the row is not valid"
+cause_text causes.Checksum = codes "another checksum"
+cause_text causes.Priority = codes "what is shown has a higher priority"
+cause_text (causes.Syntax fault) = multi_fault_text fault

@@ -10,8 +10,8 @@ use Rattle.dms_table.specs.declared.stock.Permanent.{Permanent}
 use Rattle.dms_table.specs.declared.stock.Stock.{Stock}
 use Rattle.dms_table.specs.declared.stock.TableFault.{TableFault}
 use Rattle.dms_table.specs.declared.stock.TableFault.TheVariants as faults
-use Rattle.dms_table.specs.Rows.{RowModel, TableModel, unused}
-use Rattle.dms_codes.specs.Limits.{longest_text, longest_owner}
+use Rattle.dms_table.specs.Rows.{RowModel, TableModel, Text, Owner, Beacon, Pixel, Priority, is_in_range, unused}
+use Rattle.dms_codes.specs.Limits.{most_permanent_rows, most_changeable_rows, most_volatile_rows}
 use Rattle.dms_table.specs.Validation.{verdict_of, passes, IsShowable}
 
 abbrev pub permanent_row : Permanent → RowModel
@@ -29,9 +29,8 @@ services_of stock = record { beacon = stock.beacon; pixel = stock.pixel }
 
 abbrev pub has_ranges : RowModel → Bool
 has_ranges row =
-    nat_le (length row.text) longest_text && nat_le (length row.owner) longest_owner
-    && nat_le row.beacon 1 && nat_le row.pixel 1
-    && nat_le 1 row.priority && nat_le row.priority 255
+    is_in_range (Text row.text) && is_in_range (Owner row.owner) && is_in_range (Beacon row.beacon)
+    && is_in_range (Pixel row.pixel) && is_in_range (Priority row.priority)
 
 -- a permanent row is one that could be validated
 abbrev pub may_stand : Services → FaceModel → Permanent → Bool
@@ -45,9 +44,9 @@ may_not_stand services face message = not (may_stand services face message)
 abbrev pub HasGoodText : FaceModel → Permanent → Type 0
 HasGoodText face message = IsGood face message.text.now
 
--- at most 16 permanent, 64 changeable and 16 volatile rows
 abbrev pub are_counts : Stock → Bool
-are_counts stock = nat_le (length stock.permanent.now) 16 && nat_le stock.changeable 64 && nat_le stock.volatile 16
+are_counts stock = nat_le (length stock.permanent.now) most_permanent_rows
+    && nat_le stock.changeable most_changeable_rows && nat_le stock.volatile most_volatile_rows
 
 abbrev pub table_of : Stock → TableModel
 table_of stock = record {

@@ -56,9 +56,10 @@ impl Cause {
 }
 
 impl fmt::Display for Cause {
+    ghost use Rattle.std.specs.Prelude.{Some};
     ghost use Rattle.dms_table.specs.FaultTexts.{cause_text};
 
-    ghost output = { cause_text };
+    ghost output = { λ cause. Some (cause_text cause) };
 
     fn fmt<W: fmt::Write>(&self, f: &mut fmt::Formatter<W>) -> fmt::Result {
         match self {
@@ -75,7 +76,7 @@ impl fmt::Display for Cause {
 impl Error for Cause {}
 
 impl Table {
-    /// What a code activates, or why it is refused. Nothing changes.
+    /// What a code activates, or why it is refused. Nothing changes. The defaults must fit the face.
     pub fn decide(
         &self,
         face: &Face,
@@ -97,7 +98,7 @@ impl Table {
     }
 
     /// Refuses a code for the first cause that there is. A text that is known to be good under the same defaults is not
-    /// checked again.
+    /// checked again. The defaults must fit the face; under `good_under` the row's text must be good where it is valid.
     pub fn judge(
         &self,
         good_under: Option<&Defaults>,

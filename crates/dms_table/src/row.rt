@@ -316,7 +316,7 @@ impl<'a> Field<'a> {
     }
 }
 
-/// A copy of these octets.
+/// A copy of these octets, of which there must be at most N.
 pub fn copy_of<const N: usize>(octets: &[u8]) -> ArrayVec<u8, N>
     requires { length octets.now ≤ N }
     ensures copied { result.items ≡ octets.now }

@@ -9,7 +9,7 @@ ghost use Rattle.dms_table.specs.ValidatorView.{face_of};
 
 use crate::row::{Row, Services};
 use crate::validation::Validator;
-use dms_codes::{MAX_OWNER, MAX_TEXT, Order};
+use dms_codes::{MAX_CHANGEABLE, MAX_OWNER, MAX_PERMANENT, MAX_TEXT, MAX_VOLATILE, Order};
 use dms_face::Face;
 use std::alloc::{AllocError, Global};
 use std::error::Error;
@@ -33,11 +33,11 @@ pub struct Permanent<'a> {
 /// The permanent rows, the numbers of changeable and volatile rows, what the sign has, and the order of its checksums.
 #[derive(Clone, Copy, Debug, PartialEq, Eq)]
 pub struct Stock<'a> {
-    /// The permanent rows, at most 16, that of number 1 first.
+    /// The permanent rows, at most `MAX_PERMANENT`, that of number 1 first.
     pub permanent: &'a [Permanent<'a>],
-    /// How many changeable rows there are, at most 64.
+    /// How many changeable rows there are, at most `MAX_CHANGEABLE`.
     pub changeable: u8,
-    /// How many volatile rows there are, at most 16.
+    /// How many volatile rows there are, at most `MAX_VOLATILE`.
     pub volatile: u8,
     /// Whether the sign has beacons.
     pub beacon: bool,
@@ -79,7 +79,9 @@ impl<'a> Stock<'a> {
     fn are_counts(&self) -> bool
         ensures { result ≡ are_counts self.now }
     {
-        self.permanent.len() <= 16 && self.changeable <= 64 && self.volatile <= 16
+        self.permanent.len() <= MAX_PERMANENT
+            && self.changeable <= MAX_CHANGEABLE
+            && self.volatile <= MAX_VOLATILE
     }
 }
 

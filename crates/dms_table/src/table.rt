@@ -220,7 +220,7 @@ impl Table {
     }
 
     /// Ends the validation of the row that is being validated: it becomes valid, or an error. There is a verdict where
-    /// there was such a row.
+    /// there was such a row. The defaults must fit the face.
     pub fn settle(&mut self, face: &Face, defaults: &Defaults) -> Option<Verdict>
         requires { IsTrue (fit face.now.fonts defaults.now) }
         ensures rows { self.new ≡ settled (under face.now defaults.now) self.old }

@@ -24,4 +24,4 @@ pub use hexadecimal::octets;
 pub use lines::{Line, Lines};
 pub use numbers::{number, version};
 pub use parts::{index_of, split_once};
-pub use words::Words;
+pub use words::{Words, are_same};

@@ -3,7 +3,8 @@
 ghost use Rattle.std.specs.Prelude.{◌≡◌, ◌^◌, ◌<◌, ◌≤◌, IfSome};
 ghost use Rattle.dms_text.specs.Reading.{number_of, within, version_of};
 
-/// The number that one to `most` digits of the base spell, leading zeros and letters in either case allowed.
+/// The number that one to `most` digits of the base spell, leading zeros and letters in either case allowed. The
+/// base must be 2 to 16, and `most` at most 15.
 #[tactic(auto, unfolding(crate::specs::Reading::number_of))]
 #[inline]
 pub fn number(word: &[u8], base: u32, most: usize) -> Option<u64>

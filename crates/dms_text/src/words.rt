@@ -88,7 +88,8 @@ impl<'a> Words<'a> {
         Some((within(number, low, high)?, rest))
     }
 
-    /// A number of one octet, of one to `most` decimal digits, from `low` to `high`, and the words after it.
+    /// A number of one octet, of one to `most` decimal digits (15 at most), from `low` to `high`, and the words after
+    /// it.
     pub fn octet(self, most: usize, low: u8, high: u8) -> Option<(u8, Words<'a>)>
         requires { most ≤ 15 }
         ensures value { result ≡ decimal_at most low high self.entry }
@@ -99,7 +100,8 @@ impl<'a> Words<'a> {
         Some((number as u8, rest))
     }
 
-    /// A number of two octets, of one to `most` decimal digits, from `low` to `high`, and the words after it.
+    /// A number of two octets, of one to `most` decimal digits (15 at most), from `low` to `high`, and the words after
+    /// it.
     pub fn two_octets(self, most: usize, low: u16, high: u16) -> Option<(u16, Words<'a>)>
         requires { most ≤ 15 }
         ensures value { result ≡ decimal_at most low high self.entry }
@@ -110,7 +112,8 @@ impl<'a> Words<'a> {
         Some((number as u16, rest))
     }
 
-    /// A number of four octets, of one to `most` decimal digits, from `low` to `high`, and the words after it.
+    /// A number of four octets, of one to `most` decimal digits (15 at most), from `low` to `high`, and the words after
+    /// it.
     pub fn four_octets(self, most: usize, low: u32, high: u32) -> Option<(u32, Words<'a>)>
         requires { most ≤ 15 }
         ensures value { result ≡ decimal_at most low high self.entry }
@@ -130,8 +133,9 @@ impl<'a> Words<'a> {
     }
 }
 
-fn are_same(word: &[u8], keyword: &[u8]) -> bool
-    ensures { result ≡ same_octets word.now keyword.now }
+/// Whether these are the same octets.
+pub fn are_same(word: &[u8], other: &[u8]) -> bool
+    ensures { result ≡ same_octets word.now other.now }
 {
-    word == keyword
+    word == other
 }

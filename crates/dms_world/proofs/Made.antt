@@ -17,9 +17,10 @@ use Rattle.dms_table.specs.declared.stock.Stock.{Stock}
 use Rattle.dms_table.specs.Stock.{permanent_row, permanent_fault, services_of, are_counts, stock_fault, table_of, may_not_stand, may_stand as message_may_stand}
 use Rattle.dms_sign.specs.declared.config.Config.{Config}
 use Rattle.dms_sign.specs.declared.config.ConfigFault.TheVariants as faults
-use Rattle.dms_sign.specs.Communities.{has_community_size, are_communities}
+use Rattle.dms_codes.specs.Limits.{has_community_size}
+use Rattle.dms_sign.specs.Communities.{are_communities}
 use Rattle.dms_sign.specs.Configuration.{config_of, config_fault}
-use Rattle.dms_sign.specs.Construction.{CanBeMade, may_stand}
+use Rattle.dms_sign.specs.Construction.{CanBeMade, row_may_stand}
 use Rattle.dms_sign.specs.State.{ConfigModel, SignState, start as sign_start}
 use Rattle.dms_sign.specs.InRange.{IsMadeOfOctets, IsRowInRange, IsSignInRange}
 use Rattle.dms_sign.proofs.InRangeStart.{faultless_is_stocked}
@@ -43,13 +44,13 @@ faultless false others fault e = absurd (cc)
 -- ---- permanent rows
 
 rows_stand : (face : FaceModel) (stock : Stock) → stock_fault face stock ≡ None
-    → list_all (may_stand (services_of stock) face) (table_of stock).permanent ≡ true
+    → list_all (row_may_stand (services_of stock) face) (table_of stock).permanent ≡ true
 rows_stand face stock e =
     let messages : List Permanent = stock.permanent.now in
     let first : Option ℕ = position (may_not_stand (services_of stock) face) messages in
     let none : first ≡ None = mapped_none permanent_fault first (faultless (are_counts stock) (option_map permanent_fault first) _ e).none in
     let each = none_passes (may_not_stand (services_of stock) face) messages none in
-    list_all-map (may_stand (services_of stock) face) permanent_row messages
+    list_all-map (row_may_stand (services_of stock) face) permanent_row messages
     ∙ list_all-from_AllPass (message_may_stand (services_of stock) face) messages
     (λ k d within. not-false _ (each k d within))
 

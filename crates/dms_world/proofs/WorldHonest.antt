@@ -19,7 +19,8 @@ use Rattle.dms_sign.specs.State.{SignState}
 use Rattle.dms_sign.specs.Requests.{answer_of_any_size}
 use Rattle.dms_sign.specs.Reply as sign_reply
 use Rattle.dms_sign.specs.Reply.{heard, is_heard}
-use Rattle.dms_sign.specs.InRange.{response_sent, IsSpelledReply}
+use Rattle.dms_sign.specs.InRange.{IsSpelledReply}
+use Rattle.dms_sign.specs.Reply.{response_sent}
 use Rattle.dms_sign.specs.Promises.{activates}
 use Rattle.dms_sign_laws.proofs.Accepted.{accepted_was_asked_for, accepted_where_no_error}
 use Rattle.dms_sign_laws.proofs.InRangeReplies.{replies_spell_their_response}

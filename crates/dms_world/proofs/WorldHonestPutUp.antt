@@ -6,6 +6,7 @@ use Rattle.dms_wire.specs.declared.message.Kind.TheVariants.{Get, GetNext, Respo
 use Rattle.dms_wire.specs.Message.{VarBind, SnmpMessage}
 use Rattle.dms_face.specs.declared.defaults.Defaults.{Defaults}
 use Rattle.dms_face.specs.Face.{FaceModel}
+use Rattle.dms_face.specs.Layout.{under}
 use Rattle.dms_table.specs.declared.activation.Cause.{Cause}
 use Rattle.dms_table.specs.declared.activation.Cause.TheVariants as causes_of
 use Rattle.dms_codes.specs.declared.codes.MessageId.{MessageId}
@@ -14,7 +15,7 @@ use Rattle.dms_codes.specs.Status.{is_valid}
 use Rattle.dms_table.specs.Rows.{TableModel, RowReading, row_checksum}
 use Rattle.dms_codes.specs.Memory.{current_buffer, blank_memory}
 use Rattle.dms_codes.specs.Codes.{activation_of}
-use Rattle.dms_table.specs.Activation.{ShownModel, named, is_memory, activation_error, put_up, unless_refused, decided_on, decided}
+use Rattle.dms_table.specs.Activation.{ShownModel, named, is_memory, activation_error, put_up, put_up_row, shown_by, row_refusal, unless_refused, decided}
 use Rattle.dms_sign.specs.State.{SignState}
 use Rattle.dms_access.specs.Access.{Write, SetNumber, SetCode, SetField, AskRow, Activate, SetRemaining, is_command}
 use Rattle.dms_sign.specs.SetRequest.{SetCause, causes, assigned}
@@ -49,11 +50,13 @@ on_message face defaults shown up code message reads e not_current not_blank = g
 
 on_named : (face : FaceModel) (defaults : Defaults) (shown up : ShownModel) (code : Activation) (o : Option RowReading)
     → (code.id.memory ≢ current_buffer → code.id.memory ≢ blank_memory → (message : RowReading) → o ≡ Some message → ReadsItsChecksum message)
-    → decided_on face defaults shown code o ≡ Ok up → HasItsChecksum code up
+    → unless_refused (put_up_row defaults shown code o) (row_refusal (under face defaults) shown code o) ≡ Ok up → HasItsChecksum code up
 on_named face defaults shown up code o reads e = grind arith
 
 on_memory : (b : Bool) (face : FaceModel) (defaults : Defaults) (table : TableModel) (shown up : ShownModel) (code : Activation)
-    → cond b (decided_on face defaults shown code (named table shown code.id)) (Err causes_of.MemoryType) ≡ Ok up → HasItsChecksum code up
+    → unless_refused (shown_by defaults table shown code)
+    (cond b (row_refusal (under face defaults) shown code (named table shown code.id)) (Some causes_of.MemoryType)) ≡ Ok up
+    → HasItsChecksum code up
 on_memory b face defaults table shown up code e = grind (arith, on_named, named_reads)
 
 decided_up : (face : FaceModel) (defaults : Defaults) (table : TableModel) (shown up : ShownModel) (code : Activation)

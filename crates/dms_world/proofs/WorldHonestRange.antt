@@ -14,16 +14,16 @@ use Rattle.dms_sign.specs.InRange.{IsSignInRange, IsStocked}
 use Rattle.dms_sign.proofs.InRangeStart.{made_in_range}
 use Rattle.dms_sign.proofs.InRangeSets.{received_in_range}
 use Rattle.dms_sign.proofs.InRangeEvents.{tick_in_range, power_loss_in_range, power_return_in_range}
-use Rattle.dms_sign.specs.Construction.{CanBeMade, may_stand}
+use Rattle.dms_sign.specs.Construction.{CanBeMade, row_may_stand}
 use Rattle.dms_world.specs.Event.{EventModel}
 use Rattle.dms_world.specs.World.{WorldModel, world_at, IsFresh}
 use Rattle.dms_world.proofs.WorldSign.{EachEventKeeps, kept_after}
 
-have_ranges : (services : Services) (face : FaceModel) (rows : List RowModel) → list_all (may_stand services face) rows ≡ true
+have_ranges : (services : Services) (face : FaceModel) (rows : List RowModel) → list_all (row_may_stand services face) rows ≡ true
     → AllByRecursion (λ (row : RowModel). IsTrue (has_ranges row)) rows
 have_ranges services face [] e = tt
 have_ranges services face (row ∷ rows) e =
-    let both = and_parts (may_stand services face row) (list_all (may_stand services face) rows) e in
+    let both = and_parts (row_may_stand services face row) (list_all (row_may_stand services face) rows) e in
     let stands = and_parts (is_valid row.status && has_ranges row) (passes (verdict_of services face row)) both.0 in
     ((and_parts (is_valid row.status) (has_ranges row) stands.0).1, have_ranges services face rows both.1)
 

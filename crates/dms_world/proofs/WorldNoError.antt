@@ -12,8 +12,10 @@ use Rattle.dms_codes.specs.Codes.{activation_of}
 use Rattle.dms_sign.specs.State.{SignState}
 use Rattle.dms_sign.specs.Requests.{Answer, answer_of_any_size}
 use Rattle.dms_sign.specs.Reply as sign_reply
-use Rattle.dms_sign.specs.Reply.{response_of, too_big, most_octets, heard}
-use Rattle.dms_sign.specs.InRange.{response_sent, IsSpelledReply}
+use Rattle.dms_ber.specs.Limits.{longest_datagram}
+use Rattle.dms_sign.specs.Reply.{response_of, too_big, heard}
+use Rattle.dms_sign.specs.InRange.{IsSpelledReply}
+use Rattle.dms_sign.specs.Reply.{response_sent}
 use Rattle.dms_sign_laws.proofs.AcceptedAmong.{accepted_among}
 use Rattle.dms_sign_laws.proofs.InRangeReplies.{replies_spell_their_response}
 use Rattle.dms_centre_laws.proofs.Lists.{at_end}
@@ -46,7 +48,7 @@ no_error_if : (m : SnmpMessage) (a : Answer) (b : Bool) → (cond b (response_of
 no_error_if m a b e = grind arith
 
 no_error : (m : SnmpMessage) (a : Answer) → (response_sent m a).status ≡ pos (error_status_number NoError) → a.status ≡ NoError
-no_error m a e = no_error_if m a (nat_le (length (canonical (response_of m a))) most_octets) e
+no_error m a e = no_error_if m a (nat_le (length (canonical (response_of m a))) longest_datagram) e
 
 -- ---- the list
 

@@ -14,7 +14,7 @@ use Rattle.dms_sign.specs.Reply.{too_big}
 use Rattle.dms_sign.specs.Requests.{Answer, answer_of_any_size}
 use Rattle.dms_sign.specs.Reply as sign_reply
 use Rattle.dms_sign.specs.Reply.{response_of, is_heard, heard, dropped}
-use Rattle.dms_sign.specs.InRange.{response_sent}
+use Rattle.dms_sign.specs.Reply.{response_sent}
 use Rattle.dms_sign.proofs.Replies.{is_set_answer}
 use Rattle.dms_centre_laws.proofs.Lists.{in_push}
 use Rattle.dms_world.specs.Event.{EventModel, command, sign_tick, centre_tick, to_sign, to_centre, power_lost, power_back, centre_restart, forge_sign, forge_centre}

@@ -13,7 +13,7 @@ use Rattle.dms_codes.specs.Memory.{permanent_memory, memory_of}
 use Rattle.dms_table.specs.Validation.{IsShowable, CameToBeValid, was_valid, was_settled as came_settled}
 use Rattle.dms_table.proofs.GoodRows.{showable}
 use Rattle.dms_sign.proofs.StepRows.{good_where_passes}
-use Rattle.dms_sign.specs.Construction.{may_stand}
+use Rattle.dms_sign.specs.Construction.{row_may_stand}
 use Rattle.dms_world.specs.Event.{EventModel}
 use Rattle.dms_world.specs.World.{WorldModel, IsFresh, world_at}
 use Rattle.dms_world.specs.Backed.{stored_row}
@@ -75,10 +75,10 @@ never_at zero place row e valid = absurd (cc)
 never_at (suc n) zero row e valid = grind arith
 never_at (suc n) (suc place) row e valid = never_at n place row e valid
 
-can_stand : (services : Services) (face : FaceModel) (row : RowModel) → may_stand services face row ≡ true → IsShowable services face row
+can_stand : (services : Services) (face : FaceModel) (row : RowModel) → row_may_stand services face row ≡ true → IsShowable services face row
 can_stand services face row e = grind (arith, and_parts, showable, good_where_passes)
 
-permanent_can : (b : Bool) (services : Services) (face : FaceModel) (rows : List RowModel) (place : ℕ) (row : RowModel) → list_all (may_stand services face) rows ≡ true
+permanent_can : (b : Bool) (services : Services) (face : FaceModel) (rows : List RowModel) (place : ℕ) (row : RowModel) → list_all (row_may_stand services face) rows ≡ true
     → cond b None (slice_get rows place) ≡ Some row → IsShowable services face row
 permanent_can b services face rows place row all e = grind (arith, can_stand, at_place)
 
@@ -93,7 +93,7 @@ none_in_none b place row e = grind arith
 
 -- a table in which only permanent rows are used
 record IsStart (face : FaceModel) (table : TableModel) : Type 0 where
-  permanent : list_all (may_stand table.services face) table.permanent ≡ true
+  permanent : list_all (row_may_stand table.services face) table.permanent ≡ true
   changeable : table.changeable ≡ replicate (length table.changeable) unused
   volatile : table.volatile ≡ replicate (length table.volatile) unused
 

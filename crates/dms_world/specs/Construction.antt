@@ -1,5 +1,6 @@
 -- Ends as their constructors give them (this profile).
-use Rattle.std.specs.Prelude.{◌≡◌, ℕ, ◌≤◌, length, None}
+use Rattle.std.specs.Prelude.{◌≡◌, ℕ, IsTrue, None}
+use Rattle.dms_codes.specs.Limits.{has_community_size}
 use Rattle.dms_table.specs.Stock.{table_of}
 use Rattle.dms_sign.specs.declared.config.Config.{Config}
 use Rattle.dms_sign.specs.Configuration.{config_of, config_fault}
@@ -13,10 +14,9 @@ pub record IsNewSign (sign : SignState) : Type 0 where
   pub faultless : config_fault config ≡ None
   pub made : sign ≡ sign_start (config_of config) (table_of config.stock)
 
--- the central system of a community of 1 to 32 octets, whose first request has this number
+-- a central system, whose first request has this number
 pub record IsNewCentre (centre : CentreState) : Type 0 where
   pub settings : SettingsModel
   pub first : ℕ
-  pub some : 1 ≤ length settings.community
-  pub few : length settings.community ≤ 32
+  pub size : IsTrue (has_community_size settings.community)
   pub made : centre ≡ centre_start settings first

@@ -53,10 +53,8 @@ impl Datagrams {
     pub fn get(&self, place: usize) -> Option<&[u8]>
         ensures { option_map (λ datagram. datagram.now) result ≡ slice_get self.now.sent place }
     {
-        match self.places.get(place) {
-            Some(&(start, end)) => Some(&self.octets[start..end]),
-            None => None,
-        }
+        let &(start, end) = self.places.get(place)?;
+        Some(&self.octets[start..end])
     }
 
     /// Room for one more datagram, however long a datagram may be.

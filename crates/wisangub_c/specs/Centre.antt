@@ -24,10 +24,6 @@ use Rattle.wisangub_c.specs.Answers.{answer_of, size_of, buffer_with}
 
 -- ---- making one
 
--- a community has 1 to 32 octets
-abbrev pub IsCommunity : List ℕ → Type 0
-IsCommunity community = (1 ≤ length community) × (length community ≤ 32)
-
 -- a central system of this state is in the place
 abbrev pub IsPlaced : CentreState → Option CentreModel → Type 0
 IsPlaced state place = (spare : ℕ) × (place ≡ Some (record { state = state; spare = spare }))

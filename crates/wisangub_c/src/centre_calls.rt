@@ -1,8 +1,9 @@
 //! A central system's calls from C.
 
-ghost use Rattle.std.specs.Prelude.{◌≡◌, ◌⊎◌, ◌≤◌, ◌<◌, ◌==◌, false, length, slice_get, None, IfOk, IfErr};
+ghost use Rattle.std.specs.Prelude.{◌≡◌, ◌⊎◌, ◌≤◌, ◌<◌, ◌==◌, false, length, IsTrue, slice_get, None, IfOk, IfErr};
 ghost use denote.RawPtr.{null_ptr};
 ghost use Rattle.dms_ber.specs.Limits.{longest_datagram};
+ghost use Rattle.dms_codes.specs.Limits.{has_community_size};
 ghost use Rattle.dms_centre.specs.State.{start};
 ghost use Rattle.dms_centre.specs.Inputs.{received, ticked, restarted};
 ghost use Rattle.dms_centre.specs.Commands.{commanded, refusal_of};
@@ -11,7 +12,7 @@ ghost use Rattle.dms_centre.specs.CodeView.{settings_model, entry_model, sent_in
 ghost use Rattle.wisangub_c.specs.Answers.{done, no_memory, too_small, at_fault, unless_memory, answer_of, size_of};
 ghost use Rattle.wisangub_c.specs.Answers.{buffer_with};
 ghost use Rattle.wisangub_c.specs.Codes.{order_of};
-ghost use Rattle.wisangub_c.specs.Centre.{IsCommunity, IsPlaced, command_in, refusal_answer, given_command_answer};
+ghost use Rattle.wisangub_c.specs.Centre.{IsPlaced, command_in, refusal_answer, given_command_answer};
 ghost use Rattle.wisangub_c.specs.Centre.{given_command_size, given_command_buffer, command_answer, command_size};
 ghost use Rattle.wisangub_c.specs.Centre.{command_buffer, after_command, code_parts};
 ghost use Rattle.wisangub_c.specs.Centre.{outcome_number, outcome_status, ledger_entry, entry_answer, entry_after};
@@ -76,9 +77,11 @@ enum MakeFault {
 /// A central system on the heap.
 fn made(alloc: Global, settings: Settings<'_>, first: u32) -> Result<Box<Centre>, MakeFault>
     ensures made { IfOk result (λ centre. centre.value.state ≡ start (settings_model settings.entry) first) }
-    ensures community { IfOk result (λ centre. IsCommunity settings.entry.community.now) }
-    ensures fault { IfErr result (λ fault. fault ≡ MakeFault.Community → IsCommunity settings.entry.community.now → ⊥) }
-    ensures memory { IfErr result (λ fault. fault ≡ MakeFault.Memory → IsCommunity settings.entry.community.now) }
+    ensures community { IfOk result (λ centre. IsTrue (has_community_size settings.entry.community.now)) }
+    ensures fault { IfErr result (λ fault. fault ≡ MakeFault.Community
+        → has_community_size settings.entry.community.now ≡ false) }
+    ensures memory { IfErr result (λ fault. fault ≡ MakeFault.Memory
+        → IsTrue (has_community_size settings.entry.community.now)) }
 {
     let centre = match Centre::new(alloc, settings, first) {
         Ok(centre) => centre,
@@ -102,9 +105,9 @@ pub extern "C" fn wisangub_centre_new_at(
     ensures answer { (result ≡ done) ⊎ ((result ≡ at_fault) ⊎ (result ≡ no_memory)) }
     ensures made { result ≡ done
         → IsPlaced (start (record { community = community.now; order = order_of order }) first) centre.new.value }
-    ensures community { result ≡ done → IsCommunity community.now }
-    ensures fault { result ≡ at_fault → IsCommunity community.now → ⊥ }
-    ensures memory { result ≡ no_memory → IsCommunity community.now }
+    ensures community { result ≡ done → IsTrue (has_community_size community.now) }
+    ensures fault { result ≡ at_fault → has_community_size community.now ≡ false }
+    ensures memory { result ≡ no_memory → IsTrue (has_community_size community.now) }
     ensures unchanged { (result == done) ≡ false → centre.new ≡ centre.old }
 {
     let settings = Settings {

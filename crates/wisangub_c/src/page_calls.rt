@@ -1,7 +1,7 @@
 //! Pages of what a sign shows and of any text, from C.
 
 ghost use Rattle.std.specs.Prelude.{◌≡◌, length};
-ghost use Rattle.dms_lines.specs.PageOctets.{pages_octets, row_bits};
+ghost use Rattle.dms_lines.specs.PageOctets.{layer_of, pages_octets, row_bits};
 ghost use Rattle.dms_pages.specs.Drawn.{drawn_text};
 ghost use Rattle.dms_sign_lines.specs.Answer.{shown_pages};
 ghost use Rattle.wisangub_c.specs.Answers.{no_memory, given_answer, given_buffer, unless_memory};
@@ -11,13 +11,19 @@ ghost use Rattle.wisangub_c.specs.Pages.{shown_octets, drawn_answer, drawn_size,
 use crate::answers::{AT_FAULT, DONE, NO_MEMORY, TOO_SMALL, give};
 use crate::shown_calls::{TextFault, text_fault};
 use crate::sign_handle::SignHandle;
-use dms_lines::{bits_needed, pages_octets, put_bits};
+use dms_lines::{Layer, bits_needed, pages_octets, put_bits};
 use dms_pages::{Page, PagesFault, pages};
 use dms_sign_lines::answering::shown_pages;
 use std::alloc::Global;
 
 /// Gives the octets of pages.
-fn give_pages(alloc: Global, layer: u8, pages: &[Page], octets: &mut [u8], size: &mut usize) -> u32
+fn give_pages(
+    alloc: Global,
+    layer: Layer,
+    pages: &[Page],
+    octets: &mut [u8],
+    size: &mut usize,
+) -> u32
     ensures answer { result ≡ unless_memory result no_memory
         (given_answer (pages_octets layer pages.now) (length octets.old)) }
     ensures size { size.new ≡ unless_memory result size.old (length (pages_octets layer pages.now)) }
@@ -41,13 +47,13 @@ pub extern "C" fn wisangub_sign_pages_at(
 ) -> u32
     ensures same { sign.new.value ≡ sign.old.value }
     ensures answer { result ≡ unless_memory result no_memory
-        (given_answer (shown_octets layer sign.old.value) (length octets.old)) }
-    ensures size { size.new ≡ unless_memory result size.old (length (shown_octets layer sign.old.value)) }
+        (given_answer (shown_octets (layer_of layer) sign.old.value) (length octets.old)) }
+    ensures size { size.new ≡ unless_memory result size.old (length (shown_octets (layer_of layer) sign.old.value)) }
     ensures octets { octets.new ≡ unless_memory result octets.old
-        (given_buffer (shown_octets layer sign.old.value) octets.old) }
+        (given_buffer (shown_octets (layer_of layer) sign.old.value) octets.old) }
 {
     match shown_pages(alloc, sign.as_mut()) {
-        Ok(pages) => give_pages(alloc, layer, pages.as_slice(), octets, size),
+        Ok(pages) => give_pages(alloc, Layer::of(layer), pages.as_slice(), octets, size),
         Err(_) => NO_MEMORY,
     }
 }
@@ -65,16 +71,16 @@ pub extern "C" fn wisangub_sign_text_pages_at(
 ) -> u32
     ensures same { sign.new.value ≡ sign.old.value }
     ensures answer { result ≡ unless_memory result no_memory
-        (drawn_answer layer (drawn_text sign.old.value.config.face text.now) (length octets.old)) }
+        (drawn_answer (layer_of layer) (drawn_text sign.old.value.config.face text.now) (length octets.old)) }
     ensures size { size.new ≡ unless_memory result size.old
-        (drawn_size layer (drawn_text sign.old.value.config.face text.now) size.old) }
+        (drawn_size (layer_of layer) (drawn_text sign.old.value.config.face text.now) size.old) }
     ensures octets { octets.new ≡ unless_memory result octets.old
-        (drawn_buffer layer (drawn_text sign.old.value.config.face text.now) octets.old) }
+        (drawn_buffer (layer_of layer) (drawn_text sign.old.value.config.face text.now) octets.old) }
     ensures fault { fault.new ≡ unless_memory result fault.old
         (fault_after (drawn_text sign.old.value.config.face text.now) fault.old) }
 {
     match pages(alloc, sign.as_mut().face(), text) {
-        Ok(pages) => give_pages(alloc, layer, pages.as_slice(), octets, size),
+        Ok(pages) => give_pages(alloc, Layer::of(layer), pages.as_slice(), octets, size),
         Err(PagesFault::Multi(found)) => {
             *fault = text_fault(found);
             AT_FAULT

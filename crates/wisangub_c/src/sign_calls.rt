@@ -34,10 +34,7 @@ fn made(alloc: Global, text: &[u8]) -> Result<NewSign, DescriptionFault>
     ensures fault { IfErr result (λ fault. (fault ≡ DescriptionFault.Memory)
         ⊎ ((it : Description) → SpellsSign (kept_lines text.now) it → ⊥)) }
 {
-    let Setup { sign, first } = match description(alloc, text) {
-        Ok(setup) => setup,
-        Err(fault) => return Err(fault),
-    };
+    let Setup { sign, first } = description(alloc, text)?;
     match Box::new(alloc, sign) {
         Ok(sign) => Ok(NewSign { sign, first }),
         Err(_) => Err(DescriptionFault::Memory),

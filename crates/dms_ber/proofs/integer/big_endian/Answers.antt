@@ -1,4 +1,4 @@
-use Rattle.std.proofs.Common.{◌≡◌, ◌*◌, ◌%◌, ◌^◌, arith}
+use Rattle.std.proofs.Common.{arith}
 use Rattle.std.proofs.lemmas.Int.Digits.{number_more}
 use Rattle.dms_ber.proofs.Octets.{octet_bound, octet_room}
 use Rattle.dms_ber.proofs.integer.big_endian.Goals as goal

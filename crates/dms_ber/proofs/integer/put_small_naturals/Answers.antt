@@ -1,4 +1,4 @@
-use Rattle.std.proofs.Common.{arith, rules, length-append, ℕ}
+use Rattle.std.proofs.Common.{arith, rules, length-append}
 use Rattle.dms_ber.proofs.Shortest.{natural_one, natural_one_size}
 use Rattle.dms_ber.proofs.integer.put_small_naturals.Goals as goal
 

@@ -3,7 +3,7 @@ use Rattle.std.specs.List.{flat_map}
 use Rattle.dms_face.specs.declared.room.Block.{Block}
 use Rattle.dms_face.specs.Room.{is_at, extent, placed_from, line_block}
 use Rattle.dms_face.specs.Totals.{Sums}
-use Rattle.dms_face.specs.Cells.{line_characters}
+use Rattle.dms_face.specs.Cells.{placed_in_line}
 use Rattle.dms_pages.specs.Drawing.{has_place, Shows}
 use Rattle.dms_pages.proofs.PlacingLaws.{among, front_extent, last_fits, sums_more_of, placed_more_of, all_at}
 use Rattle.dms_pages.proofs.drawing.draw_part.Goals as goal
@@ -37,7 +37,7 @@ loop-line-preserved c =
       sums_more_of line_block c.args.part i xs x c.with-run.result below is here own,
       λ page before shows.
           subst (λ l. Shows face page l c.draw_line.new.cells.cells)
-          (placed_more_of line_block c.args.part i xs x (line_characters face) c.args.first at before below is here at_is)
-          (c.in_ok-draw_line.ensures.cells page (before ++ flat_map (line_characters face) (placed_from line_block c.args.first (among line_block c.args.part i xs))) (c.loop-line.invariant.1 page before shows)),
+          (placed_more_of line_block c.args.part i xs x (placed_in_line face) c.args.first at before below is here at_is)
+          (c.in_ok-draw_line.ensures.cells page (before ++ flat_map (placed_in_line face) (placed_from line_block c.args.first (among line_block c.args.part i xs))) (c.loop-line.invariant.1 page before shows)),
       c.in_ok-draw_line.ensures.len ∙ c.loop-line.invariant.2,
     )

@@ -7,7 +7,8 @@ use Rattle.dms_requests.proofs.request.put_request.Goals as goal
 
 pub put_one-requires : goal.put_one-requires
 unfolding request_of name_of
-put_one-requires c = fits _ c.args.number c.args.work.now Opening _ c.requires.settings c.requires.number c.requires.work (rw c.row-row.ensures refl)
+put_one-requires c = fits _ c.args.number c.args.work.now Opening _ c.requires.settings c.requires.number c.requires.work
+    (rw (c.row-row.ensures, c.ask_value-asked.ensures) refl)
 
 pub put_one-requires-in-Opened : goal.put_one-requires-in-Opened
 unfolding request_of name_of
@@ -19,7 +20,8 @@ put_fields-requires c = fits _ c.args.number c.args.work.now Filling _ c.require
 
 pub put_one-requires-in-Validating : goal.put_one-requires-in-Validating
 unfolding request_of name_of
-put_one-requires-in-Validating c = fits _ c.args.number c.args.work.now Validating _ c.requires.settings c.requires.number c.requires.work (rw c.row-row.ensures refl)
+put_one-requires-in-Validating c = fits _ c.args.number c.args.work.now Validating _ c.requires.settings c.requires.number c.requires.work
+    (rw (c.row-row.ensures, c.ask_value-asked-in-Validating.ensures) refl)
 
 pub put_one-requires-in-Comparing : goal.put_one-requires-in-Comparing
 unfolding request_of name_of

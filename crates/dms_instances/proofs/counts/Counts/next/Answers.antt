@@ -9,11 +9,11 @@ pub returns-then-comes_before_dms : goal.returns-then-comes_before_dms
 returns-then-comes_before_dms c = λ table has.
     c.from_object.ensures table has
     ∙ before_dms table c.args.self.now has c.args.name.now
-    (λ rest e. c.in-None.ensures.found (octets_below rest) (c.content.ensures ∙ ap name_octets e ∙ dms_octets rest))
+    (λ rest e. c.in-None.ensures.none (octets_below rest) (c.content.ensures ∙ ap name_octets e ∙ dms_octets rest))
     (sym c.comes_before_dms.ensures ∙ c.if-comes_before_dms.true)
 
 pub returns-else-comes_before_dms : goal.returns-else-comes_before_dms
 returns-else-comes_before_dms c = λ table has.
     past_dms table c.args.name.now
-    (λ rest e. c.in-None.ensures.found (octets_below rest) (c.content.ensures ∙ ap name_octets e ∙ dms_octets rest))
+    (λ rest e. c.in-None.ensures.none (octets_below rest) (c.content.ensures ∙ ap name_octets e ∙ dms_octets rest))
     (sym c.comes_before_dms.ensures ∙ c.if-comes_before_dms.false)
