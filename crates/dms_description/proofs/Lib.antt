@@ -11,5 +11,8 @@ pub mod DescriptionLaws
 pub mod SetupLaws
 pub mod BenchRead
 mod LastFont
+pub mod Misfits
+pub mod LastLines
+pub mod Refused
 pub mod TextsDescribed
 pub mod ShownParts

@@ -1,14 +1,16 @@
 -- What the lines of permanent rows spell is what is read of them.
-use Rattle.std.proofs.Common.{◌≡◌, ℕ, List, [], ◌∷◌, ◌++◌, Option, Some, None, refl, sym, ap, subst, ◌∙◌, arith, append_assoc}
+use Rattle.std.proofs.Common.{◌≡◌, ℕ, List, [], ◌∷◌, ◌++◌, Option, Some, None, map, refl, sym, ap, subst, ◌∙◌, arith, append_assoc}
 use Rattle.std.specs.Prelude.{codes}
 use Rattle.std.proofs.lemmas.Option.{same_Some}
-use Rattle.std.proofs.lemmas.List.{append-nil}
+use Rattle.std.proofs.lemmas.List.{append-nil, map-append}
 use Rattle.dms_text.specs.Words.{words_of}
 use Rattle.dms_text.proofs.WordLaws.{begun, goes_on, word_found, word_only, keyword_found, keyword_only, decimal_found, decimal_only, octets_found, octets_only, octets_some}
 use Rattle.dms_table.specs.Rows.{RowModel}
 use Rattle.dms_forms.specs.Fields.{SpellsEach, SpellsOctet}
 use Rattle.dms_description.specs.Description.{SpellsPermanent, SpellsPermanentLine}
 use Rattle.dms_description.specs.DescriptionReading.{RowWords, row_words, row_of, rows_then, rows_from}
+use Rattle.dms_description.specs.declared.rows.OwnedRow.{OwnedRow}
+use Rattle.dms_description.specs.Views.{row_seen}
 use Rattle.dms_forms.proofs.WordReading.{last_found}
 
 -- ---- one row
@@ -130,3 +132,15 @@ rows_only (row ∷ more) (line ∷ prefix) rest rows spelled ends =
 pub no_row : (rows : List RowModel) (line : List ℕ) (lines : List (List ℕ)) → row_of (words_of line) ≡ None → rows_from rows (line ∷ lines) ≡ (rows, line ∷ lines)
 unfolding rows_from
 no_row rows line lines e = ap (rows_then (λ longer. rows_from longer lines) rows (line ∷ lines)) e
+
+-- a row more is read
+pub row_on : (rows longer : List OwnedRow) (row : OwnedRow) (lines others left start : List (List ℕ)) (line : List ℕ) → rows_from (map row_seen rows) lines ≡ rows_from [] start → lines ≡ line ∷ others
+    → Some (row_seen row) ≡ row_of (words_of line) → longer ≡ rows ++ row ∷ [] → left ≡ others → rows_from (map row_seen longer) left ≡ rows_from [] start
+unfolding rows_from
+row_on rows longer row lines others left start line so_far is said grown rest =
+    ap (λ owned. rows_from (map row_seen owned) left) grown
+    ∙ ap (λ seen. rows_from seen left) (map-append row_seen rows (row ∷ []))
+    ∙ ap (rows_from (map row_seen rows ++ row_seen row ∷ [])) rest
+    ∙ ap (rows_then (λ all. rows_from all others) (map row_seen rows) (line ∷ others)) said
+    ∙ sym (ap (rows_from (map row_seen rows)) is)
+    ∙ so_far

@@ -6,6 +6,7 @@ use Rattle.dms_text.specs.Lines.{is_skipped}
 use Rattle.dms_description.specs.declared.setup.Setup.{Setup}
 use Rattle.dms_description.specs.Description.{Description, SpellsSign}
 use Rattle.dms_description.specs.Setups.{IsMade}
+use Rattle.dms_description.specs.RefusedLine.{all_numbered, IsRefusedLine}
 use Rattle.dms_streams.specs.DescriptionText.{lines_through_end, lines_after_end}
 
 -- of these lines, those of a description, without those that are skipped
@@ -24,3 +25,8 @@ Describes (Some octets) setup (Some rest) =
 abbrev pub NotDescribed : Option (List ℕ) → Type 0
 NotDescribed None = ⊤
 NotDescribed (Some octets) = (it : Description) → SpellsSign (description_lines (lines octets)) it → ⊥
+
+-- the line of this number is the one for which the lines up to and with the first `end` are no description
+abbrev pub IsRefusedBefore : Option (List ℕ) → ℕ → Type 0
+IsRefusedBefore None number = ⊤
+IsRefusedBefore (Some octets) number = IsRefusedLine (all_numbered (lines_through_end (lines octets))) number

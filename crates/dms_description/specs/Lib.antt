@@ -5,6 +5,7 @@ pub mod BenchSign
 pub mod Setups
 pub mod FaultTexts
 pub mod Causes
+pub mod RefusedLine
 pub mod Before
 pub mod ShownLine
 -- reading from the beginning, which only proofs go through: `read_is_spelled` and `spelled_is_read` in proofs/ join it

@@ -1,8 +1,9 @@
 -- What the code's parts and fields of a description are (this profile).
-use Rattle.std.specs.Prelude.{◌≡◌, ◌⊎◌, ℕ, Bool, true, false, List, [], ◌∷◌, Option, Some}
+use Rattle.std.specs.Prelude.{◌≡◌, ◌⊎◌, ℕ, Bool, true, false, List, [], ◌∷◌, ◌++◌, Option, Some}
 use Rattle.std.specs.Prelude.{None, Result, Ok, Err, option_map, map, replicate}
-use Rattle.dms_text.specs.Lines.{TextLeft}
-use Rattle.dms_text.specs.declared.lines.Line.{Line}
+use Rattle.dms_text.specs.Lines.{TextLeft, lines_left, number_after}
+use Rattle.dms_text.specs.Views.{numbered_line}
+use Rattle.dms_text.specs.declared.lines.Line as text
 use Rattle.dms_codes.specs.declared.status.Status.TheVariants.{Valid}
 use Rattle.dms_face.specs.Face.{FaceModel}
 use Rattle.dms_table.specs.declared.stock.Permanent.{Permanent}
@@ -14,15 +15,17 @@ use Rattle.dms_sign.specs.declared.config.ConfigFault.TheVariants as config
 use Rattle.dms_sign.specs.State.{SignState, start}
 use Rattle.dms_sign.specs.Construction.{CanBeMade}
 use Rattle.dms_description.specs.declared.fault.DescriptionFault.{DescriptionFault}
-use Rattle.dms_description.specs.declared.fault.DescriptionFault.TheVariants.{Memory}
+use Rattle.dms_description.specs.declared.fault.DescriptionFault.TheVariants.{Line, Memory}
 use Rattle.dms_description.specs.declared.head.Communities.{Communities}
 use Rattle.dms_description.specs.declared.head.Beginning.{Beginning}
 use Rattle.dms_description.specs.declared.head.Head.{Head}
 use Rattle.dms_description.specs.declared.rows.RowLine.{RowLine}
 use Rattle.dms_description.specs.declared.rows.OwnedRow.{OwnedRow}
 use Rattle.dms_description.specs.Description.{Description}
+use Rattle.dms_description.specs.RefusedLine.{NumberedLines, first_number, has_form, from_misfit}
 use Rattle.dms_description.specs.Setups.{octets_left}
-use Rattle.dms_description.specs.DescriptionReading.{CommunityWords, BeginningModel, HeadModel, RowWords, end_at}
+use Rattle.dms_description.specs.DescriptionReading.{CommunityWords, line_at, BeginningModel, HeadModel}
+use Rattle.dms_description.specs.DescriptionReading.{RowWords, end_at}
 
 abbrev pub communities_seen : Communities → CommunityWords
 communities_seen words = record { reader = words.reader.now; writer = words.writer.now }
@@ -59,14 +62,40 @@ row_seen row = record {
 }
 
 -- the line that comes next and those after it
-abbrev pub upcoming : Option Line → TextLeft → List (List ℕ)
-upcoming None left = []
-upcoming (Some line) left = line.octets.now ∷ octets_left left
+abbrev pub upcoming : Option text.Line → TextLeft → NumberedLines
+upcoming None left = record { lines = []; after = number_after left }
+upcoming (Some line) left = record { lines = numbered_line line ∷ lines_left left; after = number_after left }
 
 -- the lines after the next one
-abbrev pub after : List (List ℕ) → List (List ℕ)
+abbrev pub after : {A : Type 0} → List A → List A
 after [] = []
 after (line ∷ lines) = lines
+
+abbrev pub past : NumberedLines → NumberedLines
+past lines = record { lines = after lines.lines; after = lines.after }
+
+-- the first lines have these forms, and the rest is left after them
+pub record HaveForms (forms : List (List ℕ → Bool)) (left rest : TextLeft) : Type 0 where
+  pub lines : (more : List (List ℕ → Bool))
+      → from_misfit (forms ++ more) (lines_left left) ≡ from_misfit more (lines_left rest)
+  pub after : number_after rest ≡ number_after left
+
+-- the fault is that of the first of the lines that has not its form, be there more lines with forms after these or not
+pub record IsMisfit (forms : List (List ℕ → Bool)) (left : TextLeft) (fault : DescriptionFault) : Type 0 where
+  pub is : (more : List (List ℕ → Bool))
+      → fault ≡ Line (first_number (from_misfit (forms ++ more) (lines_left left)) (number_after left))
+
+-- the first line says this, and the rest is left after it
+pub record FindsLine {A : Type 0} (read : List (List ℕ) → Option A) (left : TextLeft) (value : A)
+    (rest : TextLeft) : Type 0 where
+  pub said : line_at read (octets_left left) ≡ Some (value, octets_left rest)
+  pub forms : HaveForms (has_form read ∷ []) left rest
+
+-- the first line says no such thing, and the fault is its own
+pub record FindsNoLine {A : Type 0} (read : List (List ℕ) → Option A) (left : TextLeft)
+    (fault : DescriptionFault) : Type 0 where
+  pub none : line_at read (octets_left left) ≡ None
+  pub misfit : IsMisfit (has_form read ∷ []) left fault
 
 -- the answer is the expected one; without one, there is none or memory ran out
 abbrev pub ReadsOrMemory : {A B : Type 0} → (A → B) → Result A DescriptionFault → Option B → Type 0

@@ -1,11 +1,13 @@
 //! Descriptions that are read: an input to its end, or its lines up to the line `end`, before a conversation.
 
 ghost use Rattle.std.specs.Prelude.{◌≡◌, ◌≢◌, ◌≤◌, ◌<◌, ℕ, length, Err, IfOk, IfSome};
+ghost use Rattle.std.specs.Str.Lines.{lines};
 ghost use Rattle.dms_streams.specs.Calls.{one_more};
 ghost use Rattle.dms_streams.specs.Lines.{left};
 ghost use Rattle.dms_streams.specs.DescriptionText.{TakesDescription, longest_input};
-ghost use Rattle.dms_description.specs.Before.{Describes, NotDescribed};
+ghost use Rattle.dms_description.specs.Before.{Describes, NotDescribed, IsRefusedBefore};
 ghost use Rattle.dms_description.specs.Description.{Description, SpellsDescription};
+ghost use Rattle.dms_description.specs.RefusedLine.{all_numbered, IsRefusedLine};
 ghost use Rattle.dms_description.specs.Setups.{IsMade};
 ghost use Rattle.dms_description.specs.declared.reading_fault.ReplayFault.TheVariants as faults;
 
@@ -22,6 +24,8 @@ pub fn described<R: Source>(alloc: Global, reader: &mut R) -> Result<Setup, Repl
         × SpellsDescription octets it × IsMade it setup)) }
     ensures line { (number : ℕ) → result ≡ Err (faults.Line number) → IfSome (R.remaining reader.old) (λ octets.
         (length octets ≤ longest_input) × ((it : Description) → SpellsDescription octets it → ⊥)) }
+    ensures number { (number : ℕ) → result ≡ Err (faults.Line number)
+        → IfSome (R.remaining reader.old) (λ octets. IsRefusedLine (all_numbered (lines octets)) number) }
     ensures too_long { result ≡ Err faults.TooLong
         → IfSome (R.remaining reader.old) (λ octets. longest_input < length octets) }
     ensures read { result ≡ Err faults.Read → R.failed reader.new ≡ one_more (R.failed reader.old) }
@@ -58,6 +62,8 @@ pub fn described_before<S: Source>(
 ) -> Result<Setup, ReplayFault>
     ensures sign { IfOk result (λ setup. Describes (left S.remaining input.old) setup (left S.remaining input.new)) }
     ensures line { (number : ℕ) → result ≡ Err (faults.Line number) → NotDescribed (left S.remaining input.old) }
+    ensures number { (number : ℕ) → result ≡ Err (faults.Line number)
+        → IsRefusedBefore (left S.remaining input.old) number }
     ensures too_long { result ≡ Err faults.TooLong
         → IfSome (left S.remaining input.old) (λ octets. longest_input < length octets) }
     ensures read { result ≡ Err faults.Read → S.failed input.new.source ≡ one_more (S.failed input.old.source) }

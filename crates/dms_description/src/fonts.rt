@@ -2,19 +2,21 @@
 
 ghost use Rattle.std.specs.Prelude.{◌≡◌, [], IfOk};
 ghost use Rattle.dms_description.specs.DescriptionReading.{fonts_from, fonts_at};
+ghost use Rattle.dms_description.specs.RefusedLine.{octets_of, Leaves};
 
 use crate::upcoming::Upcoming;
 use dms_font::{Font, FontFaultKind};
 use std::alloc::{AllocError, Global};
 
 /// The fonts that come next, and the lines after them.
-#[tactic(auto, unfolding(crate::specs::DescriptionReading::fonts_at))]
+#[tactic(auto, unfolding(crate::specs::DescriptionReading::fonts_at), using(crate::proofs::LastLines::last))]
 pub(crate) fn fonts<'a>(
     alloc: Global,
     lines: Upcoming<'a>,
 ) -> Result<(Vec<Font>, Upcoming<'a>), AllocError>
-    ensures fonts { IfOk result (λ x. x.0.items ≡ (fonts_at lines.entry).0) }
-    ensures rest { IfOk result (λ x. x.1 ≡ (fonts_at lines.entry).1) }
+    ensures fonts { IfOk result (λ x. x.0.items ≡ (fonts_at (octets_of lines.entry.lines)).0) }
+    ensures rest { IfOk result (λ x. octets_of x.1.lines ≡ (fonts_at (octets_of lines.entry.lines)).1) }
+    ensures last { IfOk result (λ x. Leaves lines.entry x.1) }
 {
     let mut lines = lines;
     let Some(line) = lines.peek() else {
@@ -30,14 +32,16 @@ pub(crate) fn fonts<'a>(
 }
 
 /// The fonts that come next after the first line of one, and the lines after them.
-#[tactic(auto, unfolding(crate::specs::DescriptionReading::fonts_from))]
+#[tactic(auto, unfolding(crate::specs::DescriptionReading::fonts_from), using(crate::proofs::LastLines::last))]
 fn fonts_from<'a>(
     alloc: Global,
     first: Font,
     lines: Upcoming<'a>,
 ) -> Result<(Vec<Font>, Upcoming<'a>), AllocError>
-    ensures fonts { IfOk result (λ x. x.0.items ≡ (fonts_from [] first lines.entry).0) }
-    ensures rest { IfOk result (λ x. x.1 ≡ (fonts_from [] first lines.entry).1) }
+    ensures fonts { IfOk result (λ x. x.0.items ≡ (fonts_from [] first (octets_of lines.entry.lines)).0) }
+    ensures rest { IfOk result
+        (λ x. octets_of x.1.lines ≡ (fonts_from [] first (octets_of lines.entry.lines)).1) }
+    ensures last { IfOk result (λ x. Leaves lines.entry x.1) }
 {
     let mut lines = lines;
     let mut fonts = Vec::new(alloc);

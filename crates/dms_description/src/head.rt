@@ -1,12 +1,16 @@
 //! The first seven lines of a description.
 
 ghost use Rattle.std.specs.Prelude.{◌≡◌, ◌∷◌, [], Some, None, option_map, IfOk, IfErr, IfSome};
+ghost use Rattle.dms_text.specs.Lines.{lines_left, number_after};
+ghost use Rattle.dms_text.specs.Views.{numbered_line};
 ghost use Rattle.dms_text.specs.Words.{words_of};
+ghost use Rattle.dms_description.specs.RefusedLine.{first_four_forms, first_forms};
 ghost use Rattle.dms_description.specs.Setups.{octets_left};
 ghost use Rattle.dms_description.specs.Views.{communities_seen, beginning_seen, head_seen};
+ghost use Rattle.dms_description.specs.Views.{HaveForms, IsMisfit, FindsLine, FindsNoLine};
 ghost use Rattle.dms_description.specs.DescriptionReading.{size_of, communities_of, row_counts_of, order_named};
 ghost use Rattle.dms_description.specs.DescriptionReading.{order_of, services_of, colours_and_flash_at, defaults_with};
-ghost use Rattle.dms_description.specs.DescriptionReading.{defaults_of, first_of, line_at, beginning_at, head_at};
+ghost use Rattle.dms_description.specs.DescriptionReading.{defaults_of, first_of, beginning_at, head_at};
 
 use crate::fault::DescriptionFault;
 use dms_codes::Order;
@@ -218,8 +222,10 @@ fn first_of(line: &[u8]) -> Option<u32>
 
 /// The next line, and the lines after it.
 fn next_line(lines: Lines<'_>) -> Result<(Line<'_>, Lines<'_>), DescriptionFault>
-    ensures found { IfOk result (λ x. octets_left lines.entry ≡ x.0.octets.now ∷ octets_left x.1) }
-    ensures missing { IfErr result (λ fault. octets_left lines.entry ≡ []) }
+    ensures found { IfOk result (λ x. lines_left lines.entry ≡ numbered_line x.0 ∷ lines_left x.1) }
+    ensures last { IfOk result (λ x. number_after x.1 ≡ number_after lines.entry) }
+    ensures missing { IfErr result (λ fault. lines_left lines.entry ≡ []) }
+    ensures number { IfErr result (λ fault. fault ≡ DescriptionFault.Line (number_after lines.entry)) }
 {
     let mut lines = lines;
     match lines.next_line() {
@@ -228,22 +234,64 @@ fn next_line(lines: Lines<'_>) -> Result<(Line<'_>, Lines<'_>), DescriptionFault
     }
 }
 
+/// What the line `size ..` says, which comes next, and the lines after it.
+#[tactic(auto, using(crate::proofs::Misfits::one))]
+fn size_line(lines: Lines<'_>) -> Result<(Size, Lines<'_>), DescriptionFault>
+    ensures found { IfOk result (λ x. FindsLine size_of lines.entry x.0 x.1) }
+    ensures none { IfErr result (λ fault. FindsNoLine size_of lines.entry fault) }
+{
+    let (line, lines) = next_line(lines)?;
+    let size = size_of(line.octets).ok_or(DescriptionFault::Line(line.number))?;
+    Ok((size, lines))
+}
+
+/// What the line `communities ..` says, which comes next, and the lines after it.
+#[tactic(auto, using(crate::proofs::Misfits::one))]
+fn communities_line(lines: Lines<'_>) -> Result<(Communities<'_>, Lines<'_>), DescriptionFault>
+    ensures found { IfOk result (λ x. FindsLine communities_of lines.entry (communities_seen x.0) x.1) }
+    ensures none { IfErr result (λ fault. FindsNoLine communities_of lines.entry fault) }
+{
+    let (line, lines) = next_line(lines)?;
+    let communities = communities_of(line.octets).ok_or(DescriptionFault::Line(line.number))?;
+    Ok((communities, lines))
+}
+
+/// What the line `rows ..` says, which comes next, and the lines after it.
+#[tactic(auto, using(crate::proofs::Misfits::one))]
+fn rows_line(lines: Lines<'_>) -> Result<(RowCounts, Lines<'_>), DescriptionFault>
+    ensures found { IfOk result (λ x. FindsLine row_counts_of lines.entry x.0 x.1) }
+    ensures none { IfErr result (λ fault. FindsNoLine row_counts_of lines.entry fault) }
+{
+    let (line, lines) = next_line(lines)?;
+    let rows = row_counts_of(line.octets).ok_or(DescriptionFault::Line(line.number))?;
+    Ok((rows, lines))
+}
+
+/// What the line `order ..` says, which comes next, and the lines after it.
+#[tactic(auto, using(crate::proofs::Misfits::one))]
+fn order_line(lines: Lines<'_>) -> Result<(Order, Lines<'_>), DescriptionFault>
+    ensures found { IfOk result (λ x. FindsLine order_of lines.entry x.0 x.1) }
+    ensures none { IfErr result (λ fault. FindsNoLine order_of lines.entry fault) }
+{
+    let (line, lines) = next_line(lines)?;
+    let order = order_of(line.octets).ok_or(DescriptionFault::Line(line.number))?;
+    Ok((order, lines))
+}
+
 impl<'a> Beginning<'a> {
     /// The first four lines, and the lines after them.
-    #[tactic(auto, unfolding(crate::specs::DescriptionReading::beginning_at))]
+    #[tactic(auto, unfolding(crate::specs::DescriptionReading::beginning_at), using(crate::proofs::Misfits::more))]
     fn read(lines: Lines<'a>) -> Result<(Beginning<'a>, Lines<'a>), DescriptionFault>
         ensures found { IfOk result
             (λ x. beginning_at (octets_left lines.entry) ≡ Some (beginning_seen x.0, octets_left x.1)) }
         ensures none { IfErr result (λ fault. beginning_at (octets_left lines.entry) ≡ None) }
+        ensures forms { IfOk result (λ x. HaveForms first_four_forms lines.entry x.1) }
+        ensures misfit { IfErr result (λ fault. IsMisfit first_four_forms lines.entry fault) }
     {
-        let (line, lines) = next_line(lines)?;
-        let size = size_of(line.octets).ok_or(DescriptionFault::Line(line.number))?;
-        let (line, lines) = next_line(lines)?;
-        let communities = communities_of(line.octets).ok_or(DescriptionFault::Line(line.number))?;
-        let (line, lines) = next_line(lines)?;
-        let rows = row_counts_of(line.octets).ok_or(DescriptionFault::Line(line.number))?;
-        let (line, lines) = next_line(lines)?;
-        let order = order_of(line.octets).ok_or(DescriptionFault::Line(line.number))?;
+        let (size, lines) = size_line(lines)?;
+        let (communities, lines) = communities_line(lines)?;
+        let (rows, lines) = rows_line(lines)?;
+        let (order, lines) = order_line(lines)?;
         let beginning = Beginning {
             size,
             communities,
@@ -255,9 +303,10 @@ impl<'a> Beginning<'a> {
 }
 
 /// What the line `has ..` says, which comes next, and the lines after it.
+#[tactic(auto, using(crate::proofs::Misfits::one))]
 fn services_line(lines: Lines<'_>) -> Result<(Services, Lines<'_>), DescriptionFault>
-    ensures found { IfOk result (λ x. line_at services_of (octets_left lines.entry) ≡ Some (x.0, octets_left x.1)) }
-    ensures none { IfErr result (λ fault. line_at services_of (octets_left lines.entry) ≡ None) }
+    ensures found { IfOk result (λ x. FindsLine services_of lines.entry x.0 x.1) }
+    ensures none { IfErr result (λ fault. FindsNoLine services_of lines.entry fault) }
 {
     let (line, lines) = next_line(lines)?;
     let services = services_of(line.octets).ok_or(DescriptionFault::Line(line.number))?;
@@ -265,9 +314,10 @@ fn services_line(lines: Lines<'_>) -> Result<(Services, Lines<'_>), DescriptionF
 }
 
 /// What the line `defaults ..` says, which comes next, and the lines after it.
+#[tactic(auto, using(crate::proofs::Misfits::one))]
 fn defaults_line(lines: Lines<'_>) -> Result<(Defaults, Lines<'_>), DescriptionFault>
-    ensures found { IfOk result (λ x. line_at defaults_of (octets_left lines.entry) ≡ Some (x.0, octets_left x.1)) }
-    ensures none { IfErr result (λ fault. line_at defaults_of (octets_left lines.entry) ≡ None) }
+    ensures found { IfOk result (λ x. FindsLine defaults_of lines.entry x.0 x.1) }
+    ensures none { IfErr result (λ fault. FindsNoLine defaults_of lines.entry fault) }
 {
     let (line, lines) = next_line(lines)?;
     let defaults = defaults_of(line.octets).ok_or(DescriptionFault::Line(line.number))?;
@@ -275,9 +325,10 @@ fn defaults_line(lines: Lines<'_>) -> Result<(Defaults, Lines<'_>), DescriptionF
 }
 
 /// What the line `first ..` says, which comes next, and the lines after it.
+#[tactic(auto, using(crate::proofs::Misfits::one))]
 fn first_line(lines: Lines<'_>) -> Result<(u32, Lines<'_>), DescriptionFault>
-    ensures found { IfOk result (λ x. line_at first_of (octets_left lines.entry) ≡ Some (x.0, octets_left x.1)) }
-    ensures none { IfErr result (λ fault. line_at first_of (octets_left lines.entry) ≡ None) }
+    ensures found { IfOk result (λ x. FindsLine first_of lines.entry x.0 x.1) }
+    ensures none { IfErr result (λ fault. FindsNoLine first_of lines.entry fault) }
 {
     let (line, lines) = next_line(lines)?;
     let first = first_of(line.octets).ok_or(DescriptionFault::Line(line.number))?;
@@ -286,10 +337,12 @@ fn first_line(lines: Lines<'_>) -> Result<(u32, Lines<'_>), DescriptionFault>
 
 impl<'a> Head<'a> {
     /// The first seven lines, and the lines after them.
-    #[tactic(auto, unfolding(crate::specs::DescriptionReading::head_at))]
+    #[tactic(auto, unfolding(crate::specs::DescriptionReading::head_at), using(crate::proofs::Misfits::seven))]
     pub(crate) fn read(lines: Lines<'a>) -> Result<(Head<'a>, Lines<'a>), DescriptionFault>
         ensures found { IfOk result (λ x. head_at (octets_left lines.entry) ≡ Some (head_seen x.0, octets_left x.1)) }
         ensures none { IfErr result (λ fault. head_at (octets_left lines.entry) ≡ None) }
+        ensures forms { IfOk result (λ x. HaveForms first_forms lines.entry x.1) }
+        ensures misfit { IfErr result (λ fault. IsMisfit first_forms lines.entry fault) }
     {
         let (beginning, lines) = Beginning::read(lines)?;
         let (services, lines) = services_line(lines)?;

@@ -1,10 +1,13 @@
 //! Reading descriptions.
 
 ghost use Rattle.std.specs.Prelude.{◌≡◌, ◌⊎◌, ℕ, List, Some, None, IfOk, IfErr};
+ghost use Rattle.std.specs.Str.Lines.{lines};
 ghost use Rattle.dms_text.specs.Lines.{kept_lines};
 ghost use Rattle.dms_description.specs.Description.{Description, SpellsSign};
 ghost use Rattle.dms_description.specs.DescriptionReading.{description_at};
 ghost use Rattle.dms_description.specs.PartsView.{parts_seen};
+ghost use Rattle.dms_description.specs.RefusedLine.{numbered_left, all_numbered, Leaves, refused_number};
+ghost use Rattle.dms_description.specs.RefusedLine.{IsRefusedLine, NamesLine};
 ghost use Rattle.dms_description.specs.Setups.{octets_left, BeginsWith, IsMade};
 
 use crate::fault::DescriptionFault;
@@ -29,12 +32,15 @@ pub(crate) struct Parts<'a> {
 
 impl<'a> Parts<'a> {
     /// What the first lines say, up to the line `end`, and the lines after it.
-    #[tactic(auto, unfolding(crate::specs::DescriptionReading::description_at))]
+    #[tactic(auto, unfolding(crate::specs::DescriptionReading::description_at), using(crate::proofs::Refused::parts))]
     fn read(alloc: Global, lines: Lines<'a>) -> Result<(Parts<'a>, Lines<'a>), DescriptionFault>
         ensures found { IfOk result
             (λ x. description_at (octets_left lines.entry) ≡ Some (parts_seen x.0, octets_left x.1)) }
+        ensures last { IfOk result (λ x. Leaves (numbered_left lines.entry) (numbered_left x.1)) }
+        ensures end { IfOk result (λ x. x.0.end ≡ refused_number (numbered_left lines.entry)) }
         ensures none { IfErr result (λ fault. (fault ≡ DescriptionFault.Memory)
             ⊎ (description_at (octets_left lines.entry) ≡ None)) }
+        ensures number { IfErr result (NamesLine (λ number. number ≡ refused_number (numbered_left lines.entry))) }
     {
         let (head, lines) = Head::read(lines)?;
         let Ok((rows, upcoming)) = rows(alloc, Upcoming::of(lines)) else {
@@ -63,8 +69,10 @@ pub fn sign_of_lines(
 ) -> Result<(Setup, Lines<'_>), DescriptionFault>
     ensures read { IfOk result
         (λ x. (it : Description) × BeginsWith (octets_left lines.entry) (octets_left x.1) it × IsMade it x.0) }
+    ensures last { IfOk result (λ x. Leaves (numbered_left lines.entry) (numbered_left x.1)) }
     ensures line { IfErr result (λ fault. (fault ≡ DescriptionFault.Memory)
         ⊎ ((it : Description) (rest : List (List ℕ)) → BeginsWith (octets_left lines.entry) rest it → ⊥)) }
+    ensures number { IfErr result (NamesLine (λ number. number ≡ refused_number (numbered_left lines.entry))) }
 {
     let (parts, rest) = match Parts::read(alloc, lines) {
         Ok(found) => found,
@@ -92,6 +100,7 @@ pub fn description(alloc: Global, octets: &[u8]) -> Result<Setup, DescriptionFau
     ensures read { IfOk result (λ setup. (it : Description) × SpellsSign (kept_lines octets.now) it × IsMade it setup) }
     ensures line { IfErr result (λ fault. (fault ≡ DescriptionFault.Memory)
         ⊎ ((it : Description) → SpellsSign (kept_lines octets.now) it → ⊥)) }
+    ensures number { IfErr result (NamesLine (IsRefusedLine (all_numbered (lines octets.now)))) }
 {
     match sign_of_lines(alloc, Lines::of(octets)) {
         Ok((setup, rest)) => {

@@ -1,8 +1,10 @@
 //! Why a description is refused: the cause that its line is at fault.
 
 ghost use Rattle.std.specs.Prelude.{◌≡◌, IfOk, IfSome, map};
+ghost use Rattle.std.specs.Str.Lines.{lines};
 ghost use Rattle.dms_text.specs.Lines.{kept_lines};
 ghost use Rattle.dms_description.specs.Description.{Description, SpellsSign};
+ghost use Rattle.dms_description.specs.RefusedLine.{octets_of, all_numbered, IsRefusedLine};
 ghost use Rattle.dms_description.specs.Setups.{octets_left};
 ghost use Rattle.dms_description.specs.Views.{head_seen, row_seen, after};
 ghost use Rattle.dms_description.specs.Causes.{head_cause, form_cause, glyph_cause, last_font, is_no_glyph};
@@ -39,6 +41,8 @@ pub fn why(alloc: Global, octets: &[u8], number: usize) -> Result<Option<Cause>,
     ensures cause { IfOk result (λ found. IfSome found (λ cause. first_cause (kept_lines octets.now) ≡ Some cause)) }
     ensures refused { IfOk result
         (λ found. IfSome found (λ cause. (it : Description) → SpellsSign (kept_lines octets.now) it → ⊥)) }
+    ensures number { IfOk result
+        (λ found. IfSome found (λ cause. IsRefusedLine (all_numbered (lines octets.now)) number)) }
 {
     match description(alloc, octets) {
         Err(DescriptionFault::Line(line)) if line == number => first_cause(alloc, octets),
@@ -112,7 +116,8 @@ fn stop_cause(
     lines: Upcoming<'_>,
 ) -> Result<Option<Cause>, AllocError>
     ensures { IfOk result
-        (λ found. found ≡ stop_cause (head_seen head.now) (map row_seen rows.now) fonts.items lines.entry) }
+        (λ found. found ≡ stop_cause (head_seen head.now) (map row_seen rows.now) fonts.items
+        (octets_of lines.entry.lines)) }
 {
     let Some(line) = lines.peek() else {
         return Ok(Some(Cause::NoEnd));
@@ -128,7 +133,7 @@ fn stop_cause(
 
 /// A line stands after the line `end`, which comes next.
 fn after_cause(lines: Upcoming<'_>) -> Option<Cause>
-    ensures { result ≡ after_cause (after lines.entry) }
+    ensures { result ≡ after_cause (after (octets_of lines.entry.lines)) }
 {
     let mut lines = lines;
     lines.advance();

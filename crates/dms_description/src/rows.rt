@@ -3,6 +3,7 @@
 ghost use Rattle.std.specs.Prelude.{◌≡◌, [], option_map, map, IfOk};
 ghost use Rattle.dms_text.specs.Words.{words_of};
 ghost use Rattle.dms_table.specs.Stock.{permanent_row};
+ghost use Rattle.dms_description.specs.RefusedLine.{octets_of, Leaves};
 ghost use Rattle.dms_description.specs.Views.{row_line, row_seen};
 ghost use Rattle.dms_description.specs.DescriptionReading.{row_words, row_of, rows_from};
 
@@ -80,13 +81,14 @@ fn row(alloc: Global, line: &[u8]) -> Result<Option<OwnedRow>, AllocError>
 }
 
 /// The permanent rows that come next, and the lines after them.
-#[tactic(auto, unfolding(crate::specs::DescriptionReading::rows_from))]
+#[tactic(auto, unfolding(crate::specs::DescriptionReading::rows_from), using(crate::proofs::LastLines::last))]
 pub(crate) fn rows<'a>(
     alloc: Global,
     lines: Upcoming<'a>,
 ) -> Result<(Vec<OwnedRow>, Upcoming<'a>), AllocError>
-    ensures rows { IfOk result (λ x. map row_seen x.0.items ≡ (rows_from [] lines.entry).0) }
-    ensures rest { IfOk result (λ x. x.1 ≡ (rows_from [] lines.entry).1) }
+    ensures rows { IfOk result (λ x. map row_seen x.0.items ≡ (rows_from [] (octets_of lines.entry.lines)).0) }
+    ensures rest { IfOk result (λ x. octets_of x.1.lines ≡ (rows_from [] (octets_of lines.entry.lines)).1) }
+    ensures last { IfOk result (λ x. Leaves lines.entry x.1) }
 {
     let mut lines = lines;
     let mut rows = Vec::new(alloc);
