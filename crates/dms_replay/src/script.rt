@@ -1,10 +1,12 @@
 //! Scripts: a sign, then what happens, an event a line.
 
-ghost use Rattle.std.specs.Prelude.{◌≡◌, ◌⊎◌, ◌≤◌, ◌∷◌, List, ℕ, codes, length, IfOk, IfErr, IfSome, IfNone};
+ghost use Rattle.std.specs.Prelude.{◌≡◌, ◌⊎◌, ◌≤◌, ◌∷◌, List, ℕ, codes, length, Err, IfOk, IfErr, IfSome, IfNone};
+ghost use Rattle.std.specs.Str.Lines.{lines};
 ghost use Rattle.dms_text.specs.Lines.{kept_lines};
 ghost use Rattle.dms_world.specs.Event.{EventModel};
 ghost use Rattle.dms_description.specs.Description.{Description};
 ghost use Rattle.dms_streams.specs.DescriptionText.{longest_input};
+ghost use Rattle.dms_description.specs.RefusedLine.{all_numbered, refused_number};
 ghost use Rattle.dms_description.specs.Setups.{octets_left, IsMade};
 ghost use Rattle.dms_replay.specs.EventView.{script_events_model};
 ghost use Rattle.dms_description.specs.ReadingFaults.{IsLine};
@@ -53,6 +55,8 @@ pub(crate) fn named_sign(alloc: Global, octets: &[u8]) -> Result<(Setup, Lines<'
     ensures line { IfErr result (λ fault. (fault ≡ faults.Memory)
         ⊎ (IsLine fault × ((it : Description) (rest : List (List ℕ))
         → NamesPrefix (kept_lines octets.now) rest it → ⊥))) }
+    ensures number { (number : ℕ) → result ≡ Err (faults.Line number)
+        → number ≡ refused_number (all_numbered (lines octets.now)) }
 {
     if let Some(rest) = after_bench(octets) {
         return match dms_description::bench(alloc) {

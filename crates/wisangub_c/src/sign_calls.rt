@@ -1,10 +1,12 @@
 //! A sign's calls from C.
 
 ghost use Rattle.std.specs.Prelude.{◌≡◌, ◌⊎◌, ◌≤◌, ◌==◌, false, length, Some, None, IfOk, IfErr};
+ghost use Rattle.std.specs.Str.Lines.{lines};
 ghost use denote.RawPtr.{null_ptr};
 ghost use Rattle.dms_ber.specs.Limits.{longest_datagram};
 ghost use Rattle.dms_text.specs.Lines.{kept_lines};
 ghost use Rattle.dms_description.specs.Description.{Description, SpellsSign};
+ghost use Rattle.dms_description.specs.RefusedLine.{all_numbered, IsRefusedLine, NamesLine};
 ghost use Rattle.dms_sign.specs.State.{start};
 ghost use Rattle.dms_sign.specs.Reply.{received, after_get};
 ghost use Rattle.dms_sign.specs.Events.{after_tick, after_power_loss, after_power_return};
@@ -33,6 +35,7 @@ fn made(alloc: Global, text: &[u8]) -> Result<NewSign, DescriptionFault>
         × (made.sign.value ≡ start it.config it.table) × (made.first ≡ it.first)) }
     ensures fault { IfErr result (λ fault. (fault ≡ DescriptionFault.Memory)
         ⊎ ((it : Description) → SpellsSign (kept_lines text.now) it → ⊥)) }
+    ensures number { IfErr result (NamesLine (IsRefusedLine (all_numbered (lines text.now)))) }
 {
     let Setup { sign, first } = description(alloc, text)?;
     match Box::new(alloc, sign) {
@@ -55,6 +58,7 @@ pub extern "C" fn wisangub_sign_new_at(
     ensures made { result ≡ done → (it : Description) × SpellsSign (kept_lines text.now) it
         × (sign.new.value ≡ Some (start it.config it.table)) × (first.new ≡ it.first) }
     ensures fault { result ≡ at_fault → (it : Description) → SpellsSign (kept_lines text.now) it → ⊥ }
+    ensures number { result ≡ at_fault → IsRefusedLine (all_numbered (lines text.now)) line.new }
     ensures unchanged { (result == done) ≡ false → (sign.new ≡ sign.old) × (first.new ≡ first.old) }
     ensures line { (result == at_fault) ≡ false → line.new ≡ line.old }
 {
