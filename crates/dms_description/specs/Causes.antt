@@ -82,12 +82,12 @@ glyph_after line (Some font) = glyph_fault line (glyph_added font line)
 abbrev pub glyph_cause : List FontModel → List ℕ → Option Cause
 glyph_cause fonts line = glyph_after line (last_font fonts)
 
-abbrev pub row_cause : List FontModel → List ℕ → Option Cause
-row_cause [] line = form_cause forms.Permanent line
-row_cause (font ∷ fonts) line = Some causes.RowAfterFont
+abbrev pub row_line_cause : List FontModel → List ℕ → Option Cause
+row_line_cause [] line = form_cause forms.Permanent line
+row_line_cause (font ∷ fonts) line = Some causes.RowAfterFont
 
 abbrev pub named_cause : Option BodyWord → List FontModel → List ℕ → Option Cause
-named_cause (Some body.Permanent) fonts line = row_cause fonts line
+named_cause (Some body.Permanent) fonts line = row_line_cause fonts line
 named_cause (Some body.Font) fonts line = form_cause forms.Font line
 named_cause (Some body.Glyph) fonts line = glyph_cause fonts line
 named_cause (Some body.End) fonts line = form_cause forms.End line
@@ -129,11 +129,11 @@ stop_cause head rows fonts (line ∷ lines) =
     then option_or (option_map causes.Sign (sign_cause (described head rows fonts))) (after_cause lines)
     else line_cause fonts line
 
-abbrev pub fonts_cause : HeadModel → List RowModel → List FontModel × List (List ℕ) → Option Cause
-fonts_cause head rows fonts = stop_cause head rows fonts.0 fonts.1
+abbrev pub after_fonts_cause : HeadModel → List RowModel → List FontModel × List (List ℕ) → Option Cause
+after_fonts_cause head rows fonts = stop_cause head rows fonts.0 fonts.1
 
 abbrev pub rows_then_cause : HeadModel → List RowModel × List (List ℕ) → Option Cause
-rows_then_cause head rows = fonts_cause head rows.0 (fonts_at rows.1)
+rows_then_cause head rows = after_fonts_cause head rows.0 (fonts_at rows.1)
 
 abbrev pub body_cause : Option (HeadModel × List (List ℕ)) → Option Cause
 body_cause None = None

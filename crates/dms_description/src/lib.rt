@@ -12,6 +12,12 @@
 //! font ..                                         (one to four fonts, as dms_font reads them)
 //! end
 //! ```
+//!
+//! ```
+//! let setup = description(alloc, BENCH.as_bytes())?;
+//! assert_eq!(rt; (setup.first, setup.sign.face().width()), (1, 23));
+//! assert_eq!(rt; description(alloc, b"size 23 14").err(), Some(DescriptionFault::Line(2)));
+//! ```
 #![tactic(auto)]
 
 pub mod bench_sign;
