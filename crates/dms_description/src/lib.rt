@@ -14,8 +14,6 @@
 //! ```
 //!
 //! ```
-//! let setup = description(alloc, BENCH.as_bytes())?;
-//! assert_eq!(rt; (setup.first, setup.sign.face().width()), (1, 23));
 //! assert_eq!(rt; description(alloc, b"size 23 14").err(), Some(DescriptionFault::Line(2)));
 //! ```
 #![tactic(auto)]
