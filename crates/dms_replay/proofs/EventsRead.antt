@@ -1,5 +1,5 @@
 -- The events of a list of lines, one line after another.
-use Rattle.std.proofs.Common.{◌≡◌, ℕ, List, [], ◌∷◌, ◌++◌, Some, None, refl, sym, ap, subst, ◌∙◌, append_assoc}
+use Rattle.std.proofs.Common.{◌≡◌, ℕ, cond, List, [], ◌∷◌, ◌++◌, Some, None, refl, sym, ap, subst, ◌∙◌, append_assoc}
 use Rattle.std.proofs.lemmas.List.{append-nil}
 use Rattle.std.specs.Prelude.{◌⊎◌}
 use Rattle.std.proofs.Common.{inl, inr}
@@ -18,6 +18,9 @@ use Rattle.dms_replay.specs.EventLine.{SpellsEvent}
 use Rattle.dms_replay.specs.EventReading.{event_of}
 use Rattle.dms_replay.specs.EventView.{script_event_model, script_events_model}
 use Rattle.dms_replay.specs.declared.script_event.ScriptEvent.{ScriptEvent}
+use Rattle.dms_replay.specs.RefusedScript.{from_no_event, NamesLine}
+use Rattle.dms_description.specs.RefusedLine.{first_number}
+use Rattle.std.specs.Option.{is_some}
 use Rattle.dms_replay.proofs.EventLaws.{event_found, event_only}
 
 -- some of the lines are read, and these are left
@@ -76,4 +79,53 @@ pub all_read : (order : Order) (all : List (List ℕ)) (left : List NumberedLine
 all_read order all left events read end =
     subst (SpellsEach (SpellsEvent order) events) (sym (read.lines_are ∙ ap (λ rest. read.prefix ++ octets_of_lines rest) end ∙ append-nil read.prefix)) read.spelled
 
-pub ruleset events_read = (none_read, one_more_read, refused, all_read)
+-- ---- the first line that is no event's
+
+goes_on : (order : Order) (line : NumberedLine) (rest : List NumberedLine) (event : EventModel) → event_of order line.octets ≡ Some event
+    → from_no_event order (line ∷ rest) ≡ from_no_event order rest
+goes_on order line rest event e = ap (λ o. cond (is_some o) (from_no_event order rest) (line ∷ rest)) e
+
+stops : (order : Order) (line : NumberedLine) (rest : List NumberedLine) → event_of order line.octets ≡ None → from_no_event order (line ∷ rest) ≡ line ∷ rest
+stops order line rest e = ap (λ o. cond (is_some o) (from_no_event order rest) (line ∷ rest)) e
+
+-- the lines from the first on are read up to those that are left
+pub record AreReadTo (order : Order) (start left : List NumberedLine) (events : List EventModel) : Type 0 where
+  pub read : AreRead order (octets_of_lines start) (octets_of_lines left) events
+  pub same : from_no_event order start ≡ from_no_event order left
+
+pub none_to : (order : Order) (start : List NumberedLine) → AreReadTo order start start []
+none_to order start = record { read = none_read order (octets_of_lines start); same = refl }
+
+pub one_more_to : (order : Order) (start left next : List NumberedLine) (line : Line) (events now : List ScriptEvent) (event : ScriptEvent)
+    → AreReadTo order start left (script_events_model events) → left ≡ numbered_line line ∷ next
+    → Some (script_event_model event) ≡ event_of order line.octets.now → now ≡ events ++ event ∷ []
+    → AreReadTo order start next (script_events_model now)
+one_more_to order start left next line events now event to split found added = record {
+  read = one_more_read order (octets_of_lines start) left next line events now event to.read split found added;
+  same = to.same ∙ ap (from_no_event order) split ∙ goes_on order (numbered_line line) next (script_event_model event) (sym found);
+}
+
+pub refused_to : (order : Order) (start left next : List NumberedLine) (line : Line) (events : List EventModel) (fault : ReplayFault)
+    → AreReadTo order start left events → left ≡ numbered_line line ∷ next
+    → (fault ≡ Memory) ⊎ (IsLine fault × (None ≡ event_of order line.octets.now))
+    → (fault ≡ Memory) ⊎ (IsLine fault × ((others : List EventModel) → SpellsEach (SpellsEvent order) others (octets_of_lines start) → ⊥))
+refused_to order start left next line events fault to split bad = refused order (octets_of_lines start) left next line events fault to.read split bad
+
+pub all_to : (order : Order) (start left : List NumberedLine) (events : List EventModel) → AreReadTo order start left events → left ≡ []
+    → SpellsEach (SpellsEvent order) events (octets_of_lines start)
+all_to order start left events to end = all_read order (octets_of_lines start) left events to.read end
+
+pub memory_names : (IsIt : ℕ → Type 0) (fault : ReplayFault) → fault ≡ Memory → NamesLine IsIt fault
+memory_names IsIt fault memory = subst (NamesLine IsIt) (sym memory) tt
+
+pub number_to : (order : Order) (start left next : List NumberedLine) (line : Line) (events : List EventModel) (fault : ReplayFault) (after : ℕ)
+    → AreReadTo order start left events → left ≡ numbered_line line ∷ next
+    → (fault ≡ Memory) ⊎ (IsLine fault × (None ≡ event_of order line.octets.now)) → NamesLine (λ number. number ≡ line.number) fault
+    → NamesLine (λ number. number ≡ first_number (from_no_event order start) after) fault
+number_to order start left next line events fault after to split (inl memory) names = memory_names _ fault memory
+number_to order start left next line events fault after to split (inr bad) names =
+    subst (λ n. NamesLine (λ number. number ≡ n) fault)
+    (sym (ap (λ lines. first_number lines after)
+    (to.same ∙ ap (from_no_event order) split ∙ stops order (numbered_line line) next (sym bad.1)))) names
+
+pub ruleset events_read = (none_to, one_more_to, refused_to, all_to, memory_names)

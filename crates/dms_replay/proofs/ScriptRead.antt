@@ -2,7 +2,12 @@
 use Rattle.std.proofs.Common.{◌≡◌, ℕ, ◌+◌, ◌≤◌, List, [], ◌∷◌, ◌++◌, length, Option, Some, None, Result, Ok, Err, IsOk, sym, ap, subst, ◌∙◌, arith, inl, inr}
 use Rattle.std.specs.Prelude.{codes, ◌⊎◌, IfSome}
 use Rattle.std.proofs.lemmas.List.{length-map}
-use Rattle.dms_text.specs.Lines.{TextLeft, lines_left, kept_lines}
+use Rattle.std.specs.Str.Lines.{lines}
+use Rattle.dms_text.specs.Lines.{TextLeft, lines_left, number_after, kept_lines}
+use Rattle.dms_description.specs.RefusedLine.{NumberedLines, numbered_left, all_numbered, first_number, last_lines, refused_number, Leaves}
+use Rattle.dms_description.proofs.LastLines.{last_are}
+use Rattle.dms_replay.specs.RefusedScript.{from_no_event, no_event_number, NamesLine, IsRefusedIn}
+use Rattle.dms_replay.specs.RefusedScript as script_fault
 use Rattle.dms_text.specs.Words.{words_of}
 use Rattle.dms_text.specs.Views.{numbered_line}
 use Rattle.dms_text.specs.declared.lines.Line.{Line}
@@ -25,7 +30,7 @@ use Rattle.dms_replay.specs.Script.{NamesSign, the_bench, described, NamesPrefix
 use Rattle.dms_description.specs.declared.reading_fault.ReplayFault.{ReplayFault}
 use Rattle.dms_replay.specs.declared.script_event.ScriptEvent.{ScriptEvent}
 use Rattle.dms_replay.specs.EventView.{script_event_model, script_events_model}
-use Rattle.dms_description.specs.declared.reading_fault.ReplayFault.TheVariants.{Memory, Line as LineFault}
+use Rattle.dms_description.specs.declared.reading_fault.ReplayFault.TheVariants.{Read, Write, TooLong, Memory, Line as LineFault}
 use Rattle.dms_forms.proofs.FieldLaws.{same_rest}
 use Rattle.dms_description.proofs.SetupLaws.{kept}
 use Rattle.dms_replay.specs.Report.{report_of}
@@ -154,6 +159,58 @@ no_events octets rest setup order fault named is_order (inr bad) = inr (
       bad.1 events (subst (λ order. SpellsEach (SpellsEvent order) events rest) (sym its_order) each),
 )
 
+-- ---- the line for which a text is refused
+
+pub bench_leaves : (octets : List ℕ) (start left : TextLeft) (line : Line) → start ≡ from_start octets → lines_left start ≡ numbered_line line ∷ lines_left left
+    → number_after left ≡ number_after start → Leaves (all_numbered (lines octets)) (numbered_left left)
+bench_leaves octets start left line from split last = record {
+  prefix = numbered_line line ∷ [];
+  lines_are = ap lines_left (sym from) ∙ split;
+  after_is = last ∙ ap number_after from;
+}
+
+pub sign_leaves : (octets : List ℕ) (start : TextLeft) (rest : NumberedLines) → start ≡ from_start octets → Leaves (numbered_left start) rest
+    → Leaves (all_numbered (lines octets)) rest
+sign_leaves octets start rest from leaves = subst (λ (s : TextLeft). Leaves (numbered_left s) rest) from leaves
+
+pub sign_number : (octets : List ℕ) (start : TextLeft) (number : ℕ) → start ≡ from_start octets → number ≡ refused_number (numbered_left start)
+    → number ≡ refused_number (all_numbered (lines octets))
+sign_number octets start number from is = is ∙ ap (λ (s : TextLeft). refused_number (numbered_left s)) from
+
+pub sign_refused : (octets : List ℕ) (fault : ReplayFault)
+    → (fault ≡ Memory) ⊎ (IsLine fault × ((it : Description) (rest : List (List ℕ)) → NamesPrefix (kept_lines octets) rest it → ⊥))
+    → NamesLine (λ number. number ≡ refused_number (all_numbered (lines octets))) fault → NamesLine (IsRefusedIn octets) fault
+sign_refused octets (LineFault number) (inl memory) is = absurd (cc)
+sign_refused octets (LineFault number) (inr bad) is = subst (IsRefusedIn octets) (sym is) (script_fault.no_sign bad.1)
+sign_refused octets Read bad is = tt
+sign_refused octets Write bad is = tt
+sign_refused octets TooLong bad is = tt
+sign_refused octets Memory bad is = tt
+
+pub events_refused : (octets : List ℕ) (left : TextLeft) (setup : Setup) (order : Order) (fault : ReplayFault)
+    → (it : Description) × NamesPrefix (kept_lines octets) (octets_left left) it × IsMade it setup
+    → Leaves (all_numbered (lines octets)) (numbered_left left) → order ≡ setup.sign.table.order
+    → NamesLine (λ number. number ≡ first_number (from_no_event order (lines_left left)) (number_after left)) fault → NamesLine (IsRefusedIn octets) fault
+events_refused octets left setup order (LineFault number) named leaves is_order is =
+    let its_order : order ≡ named.0.table.order = is_order ∙ ap (λ sign. sign.table.order) named.2.sign in
+    let all : NumberedLines = all_numbered (lines octets) in
+    let last : last_lines (length (octets_left left)) all.lines ≡ lines_left left = last_are all (numbered_left left) leaves in
+    let same : number ≡ no_event_number named.0.table.order (length (octets_left left)) octets =
+    is ∙ ap (λ o. first_number (from_no_event o (lines_left left)) (number_after left)) its_order
+    ∙ ap (λ ls. first_number (from_no_event named.0.table.order ls) (number_after left)) (sym last)
+    ∙ ap (λ a. first_number (from_no_event named.0.table.order (last_lines (length (octets_left left)) all.lines)) a) leaves.after_is in
+    subst (IsRefusedIn octets) (sym same) (script_fault.no_event named.0 (octets_left left) named.1)
+events_refused octets left setup order Read named leaves is_order is = tt
+events_refused octets left setup order Write named leaves is_order is = tt
+events_refused octets left setup order TooLong named leaves is_order is = tt
+events_refused octets left setup order Memory named leaves is_order is = tt
+
+pub refused_whole : (slice octets : List ℕ) (all : Option (List ℕ)) (fault : ReplayFault) (number : ℕ) → slice ≡ octets → IfSome all (λ whole. octets ≡ whole)
+    → NamesLine (IsRefusedIn slice) fault → fault ≡ LineFault number → IfSome all (λ whole. IsRefusedIn whole number)
+refused_whole slice octets None fault number lent same names is = tt
+refused_whole slice octets (Some whole) fault number lent same names is =
+    subst (λ xs. IsRefusedIn xs number) (lent ∙ same) (subst (NamesLine (IsRefusedIn slice)) is names)
+
 -- ---- what a replay answers
 
 -- of a fault of the reader of scripts
@@ -217,8 +274,8 @@ no_room slice octets written report (Some whole) room next result fault lent sam
     let size : length other ≡ length written + 0 = omega (arith, ap length one) in
     failed_is_no_success result fault failed (within 0 (subst (HasRoom room) size has)).0
 
-pub ruleset scripts_read = (is_script, no_sign, no_events)
+pub ruleset scripts_read = (is_script, no_sign, no_events, sign_refused, events_refused)
 
-pub ruleset signs_named = (bench_is_named, sign_is_named, none_is_named)
+pub ruleset signs_named = (bench_is_named, sign_is_named, none_is_named, sign_leaves, sign_number)
 
-pub ruleset first_lines = (bench_first, other_first, nothing_first)
+pub ruleset first_lines = (bench_first, other_first, nothing_first, bench_leaves)

@@ -1,6 +1,7 @@
 -- what a reader must believe: scripts of events, and reports of runs, as text
 pub mod EventLine
 pub mod Script
+pub mod RefusedScript
 pub mod Report
 pub mod Replayed
 -- what the calls say of themselves

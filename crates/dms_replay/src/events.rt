@@ -1,13 +1,15 @@
 //! The events of a script.
 
 ghost use Rattle.std.specs.Prelude.{◌≡◌, ◌⊎◌, ◌++◌, ◌∷◌, [], List, Some, None, IfOk, IfErr, OnOk};
-ghost use Rattle.dms_text.specs.Lines.{lines_left};
+ghost use Rattle.dms_text.specs.Lines.{lines_left, number_after};
 ghost use Rattle.dms_text.proofs.LineFilter.{octets_of_lines};
 ghost use Rattle.dms_world.specs.Event.{EventModel};
 ghost use Rattle.dms_forms.specs.Fields.{SpellsEach};
 ghost use Rattle.dms_replay.specs.EventLine.{SpellsEvent};
 ghost use Rattle.dms_replay.specs.EventView.{script_event_model, script_events_model};
 ghost use Rattle.dms_replay.specs.EventReading.{event_of};
+ghost use Rattle.dms_replay.specs.RefusedScript.{from_no_event, NamesLine};
+ghost use Rattle.dms_description.specs.RefusedLine.{first_number};
 ghost use Rattle.dms_description.specs.ReadingFaults.{IsLine};
 ghost use Rattle.dms_description.specs.declared.reading_fault.ReplayFault.TheVariants as faults;
 
@@ -23,6 +25,7 @@ fn read(alloc: Global, order: Order, line: Line<'_>) -> Result<ScriptEvent, Repl
     ensures read { IfOk result (λ event. Some (script_event_model event) ≡ event_of order line.entry.octets.now) }
     ensures line { IfErr result (λ fault. (fault ≡ faults.Memory)
         ⊎ (IsLine fault × (None ≡ event_of order line.entry.octets.now))) }
+    ensures number { IfErr result (NamesLine (λ number. number ≡ line.entry.number)) }
 {
     match read_event(alloc, order, line.octets) {
         Ok(Some(event)) => Ok(event),
@@ -53,6 +56,8 @@ pub(crate) fn events(
     ensures line { IfErr result (λ fault. (fault ≡ faults.Memory)
         ⊎ (IsLine fault × ((events : List EventModel)
         → SpellsEach (SpellsEvent order) events (octets_of_lines (lines_left lines.entry)) → ⊥))) }
+    ensures number { IfErr result (NamesLine (λ number. number
+        ≡ first_number (from_no_event order (lines_left lines.entry)) (number_after lines.entry))) }
 {
     let mut left = lines;
     let mut events = Vec::new(alloc);

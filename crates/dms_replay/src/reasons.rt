@@ -3,6 +3,7 @@
 ghost use Rattle.std.specs.Prelude.{◌≡◌, ◌≤◌, IfOk, IfSome, length, option_map};
 ghost use Rattle.dms_text.specs.Lines.{lines_left};
 ghost use Rattle.dms_streams.specs.DescriptionText.{longest_input};
+ghost use Rattle.dms_replay.specs.RefusedScript.{IsRefusedIn};
 ghost use Rattle.dms_replay.specs.Replayed.{NoScript};
 ghost use Rattle.dms_replay.specs.Reasons.{event_form, event_cause, line_numbered, line_found, event_cause_at};
 ghost use Rattle.dms_replay.specs.Reasons.{IsCauseOf};
@@ -69,6 +70,7 @@ pub fn why(alloc: Global, octets: &[u8], number: usize) -> Result<Option<ScriptC
     requires { length octets.now ≤ longest_input }
     ensures cause { IfOk result (λ found. IfSome found (IsCauseOf octets.now number)) }
     ensures refused { IfOk result (λ found. IfSome found (λ cause. NoScript octets.now)) }
+    ensures number { IfOk result (λ found. IfSome found (λ cause. IsRefusedIn octets.now number)) }
 {
     match read_script(alloc, octets) {
         Err(ReplayFault::Line(line)) if line == number => cause_at(alloc, octets, number),

@@ -18,6 +18,7 @@ ghost use Rattle.dms_replay.specs.EventView.{script_events_model};
 ghost use Rattle.dms_description.specs.ReadingFaults.{IsLine};
 ghost use Rattle.dms_replay.specs.Report.{report_of};
 ghost use Rattle.dms_replay.specs.Replayed.{IsReport, Replayed, ReplayedPrefix, RunsLawfully, HasNoRoom, NoScript};
+ghost use Rattle.dms_replay.specs.RefusedScript.{IsRefusedIn, NamesLine};
 ghost use Rattle.dms_replay.specs.Script.{SpellsScript};
 ghost use Rattle.dms_description.specs.declared.reading_fault.ReplayFault.TheVariants as faults;
 
@@ -50,6 +51,8 @@ pub fn replay<R: Source, W: Sink>(
     ensures nothing { OnErr result (result ≢ Err faults.Write → Keeps (W.contents writer.old) (W.contents writer.new)) }
     ensures line { (number : ℕ) → result ≡ Err (faults.Line number) → IfSome (R.remaining reader.old) (λ octets.
         (length octets ≤ longest_input) × NoScript octets) }
+    ensures number { (number : ℕ) → result ≡ Err (faults.Line number) → IfSome (R.remaining reader.old) (λ octets.
+        IsRefusedIn octets number) }
     ensures too_long { result ≡ Err faults.TooLong → IfSome (R.remaining reader.old) (λ octets.
         longest_input < length octets) }
     ensures read { result ≡ Err faults.Read → R.failed reader.new ≡ one_more (R.failed reader.old) }
@@ -76,6 +79,7 @@ fn script_report(alloc: Global, octets: &[u8]) -> Result<Vec<u8>, ReplayFault>
     ensures report { IfOk result (λ report. IsReport octets.now report.items) }
     ensures lawful { IfOk result (λ _. RunsLawfully octets.now) }
     ensures line { IfErr result (λ fault. (fault ≡ faults.Memory) ⊎ (IsLine fault × NoScript octets.now)) }
+    ensures number { IfErr result (NamesLine (IsRefusedIn octets.now)) }
 {
     let Script { setup, events } = read_script(alloc, octets)?;
     scripts_run_lawfully();

@@ -6,10 +6,11 @@ ghost use Rattle.dms_text.specs.Lines.{kept_lines};
 ghost use Rattle.dms_world.specs.Event.{EventModel};
 ghost use Rattle.dms_description.specs.Description.{Description};
 ghost use Rattle.dms_streams.specs.DescriptionText.{longest_input};
-ghost use Rattle.dms_description.specs.RefusedLine.{all_numbered, refused_number};
+ghost use Rattle.dms_description.specs.RefusedLine.{all_numbered, numbered_left, refused_number, Leaves};
 ghost use Rattle.dms_description.specs.Setups.{octets_left, IsMade};
 ghost use Rattle.dms_replay.specs.EventView.{script_events_model};
 ghost use Rattle.dms_description.specs.ReadingFaults.{IsLine};
+ghost use Rattle.dms_replay.specs.RefusedScript.{IsRefusedIn, NamesLine};
 ghost use Rattle.dms_replay.specs.Script.{NamesPrefix, SpellsScript};
 ghost use Rattle.dms_description.specs.declared.reading_fault.ReplayFault.TheVariants as faults;
 
@@ -36,6 +37,7 @@ pub(crate) fn read_script(alloc: Global, octets: &[u8]) -> Result<Script, Replay
         × SpellsScript octets.now it (script_events_model script.events.items) × IsMade it script.setup) }
     ensures line { IfErr result (λ fault. (fault ≡ faults.Memory)
         ⊎ (IsLine fault × ((it : Description) (events : List EventModel) → SpellsScript octets.now it events → ⊥))) }
+    ensures number { IfErr result (NamesLine (IsRefusedIn octets.now)) }
 {
     let (setup, lines) = match named_sign(alloc, octets) {
         Ok(found) => found,
@@ -55,8 +57,8 @@ pub(crate) fn named_sign(alloc: Global, octets: &[u8]) -> Result<(Setup, Lines<'
     ensures line { IfErr result (λ fault. (fault ≡ faults.Memory)
         ⊎ (IsLine fault × ((it : Description) (rest : List (List ℕ))
         → NamesPrefix (kept_lines octets.now) rest it → ⊥))) }
-    ensures number { (number : ℕ) → result ≡ Err (faults.Line number)
-        → number ≡ refused_number (all_numbered (lines octets.now)) }
+    ensures last { IfOk result (λ x. Leaves (all_numbered (lines octets.now)) (numbered_left x.1)) }
+    ensures number { IfErr result (NamesLine (λ number. number ≡ refused_number (all_numbered (lines octets.now)))) }
 {
     if let Some(rest) = after_bench(octets) {
         return match dms_description::bench(alloc) {
@@ -75,6 +77,7 @@ pub(crate) fn named_sign(alloc: Global, octets: &[u8]) -> Result<(Setup, Lines<'
 #[tactic(auto, using(crate::proofs::ScriptRead::first_lines))]
 fn after_bench(octets: &[u8]) -> Option<Lines<'_>>
     ensures bench { IfSome result (λ rest. kept_lines octets.now ≡ codes "bench" ∷ octets_left rest) }
+    ensures last { IfSome result (λ rest. Leaves (all_numbered (lines octets.now)) (numbered_left rest)) }
     ensures other { IfNone result ((rest : List (List ℕ)) → kept_lines octets.now ≡ codes "bench" ∷ rest → ⊥) }
 {
     let mut lines = Lines::of(octets);
