@@ -1,5 +1,5 @@
 -- A text spells at most one script, and what is read of it is that script.
-use Rattle.std.proofs.Common.{◌≡◌, ℕ, ◌+◌, ◌≤◌, List, [], ◌∷◌, ◌++◌, length, Option, Some, None, Result, Ok, Err, IsOk, sym, ap, subst, ◌∙◌, arith, inl, inr}
+use Rattle.std.proofs.Common.{◌≡◌, ℕ, ◌+◌, ◌≤◌, List, [], ◌∷◌, ◌++◌, length, Option, Some, None, Result, Ok, Err, IsOk, refl, sym, ap, subst, ◌∙◌, arith, inl, inr}
 use Rattle.std.specs.Prelude.{codes, ◌⊎◌, IfSome}
 use Rattle.std.proofs.lemmas.List.{length-map}
 use Rattle.std.specs.Str.Lines.{lines}
@@ -204,6 +204,16 @@ events_refused octets left setup order Read named leaves is_order is = tt
 events_refused octets left setup order Write named leaves is_order is = tt
 events_refused octets left setup order TooLong named leaves is_order is = tt
 events_refused octets left setup order Memory named leaves is_order is = tt
+
+-- a text is refused for at most one line
+pub one_line : (octets : List ℕ) (one other : ℕ) → IsRefusedIn octets one → IsRefusedIn octets other → one ≡ other
+one_line octets one other (script_fault.no_sign none) (script_fault.no_sign never) = refl
+one_line octets one other (script_fault.no_sign none) (script_fault.no_event sign rest names) = absurd (none sign rest names)
+one_line octets one other (script_fault.no_event sign rest names) (script_fault.no_sign none) = absurd (none sign rest names)
+one_line octets one other (script_fault.no_event sign rest names) (script_fault.no_event that others also) =
+    let same = one_name (kept_lines octets) rest others sign that names also in
+    ap (λ (it : Description). no_event_number it.table.order (length rest) octets) same.0
+    ∙ ap (λ (ls : List (List ℕ)). no_event_number that.table.order (length ls) octets) same.1
 
 pub refused_whole : (slice octets : List ℕ) (all : Option (List ℕ)) (fault : ReplayFault) (number : ℕ) → slice ≡ octets → IfSome all (λ whole. octets ≡ whole)
     → NamesLine (IsRefusedIn slice) fault → fault ≡ LineFault number → IfSome all (λ whole. IsRefusedIn whole number)

@@ -6,6 +6,7 @@ ghost use Rattle.dms_codes.specs.declared.codes.Order.{Order};
 ghost use Rattle.dms_world.specs.Event.{EventModel};
 ghost use Rattle.dms_description.specs.Description.{Description};
 ghost use Rattle.dms_replay.specs.EventLine.{SpellsEvent};
+ghost use Rattle.dms_replay.specs.RefusedScript.{IsRefusedIn};
 ghost use Rattle.dms_replay.specs.Replayed.{IsLawful};
 ghost use Rattle.dms_replay.specs.Script.{SpellsScript};
 
@@ -24,6 +25,11 @@ pub fn a_text_spells_at_most_one_script()
 pub fn a_line_spells_at_most_one_event()
     ensures { (order : Order) (line : List ℕ) (one other : EventModel) → SpellsEvent order one line
         → SpellsEvent order other line → one ≡ other }
+{}
+
+/// A text is refused as a script for at most one line.
+pub fn a_text_is_refused_for_at_most_one_line()
+    ensures { (octets : List ℕ) (one other : ℕ) → IsRefusedIn octets one → IsRefusedIn octets other → one ≡ other }
 {}
 
 /// What holds of every run holds of each script's: its world begins as its two ends are made, and its commands are in
