@@ -20,7 +20,8 @@ from_no_event order (line ∷ lines) =
 -- the number of the first of the text's last lines, so many, that is no event's
 abbrev pub no_event_number : Order → ℕ → List ℕ → ℕ
 no_event_number order count text =
-    first_number (from_no_event order (last_lines count (all_numbered (lines text)).lines)) (all_numbered (lines text)).after
+    first_number (from_no_event order (last_lines count (all_numbered (lines text)).lines))
+    (all_numbered (lines text)).after
 
 -- the line of this number is the one for which the text is no script
 pub data IsRefusedIn (text : List ℕ) : ℕ → Type 0 where
