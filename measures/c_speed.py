@@ -1,7 +1,7 @@
 #!/usr/bin/env python3
 """Sizes and times of the library for C, and examples/signd beside Net-SNMP's snmpd.
 
-    measures/c_library.py [--library crates/wisangub_c/out/libwisangub_c.a] [--seconds 2] [--turns 5] [--calls]
+    measures/c_speed.py [--library crates/wisangub_c/out/libwisangub_c.a] [--seconds 2] [--turns 5] [--calls]
 
 It wants a C compiler with make and size, and for the second table Debian's package snmpd (without it that table is left
 out). Times of calls are the least of forty passes. Requests a second are those of measures/c_requests.c on loopback;
