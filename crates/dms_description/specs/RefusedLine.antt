@@ -91,7 +91,7 @@ pub data IsRefusedLine (it : NumberedLines) : ℕ → Type 0 where
       → BeginsWith (octets_of it.lines) (line ∷ rest) sign
       → IsRefusedLine it (first_number (last_lines (length (line ∷ rest)) it.lines) it.after)
 
--- a fault is want of memory, or the line that it names is such a line
+-- the fault is out of memory, or the line that it names is such a line
 abbrev pub NamesLine : (ℕ → Type 0) → DescriptionFault → Type 0
 NamesLine IsIt (faults.Line number) = IsIt number
 NamesLine IsIt faults.Memory = ⊤
