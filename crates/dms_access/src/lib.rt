@@ -12,12 +12,12 @@
 //! ```
 #![tactic(auto)]
 
-pub mod access;
-pub mod cells;
+mod access;
+mod cells;
 pub mod laws;
-pub mod met_names;
-pub mod reports;
-pub mod settings;
+mod met_names;
+mod reports;
+mod settings;
 
 pub use access::{Change, is_settable, write_of};
 pub use cells::{cell_value, number_value, shown_value, small_value};

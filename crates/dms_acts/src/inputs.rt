@@ -15,10 +15,10 @@ ghost use Rattle.dms_replay.specs.Replayed.{Replayed, ReplayedPrefix, RunsLawful
 ghost use Rattle.dms_acts.specs.Refused.{with_fault, says_empty, SaysMoreOfLines, IsDescriptionCause, IsScriptCause};
 
 use crate::refusal::Refusal;
-use dms_description::describing::{text_before, whole_input};
-use dms_description::{DescriptionFault, ReplayFault, Setup, description};
-use dms_replay::reasons::ScriptCause;
-use dms_replay::replay;
+use dms_description::{
+    DescriptionFault, ReplayFault, Setup, description, text_before, whole_input,
+};
+use dms_replay::{ScriptCause, replay};
 use dms_streams::{Input, Sink, Source};
 use std::alloc::Global;
 

@@ -12,8 +12,8 @@
 #![tactic(auto)]
 
 pub mod act;
-pub mod inputs;
-pub mod refusal;
+mod inputs;
+mod refusal;
 
 pub use act::act_saying;
 pub use dms_printing::ExitStatus;

@@ -1,7 +1,7 @@
 //! Why an input is refused.
 
 use dms_description::ReplayFault;
-use dms_replay::reasons::ScriptCause;
+use dms_replay::ScriptCause;
 use std::io;
 use std::io::Write;
 

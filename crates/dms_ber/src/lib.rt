@@ -8,11 +8,11 @@
 //! ```
 #![tactic(auto)]
 
-pub mod element;
-pub mod fault;
-pub mod integer;
-pub mod length;
-pub mod object_identifier;
+mod element;
+mod fault;
+mod integer;
+mod length;
+mod object_identifier;
 pub mod tag;
 
 use arrayvec::ArrayVec;
@@ -27,7 +27,7 @@ pub use integer::{
 };
 pub use length::read_length;
 pub use object_identifier::{
-    MAX_SUB_IDENTIFIERS, Numbers, Oid, is_name, name_of, oid_cmp, read_name,
+    DMS, MAX_SUB_IDENTIFIERS, Numbers, Oid, below_dms, is_name, name_of, oid_cmp, read_name,
 };
 
 /// The most octets of a datagram, and so the most that are written (this profile).

@@ -6,9 +6,9 @@
 //! ```
 #![tactic(auto)]
 
-pub mod call;
-pub mod message_name;
-pub mod table_row;
+mod call;
+mod message_name;
+mod table_row;
 
 pub use call::{ActivationWords, Call, CodeWords, Drawing, Form, SignWanted, TermWords};
 pub use message_name::MessageName;

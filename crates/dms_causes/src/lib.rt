@@ -6,11 +6,11 @@
 //! ```
 #![tactic(auto)]
 
-pub mod cause;
-pub mod forms;
-pub mod row_causes;
-pub mod sign_causes;
-pub mod whole;
+mod cause;
+mod forms;
+mod row_causes;
+mod sign_causes;
+mod whole;
 
 pub use cause::Cause;
 pub use forms::Form;

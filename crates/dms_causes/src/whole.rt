@@ -8,8 +8,10 @@ ghost use Rattle.dms_causes.specs.SignCauses.{face_cause, communities_cause, cou
 
 use crate::row_causes::row_cause;
 use crate::sign_causes::SignCause;
-use dms_codes::limits::has_community_size;
-use dms_codes::{MAX_CHANGEABLE, MAX_MATRIX_HEIGHT, MAX_MATRIX_WIDTH, MAX_PERMANENT, MAX_VOLATILE};
+use dms_codes::{
+    MAX_CHANGEABLE, MAX_MATRIX_HEIGHT, MAX_MATRIX_WIDTH, MAX_PERMANENT, MAX_VOLATILE,
+    has_community_size,
+};
 use dms_face::{Defaults, Face, MAX_FONTS};
 use dms_font::Font;
 use dms_table::{Permanent, Services};

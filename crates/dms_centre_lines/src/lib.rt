@@ -11,7 +11,7 @@
 //! ```
 #![tactic(auto)]
 
-pub mod answering;
+mod answering;
 pub mod laws;
 mod reading;
 mod status;

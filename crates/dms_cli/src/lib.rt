@@ -6,7 +6,7 @@
 //! ```
 #![tactic(auto)]
 
-pub mod command_line;
+mod command_line;
 mod subcommands;
 mod word;
 

@@ -11,18 +11,18 @@
 pub mod checksum;
 pub mod codes;
 pub mod laws;
-pub mod limits;
+mod limits;
 pub mod memory;
-pub mod mode;
-pub mod row_id;
-pub mod status;
-pub mod validation_error;
+mod mode;
+mod row_id;
+mod status;
+mod validation_error;
 
 pub use checksum::crc;
 pub use codes::{Activation, MessageId, Order};
 pub use limits::{
     MAX_CHANGEABLE, MAX_COMMUNITY, MAX_MATRIX_HEIGHT, MAX_MATRIX_WIDTH, MAX_OWNER, MAX_PERMANENT,
-    MAX_TEXT, MAX_VOLATILE,
+    MAX_TEXT, MAX_VOLATILE, has_community_size,
 };
 pub use memory::Memory;
 pub use mode::Mode;

@@ -13,12 +13,12 @@
 //! ```
 #![tactic(auto)]
 
-pub mod command_word;
-pub mod fields;
+mod command_word;
+mod fields;
 pub mod laws;
-pub mod ledger_text;
-pub mod owned_command;
-pub mod reading;
+mod ledger_text;
+mod owned_command;
+mod reading;
 
 pub use command_word::CommandWord;
 pub use fields::address;

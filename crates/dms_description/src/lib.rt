@@ -18,25 +18,25 @@
 //! ```
 #![tactic(auto)]
 
-pub mod bench_sign;
+mod bench_sign;
 mod body_word;
-pub mod describing;
-pub mod fault;
+mod describing;
+mod fault;
 mod fonts;
 mod head;
 pub mod laws;
 mod making;
-pub mod reader;
-pub mod reading_fault;
-pub mod reasons;
+mod reader;
+mod reading_fault;
+mod reasons;
 mod rows;
-pub mod setup;
-pub mod shown_text;
+mod setup;
+mod shown_text;
 mod sign_reasons;
 mod upcoming;
 
 pub use bench_sign::{BENCH, bench};
-pub use describing::{described, described_before};
+pub use describing::{described, described_before, text_before, whole_input};
 pub use dms_streams::LONGEST_INPUT;
 pub use fault::DescriptionFault;
 pub use reader::{description, sign_of_lines};

@@ -32,7 +32,7 @@ pub mod justification;
 pub mod laws;
 pub mod multi_fault;
 pub mod room;
-pub mod totals;
+mod totals;
 
 pub use cell::{Cell, Flash};
 pub use checking::{check, check_with};

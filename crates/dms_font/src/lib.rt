@@ -8,10 +8,10 @@
 //! ```
 #![tactic(auto)]
 
-pub mod fault;
-pub mod font;
+mod fault;
+mod font;
 mod font_text;
-pub mod glyph;
+mod glyph;
 pub mod laws;
 
 pub use fault::{FontFault, FontFaultKind};

@@ -8,11 +8,11 @@
 //! ```
 #![tactic(auto)]
 
-pub mod fault;
+mod fault;
 pub mod fields;
-pub mod form;
-pub mod vocabulary;
-pub mod wanted;
+mod form;
+mod vocabulary;
+mod wanted;
 
 pub use fault::{WordFault, WordFaultKind};
 pub use form::word_fault;

@@ -18,8 +18,7 @@ use crate::names::{comes_before_dms, known_below_dms, known_by_octets};
 use crate::octets::{
     self, column_of, first_octet, last_object, number_after, row_number, scalar_of,
 };
-use dms_ber::Oid;
-use dms_ber::object_identifier::below_dms;
+use dms_ber::{Oid, below_dms};
 use dms_codes::{Memory, RowId, memory};
 use dms_objects::{Column, Instance};
 use dms_table::Table;

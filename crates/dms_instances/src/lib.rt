@@ -9,7 +9,7 @@
 //! ```
 #![tactic(auto)]
 
-pub mod counts;
+mod counts;
 pub mod laws;
 mod names;
 mod octets;

@@ -7,8 +7,7 @@ ghost use Rattle.dms_objects.specs.Names.{below_dms};
 ghost use Rattle.dms_instances.specs.Objects.{has_name, is_before};
 ghost use Rattle.dms_instances.specs.NameReading.{octets_below};
 
-use dms_ber::object_identifier::DMS;
-use dms_ber::{Oid, oid_cmp};
+use dms_ber::{DMS, Oid, oid_cmp};
 use dms_objects::Instance;
 use std::cmp::Ordering;
 

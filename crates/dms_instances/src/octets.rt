@@ -8,7 +8,7 @@ ghost use Rattle.dms_objects.specs.Names.{column_number, scalar_number};
 ghost use Rattle.dms_objects.specs.NameOctets.{IsNamed};
 ghost use Rattle.dms_instances.specs.NameReading.{column_at, scalar_at, octets_below, row_number_of, IsFoundBy};
 
-use dms_ber::object_identifier::below_dms;
+use dms_ber::below_dms;
 use dms_codes::RowId;
 use dms_objects::{Column, Instance, Scalar};
 

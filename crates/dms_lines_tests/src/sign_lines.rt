@@ -3,12 +3,11 @@
 mod cases;
 
 use dms_description::Setup;
-use dms_lines::numbered_page;
+use dms_lines::{numbered_page, pages_text};
 use dms_pages::pages;
 use dms_replay::bench;
 use dms_replay::fault::ReplayFault;
-use dms_sign_lines::answering::answer;
-use dms_sign_lines::page_text::pages_text;
+use dms_sign_lines::answer;
 use std::alloc::{AllocError, Global};
 use std::test::Fail;
 

@@ -6,7 +6,7 @@ ghost use Rattle.dms_multi.specs.TagReading.{flash_of, page_time_of, item_of, it
 use crate::fault::FaultCode;
 use crate::item::{Item, Lead};
 use crate::value::{font, times, value};
-use dms_text::numbers::hexadecimal;
+use dms_text::hexadecimal;
 
 /// The names of the tags, as the markup writes them; `EndFl` is `/fl`.
 #[derive(Clone, Copy)]

@@ -7,12 +7,12 @@
 //! ```
 #![tactic(auto)]
 
-pub mod column;
-pub mod instance;
+mod column;
+mod instance;
 pub mod laws;
-pub mod name;
-pub mod objects;
-pub mod scalar;
+mod name;
+mod objects;
+mod scalar;
 
 pub use column::Column;
 pub use instance::Instance;

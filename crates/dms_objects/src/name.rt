@@ -1,6 +1,6 @@
 //! The names of instances as the content octets of object identifiers.
 
-ghost use Rattle.std.specs.Prelude.{◌≡◌, ◌++◌, ◌+◌, ◌≤◌, length};
+ghost use Rattle.std.specs.Prelude.{◌≡◌, ◌++◌, ◌+◌, ◌≤◌, ◌∷◌, length};
 ghost use Rattle.arrayvec.specs.ArrayVec.{array_vec_len};
 ghost use Rattle.dms_ber.specs.ObjectIdentifier.{sub_identifier_octets};
 ghost use Rattle.dms_objects.specs.declared.instance.Instance.TheVariants as kinds;
@@ -11,7 +11,7 @@ use crate::column::Column;
 use crate::instance::Instance;
 use crate::scalar::Scalar;
 use arrayvec::ArrayVec;
-use dms_ber::Oid;
+use dms_ber::{DMS, Oid};
 use dms_codes::RowId;
 use std::marker::Model;
 
@@ -71,15 +71,14 @@ fn of_scalar(object: Scalar) -> Name
     let (group, number) = object.number();
     Name {
         instance: Instance::Scalar(object),
-        octets: kept(&[43, 6, 1, 4, 1, 137, 54, 4, 2, 3, group, number, 0]),
+        octets: below_dms(&[group, number, 0]),
     }
 }
 
 fn of_cell(column: Column, memory: u8, number: u16) -> Name
     ensures { result ≡ kinds.Cell column (record { memory = memory; number = number }) }
 {
-    let entry = [43, 6, 1, 4, 1, 137, 54, 4, 2, 3, 5, 8, 1, column.number()];
-    let mut octets = kept(&entry);
+    let mut octets = below_dms(&[5, 8, 1, column.number()]);
     push_sub_identifier(&mut octets, u16::from(memory));
     push_sub_identifier(&mut octets, number);
     Name {
@@ -88,13 +87,15 @@ fn of_cell(column: Column, memory: u8, number: u16) -> Name
     }
 }
 
-fn kept(octets: &[u8]) -> Octets
-    requires { length octets.now ≤ 20 }
-    ensures { result.items ≡ octets.now }
+/// The octets of dms with those of sub-identifiers after them.
+fn below_dms(after: &[u8]) -> Octets
+    requires { length after.now ≤ 10 }
+    ensures { result.items ≡ 43 ∷ 6 ∷ 1 ∷ 4 ∷ 1 ∷ 137 ∷ 54 ∷ 4 ∷ 2 ∷ 3 ∷ after.now }
 {
-    let mut kept = Octets::new();
-    let _ = kept.try_extend_from_slice(octets);
-    kept
+    let mut octets = Octets::new();
+    let _ = octets.try_extend_from_slice(&DMS);
+    let _ = octets.try_extend_from_slice(after);
+    octets
 }
 
 /// Appends a sub-identifier's digits in base 128 (X.690, 8.19.2).

@@ -12,9 +12,9 @@
 
 mod cells;
 mod drawing;
-pub mod page;
+mod page;
 mod text_layout;
-pub mod text_pages;
+mod text_pages;
 
 pub use page::Page;
 pub use text_pages::{PagesFault, pages, pages_with};

@@ -7,7 +7,7 @@
 //! ```
 #![tactic(auto)]
 
-pub mod parties;
+mod parties;
 
 pub use dms_description::described_before as described;
 pub use parties::{LiveCentre, LiveSign};

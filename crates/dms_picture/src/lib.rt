@@ -7,7 +7,7 @@
 //! ```
 #![tactic(auto)]
 
-pub mod document;
+mod document;
 mod lamps;
 mod motion;
 mod shade;

@@ -9,16 +9,16 @@
 //! ```
 #![tactic(auto)]
 
-pub mod codes;
+mod codes;
 mod fields;
 mod item_lines;
 mod item_words;
 mod json;
 mod lacking;
 mod names;
-pub mod reading;
-pub mod statuses;
-pub mod texts;
+mod reading;
+mod statuses;
+mod texts;
 
 pub use codes::{activation, code};
 pub use reading::{decode, list_items, print_hex_fault, say_why_dropped};

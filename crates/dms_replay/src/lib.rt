@@ -12,9 +12,9 @@ pub mod event_line;
 mod events;
 pub mod fault;
 pub mod fields;
-pub mod keyword;
+mod keyword;
 pub mod laws;
-pub mod reasons;
+mod reasons;
 pub mod replaying;
 pub mod report;
 mod script;
@@ -22,5 +22,5 @@ pub mod script_event;
 
 pub use dms_commands::address;
 pub use dms_description::{LONGEST_INPUT, ReplayFault, described};
-pub use reasons::why;
+pub use reasons::{EventCause, ScriptCause, why};
 pub use replaying::{bench, replay};

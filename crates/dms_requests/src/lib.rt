@@ -11,11 +11,11 @@
 //! ```
 #![tactic(auto)]
 
-pub mod command;
-pub mod job;
-pub mod publication;
-pub mod request;
-pub mod step;
+mod command;
+mod job;
+mod publication;
+mod request;
+mod step;
 
 pub use command::Command;
 pub use job::{Job, Work};

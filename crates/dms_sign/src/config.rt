@@ -3,7 +3,7 @@
 ghost use Rattle.std.specs.Prelude.{◌≡◌};
 ghost use Rattle.dms_sign.specs.Communities.{are_communities};
 
-use dms_codes::limits::has_community_size;
+use dms_codes::has_community_size;
 use dms_face::Face;
 use dms_table::{Stock, TableFault};
 use std::error::Error;

@@ -8,11 +8,9 @@
 //! ```
 #![tactic(auto)]
 
-pub mod answering;
+mod answering;
 mod keyword;
 pub mod laws;
-pub mod page_text;
 mod sign_call;
 
-pub use answering::answer;
-pub use page_text::pages_text;
+pub use answering::{answer, shown_pages};

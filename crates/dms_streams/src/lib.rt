@@ -12,20 +12,20 @@
 //! ```
 #![tactic(auto)]
 
-pub mod conversation;
-pub mod counted;
-pub mod describing;
-pub mod failed;
-pub mod fault;
-pub mod gathered;
-pub mod input;
+mod conversation;
+mod counted;
+mod describing;
+mod failed;
+mod fault;
+mod gathered;
+mod input;
 pub mod laws;
-pub mod party;
-pub mod reading;
-pub mod sink;
-pub mod source;
+mod party;
+mod reading;
+mod sink;
+mod source;
 pub mod taking;
-pub mod writing;
+mod writing;
 
 pub use conversation::{LONGEST_LINE, converse};
 pub use counted::Counted;

@@ -14,14 +14,14 @@
 //! ```
 #![tactic(auto)]
 
-pub mod hexadecimal;
-pub mod lines;
-pub mod numbers;
-pub mod parts;
-pub mod words;
+mod hexadecimal;
+mod lines;
+mod numbers;
+mod parts;
+mod words;
 
 pub use hexadecimal::octets;
 pub use lines::{Line, Lines};
-pub use numbers::{number, version};
+pub use numbers::{hexadecimal, number, version};
 pub use parts::{index_of, split_once};
 pub use words::{Words, are_same};

@@ -16,7 +16,7 @@
 #![tactic(auto)]
 
 pub mod binding;
-pub mod error_status;
+mod error_status;
 pub mod fault;
 pub mod laws;
 pub mod message;

@@ -9,15 +9,15 @@
 //! ```
 #![tactic(auto)]
 
-pub mod datagrams;
-pub mod event;
+mod datagrams;
+mod event;
 pub mod flight_laws;
 pub mod laws;
 pub mod ledger_laws;
 pub mod number_laws;
-pub mod running;
+mod running;
 pub mod sign_laws;
-pub mod world;
+mod world;
 
 pub use datagrams::Datagrams;
 pub use event::Event;

@@ -13,7 +13,7 @@ use crate::shown_calls::{TextFault, text_fault};
 use crate::sign_handle::SignHandle;
 use dms_lines::{Layer, bits_needed, pages_octets, put_bits};
 use dms_pages::{Page, PagesFault, pages};
-use dms_sign_lines::answering::shown_pages;
+use dms_sign_lines::shown_pages;
 use std::alloc::Global;
 
 /// Gives the octets of pages.

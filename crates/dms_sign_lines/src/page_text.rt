@@ -1,3 +1,0 @@
-//! Pages as text, as the answer to `show` has them.
-
-pub use dms_lines::pages_text;
