@@ -14,13 +14,13 @@
 //! ```
 #![tactic(auto)]
 
-mod hexadecimal;
+mod digit_pairs;
 mod lines;
 mod numbers;
 mod parts;
 mod words;
 
-pub use hexadecimal::octets;
+pub use digit_pairs::octets;
 pub use lines::{Line, Lines};
 pub use numbers::{hexadecimal, number, version};
 pub use parts::{index_of, split_once};
