@@ -12,7 +12,8 @@ use Rattle.dms_centre.specs.Inputs.{received, ticked, restarted}
 use Rattle.dms_centre.specs.Texts.{command_fault_text, ended_text}
 use Rattle.dms_forms.specs.LineText.{ended}
 use Rattle.dms_commands.specs.LedgerLine.{ledger_line}
-use Rattle.dms_lines.specs.AnswerLines.{ok_line, bad_line}
+use Rattle.dms_lines.specs.AnswerLines.{ok_line}
+use Rattle.dms_streams.specs.Conversation.{bad_line}
 use Rattle.dms_centre_lines.specs.Calls.{CentreCall, command, datagram, tick, restart, status}
 use Rattle.dms_centre_lines.specs.CallReading.{call_of}
 

@@ -16,7 +16,8 @@ use crate::status::status;
 use crate::text::{put_sent, refused, room};
 use dms_centre::{Centre, Command};
 use dms_commands::read_command;
-use dms_lines::{bad_line, ok_line};
+use dms_lines::ok_line;
+use dms_streams::bad_line;
 use dms_wire::Out;
 use std::alloc::{AllocError, Global};
 

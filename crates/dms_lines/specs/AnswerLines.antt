@@ -4,7 +4,3 @@ use Rattle.std.specs.Prelude.{ℕ, List, codes}
 -- what was asked is done
 abbrev pub ok_line : List ℕ
 ok_line = codes "ok\n"
-
--- the line spells no call
-abbrev pub bad_line : List ℕ
-bad_line = codes "bad line\n"

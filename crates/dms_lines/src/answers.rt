@@ -5,7 +5,7 @@ ghost use Rattle.std.specs.Prelude.{length, vec_len, vec_capacity};
 ghost use Rattle.hex.specs.Hex.{encode_lower};
 ghost use Rattle.dms_ber.specs.Limits.{longest_datagram};
 ghost use Rattle.dms_text.specs.Reading.{is_end};
-ghost use Rattle.dms_lines.specs.AnswerLines.{ok_line, bad_line};
+ghost use Rattle.dms_lines.specs.AnswerLines.{ok_line};
 
 use dms_text::Words;
 use dms_wire::MAX_DATAGRAM;
@@ -23,13 +23,6 @@ pub fn ok_line(alloc: Global) -> Result<Vec<u8>, AllocError>
     ensures { IfOk result (λ text. text.items ≡ ok_line) }
 {
     Vec::from_slice(alloc, b"ok\n")
-}
-
-/// The line `bad line`.
-pub fn bad_line(alloc: Global) -> Result<Vec<u8>, AllocError>
-    ensures { IfOk result (λ text. text.items ≡ bad_line) }
-{
-    Vec::from_slice(alloc, b"bad line\n")
 }
 
 /// Appends octets, for which there must be room.

@@ -16,6 +16,6 @@ mod answers;
 mod page_octets;
 mod page_text;
 
-pub use answers::{alone, bad_line, ok_line, put, put_digits};
+pub use answers::{alone, ok_line, put, put_digits};
 pub use page_octets::{Layer, bits_needed, pages_octets, put_bits};
 pub use page_text::{numbered_page, pages_text, put_pages};

@@ -190,8 +190,10 @@ sign_refused octets Memory bad is = tt
 pub events_refused : (octets : List ℕ) (left : TextLeft) (setup : Setup) (order : Order) (fault : ReplayFault)
     → (it : Description) × NamesPrefix (kept_lines octets) (octets_left left) it × IsMade it setup
     → Leaves (all_numbered (lines octets)) (numbered_left left) → order ≡ setup.sign.table.order
+    → (fault ≡ Memory) ⊎ (IsLine fault × ((events : List EventModel) → SpellsEach (SpellsEvent order) events (octets_left left) → ⊥))
     → NamesLine (λ number. number ≡ first_number (from_no_event order (lines_left left)) (number_after left)) fault → NamesLine (IsRefusedIn octets) fault
-events_refused octets left setup order (LineFault number) named leaves is_order is =
+events_refused octets left setup order (LineFault number) named leaves is_order (inl memory) is = absurd (cc)
+events_refused octets left setup order (LineFault number) named leaves is_order (inr bad) is =
     let its_order : order ≡ named.0.table.order = is_order ∙ ap (λ sign. sign.table.order) named.2.sign in
     let all : NumberedLines = all_numbered (lines octets) in
     let last : last_lines (length (octets_left left)) all.lines ≡ lines_left left = last_are all (numbered_left left) leaves in
@@ -199,18 +201,20 @@ events_refused octets left setup order (LineFault number) named leaves is_order 
     is ∙ ap (λ o. first_number (from_no_event o (lines_left left)) (number_after left)) its_order
     ∙ ap (λ ls. first_number (from_no_event named.0.table.order ls) (number_after left)) (sym last)
     ∙ ap (λ a. first_number (from_no_event named.0.table.order (last_lines (length (octets_left left)) all.lines)) a) leaves.after_is in
-    subst (IsRefusedIn octets) (sym same) (script_fault.no_event named.0 (octets_left left) named.1)
-events_refused octets left setup order Read named leaves is_order is = tt
-events_refused octets left setup order Write named leaves is_order is = tt
-events_refused octets left setup order TooLong named leaves is_order is = tt
-events_refused octets left setup order Memory named leaves is_order is = tt
+    let none = λ (events : List EventModel) (each : SpellsEach (SpellsEvent named.0.table.order) events (octets_left left)).
+    bad.1 events (subst (λ o. SpellsEach (SpellsEvent o) events (octets_left left)) (sym its_order) each) in
+    subst (IsRefusedIn octets) (sym same) (script_fault.no_event named.0 (octets_left left) named.1 none)
+events_refused octets left setup order Read named leaves is_order bad is = tt
+events_refused octets left setup order Write named leaves is_order bad is = tt
+events_refused octets left setup order TooLong named leaves is_order bad is = tt
+events_refused octets left setup order Memory named leaves is_order bad is = tt
 
 -- a text is refused for at most one line
 pub one_line : (octets : List ℕ) (one other : ℕ) → IsRefusedIn octets one → IsRefusedIn octets other → one ≡ other
 one_line octets one other (script_fault.no_sign none) (script_fault.no_sign never) = refl
-one_line octets one other (script_fault.no_sign none) (script_fault.no_event sign rest names) = absurd (none sign rest names)
-one_line octets one other (script_fault.no_event sign rest names) (script_fault.no_sign none) = absurd (none sign rest names)
-one_line octets one other (script_fault.no_event sign rest names) (script_fault.no_event that others also) =
+one_line octets one other (script_fault.no_sign none) (script_fault.no_event sign rest names never) = absurd (none sign rest names)
+one_line octets one other (script_fault.no_event sign rest names never) (script_fault.no_sign none) = absurd (none sign rest names)
+one_line octets one other (script_fault.no_event sign rest names none) (script_fault.no_event that others also never) =
     let same = one_name (kept_lines octets) rest others sign that names also in
     ap (λ (it : Description). no_event_number it.table.order (length rest) octets) same.0
     ∙ ap (λ (ls : List (List ℕ)). no_event_number that.table.order (length ls) octets) same.1

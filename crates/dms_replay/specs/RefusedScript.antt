@@ -8,6 +8,9 @@ use Rattle.dms_description.specs.declared.reading_fault.ReplayFault.{ReplayFault
 use Rattle.dms_description.specs.declared.reading_fault.ReplayFault.TheVariants as faults
 use Rattle.dms_description.specs.Description.{Description}
 use Rattle.dms_description.specs.RefusedLine.{all_numbered, first_number, last_lines, refused_number}
+use Rattle.dms_forms.specs.Fields.{SpellsEach}
+use Rattle.dms_world.specs.Event.{EventModel}
+use Rattle.dms_replay.specs.EventLine.{SpellsEvent}
 use Rattle.dms_replay.specs.EventReading.{event_of}
 use Rattle.dms_replay.specs.Script.{NamesPrefix}
 
@@ -28,8 +31,9 @@ pub data IsRefusedIn (text : List ℕ) : ℕ → Type 0 where
   -- its first lines name no sign
   no_sign : ((sign : Description) (rest : List (List ℕ)) → NamesPrefix (kept_lines text) rest sign → ⊥)
       → IsRefusedIn text (refused_number (all_numbered (lines text)))
-  -- of the lines after the sign it is the first that is no event's
+  -- not each line after the sign is an event's, and it is the first of them that is none
   no_event : (sign : Description) (rest : List (List ℕ)) → NamesPrefix (kept_lines text) rest sign
+      → ((events : List EventModel) → SpellsEach (SpellsEvent sign.table.order) events rest → ⊥)
       → IsRefusedIn text (no_event_number sign.table.order (length rest) text)
 
 -- a line that the fault names is such a line

@@ -16,7 +16,8 @@ use Rattle.dms_sign.specs.Events.{after_tick, after_power_loss, after_power_retu
 use Rattle.dms_forms.specs.LineText.{ended, code_text}
 use Rattle.dms_description.specs.ShownLine.{shown_line}
 use Rattle.dms_lines.specs.PageText.{pages_text}
-use Rattle.dms_lines.specs.AnswerLines.{ok_line, bad_line}
+use Rattle.dms_lines.specs.AnswerLines.{ok_line}
+use Rattle.dms_streams.specs.Conversation.{bad_line}
 use Rattle.dms_sign_lines.specs.SignCall.{SignCall, datagram, tick, ticks, heard, power_lost, power_back, show, state}
 use Rattle.dms_sign_lines.specs.SignReading.{call_of}
 

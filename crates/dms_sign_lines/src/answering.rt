@@ -17,9 +17,10 @@ ghost use Rattle.dms_sign_lines.specs.Answer.{receipt_line, received_line, longe
 use crate::sign_call::{SignCall, call};
 use dms_codes::Order;
 use dms_description::put_shown;
-use dms_lines::{bad_line, ok_line, put, put_digits, put_pages};
+use dms_lines::{ok_line, put, put_digits, put_pages};
 use dms_pages::{Page, PagesFault, pages_with};
 use dms_sign::{Receipt, Sign};
+use dms_streams::bad_line;
 use dms_wire::{MAX_DATAGRAM, Out};
 use std::alloc::{AllocError, Global};
 use std::io;

@@ -10,7 +10,7 @@ ghost use Rattle.dms_table.specs.Rows.{TableModel};
 ghost use Rattle.dms_sign.specs.State.{ConfigModel, SignState, start};
 ghost use Rattle.dms_sign.specs.Reply.{received};
 ghost use Rattle.dms_sign.specs.Promises.{is_get};
-ghost use Rattle.dms_lines.specs.AnswerLines.{bad_line};
+ghost use Rattle.dms_streams.specs.Conversation.{bad_line};
 ghost use Rattle.dms_sign_lines.specs.SignCall.{SignCall, datagram, ticks};
 ghost use Rattle.dms_sign_lines.specs.SignLine.{SpellsSignCall, SpellsNoSignCall};
 ghost use Rattle.dms_sign_lines.specs.Answer.{answer_text, after_line, call_text, after_call, shown_pages};

@@ -9,8 +9,9 @@ use Rattle.dms_streams.specs.Lines.{IsInLine}
 abbrev pub longest_line : ℕ
 longest_line = 65536
 
+-- what is answered to a line that is too long, and to one that spells none of the party's calls
 abbrev pub bad_line : List ℕ
-bad_line = codes "bad line" ++ 10 ∷ []
+bad_line = codes "bad line\n"
 
 -- what is answered to a line: one that is too long is refused, whatever it says
 abbrev pub answered : {S : Type 0} → (S → List ℕ → List ℕ) → S → List ℕ → List ℕ

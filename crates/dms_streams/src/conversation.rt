@@ -132,12 +132,11 @@ fn reply<P: Party>(alloc: Global, party: &mut P, line: &[u8]) -> Result<Vec<u8>,
     party.answer(alloc, line)
 }
 
-fn bad_line(alloc: Global) -> Result<Vec<u8>, AllocError>
+/// The line `bad line`.
+pub fn bad_line(alloc: Global) -> Result<Vec<u8>, AllocError>
     ensures { IfOk result (λ text. text.items ≡ bad_line) }
 {
-    let mut text = Vec::new(alloc);
-    text.extend_from_slice(b"bad line\n")?;
-    Ok(text)
+    Vec::from_slice(alloc, b"bad line\n")
 }
 
 /// A line without its newline, and without a carriage return before that.

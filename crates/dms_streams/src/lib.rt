@@ -27,7 +27,7 @@ mod source;
 pub mod taking;
 mod writing;
 
-pub use conversation::{LONGEST_LINE, converse};
+pub use conversation::{LONGEST_LINE, bad_line, converse};
 pub use counted::Counted;
 pub use describing::{LONGEST_INPUT, description_text};
 pub use failed::Failed;

@@ -10,4 +10,4 @@ returns-in-Err-events-clause-line c = no_events c.args.octets.now _ _ _ _ c.in-O
 pub returns-in-Err-events-clause-number : goal.returns-in-Err-events-clause-number
 returns-in-Err-events-clause-number c =
     events_refused c.args.octets.now c.in-Ok.found.1 c.in-Ok.found.0 c.order.result c.in-Err-events.fault c.in-Ok.ensures.read c.in-Ok.ensures.last c.order.ensures
-    c.in-Err-events.ensures.number
+    c.in-Err-events.ensures.line c.in-Err-events.ensures.number
