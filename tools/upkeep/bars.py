@@ -32,6 +32,7 @@ BARS = (
     Bar("sizes of crates", crates.large),
     Bar("examples of crates", crates.examples),
     Bar("public functions", crates.unsaid),
+    Bar("one door to each name", crates.doors),
     Bar("the drawing of the houses", drawing.drawn),
     Bar("what stands on what", drawing.told),
     Bar("crates that a live line crosses", drawing.crossed),

@@ -10,6 +10,7 @@ REASONS = "docs/DECISIONS.md"
 FEWEST = 10
 MOST_FUNCTIONS, MOST_LINES = 99, 1500
 FUNCTION = re.compile(r"(?m)^\s*(?:pub(?:\(\w+\))? )?(?:const )?(?:extern \"C\" )?fn \w+")
+MODULE = re.compile(r"(?m)^pub mod (\w+);")
 PUBLIC = re.compile(r"(?m)(?P<above>(?:^[ \t]*(?:///|#\[)[^\n]*\n)*)^[ \t]*pub (?:const )?(?:extern \"C\" )?fn (?P<name>\w+)")
 
 
@@ -126,4 +127,16 @@ def unsaid(tree: Tree) -> list[str]:
                 for public in PUBLIC.finditer(tree.text(name))
                 if "///" not in public["above"] and not re.search(rf"\b{public['name']}\b", others)
             ]
+    return found
+
+
+def doors(tree: Tree) -> list[str]:
+    """Public modules whose names the crate's first page hands out too, but for the paths that a page says are kept."""
+    kept, found = tree.text(REASONS), []
+    for crate in names(tree):
+        page = f"crates/{crate}/src/lib.rt"
+        for module in MODULE.findall(tree.text(page)) if tree.has(page) else ():
+            handed_out = re.search(rf"(?m)^pub use {module}::", tree.text(page))
+            if handed_out and f"`{crate}::{module}`" not in kept:
+                found.append(f"{page}: two paths lead to the names of {module}, and {REASONS} does not say why")
     return found

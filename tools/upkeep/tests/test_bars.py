@@ -86,6 +86,14 @@ def test_what_crates_owe(made: MakesTree) -> None:
     assert crates.unsaid(tree) == ["crates/two/src/lib.rt: nothing uses, names or documents unsaid"]
 
 
+def test_doors(made: MakesTree) -> None:
+    page = "pub mod meant;\npub mod kept;\npub mod open;\nmod shut;\n\npub use kept::A;\npub use open::{B, C};\npub use shut::D;\n"
+    tree = made(crates_txt="one:\n", crates__one__src__lib_rt=page, docs__DECISIONS_md="Two paths lead to `one::kept`.\n")
+    assert crates.doors(tree) == [
+        "crates/one/src/lib.rt: two paths lead to the names of open, and docs/DECISIONS.md does not say why"
+    ]
+
+
 def test_sizes(made: MakesTree) -> None:
     texts = {
         "crates__one__src__lib_rt": "fn called() {}\n" * 99 + "// a line\n" * 1000,
