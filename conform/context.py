@@ -5,7 +5,7 @@ from dataclasses import dataclass
 
 from model import layout
 from model.codes import BLANK, BLANK_1, NO_END, NOBODY, Activation, MessageId, checksum
-from model.sign import Description
+from model.description import Description
 
 from .objects import Binding, Row, octets, scalar
 from .steps import Ask, put

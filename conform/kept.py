@@ -7,7 +7,9 @@ import functools
 from dataclasses import replace
 from typing import Any
 
-from model import sign, wire
+from model import wire
+from model.description import Row
+from model.state import Shown
 
 from .objects import Name
 
@@ -27,11 +29,11 @@ def name(reader: wire.Reader) -> Name:
     return found
 
 
-def copied_row(row: sign.Row, _memo: dict[int, Any]) -> sign.Row:
+def copied_row(row: Row, _memo: dict[int, Any]) -> Row:
     return replace(row)
 
 
-def itself(shown: sign.Shown, _memo: dict[int, Any]) -> sign.Shown:
+def itself(shown: Shown, _memo: dict[int, Any]) -> Shown:
     return shown
 
 
@@ -40,5 +42,5 @@ def keep() -> None:
     setattr(wire.Reader, "name", name)
     wire.spelled = functools.lru_cache(4096)(wire.spelled)
     wire.name = functools.lru_cache(16384)(wire.name)
-    setattr(sign.Row, "__deepcopy__", copied_row)
-    setattr(sign.Shown, "__deepcopy__", itself)
+    setattr(Row, "__deepcopy__", copied_row)
+    setattr(Shown, "__deepcopy__", itself)

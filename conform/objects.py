@@ -4,7 +4,7 @@ from dataclasses import dataclass
 
 from model import wire
 from model.names import COLUMNS, SCALARS
-from model.sign import DMS
+from model.objects import DMS
 
 Name = tuple[int, ...]
 Value = tuple[int, int | bytes | Name]

@@ -5,7 +5,7 @@ from typing import Iterable
 
 from model import wire
 from model.codes import BLANK_1
-from model.sign import CENTRAL
+from model.state import CENTRAL
 
 from .context import Context
 from .messages import spelled

@@ -15,7 +15,8 @@ import program_model
 from door.places import SIGNTOOL, program
 from model import text, wire
 from model.codes import Activation, MessageId, checksum
-from model.sign import DMS, Sign
+from model.objects import DMS
+from model.sign import Sign
 from model.text import World
 
 NUMBERS = [0, 1, 2, 3, 4, 5, 6, 7, 8, 9, 10, 60, 255, 256, 65535, 65536, -1, 2 ** 31 - 1, 2 ** 32 - 1]

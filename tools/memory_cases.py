@@ -13,7 +13,7 @@ from dataclasses import dataclass
 
 import hostile
 from model import wire
-from model.sign import DMS
+from model.objects import DMS
 
 TOP = pathlib.Path(__file__).resolve().parent.parent
 READER, WRITER = b"public", b"admin"

@@ -4,7 +4,8 @@ from dataclasses import replace
 from typing import Iterator
 
 from model import wire
-from model.sign import DMS, Sign
+from model.objects import DMS
+from model.sign import Sign
 
 from ..context import Context
 from ..objects import NULL, Name, Row, cell, column_of, integer, octets, row_of, scalar

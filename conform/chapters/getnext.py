@@ -3,7 +3,8 @@
 from typing import Iterator
 
 from model import wire
-from model.sign import DMS, Sign
+from model.objects import DMS
+from model.sign import Sign
 
 from ..context import Context
 from ..objects import NULL, Name, integer, octets, scalar

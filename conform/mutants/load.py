@@ -6,7 +6,7 @@ import types
 from dataclasses import dataclass
 from typing import Sequence
 
-from model.sign import Description
+from model.description import Description
 
 from .. import TOP
 from ..simulated import SomeSign
@@ -17,9 +17,14 @@ IMPORTS = {  # the files in the order in which they are loaded, and which of the
     "multi": (),
     "codes": (),
     "layout": ("multi",),
-    "sign": ("wire", "codes", "layout"),
-    "centre": ("wire", "codes", "sign"),
-    "text": ("layout", "centre", "codes", "sign"),
+    "description": ("layout", "codes"),
+    "state": ("layout", "codes", "description"),
+    "showing": ("layout", "codes", "description", "multi", "state"),
+    "objects": ("wire", "codes", "description", "showing"),
+    "changes": ("wire", "codes", "description", "objects", "state"),
+    "sign": ("wire", "codes", "changes"),
+    "centre": ("wire", "codes", "objects"),
+    "text": ("layout", "centre", "codes", "description", "sign"),
 }
 
 
@@ -48,10 +53,17 @@ def edited(mutant: Mutant, source: str | None = None) -> str:
     return ("\n" + source).replace("\n" + mutant.old, "\n" + mutant.new)[1:]
 
 
+def constants(package: str) -> dict[str, object]:
+    """The constants of the modules that are loaded so far: an edit may name any of them."""
+    modules = [module for name, module in sys.modules.items() if name.startswith(f"{package}.")]
+    return {name: held for module in modules for name, held in vars(module).items() if name.isupper()}
+
+
 def module_of(package: str, stem: str, source: str) -> None:
     name = f"{package}.{stem}"
     module = types.ModuleType(name)
     module.__package__, module.__file__ = package, str(FOLDER / f"{stem}.py")
+    module.__dict__.update(constants(package))
     sys.modules[name] = module
     exec(compile(source, f"{name}", "exec"), module.__dict__)
     setattr(sys.modules[package], stem, module)

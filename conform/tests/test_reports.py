@@ -4,7 +4,8 @@ import json
 import xml.etree.ElementTree as ET
 
 from model import text, wire
-from model.sign import Change, Refused, Sign
+from model.changes import Change, Refused
+from model.sign import Sign
 
 from conform import bench
 from conform.chapters import ALL

@@ -3,7 +3,7 @@
 from dataclasses import dataclass
 
 from . import forms, layout, text
-from .sign import Row
+from .description import Row
 
 Cause = tuple[int, str]
 NO_END = "the text ends before its line `end`"

@@ -5,7 +5,7 @@ from typing import Any
 
 from . import wire
 from .codes import BLANK, CHANGEABLE, VOLATILE, Activation, MessageId, checksum
-from .sign import DMS
+from .objects import DMS
 
 BUSY, NO_NUMBER, BAD_COMMAND = "a job is not done yet", "no request number is left", "a value is out of its range"
 ODD, OTHER_CHECKSUM, STILL_VALIDATING, NO_REPLY, RESTARTED = (

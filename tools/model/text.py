@@ -7,7 +7,8 @@ from typing import Any, TypeVar
 from . import layout
 from .centre import Centre
 from .codes import Activation
-from .sign import Description, Row, Sign, is_refused
+from .description import Description, Row, is_refused
+from .sign import Sign
 
 MOST_INPUT = 1_048_576
 Read = TypeVar("Read")

@@ -5,7 +5,7 @@ from typing import Any
 
 from model import wire
 from model.names import COLUMNS, SCALARS
-from model.sign import DMS
+from model.objects import DMS
 
 Case = dict[str, Any]  # a line of a file of vectors, as JSON has it
 Bindings = Sequence[wire.Binding]

@@ -4,7 +4,8 @@ from collections.abc import Iterator
 
 from model import text, wire
 from model.names import COLUMNS, SCALARS
-from model.sign import DMS, Sign
+from model.objects import DMS
+from model.sign import Sign
 
 from .messages import NULL, Case, cell, request, scalar
 
