@@ -56,24 +56,30 @@ class Proofs:
     def stamp(self, name: str) -> pathlib.Path:
         return self.room / f"{name}.sum"
 
+    def made(self, name: str) -> pathlib.Path:
+        return self.room / f"{name}.{'o' if name == self.plan.program else 'rlib'}"
+
     def proved(self) -> set[str]:
-        """The crates that an earlier run proved from the same."""
-        names = [name for name in self.plan.crates if self.stamp(name).is_file()]
-        return {name for name in names if self.stamp(name).read_text(encoding="ascii") == self.sum_of(name)}
+        """The crates that an earlier run proved from the same, over libraries that still stand."""
+        names = [name for name in self.plan.crates if self.stamp(name).is_file() and self.made(name).exists()]
+        same = {name for name in names if self.stamp(name).read_text(encoding="ascii") == self.sum_of(name)}
+        return {name for name in same if self.plan.below(name) <= same}
 
     def begin(self, crate: Crate, jobs: int, is_first: bool) -> Running:
-        is_program = crate.name == self.plan.program
-        made = self.room / f"{crate.name}.{'o' if is_program else 'rlib'}"
-        self.stamp(crate.name).unlink(missing_ok=True)
+        # statements fit the libraries alone that they were made over, so those above are made again
+        for name in self.plan.crates:
+            if crate.name in {name, *self.plan.below(name)}:
+                self.stamp(name).unlink(missing_ok=True)
         stamp, made_from = self.stamp(crate.name), self.sum_of(crate.name)
         proof = Proof(crate, jobs, crate.folder, is_first, stamp=stamp, made_from=made_from)
-        words = [*self.kit.checked(self.plan, crate, self.room, jobs), "-o", str(made)]
+        words = [*self.kit.checked(self.plan, crate, self.room, jobs), "-o", str(self.made(crate.name))]
         proof.log.parent.mkdir(exist_ok=True)
-        return proof.start([*words, *(self.kit.compiled() if is_program else ["--statements"])], proof.log)
+        to = self.kit.compiled() if crate.name == self.plan.program else ["--statements"]
+        return proof.start([*words, *to], proof.log)
 
     def link(self, program: pathlib.Path) -> int:
         """Links the program, which is proved and compiled, and returns the status."""
-        words = self.kit.linked(program, self.room / f"{self.plan.program}.o")
+        words = self.kit.linked(program, self.made(self.plan.program))
         linked = subprocess.run(words, check=False, capture_output=True, text=True, errors="replace")
         if linked.returncode:
             print(linked.stdout, linked.stderr, sep="", end="", file=sys.stderr)

@@ -1,4 +1,4 @@
-"""A command of `rt` that proves a crate beside others."""
+"""A command that proves a crate beside others."""
 
 from __future__ import annotations
 
@@ -39,7 +39,7 @@ class Running:
         return self
 
     def end(self) -> int:
-        """Ends it if it runs, with what `rt` started, and returns the exit status."""
+        """Ends it if it runs, with what it started, and returns the exit status."""
         if self.process.poll() is None:
             os.killpg(self.process.pid, signal.SIGTERM)
         return self.process.wait()

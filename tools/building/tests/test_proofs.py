@@ -25,6 +25,7 @@ def proofs(tmp_path: pathlib.Path, monkeypatch: pytest.MonkeyPatch) -> Proofs:
 def proved_again(proofs: Proofs) -> set[str]:
     """What a new run takes from those that ended well here."""
     for name in proofs.plan.crates:
+        proofs.made(name).touch()
         proofs.stamp(name).write_text(proofs.sum_of(name), encoding="ascii")
     return Proofs(Plan(), proofs.kit, proofs.room).proved()
 
@@ -39,6 +40,13 @@ def test_a_change_has_the_crate_and_those_above_proved_again(proofs: Proofs) -> 
     for path, left in (("program/src/main.rt", {"low"}), ("low/specs/Low.antt", set())):
         (planning.TOP / "crates" / path).write_text("y\n", encoding="utf-8")
         assert Proofs(Plan(), proofs.kit, proofs.room).proved() == left
+
+
+@pytest.mark.parametrize("lost", ["low.sum", "low.rlib"])
+def test_nothing_stands_over_a_library_that_is_made_again(proofs: Proofs, lost: str) -> None:
+    proved_again(proofs)
+    (proofs.room / lost).unlink()
+    assert proofs.proved() == set()
 
 
 def test_another_kit_proves_all(proofs: Proofs) -> None:
