@@ -1,5 +1,5 @@
 -- The slots of the names that a SET has given.
-use Rattle.std.proofs.Common.{◌≡◌, ℕ, ◌*◌, ◌/◌, ◌%◌, ◌<◌, ◌^◌, ◌||◌, Bool, true, false, List, [], ◌∷◌, ◌++◌, length, inl, inr, refl, sym, ap, subst, ◌∙◌, true≢false}
+use Rattle.std.proofs.Common.{◌≡◌, ℕ, ◌*◌, ◌/◌, ◌%◌, ◌<◌, ◌==◌, ◌≢◌, ◌^◌, ◌||◌, Bool, true, false, List, [], ◌∷◌, ◌++◌, length, inl, inr, refl, sym, ap, subst, ◌∙◌, true≢false, arith}
 use Rattle.std.specs.Prelude.{nat_eq, slice_index_or, slice_set, bit_or}
 use Rattle.std.specs.Int.{bit_at, w64}
 use Rattle.std.proofs.lemmas.Bool.{cases_eq, eqb-true, eq-eqb}
@@ -56,6 +56,23 @@ bit_there words k m small there =
     ap (λ w. bit_at w m) (get_or-set_same words k (bit_or (slice_index_or words k 0) (1 * 2 ^ m % 18446744073709551616)) 0 there)
     ∙ bit_at_set_same w64 (slice_index_or words k 0) m small
 
+-- another bit of a word, or a bit of another word
+bit_as_before : (words : List ℕ) (k m word bit : ℕ) → m < 64 → k < length words → (word ≡ k → bit ≡ m → ⊥)
+    → bit_at (slice_index_or (slice_set words k (bit_or (slice_index_or words k 0) (1 * 2 ^ m % 18446744073709551616))) word 0) bit
+    ≡ bit_at (slice_index_or words word 0) bit
+bit_as_before words k m word bit small there apart =
+    let new = bit_or (slice_index_or words k 0) (1 * 2 ^ m % 18446744073709551616) in
+    elim (cases_eq word k) [
+      | inl same ↦ elim (cases_eq bit m) [
+        | inl here ↦ absurd (apart same here)
+        | inr other ↦
+            ap (λ w. bit_at w bit) (get_or-set_at words k word new 0 same there)
+            ∙ bit_at_set_other w64 (slice_index_or words k 0) m small bit other
+            ∙ ap (λ w. bit_at (slice_index_or words w 0) bit) (sym same)
+      ]
+      | inr other ↦ ap (λ w. bit_at w bit) (get_or-set_other words k word new 0 other)
+    ]
+
 abbrev pub marked : List ℕ → ℕ → List ℕ
 marked words slot = slice_set words (slot / 64) (bit_or (slice_index_or words (slot / 64) 0) (1 * 2 ^ (slot % 64) % 18446744073709551616))
 
@@ -69,6 +86,12 @@ taken_stays words slot other small there e =
 pub marked_taken : (words : List ℕ) (slot : ℕ) → slot % 64 < 64 → slot / 64 < length words → is_taken (marked words slot) slot ≡ true
 marked_taken words slot small there =
     eq-eqb (bit_at (slice_index_or (marked words slot) (slot / 64) 0) (slot % 64)) 1 (bit_there words (slot / 64) (slot % 64) small there)
+
+-- another slot is as it was
+pub others_stay : (words : List ℕ) (slot other : ℕ) → slot % 64 < 64 → slot / 64 < length words → other ≢ slot → is_taken (marked words slot) other ≡ is_taken words other
+others_stay words slot other small there apart =
+    ap (λ bit. bit == 1)
+    (bit_as_before words (slot / 64) (slot % 64) (other / 64) (other % 64) small there (λ high low. apart (omega (arith, high, low))))
 
 -- ---- names
 

@@ -1,7 +1,7 @@
 //! The names that the bindings of a SET gave so far, each marked in its slot: so a name is not compared with every
 //! earlier one.
 
-ghost use Rattle.std.specs.Prelude.{◌≡◌, ◌<◌, ◌++◌, List, [], ◌∷◌, take};
+ghost use Rattle.std.specs.Prelude.{◌≡◌, ◌≢◌, ◌<◌, ◌++◌, ℕ, List, [], ◌∷◌, take};
 ghost use Rattle.dms_wire.specs.Message.{VarBind};
 ghost use Rattle.dms_access.specs.MetNames.{is_among};
 ghost use Rattle.dms_access.specs.Slots.{content_slot, slot_of, is_taken, AreTaken};
@@ -75,10 +75,11 @@ fn is_taken(slots: &Slots, name: &Oid<'_>) -> bool
     (slots[slot / 64] >> (slot % 64)) & 1 == 1
 }
 
-/// Marks the slot of a binding's name.
+/// Marks the slot of a binding's name, and no other.
 pub fn mark_name(slots: &mut Slots, name: &Oid<'_>)
-    ensures { (bindings : List VarBind) (binding : VarBind) → binding.name ≡ name.now → AreTaken slots.old bindings
-        → AreTaken slots.new (bindings ++ binding ∷ []) }
+    ensures taken { (bindings : List VarBind) (binding : VarBind) → binding.name ≡ name.now
+        → AreTaken slots.old bindings → AreTaken slots.new (bindings ++ binding ∷ []) }
+    ensures others { (slot : ℕ) → slot ≢ slot_of name.now → is_taken slots.new slot ≡ is_taken slots.old slot }
 {
     let slot = content_slot(name.content());
     slots[slot / 64] |= 1 << (slot % 64);

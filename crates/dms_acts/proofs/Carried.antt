@@ -9,12 +9,14 @@ use Rattle.dms_text.specs.Lines.{is_skipped, kept_lines}
 use Rattle.dms_text.proofs.Splits.{first_part, only_part}
 use Rattle.dms_text.proofs.LineLaws.{line_first, line_only}
 use Rattle.dms_streams.specs.DescriptionText.{TakesDescription, lines_through_end, is_end}
-use Rattle.dms_description.specs.Before.{NotDescribed}
+use Rattle.dms_description.specs.Before.{NotDescribed, IsRefusedBefore}
 use Rattle.dms_description.specs.Description.{Description, SpellsSign}
+use Rattle.dms_description.specs.RefusedLine.{all_numbered, IsRefusedLine}
 use Rattle.dms_streams.specs.DescriptionText.{longest_input}
 use Rattle.dms_description.specs.declared.reading_fault.ReplayFault.{ReplayFault}
 use Rattle.dms_description.specs.declared.reading_fault.ReplayFault.TheVariants as faults
 use Rattle.dms_description.specs.declared.setup.Setup.{Setup}
+use Rattle.dms_replay.specs.RefusedScript.{IsRefusedIn}
 use Rattle.dms_replay.specs.Replayed.{NoScript}
 use Rattle.dms_acts.specs.declared.refusal.Refusal.{Refusal}
 use Rattle.dms_acts.specs.Refused.{names_line, says_empty}
@@ -31,7 +33,19 @@ no_script slice octets None lent short same none = tt
 no_script slice octets (Some whole) lent short same none =
     (subst (λ xs. length xs ≤ longest_input) same short, subst NoScript (lent ∙ same) none)
 
+pub refused_in : (slice octets : List ℕ) (all : Option (List ℕ)) (number : ℕ) → slice ≡ octets → IfSome all (λ whole. octets ≡ whole)
+    → IsRefusedIn slice number → IfSome all (λ whole. IsRefusedIn whole number)
+refused_in slice octets None number lent same refused = tt
+refused_in slice octets (Some whole) number lent same refused = subst (λ xs. IsRefusedIn xs number) (lent ∙ same) refused
+
 -- ---- a text that is taken up to its line `end`
+
+pub refused_before : (slice text : List ℕ) (old new : Option (List ℕ)) (number : ℕ) → slice ≡ text → TakesDescription old text new
+    → IsRefusedLine (all_numbered (lines slice)) number → IsRefusedBefore old number
+refused_before slice text None new number lent taken refused = tt
+refused_before slice text (Some octets) None number lent taken refused = absurd taken
+refused_before slice text (Some octets) (Some rest) number lent taken refused =
+    subst (λ ls. IsRefusedLine (all_numbered ls) number) (ap lines lent ∙ taken.1) refused
 
 pub not_described_before : (slice text : List ℕ) (old new : Option (List ℕ)) → slice ≡ text → TakesDescription old text new
     → ((it : Description) → SpellsSign (kept_lines slice) it → ⊥) → NotDescribed old

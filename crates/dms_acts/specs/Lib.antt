@@ -1,3 +1,5 @@
--- what a reader must believe: what the refusal of an input says, and what is printed of it (this profile)
+-- what a reader must believe: what the refusal of an input says, what is printed of it, and what a call prints (this
+-- profile)
 pub mod Refused
 pub mod RefusalText
+pub mod CallAnswers

@@ -6,11 +6,13 @@ ghost use Rattle.std.specs.Str.Lines.{lines};
 ghost use Rattle.dms_text.specs.Lines.{kept_lines};
 ghost use Rattle.dms_streams.specs.Calls.{one_more};
 ghost use Rattle.dms_streams.specs.Lines.{left};
-ghost use Rattle.dms_description.specs.Before.{Describes, NotDescribed, description_lines};
+ghost use Rattle.dms_description.specs.Before.{Describes, NotDescribed, IsRefusedBefore, description_lines};
 ghost use Rattle.dms_description.specs.Description.{Description, SpellsDescription, SpellsSign};
 ghost use Rattle.dms_streams.specs.DescriptionText.{longest_input};
+ghost use Rattle.dms_description.specs.RefusedLine.{all_numbered, IsRefusedLine};
 ghost use Rattle.dms_description.specs.Setups.{IsMade};
 ghost use Rattle.dms_description.specs.declared.reading_fault.ReplayFault.TheVariants as faults;
+ghost use Rattle.dms_replay.specs.RefusedScript.{IsRefusedIn};
 ghost use Rattle.dms_replay.specs.Replayed.{Replayed, ReplayedPrefix, RunsLawfully, HasNoRoom, NoScript};
 ghost use Rattle.dms_acts.specs.Refused.{with_fault, says_empty, SaysMoreOfLines, IsDescriptionCause, IsScriptCause};
 
@@ -29,6 +31,8 @@ pub fn described_whole<R: Source>(alloc: Global, reader: &mut R) -> Result<Setup
     ensures line { (number : ℕ) → with_fault result ≡ Err (faults.Line number)
         → IfSome (R.remaining reader.old) (λ octets. (length octets ≤ longest_input)
         × ((it : Description) → SpellsDescription octets it → ⊥)) }
+    ensures number { (number : ℕ) → with_fault result ≡ Err (faults.Line number)
+        → IfSome (R.remaining reader.old) (λ octets. IsRefusedLine (all_numbered (lines octets)) number) }
     ensures too_long { with_fault result ≡ Err faults.TooLong → IfSome (R.remaining reader.old) (λ octets.
         longest_input < length octets) }
     ensures read { with_fault result ≡ Err faults.Read → R.failed reader.new ≡ one_more (R.failed reader.old) }
@@ -51,6 +55,8 @@ pub fn described_before<S: Source>(alloc: Global, input: &mut Input<S>) -> Resul
     ensures sign { IfOk result (λ setup. Describes (left S.remaining input.old) setup (left S.remaining input.new)) }
     ensures line { (number : ℕ) → with_fault result ≡ Err (faults.Line number)
         → NotDescribed (left S.remaining input.old) }
+    ensures number { (number : ℕ) → with_fault result ≡ Err (faults.Line number)
+        → IsRefusedBefore (left S.remaining input.old) number }
     ensures too_long { with_fault result ≡ Err faults.TooLong → IfSome (left S.remaining input.old) (λ octets.
         longest_input < length octets) }
     ensures read { with_fault result ≡ Err faults.Read
@@ -85,6 +91,8 @@ pub fn replayed<R: Source, W: Sink>(
         → Keeps (W.contents writer.old) (W.contents writer.new)) }
     ensures line { (number : ℕ) → with_fault result ≡ Err (faults.Line number)
         → IfSome (R.remaining reader.old) (λ octets. (length octets ≤ longest_input) × NoScript octets) }
+    ensures number { (number : ℕ) → with_fault result ≡ Err (faults.Line number)
+        → IfSome (R.remaining reader.old) (λ octets. IsRefusedIn octets number) }
     ensures too_long { with_fault result ≡ Err faults.TooLong → IfSome (R.remaining reader.old) (λ octets.
         longest_input < length octets) }
     ensures read { with_fault result ≡ Err faults.Read → R.failed reader.new ≡ one_more (R.failed reader.old) }
@@ -110,6 +118,8 @@ fn described_text(alloc: Global, octets: &[u8]) -> Result<Setup, Refusal>
     ensures sign { IfOk result (λ setup. (it : Description) × SpellsSign (kept_lines octets.now) it × IsMade it setup) }
     ensures line { (number : ℕ) → with_fault result ≡ Err (faults.Line number) → (it : Description)
         → SpellsSign (kept_lines octets.now) it → ⊥ }
+    ensures number { (number : ℕ) → with_fault result ≡ Err (faults.Line number)
+        → IsRefusedLine (all_numbered (lines octets.now)) number }
     ensures no_read { with_fault result ≢ Err faults.Read }
     ensures no_write { with_fault result ≢ Err faults.Write }
     ensures short { with_fault result ≢ Err faults.TooLong }
@@ -150,6 +160,7 @@ fn replayed_text<W: Sink>(alloc: Global, octets: &[u8], writer: &mut W) -> Resul
     ensures nothing { OnErr result (with_fault result ≢ Err faults.Write
         → Keeps (W.contents writer.old) (W.contents writer.new)) }
     ensures line { (number : ℕ) → with_fault result ≡ Err (faults.Line number) → NoScript octets.now }
+    ensures number { (number : ℕ) → with_fault result ≡ Err (faults.Line number) → IsRefusedIn octets.now number }
     ensures no_read { with_fault result ≢ Err faults.Read }
     ensures short { with_fault result ≢ Err faults.TooLong }
     ensures write { with_fault result ≡ Err faults.Write → W.failed writer.new ≡ one_more (W.failed writer.old) }

@@ -1,19 +1,19 @@
 -- The entries of the ledger, in the map of the code and in the list of the definitions.
-use Rattle.std.proofs.Common.{◌≡◌, ℕ, zero, suc, ◌+◌, ◌<◌, Bool, true, false, if◌then◌else◌, List, [], ◌∷◌, ◌++◌, map, length, get_or, slice_get, position, None, Some, Result, Ok, OnOk, All, refl, ap, sym, subst, ◌∙◌, arith, add-one, nat_eq}
+use Rattle.std.proofs.Common.{◌≡◌, ℕ, zero, suc, ◌+◌, ◌<◌, Bool, true, false, if◌then◌else◌, List, [], ◌∷◌, ◌++◌, map, length, get_or, slice_get, position, None, Some, Result, Ok, OnOk, All, refl, ap, sym, subst, ◌∙◌, arith, nat_eq}
 use Rattle.std.proofs.lemmas.Bool.Decides.{nat_tests}
 use Rattle.std.proofs.lemmas.List.Elements.{All-head, All-tail}
 use Rattle.std.proofs.lemmas.List.Quantifiers.{position-Some}
 use Rattle.std.specs.List.{AllByRecursion, IsDistinct}
 use Rattle.std.specs.Map.{keys_of, values_of}
 use Rattle.indexmap.specs.IndexMap.{insert_entry, set_value_at}
-use Rattle.dms_codes.proofs.Loops.{mapped_up_to, none_passes}
+use Rattle.dms_codes.proofs.Loops.{none_passes}
 use Rattle.dms_centre.specs.declared.ledger.Entry.{Entry}
 use Rattle.dms_centre.specs.declared.outcome.Outcome.{Outcome}
 use Rattle.dms_centre.specs.State as state
 use Rattle.dms_centre.specs.Replies.{with_outcome}
 use Rattle.dms_centre.specs.Resending.{is_waiting, given_up}
 use Rattle.dms_centre.specs.CodeView.{entry_model, ledger_model, entry_given_up}
-use Rattle.dms_centre.specs.Invariant.{AllBelow}
+use Rattle.dms_centre.specs.Invariant.{AllBelow, OnlyLastWaits}
 
 -- ---- a new entry
 
@@ -34,33 +34,28 @@ on_ok r x P is h = subst (λ r. OnOk r P) is h
 
 -- ---- every entry that waits
 
-write_next : (g : Entry → Entry) (n : ℕ) (es : List (ℕ × Entry)) (old : Entry) → slice_get (values_of (mapped_up_to (λ (e : ℕ × Entry). (e.0, g e.1)) n es)) n ≡ Some old
-    → set_value_at (mapped_up_to (λ (e : ℕ × Entry). (e.0, g e.1)) n es) n (g old) ≡ mapped_up_to (λ (e : ℕ × Entry). (e.0, g e.1)) (suc n) es
-write_next g zero [] old read = refl
-write_next g zero (e ∷ es) old read =
-    let entries : e.1 ≡ old = cc in
-    ap (λ (entry : Entry). (e.0, g entry) ∷ es) (sym entries)
-write_next g (suc n) [] old read = refl
-write_next g (suc n) (e ∷ es) old read = ap (λ xs. (e.0, g e.1) ∷ xs) (write_next g n es old read)
-
--- one entry more is written
-pub written_more : (g : Entry → Entry) (n : ℕ) (es now : List (ℕ × Entry)) (old new : Entry) → now ≡ mapped_up_to (λ (e : ℕ × Entry). (e.0, g e.1)) n es
-    → slice_get (values_of now) n ≡ Some old → new ≡ g old → set_value_at now n new ≡ mapped_up_to (λ (e : ℕ × Entry). (e.0, g e.1)) (n + 1) es
-written_more g n es now old new so_far read is =
-    let step = write_next g n es old (subst (λ xs. slice_get (values_of xs) n ≡ Some old) so_far read) in
-    rw (so_far, is, add-one) step
-
 seen_one : (b : Bool) (number : ℕ) (outcome : Outcome) (entry : Entry)
     → ◌≡◌ {A = state.Entry} (entry_model (number, (if b then record entry { outcome = outcome } else entry)))
     (if b then record { number = number; code = entry.code; outcome = outcome } else entry_model (number, entry))
 seen_one true number outcome entry = refl
 seen_one false number outcome entry = refl
 
-pub given_up_all : (outcome : Outcome) (es : List (ℕ × Entry)) → ledger_model (map (λ (e : ℕ × Entry). (e.0, entry_given_up outcome e.1)) es) ≡ map (given_up outcome) (ledger_model es)
-given_up_all outcome [] = refl
-given_up_all outcome (e ∷ es) =
-    let first = seen_one (is_waiting e.1.outcome) e.0 outcome e.1 in
-    let rest = given_up_all outcome es in
+settled_stays : (outcome : Outcome) (entry : state.Entry) → is_waiting entry.outcome ≡ false → entry ≡ given_up outcome entry
+settled_stays outcome entry settled = sym (ap (λ b. if b then record entry { outcome = outcome } else entry) settled)
+
+-- where the last has the outcome, if it waits
+pub given_up_last : (outcome : Outcome) (es : List (ℕ × Entry)) (n : ℕ) (old new : Entry) → OnlyLastWaits (ledger_model es) → n + 1 ≡ length es
+    → slice_get (values_of es) n ≡ Some old → new ≡ entry_given_up outcome old → ledger_model (set_value_at es n new) ≡ map (given_up outcome) (ledger_model es)
+given_up_last outcome [] n old new only last read is = absurd (omega arith)
+given_up_last outcome (e ∷ []) zero old new only last read is =
+    let entries : e.1 ≡ old = cc in
+    ap (λ (entry : Entry). entry_model (e.0, entry) ∷ []) (is ∙ ap (entry_given_up outcome) (sym entries))
+    ∙ ap (λ (entry : state.Entry). entry ∷ []) (seen_one (is_waiting e.1.outcome) e.0 outcome e.1)
+given_up_last outcome (e ∷ []) (suc n) old new only last read is = absurd (omega arith)
+given_up_last outcome (e ∷ next ∷ es) zero old new only last read is = absurd (omega arith)
+given_up_last outcome (e ∷ next ∷ es) (suc n) old new only last read is =
+    let first = settled_stays outcome (entry_model e) only.0 in
+    let rest = given_up_last outcome (next ∷ es) n old new only.1 (omega arith) read is in
     cc
 
 -- ---- the entry of a number

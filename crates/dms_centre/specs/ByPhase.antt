@@ -5,6 +5,7 @@ use Rattle.dms_wire.specs.Message.{VarBind, SnmpMessage}
 use Rattle.dms_requests.specs.declared.step.Step.{Step}
 use Rattle.dms_requests.specs.declared.step.Step.TheVariants.{Opening, Opened, Filling, Validating, Polling, Comparing}
 use Rattle.dms_requests.specs.declared.step.Step.TheVariants.{Activating, Explaining}
+use Rattle.dms_requests.specs.Steps.{is_activating}
 use Rattle.dms_centre.specs.State.{CentreState, Phase, Idle, Awaits, Due}
 use Rattle.dms_centre.specs.Sending.{Move, rests, at_step, sends}
 use Rattle.dms_centre.specs.Replies.{is_answer, on_success, on_failure, on_read, on_number, number_read, asked}
@@ -15,6 +16,12 @@ abbrev pub is_awaiting : Phase → Bool
 is_awaiting Idle = false
 is_awaiting (Awaits job pending) = true
 is_awaiting (Due job) = false
+
+-- an activation waits for its reply
+abbrev pub awaits_activation : Phase → Bool
+awaits_activation Idle = false
+awaits_activation (Awaits job pending) = is_activating job.step
+awaits_activation (Due job) = false
 
 -- the request of the job of a phase
 abbrev pub sends_job : CentreState → Phase → Move

@@ -7,8 +7,8 @@ ghost use Rattle.dms_objects.specs.Names.{name_of};
 ghost use Rattle.dms_requests.specs.Steps.{is_activating};
 ghost use Rattle.dms_centre.specs.Inputs.{received};
 ghost use Rattle.dms_centre.specs.Replies.{number_read};
-ghost use Rattle.dms_centre.specs.ByPhase.{is_awaiting, is_answered, succeeds, is_refused, reads, is_reading, asked_at};
-ghost use Rattle.dms_centre.specs.ByPhase.{takes, sends_at, polls_again, checksum_of_job};
+ghost use Rattle.dms_centre.specs.ByPhase.{is_awaiting, awaits_activation, is_answered, succeeds, is_refused, reads};
+ghost use Rattle.dms_centre.specs.ByPhase.{is_reading, asked_at, takes, sends_at, polls_again, checksum_of_job};
 ghost use Rattle.dms_centre.specs.CodeView.{sent_in};
 
 use crate::centre::Centre;
@@ -69,7 +69,7 @@ impl Centre {
     }
 
     /// The waiting request was answered without an error.
-    #[tactic(auto, using(crate::proofs::Fine::decided_below), unfolding(crate::specs::Sending::sends))]
+    #[tactic(auto, unfolding(crate::specs::Sending::sends))]
     fn succeed(&mut self, binds: Binds<'_>, out: &mut Out)
         requires awaiting { is_awaiting self.old.state.phase ≡ true }
         requires empty { out.old.items ≡ [] }
@@ -83,7 +83,8 @@ impl Centre {
             Step::Validating => self.send_at(Step::Polling, out),
             Step::Activating => {
                 decide(&mut self.ledger, self.pending.number, Outcome::Accepted);
-                self.end(Ended::Accepted);
+                self.stage = Stage::Idle;
+                self.last = Ended::Accepted;
             }
             Step::Opened | Step::Polling | Step::Comparing | Step::Explaining => {
                 self.hear_number(binds, out);
@@ -92,7 +93,7 @@ impl Centre {
     }
 
     /// The waiting request was answered with an error.
-    #[tactic(auto, using(crate::proofs::Fine::decided_below), unfolding(crate::specs::Sending::sends))]
+    #[tactic(auto, unfolding(crate::specs::Sending::sends))]
     fn refused(&mut self, status: i64, out: &mut Out)
         requires awaiting { is_awaiting self.old.state.phase ≡ true }
         requires empty { out.old.items ≡ [] }
@@ -106,7 +107,8 @@ impl Centre {
                 self.pending.number,
                 Outcome::Refused(status),
             );
-            self.send_at(Step::Explaining, out);
+            self.job.step = Step::Explaining;
+            self.send(out);
         } else {
             self.end(Ended::Failed(self.job.step.number(), Why::Status(status)));
         }
@@ -152,6 +154,7 @@ impl Centre {
     #[tactic(auto, unfolding(crate::specs::Sending::sends))]
     fn take_number(&mut self, number: i64, out: &mut Out)
         requires awaiting { is_awaiting self.old.state.phase ≡ true }
+        requires other { awaits_activation self.old.state.phase ≡ false }
         requires empty { out.old.items ≡ [] }
         ensures state { self.new.state ≡ (takes self.old.state self.old.state.phase number).state }
         ensures sent { sent_in out.new.items ≡ (takes self.old.state self.old.state.phase number).sent }
@@ -193,7 +196,8 @@ impl Centre {
 
     /// The row is still being validated: it is polled once more, a number of times.
     fn poll_again(&mut self)
-        requires { is_awaiting self.old.state.phase ≡ true }
+        requires awaiting { is_awaiting self.old.state.phase ≡ true }
+        requires other { awaits_activation self.old.state.phase ≡ false }
         ensures state { self.new.state ≡ (polls_again self.old.state self.old.state.phase).state }
         ensures room { self.new.spare ≡ self.old.spare }
     {
@@ -217,6 +221,7 @@ impl Centre {
     #[tactic(auto, unfolding(crate::specs::Sending::sends))]
     fn send_at(&mut self, step: Step, out: &mut Out)
         requires awaiting { is_awaiting self.old.state.phase ≡ true }
+        requires sent { awaits_activation self.old.state.phase ≡ false }
         requires other { is_activating step ≡ false }
         requires empty { out.old.items ≡ [] }
         ensures state { self.new.state ≡ (sends_at self.old.state self.old.state.phase step).state }

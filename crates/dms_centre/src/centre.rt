@@ -13,7 +13,7 @@ ghost use Rattle.dms_requests.specs.Requests.{AreSettings};
 ghost use Rattle.dms_centre.specs.Inputs.{ticked, restarted};
 ghost use Rattle.dms_centre.specs.Sending.{ends};
 ghost use Rattle.dms_centre.specs.Room.{enters_at_tick, enters_by};
-ghost use Rattle.dms_centre.specs.ByPhase.{is_awaiting, sends_job, adds_entry};
+ghost use Rattle.dms_centre.specs.ByPhase.{is_awaiting, awaits_activation, sends_job, adds_entry};
 ghost use Rattle.dms_requests.specs.CodeView.{command_model};
 ghost use Rattle.dms_centre.specs.CodeView.{settings_model, ledger_model, sent_in};
 
@@ -145,7 +145,7 @@ impl Centre {
 
     /// Restarts, as after a loss of power: the next number and the ledger stay, a job ends, and the outcome of an
     /// activation that waits is unknown.
-    #[tactic(auto, using(crate::proofs::Fine::given_up_below), unfolding(crate::specs::Inputs::restarted))]
+    #[tactic(auto, unfolding(crate::specs::Inputs::restarted))]
     pub fn restart(&mut self)
         ensures state { self.new.state ≡ restarted self.old.state }
         ensures room { self.new.spare ≡ self.old.spare }
@@ -265,6 +265,7 @@ impl Centre {
 
     /// The job is done.
     pub(crate) fn end(&mut self, ended: Ended)
+        requires { awaits_activation self.old.state.phase ≡ false }
         ensures state { self.new.state ≡ ends self.old.state ended }
         ensures room { self.new.spare ≡ self.old.spare }
     {
@@ -276,6 +277,7 @@ impl Centre {
     #[tactic(auto, using(crate::proofs::Fine::sent_in_canonical), unfolding(crate::specs::Sending::sends))]
     pub(crate) fn send(&mut self, out: &mut Out)
         requires busy { is_busy self.old.state.phase ≡ true }
+        requires other { awaits_activation self.old.state.phase ≡ false }
         requires room { adds_entry self.old.state self.old.state.phase ≡ true → 0 < self.old.spare }
         requires empty { out.old.items ≡ [] }
         ensures state { self.new.state ≡ (sends_job self.old.state self.old.state.phase).state }
@@ -301,7 +303,7 @@ impl Centre {
     }
 
     /// A tick without a reply: the request is sent again, a number of times; then the job fails.
-    #[tactic(auto, using(crate::proofs::Fine::given_up_below), unfolding(crate::specs::Inputs::ticked))]
+    #[tactic(auto, unfolding(crate::specs::Inputs::ticked))]
     fn hear_nothing(&mut self, out: &mut Out)
         requires awaiting { is_awaiting self.old.state.phase ≡ true }
         requires empty { out.old.items ≡ [] }

@@ -9,7 +9,7 @@ ghost use Rattle.dms_centre.specs.Replies.{with_outcome};
 ghost use Rattle.dms_centre.specs.Resending.{given_up};
 ghost use Rattle.dms_requests.specs.CodeView.{job_model};
 ghost use Rattle.dms_centre.specs.CodeView.{ledger_model};
-ghost use Rattle.dms_centre.specs.Invariant.{AllBelow};
+ghost use Rattle.dms_centre.specs.Invariant.{AllBelow, OnlyLastWaits};
 
 use crate::outcome::Outcome;
 use dms_codes::Activation;
@@ -94,12 +94,14 @@ pub(crate) fn decide(ledger: &mut IndexMap<u32, Entry>, number: u32, outcome: Ou
     }
 }
 
-/// Every entry that waits has this outcome.
+/// Every entry that waits has this outcome: only the last can wait.
 pub(crate) fn give_up(ledger: &mut IndexMap<u32, Entry>, outcome: Outcome)
+    requires last { OnlyLastWaits (ledger_model ledger.old.entries) }
     ensures entries { ledger_model ledger.new.entries ≡ map (given_up outcome) (ledger_model ledger.old.entries) }
     ensures room { spare ledger.new ≡ spare ledger.old }
 {
-    for index in 0..ledger.len() {
-        ledger[index].give_up(outcome);
+    let entries = ledger.len();
+    if entries > 0 {
+        ledger[entries - 1].give_up(outcome);
     }
 }

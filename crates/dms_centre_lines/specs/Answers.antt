@@ -14,7 +14,7 @@ use Rattle.dms_forms.specs.LineText.{ended}
 use Rattle.dms_commands.specs.LedgerLine.{ledger_line}
 use Rattle.dms_lines.specs.AnswerLines.{ok_line}
 use Rattle.dms_streams.specs.Conversation.{bad_line}
-use Rattle.dms_centre_lines.specs.Calls.{CentreCall, command, datagram, tick, restart, status}
+use Rattle.dms_centre_lines.specs.Calls.{CentreCall, command, datagram, tick, restart, status, status_last}
 use Rattle.dms_centre_lines.specs.CallReading.{call_of}
 
 -- ---- lines
@@ -56,6 +56,10 @@ status_lines state =
     job_line (is_busy state.phase) ++ last_line state.last ++ flat_map (ledger_line state.settings.order) state.ledger
     ++ ok_line
 
+-- the same without its ledger
+abbrev pub last_lines : CentreState → List ℕ
+last_lines state = job_line (is_busy state.phase) ++ last_line state.last ++ ok_line
+
 -- ---- the answer to a line
 
 abbrev pub call_answer : CentreState → Option CentreCall → List ℕ
@@ -65,6 +69,7 @@ call_answer state (Some (datagram octets)) = sent_line (received state octets).s
 call_answer state (Some tick) = sent_line (ticked state).sent
 call_answer state (Some restart) = ok_line
 call_answer state (Some status) = status_lines state
+call_answer state (Some status_last) = last_lines state
 
 -- the central system after it
 abbrev pub after_call : CentreState → Option CentreCall → CentreState
@@ -74,6 +79,7 @@ after_call state (Some (datagram octets)) = (received state octets).state
 after_call state (Some tick) = (ticked state).state
 after_call state (Some restart) = restarted state
 after_call state (Some status) = state
+after_call state (Some status_last) = state
 
 abbrev pub answer_text : CentreState → List ℕ → List ℕ
 answer_text state line = call_answer state (call_of state.settings.order line)

@@ -1,12 +1,22 @@
 -- The line of a call read from its beginning (this profile).
 use Rattle.std.specs.Prelude.{ℕ, if◌then◌else◌, List, codes, Option, Some, None, option_map}
 use Rattle.dms_text.specs.Words.{words_of}
-use Rattle.dms_text.specs.Reading.{same_octets, word_at, ◌>>=◌}
+use Rattle.dms_text.specs.Reading.{same_octets, word_at, keyword_at, is_end, ◌>>=◌}
 use Rattle.dms_codes.specs.declared.codes.Order.{Order}
 use Rattle.dms_requests.specs.Commands.{CommandModel}
 use Rattle.dms_forms.specs.FieldsReading.{if_last, last_octets_at}
 use Rattle.dms_commands.specs.CommandReading.{command_of}
-use Rattle.dms_centre_lines.specs.Calls.{CentreCall, command, datagram, tick, restart, status}
+use Rattle.dms_centre_lines.specs.Calls.{CentreCall, command, datagram, tick, restart, status, status_last}
+
+-- `last`, and nothing after it
+unfoldable pub last_alone_at : List (List ℕ) → Option CentreCall
+last_alone_at words = do
+  rest ← keyword_at (codes "last") words
+  if_last status_last rest
+
+-- what stands after `status`: nothing, or `last`
+abbrev pub status_after : List (List ℕ) → Option CentreCall
+status_after words = if is_end words then Some status else last_alone_at words
 
 -- what stands after the word with which the line begins
 abbrev pub call_after : List ℕ → List (List ℕ) → Option CentreCall
@@ -14,7 +24,7 @@ call_after word words =
     if same_octets word (codes "datagram") then option_map datagram (last_octets_at words)
     else if same_octets word (codes "tick") then if_last tick words
     else if same_octets word (codes "restart") then if_last restart words
-    else if same_octets word (codes "status") then if_last status words
+    else if same_octets word (codes "status") then status_after words
     else None
 
 -- a call other than a command

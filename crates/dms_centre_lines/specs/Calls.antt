@@ -2,10 +2,12 @@
 use Rattle.std.specs.Prelude.{ℕ, List}
 use Rattle.dms_requests.specs.Commands.{CommandModel}
 
--- an operator's command; a datagram that reached it; a tick of its clock; a restart; or how it stands
+-- an operator's command; a datagram that reached it; a tick of its clock; a restart; how it stands, with its ledger; or
+-- without it
 pub data CentreCall : Type 0 where
   command : CommandModel → CentreCall
   datagram : List ℕ → CentreCall
   tick : CentreCall
   restart : CentreCall
   status : CentreCall
+  status_last : CentreCall

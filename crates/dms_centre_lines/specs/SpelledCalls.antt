@@ -5,15 +5,16 @@ use Rattle.dms_text.specs.Octets.{SpellsOctets}
 use Rattle.dms_codes.specs.declared.codes.Order.{Order}
 use Rattle.dms_forms.specs.Fields.{SpellsOne}
 use Rattle.dms_commands.specs.CommandLine.{SpellsCommand}
-use Rattle.dms_centre_lines.specs.Calls.{CentreCall, command, datagram, tick, restart, status}
+use Rattle.dms_centre_lines.specs.Calls.{CentreCall, command, datagram, tick, restart, status, status_last}
 
--- a command as in a script, a datagram as octets, or a word alone
+-- a command as in a script, a datagram as octets, or words alone
 abbrev pub SpellsCallWords : Order → CentreCall → List (List ℕ) → Type 0
 SpellsCallWords order (command asked) words = SpellsCommand order asked words
 SpellsCallWords order (datagram octets) words = SpellsOne (codes "datagram") (SpellsOctets octets) words
 SpellsCallWords order tick words = words ≡ codes "tick" ∷ []
 SpellsCallWords order restart words = words ≡ codes "restart" ∷ []
 SpellsCallWords order status words = words ≡ codes "status" ∷ []
+SpellsCallWords order status_last words = words ≡ codes "status" ∷ codes "last" ∷ []
 
 -- the line of a call; codes are in this order, and a carriage return belongs to the last word
 abbrev pub SpellsCentreCall : Order → CentreCall → List ℕ → Type 0

@@ -12,7 +12,7 @@ ghost use Rattle.dms_centre_lines.specs.CallReading.{or_command};
 ghost use Rattle.dms_centre_lines.specs.CodeView.{call_model};
 
 use crate::reading::{Call, plain_call};
-use crate::status::status;
+use crate::status::{status, status_last};
 use crate::text::{put_sent, refused, room};
 use dms_centre::{Centre, Command};
 use dms_commands::read_command;
@@ -30,6 +30,7 @@ use std::alloc::{AllocError, Global};
 ///   goes out.
 /// - `restart` restarts it: `ok`.
 /// - `status`: `busy` or `idle`, `last` and how the last job ended, the ledger's lines of a report, and `ok`.
+/// - `status last`: the same without the ledger's lines.
 /// - Any other line is a `bad line`, and changes nothing.
 ///
 /// Where it runs out of memory, nothing has changed: what an answer needs is reserved before the central system is
@@ -57,6 +58,7 @@ fn answer_call(alloc: Global, centre: &mut Centre, call: Call) -> Result<Vec<u8>
         Call::Tick => tick(alloc, centre),
         Call::Restart => restart(alloc, centre),
         Call::Status => status(alloc, centre),
+        Call::StatusLast => status_last(alloc, centre),
     }
 }
 

@@ -2,7 +2,7 @@
 
 ghost use Rattle.std.specs.Prelude.{◌≡◌, IfOk, option_map};
 ghost use Rattle.dms_text.specs.Words.{words_of};
-ghost use Rattle.dms_centre_lines.specs.CallReading.{plain_call_at};
+ghost use Rattle.dms_centre_lines.specs.CallReading.{status_after, plain_call_at};
 ghost use Rattle.dms_centre_lines.specs.CodeView.{call_model};
 
 use dms_forms::fields::last_octets;
@@ -21,6 +21,8 @@ pub(crate) enum Call {
     Restart,
     /// How does it stand?
     Status,
+    /// How does it stand, without its ledger?
+    StatusLast,
 }
 
 /// The call that a line spells, or none where it spells none; a command is none.
@@ -38,8 +40,19 @@ pub(crate) fn plain_call(alloc: Global, line: &[u8]) -> Result<Option<Call>, All
     } else if are_same(word, b"restart") {
         Ok(alone(words, Call::Restart))
     } else if are_same(word, b"status") {
-        Ok(alone(words, Call::Status))
+        Ok(status(words))
     } else {
         Ok(None)
     }
+}
+
+/// What stands after `status`: nothing, or `last` alone.
+#[tactic(auto, unfolding(crate::specs::CallReading::last_alone_at))]
+fn status(words: Words<'_>) -> Option<Call>
+    ensures { option_map call_model result ≡ status_after words.entry }
+{
+    if words.is_empty() {
+        return Some(Call::Status);
+    }
+    alone(words.keyword(b"last")?, Call::StatusLast)
 }

@@ -1,7 +1,7 @@
 //! How a central system stands.
 
 ghost use Rattle.std.specs.Prelude.{◌≡◌, ◌++◌, IfOk, OnOk};
-ghost use Rattle.dms_centre_lines.specs.Answers.{job_line, last_line, status_lines};
+ghost use Rattle.dms_centre_lines.specs.Answers.{job_line, last_line, status_lines, last_lines};
 
 use dms_centre::{Centre, Ended};
 use dms_commands::put_ledger;
@@ -18,6 +18,25 @@ pub(crate) fn status(alloc: Global, centre: &Centre) -> Result<Vec<u8>, AllocErr
         Ok(()) => Ok(text),
         Err(_) => Err(AllocError),
     }
+}
+
+/// The same without its ledger.
+pub(crate) fn status_last(alloc: Global, centre: &Centre) -> Result<Vec<u8>, AllocError>
+    ensures { IfOk result (λ text. text.items ≡ last_lines centre.now.state) }
+{
+    let mut text = Vec::new(alloc);
+    match put_status_last(&mut text, centre) {
+        Ok(()) => Ok(text),
+        Err(_) => Err(AllocError),
+    }
+}
+
+fn put_status_last(text: &mut Vec<u8>, centre: &Centre) -> io::Result<()>
+    ensures { OnOk result (text.new.items ≡ text.old.items ++ last_lines centre.now.state) }
+{
+    put_job(text, centre.busy())?;
+    put_last(text, centre.last())?;
+    text.write_all(b"ok\n")
 }
 
 fn put_status(text: &mut Vec<u8>, centre: &Centre) -> io::Result<()>

@@ -1,5 +1,6 @@
 //! The command line as a call.
 
+use crate::numbers::{DURATION, MEMORY, NUMBER, NumberWord, PAGE, PRIORITY, TYPE, number};
 use crate::subcommands::command;
 use clap::ArgMatches;
 use clap::error::ErrorKind;
@@ -19,20 +20,29 @@ pub enum Usage {
     NamesFile(String),
     /// It has no subcommand, or one without its words.
     NoCall,
+    /// A code names no message of the type of memory that it has.
+    NoMemory,
     /// No memory.
     Memory,
 }
 
 impl fmt::Display for Usage {
+    ghost use Rattle.std.specs.Prelude.{Some};
+    ghost use Rattle.dms_cli.specs.UsageText.{usage_text};
+
+    ghost output = { λ usage. Some (usage_text usage) };
+
     fn fmt<W: fmt::Write>(&self, f: &mut fmt::Formatter<W>) -> fmt::Result {
         match self {
             Usage::Line(lines) => f.write_str(lines.as_str()),
-            Usage::NamesFile(lines) => writeln!(
-                f,
-                "{lines}\nhint: --sign takes no file: the description is read from the standard input, as in \
-                 --sign < FILE"
-            ),
+            Usage::NamesFile(lines) => {
+                writeln!(
+                    f,
+                    "{lines}\nhint: the description is read from standard input: < FILE"
+                )
+            }
             Usage::NoCall => writeln!(f, "a subcommand and its words are wanted"),
+            Usage::NoMemory => writeln!(f, "error: a memory type is 2, 3, 4, 5 or 7"),
             Usage::Memory => writeln!(f, "error: out of memory"),
         }
     }
@@ -79,32 +89,34 @@ pub fn asked<S: AsStr>(alloc: Global, words: &[S]) -> Result<Call<'_>, Usage> {
         return Ok(Call::Version);
     }
     match command(alloc)?.try_get_matches_from(words) {
-        Ok(matches) => call_of(&matches).ok_or(Usage::NoCall),
+        Ok(matches) => call_of(alloc, &matches),
         Err(error) => Err(lines_of(alloc, words, &error)),
     }
 }
 
 /// The call that words are, as clap has read them.
-fn call_of<'a>(matches: &ArgMatches<'a>) -> Option<Call<'a>> {
+fn call_of<'a>(alloc: Global, matches: &ArgMatches<'a>) -> Result<Call<'a>, Usage> {
     if matches.get_flag("version") {
-        return Some(Call::Version);
+        return Ok(Call::Version);
     }
-    let (name, words) = matches.subcommand()?;
+    let Some((name, words)) = matches.subcommand() else {
+        return Err(Usage::NoCall);
+    };
     match name {
-        "answer" => answer(words),
-        "check" => check(words),
-        "pages" => pages(words),
-        "decode" => decode(words),
-        "items" => items(words),
-        _ => other_call(name, words),
+        "pages" => pages(alloc, words),
+        "code" => Ok(Call::Code(code_words(alloc, words)?)),
+        "activation" => Ok(Call::Activation(activation_words(alloc, words)?)),
+        _ => call_without_numbers(name, words).ok_or(Usage::NoCall),
     }
 }
 
-/// The call of a subcommand that takes a code, or no word at all.
-fn other_call<'a>(name: &str, words: &ArgMatches<'a>) -> Option<Call<'a>> {
+/// The call of a subcommand that takes no number.
+fn call_without_numbers<'a>(name: &str, words: &ArgMatches<'a>) -> Option<Call<'a>> {
     match name {
-        "code" => Some(Call::Code(code_words(words)?)),
-        "activation" => Some(Call::Activation(activation_words(words)?)),
+        "answer" => answer(words),
+        "check" => check(words),
+        "decode" => decode(words),
+        "items" => items(words),
         "replay" => Some(Call::Replay),
         "sign" => Some(Call::Sign {
             sign: sign_wanted(words),
@@ -131,11 +143,11 @@ fn check<'a>(words: &ArgMatches<'a>) -> Option<Call<'a>> {
     })
 }
 
-fn pages<'a>(words: &ArgMatches<'a>) -> Option<Call<'a>> {
-    Some(Call::Pages {
-        text: words.get_str("TEXT")?,
+fn pages<'a>(alloc: Global, words: &ArgMatches<'a>) -> Result<Call<'a>, Usage> {
+    Ok(Call::Pages {
+        text: words.get_str("TEXT").ok_or(Usage::NoCall)?,
         sign: sign_wanted(words),
-        drawing: wanted_drawing(words),
+        drawing: wanted_drawing(alloc, words)?,
     })
 }
 
@@ -173,43 +185,82 @@ fn wanted_form(words: &ArgMatches<'_>) -> Form {
 }
 
 /// How the words of `pages` want them drawn.
-fn wanted_drawing(words: &ArgMatches<'_>) -> Drawing {
-    Drawing {
+fn wanted_drawing(alloc: Global, words: &ArgMatches<'_>) -> Result<Drawing, Usage> {
+    let page = match words.get_str(PAGE.id) {
+        Some(word) => Some(octet(number_of(alloc, word, PAGE)?)?),
+        None => None,
+    };
+    Ok(Drawing {
         svg: words.get_flag("svg"),
-        page: words.get_one::<u8>("page"),
-    }
-}
-
-/// The words of `code`, which clap has read by their ranges.
-fn code_words<'a>(code: &ArgMatches<'a>) -> Option<CodeWords<'a>> {
-    let memory = code.get_one::<u8>("TYPE")?;
-    let number = code.get_one::<u16>("NUMBER")?;
-    Some(CodeWords {
-        row: TableRow::of(memory, number)?,
-        text: code.get_str("TEXT")?,
-        beacon: code.get_flag("beacon"),
-        pixel: code.get_flag("pixel"),
-        terms: term_words(code)?,
+        page,
     })
 }
 
-/// The words of `activation`, which clap has read by their ranges.
-fn activation_words<'a>(words: &ArgMatches<'a>) -> Option<ActivationWords<'a>> {
-    let memory = words.get_one::<u8>("MEMORY")?;
-    let number = words.get_one::<u16>("NUMBER")?;
-    Some(ActivationWords {
-        message: MessageName::of(memory, number)?,
-        checksum: words.get_str("CHECKSUM")?,
-        terms: term_words(words)?,
+fn code_words<'a>(alloc: Global, code: &ArgMatches<'a>) -> Result<CodeWords<'a>, Usage> {
+    let memory = octet(wanted_number(alloc, code, TYPE)?)?;
+    let number = wanted_number(alloc, code, NUMBER)?;
+    let terms = term_words(alloc, code)?;
+    Ok(CodeWords {
+        row: TableRow::of(memory, number).ok_or(Usage::NoCall)?,
+        text: code.get_str("TEXT").ok_or(Usage::NoCall)?,
+        beacon: code.get_flag("beacon"),
+        pixel: code.get_flag("pixel"),
+        terms,
+    })
+}
+
+fn activation_words<'a>(
+    alloc: Global,
+    words: &ArgMatches<'a>,
+) -> Result<ActivationWords<'a>, Usage> {
+    let memory = octet(wanted_number(alloc, words, MEMORY)?)?;
+    let number = wanted_number(alloc, words, NUMBER)?;
+    let terms = term_words(alloc, words)?;
+    Ok(ActivationWords {
+        message: MessageName::of(memory, number).ok_or(Usage::NoMemory)?,
+        checksum: words.get_str("CHECKSUM").ok_or(Usage::NoCall)?,
+        terms,
     })
 }
 
 /// How the words of a subcommand want a message activated.
-fn term_words<'a>(words: &ArgMatches<'a>) -> Option<TermWords<'a>> {
-    Some(TermWords {
+fn term_words<'a>(alloc: Global, words: &ArgMatches<'a>) -> Result<TermWords<'a>, Usage> {
+    Ok(TermWords {
         swapped: words.get_flag("swapped"),
-        duration: words.get_one::<u16>("duration")?,
-        priority: words.get_one::<u8>("priority")?,
-        address: words.get_str("address")?,
+        duration: wanted_number(alloc, words, DURATION)?,
+        priority: octet(wanted_number(alloc, words, PRIORITY)?)?,
+        address: words.get_str("address").ok_or(Usage::NoCall)?,
     })
+}
+
+/// The number that a word or an option of a subcommand has.
+fn wanted_number(alloc: Global, words: &ArgMatches<'_>, wanted: NumberWord) -> Result<u16, Usage> {
+    match words.get_str(wanted.id) {
+        Some(word) => number_of(alloc, word, wanted),
+        None => Err(Usage::NoCall),
+    }
+}
+
+/// The octet of a number that is wanted below 256.
+fn octet(number: u16) -> Result<u8, Usage> {
+    u8::try_from(number).or(Err(Usage::NoCall))
+}
+
+/// The number that this word spells.
+fn number_of(alloc: Global, word: &str, wanted: NumberWord) -> Result<u16, Usage> {
+    match number(word, wanted.low, wanted.high) {
+        Some(number) => Ok(number),
+        None => Err(no_number(alloc, word, wanted)),
+    }
+}
+
+/// What is said of a word that is not the number that is wanted.
+fn no_number(alloc: Global, word: &str, wanted: NumberWord) -> Usage {
+    let (shown, low, high) = (wanted.shown, wanted.low, wanted.high);
+    match format!(in alloc;
+        "error: invalid value '{word}' for '{shown}': a number from {low} to {high}, in digits alone, is wanted\n"
+    ) {
+        Ok(lines) => Usage::Line(lines),
+        Err(_) => Usage::Memory,
+    }
 }

@@ -7,6 +7,7 @@
 #![tactic(auto)]
 
 mod command_line;
+mod numbers;
 mod subcommands;
 mod word;
 

@@ -4,10 +4,14 @@ use crate::word::{Flag, Valued, Wanted, Word, arg};
 use clap::Command;
 use std::alloc::{AllocError, Global};
 
-/// Which sign answers.
+/// Which sign answers, and where the manual is.
 const WHICH_SIGN: &str =
     "Where --sign is not given the bench sign answers: 23 columns and 14 rows, with the characters 1 A B [ ] and the \
-     permanent message B.\nWith --sign the standard input describes the sign: signtool check --sign TEXT < FILE";
+     permanent message B.\nWith --sign the standard input describes the sign: signtool check --sign TEXT < FILE\nThe \
+     manual is wisangub-signtool(1), or `The program` of docs/PROFILE.md.";
+
+/// Where the manual is: the last line of each help.
+const MANUAL: &str = "The manual is wisangub-signtool(1), or `The program` of docs/PROFILE.md.";
 
 /// A subcommand.
 #[derive(Clone, Copy)]
@@ -110,6 +114,7 @@ pub(crate) fn command<'a>(alloc: Global) -> Result<Command<'a>, AllocError> {
         .about("A dynamic message sign's controller on the command line")
         .after_help(WHICH_SIGN)
         .subcommand_required(true)
+        .arg_required_else_help(true)
         .arg(arg(alloc, Word::Flag(Flag::Version)))?;
     for subcommand in &SUBCOMMANDS {
         command = command.subcommand(with_words(alloc, subcommand)?)?;
@@ -119,7 +124,9 @@ pub(crate) fn command<'a>(alloc: Global) -> Result<Command<'a>, AllocError> {
 
 /// A subcommand with its words and options.
 fn with_words<'a>(alloc: Global, subcommand: &Subcommand) -> Result<Command<'a>, AllocError> {
-    let mut command = Command::new(alloc, subcommand.name).about(subcommand.about);
+    let mut command = Command::new(alloc, subcommand.name)
+        .about(subcommand.about)
+        .after_help(MANUAL);
     for word in subcommand.words {
         command = command.arg(arg(alloc, *word))?;
     }

@@ -1,10 +1,7 @@
 //! The words and the options of the program's subcommands, and their help.
 
-use clap::{Arg, ArgAction, value_parser};
+use clap::{Arg, ArgAction};
 use std::alloc::Global;
-
-/// The types of memory that a code can name.
-const MEMORIES: [&str; 5] = ["2", "3", "4", "5", "7"];
 
 /// A word or an option of a subcommand.
 #[derive(Clone, Copy)]
@@ -62,13 +59,7 @@ pub(crate) fn arg<'a>(alloc: Global, word: Word) -> Arg<'a> {
 impl Wanted {
     fn arg<'a>(self, alloc: Global) -> Arg<'a> {
         let (name, help) = self.name_and_help();
-        let arg = Arg::new(alloc, name).required(true).help(help);
-        match self {
-            Wanted::Datagram | Wanted::Text | Wanted::Checksum => arg,
-            Wanted::RowMemory => arg.value_parser(value_parser!(u8).range(2..=4)),
-            Wanted::CodeMemory => arg.value_parser(MEMORIES.as_slice()),
-            Wanted::Number => arg.value_parser(value_parser!(u16).range(1..)),
-        }
+        Arg::new(alloc, name).required(true).help(help)
     }
 
     fn name_and_help<'a>(self) -> (&'a str, &'a str) {
@@ -136,9 +127,9 @@ impl Valued {
             .value_name(value)
             .help(help);
         match self {
-            Valued::Page => arg.value_parser(value_parser!(u8).range(1..=6)),
-            Valued::Duration => arg.value_parser(value_parser!(u16)).default_value("65535"),
-            Valued::Priority => arg.value_parser(value_parser!(u8)).default_value("255"),
+            Valued::Page => arg,
+            Valued::Duration => arg.default_value("65535"),
+            Valued::Priority => arg.default_value("255"),
             Valued::Address => arg.default_value("0.0.0.0"),
         }
     }

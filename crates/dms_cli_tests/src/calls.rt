@@ -61,16 +61,27 @@ fn answers(rt: HostRuntime) {
 
 #[test]
 fn calls(rt: HostRuntime) -> Result<(), Fail> {
-    for cases in [cases::TEXTS.as_slice(), cases::ACTIVATIONS.as_slice()] {
-        for (line, printed, status) in cases {
-            let found = called(rt.alloc(), line, "", printed);
-            assert_eq!(rt; found, Some((*status, true)), "for {line}");
-        }
+    for (line, printed, status) in cases::TEXTS {
+        let found = called(rt.alloc(), line, "", printed);
+        assert_eq!(rt; found, Some((status, true)), "for {line}");
     }
     for (line, crc, code) in cases::CODES {
         let printed = format!(in rt.alloc(); "crc {crc}\ncode {code}\n")?;
         let found = called(rt.alloc(), line, "", printed.as_str());
         assert_eq!(rt; found, Some((0, true)), "for {line}");
+    }
+    Ok(())
+}
+
+/// A code, or a refusal with its status. What is wrong with a checksum is said before what is wrong with an address.
+#[test]
+fn activations(rt: HostRuntime) -> Result<(), Fail> {
+    for case in cases::ACTIVATIONS.lines() {
+        let (line, wanted) = case.split_once('|').unwrap_or((case, ""));
+        let (printed, status) = wanted.split_once('|').unwrap_or((wanted, ""));
+        let printed = format!(in rt.alloc(); "{printed}\n")?;
+        let found = called(rt.alloc(), line, "", printed.as_str());
+        assert_eq!(rt; found, Some((status.parse::<u8>()?, true)), "for {line}");
     }
     Ok(())
 }
@@ -116,6 +127,25 @@ fn readers(rt: HostRuntime) {
             assert_eq!(rt; found, Some((*status, true, true)), "for {line}");
         }
     }
+}
+
+/// Each refusal says why.
+#[test]
+fn refusals_say_why(rt: HostRuntime) -> Result<(), Fail> {
+    for case in cases::REFUSED.lines() {
+        let (line, rest) = case.split_once('|').unwrap_or((case, ""));
+        let (printed, rest) = rest.split_once('|').unwrap_or((rest, ""));
+        let (status, said) = rest.split_once('|').unwrap_or((rest, ""));
+        let printed = format!(in rt.alloc(); "{printed}\n")?;
+        let said = format!(in rt.alloc(); "{said}\n")?;
+        let found = called_saying(rt.alloc(), line, printed.as_str(), said.as_str());
+        assert_eq!(rt;
+            found,
+            Some((status.parse::<u8>()?, true, true)),
+            "for {line}"
+        );
+    }
+    Ok(())
 }
 
 #[test]
@@ -187,13 +217,30 @@ fn usage_of(alloc: Global, line: &str) -> Option<String> {
     }
 }
 
+/// A number is digits alone, within its range, and what is said of another word names it.
+#[test]
+fn numbers_are_digits_alone(rt: HostRuntime) {
+    for case in cases::NO_NUMBERS.lines() {
+        let (line, said) = case.split_once('|').unwrap_or((case, ""));
+        let usage = usage_of(rt.alloc(), line);
+        let found = match &usage {
+            Some(usage) => !said.is_empty() && usage.as_str().contains(said),
+            None => false,
+        };
+        assert!(rt; found, "for {line}");
+    }
+}
+
 /// Where a word follows `--sign` as if it named a file, the last line says how a description is given.
 #[test]
 fn hints_at_the_standard_input(rt: HostRuntime) {
     for (line, is_hinted) in cases::HINTED {
         let usage = usage_of(rt.alloc(), line);
         let found = match &usage {
-            Some(said) => Some(said.as_str().ends_with(" as in --sign < FILE\n")),
+            Some(said) => Some(
+                said.as_str()
+                    .ends_with("the description is read from standard input: < FILE\n"),
+            ),
             None => None,
         };
         assert_eq!(rt; found, Some(is_hinted), "for {line}");
@@ -208,6 +255,7 @@ fn the_help_names_the_version_and_the_bench_sign(rt: HostRuntime) {
         "--version",
         "activation",
         "Where --sign is not given the bench sign answers",
+        "The manual is wisangub-signtool(1)",
     ] {
         let found = match &usage {
             Some(said) => said.as_str().contains(wanted),

@@ -1,6 +1,7 @@
 -- The lines of commands read from their beginning, which the calls say of themselves; `command_found` and
 -- `command_only` in proofs/ join it to the lines that spell commands (this profile).
-use Rattle.std.specs.Prelude.{ℕ, ◌==◌, if◌then◌else◌, List, [], ◌∷◌, length, codes, Option, Some, None, option_map}
+use Rattle.std.specs.Prelude.{ℕ, ◌≡◌, ◌==◌, Bool, true, false, if◌then◌else◌, List, [], ◌∷◌, length, codes, Option}
+use Rattle.std.specs.Prelude.{Some, None, option_map}
 use Rattle.std.specs.Prelude.{Result, Ok, Err}
 use Rattle.std.specs.Str.{byte}
 use Rattle.hex.specs.Hex.{decode_of}
@@ -107,3 +108,21 @@ command_of order line = do
   found ← word_at (words_of line)
   keyword ← command_word found.0
   command_after order keyword found.1
+
+-- ---- lines that may want memory
+
+-- the command's line carries octets: a message's, or a code's
+abbrev pub carries_octets : CommandWord → Bool
+carries_octets key.Publish = true
+carries_octets key.Blank = false
+carries_octets key.Activate = true
+
+-- the keyword with which a line begins
+unfoldable pub keyword_of : List ℕ → Option CommandWord
+keyword_of line = do
+  found ← word_at (words_of line)
+  command_word found.0
+
+-- the line begins as that of a command that carries octets
+abbrev pub IsOfOctets : List ℕ → Type 0
+IsOfOctets line = option_map carries_octets (keyword_of line) ≡ Some true

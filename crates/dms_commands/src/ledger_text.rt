@@ -1,6 +1,6 @@
 //! The activations of a central system's ledger, as lines of text.
 
-ghost use Rattle.std.specs.Prelude.{◌≡◌, ◌++◌, ℕ, OnOk, flat_map};
+ghost use Rattle.std.specs.Prelude.{◌≡◌, ◌<◌, ◌+◌, ◌++◌, ℕ, OnOk, OnErr, flat_map, vec_len, vec_capacity};
 ghost use Rattle.dms_centre.specs.CodeView.{entry_model};
 ghost use Rattle.dms_centre.specs.declared.ledger.Entry.{Entry};
 ghost use Rattle.dms_commands.specs.LedgerLine.{ledger_line};
@@ -21,9 +21,10 @@ pub fn put_ledger(report: &mut Vec<u8>, centre: &Centre) -> Result<(), AllocErro
 }
 
 /// Appends the octets of a code, numbers high octet first and its checksum in this order, as pairs of lower case
-/// hexadecimal digits.
+/// hexadecimal digits. It takes no memory where the text has room for them.
 pub fn put_code(text: &mut Vec<u8>, order: Order, code: &Activation) -> Result<(), AllocError>
-    ensures { OnOk result (text.new.items ≡ text.old.items ++ code_text order code.now) }
+    ensures text { OnOk result (text.new.items ≡ text.old.items ++ code_text order code.now) }
+    ensures memory { OnErr result (vec_capacity text.old < vec_len text.old + 24) }
 {
     let mut digits = [0; 24];
     hex::encode_to_slice(code.to_bytes(order).as_slice(), &mut digits).unwrap();

@@ -1,7 +1,8 @@
 //! The lines of commands.
 
-ghost use Rattle.std.specs.Prelude.{◌≡◌, IfOk, option_map};
+ghost use Rattle.std.specs.Prelude.{◌≡◌, true, IfOk, OnErr, option_map};
 ghost use Rattle.dms_commands.specs.CommandReading.{publish_at, blank_at, command_after, command_of};
+ghost use Rattle.dms_commands.specs.CommandReading.{carries_octets, IsOfOctets};
 ghost use Rattle.dms_commands.specs.CommandView.{owned_command_model};
 
 use crate::command_word::CommandWord;
@@ -12,14 +13,16 @@ use dms_forms::fields::{next_octets, two_octets};
 use dms_text::Words;
 use std::alloc::{AllocError, Global};
 
-/// The command that a line spells, or none where it spells none. A code is in this order.
-#[tactic(auto, unfolding(crate::specs::CommandReading::command_of))]
+/// The command that a line spells, or none where it spells none. A code is in this order. Only a line that carries
+/// octets wants memory.
+#[tactic(auto, unfolding(crate::specs::CommandReading::command_of, crate::specs::CommandReading::keyword_of))]
 pub fn read_command(
     alloc: Global,
     order: Order,
     line: &[u8],
 ) -> Result<Option<OwnedCommand>, AllocError>
-    ensures { IfOk result (λ found. option_map owned_command_model found ≡ command_of order line.now) }
+    ensures command { IfOk result (λ found. option_map owned_command_model found ≡ command_of order line.now) }
+    ensures memory { OnErr result (IsOfOctets line.now) }
 {
     let Some((word, words)) = Words::of(line).next_word() else {
         return Ok(None);
@@ -30,14 +33,16 @@ pub fn read_command(
     command_after(alloc, order, keyword, words)
 }
 
-/// The command that begins with this word and goes on with these, or none.
+/// The command that begins with this word and goes on with these, or none. Only one that carries octets wants memory.
 pub fn command_after(
     alloc: Global,
     order: Order,
     keyword: CommandWord,
     words: Words<'_>,
 ) -> Result<Option<OwnedCommand>, AllocError>
-    ensures { IfOk result (λ found. option_map owned_command_model found ≡ command_after order keyword words.entry) }
+    ensures command { IfOk result (λ found. option_map owned_command_model found
+        ≡ command_after order keyword words.entry) }
+    ensures memory { OnErr result (carries_octets keyword ≡ true) }
 {
     match keyword {
         CommandWord::Publish => publish(alloc, words),

@@ -1,10 +1,10 @@
 //! Descriptions that are read: an input to its end, or its lines up to the line `end`, before a conversation.
 
-ghost use Rattle.std.specs.Prelude.{◌≡◌, ◌≢◌, ◌≤◌, ◌<◌, ℕ, length, Err, IfOk, IfSome};
+ghost use Rattle.std.specs.Prelude.{◌≡◌, ◌≢◌, ◌≤◌, ◌<◌, ◌+◌, ℕ, length, Err, IfOk, OnErr, IfSome};
 ghost use Rattle.std.specs.Str.Lines.{lines};
 ghost use Rattle.dms_streams.specs.Calls.{one_more};
-ghost use Rattle.dms_streams.specs.Lines.{left};
-ghost use Rattle.dms_streams.specs.DescriptionText.{TakesDescription, longest_input};
+ghost use Rattle.dms_streams.specs.Lines.{left, TakesAtMost, longest_piece};
+ghost use Rattle.dms_streams.specs.DescriptionText.{TakesDescription, LeavesLinesAfterEnd, longest_input};
 ghost use Rattle.dms_description.specs.Before.{Describes, NotDescribed, IsRefusedBefore};
 ghost use Rattle.dms_description.specs.Description.{Description, SpellsDescription};
 ghost use Rattle.dms_description.specs.RefusedLine.{all_numbered, IsRefusedLine};
@@ -46,6 +46,8 @@ pub fn whole_input<R: Source>(alloc: Global, reader: &mut R) -> Result<Vec<u8>, 
     ensures short { IfOk result (λ octets. length octets.items ≤ longest_input) }
     ensures too_long { result ≡ Err faults.TooLong
         → IfSome (R.remaining reader.old) (λ all. longest_input < length all) }
+    ensures lost { OnErr result
+        (TakesAtMost (longest_input + longest_piece) (R.remaining reader.old) (R.remaining reader.new)) }
     ensures failed { result ≡ Err faults.Read → R.failed reader.new ≡ one_more (R.failed reader.old) }
     ensures unfailed { result ≢ Err faults.Read → R.failed reader.new ≡ R.failed reader.old }
     ensures no_write { result ≢ Err faults.Write }
@@ -55,7 +57,8 @@ pub fn whole_input<R: Source>(alloc: Global, reader: &mut R) -> Result<Vec<u8>, 
     Ok(octets)
 }
 
-/// Reads the description of a sign up to its line `end`: at most 1,048,576 octets. The lines after it are left.
+/// Reads the description of a sign up to its line `end`: at most 1,048,576 octets. The lines after it are left, also
+/// where it describes no sign. It stops before the first octet past that many, so also where the input never ends.
 pub fn described_before<S: Source>(
     alloc: Global,
     input: &mut Input<S>,
@@ -64,6 +67,10 @@ pub fn described_before<S: Source>(
     ensures line { (number : ℕ) → result ≡ Err (faults.Line number) → NotDescribed (left S.remaining input.old) }
     ensures number { (number : ℕ) → result ≡ Err (faults.Line number)
         → IsRefusedBefore (left S.remaining input.old) number }
+    ensures rest { (number : ℕ) → result ≡ Err (faults.Line number)
+        → LeavesLinesAfterEnd (left S.remaining input.old) (left S.remaining input.new) }
+    ensures lost { result ≡ Err faults.TooLong
+        → TakesAtMost longest_input (left S.remaining input.old) (left S.remaining input.new) }
     ensures too_long { result ≡ Err faults.TooLong
         → IfSome (left S.remaining input.old) (λ octets. longest_input < length octets) }
     ensures read { result ≡ Err faults.Read → S.failed input.new.source ≡ one_more (S.failed input.old.source) }
@@ -82,6 +89,8 @@ pub fn described_before<S: Source>(
 pub fn text_before<S: Source>(alloc: Global, input: &mut Input<S>) -> Result<Vec<u8>, ReplayFault>
     ensures text { IfOk result
         (λ text. TakesDescription (left S.remaining input.old) text.items (left S.remaining input.new)) }
+    ensures lost { OnErr result
+        (TakesAtMost longest_input (left S.remaining input.old) (left S.remaining input.new)) }
     ensures too_long { result ≡ Err faults.TooLong
         → IfSome (left S.remaining input.old) (λ octets. longest_input < length octets) }
     ensures read { result ≡ Err faults.Read → S.failed input.new.source ≡ one_more (S.failed input.old.source) }

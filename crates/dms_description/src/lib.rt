@@ -40,7 +40,7 @@ pub use describing::{described, described_before, text_before, whole_input};
 pub use dms_streams::LONGEST_INPUT;
 pub use fault::DescriptionFault;
 pub use reader::{description, sign_of_lines};
-pub use reading_fault::ReplayFault;
+pub use reading_fault::{ReplayFault, write_fault};
 pub use reasons::{first_cause, why};
 pub use setup::Setup;
 pub use shown_text::put_shown;

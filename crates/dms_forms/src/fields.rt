@@ -1,6 +1,7 @@
 //! What words of a line spell: numbers of one, two and four octets, and octets.
 
-ghost use Rattle.std.specs.Prelude.{◌≡◌, IfOk, option_map};
+ghost use Rattle.std.specs.Prelude.{◌≡◌, IfOk, OnErr, IsSome, option_map};
+ghost use Rattle.dms_text.specs.Reading.{word_at};
 ghost use Rattle.dms_forms.specs.FieldsReading.{octet_at, two_octets_at, last_number_at};
 ghost use Rattle.dms_forms.specs.FieldsReading.{octets_at, last_octets_at};
 ghost use Rattle.dms_text.specs.Views.{octets_found};
@@ -32,13 +33,14 @@ pub fn last_number(words: Words<'_>) -> Option<u32>
     if rest.is_empty() { Some(number) } else { None }
 }
 
-/// Octets as pairs of hexadecimal digits, and the words after them.
+/// Octets as pairs of hexadecimal digits, and the words after them. Where there is no word no memory is asked for.
 #[tactic(auto, unfolding(crate::specs::FieldsReading::octets_at))]
 pub fn next_octets(
     alloc: Global,
     words: Words<'_>,
 ) -> Result<Option<(Vec<u8>, Words<'_>)>, AllocError>
-    ensures { IfOk result (λ found. option_map octets_and_rest found ≡ octets_at words.entry) }
+    ensures octets { IfOk result (λ found. option_map octets_and_rest found ≡ octets_at words.entry) }
+    ensures memory { OnErr result (IsSome (word_at words.entry)) }
 {
     let Some((word, rest)) = words.next_word() else {
         return Ok(None);
@@ -49,10 +51,11 @@ pub fn next_octets(
     }
 }
 
-/// Octets as pairs of hexadecimal digits, and nothing after them.
+/// Octets as pairs of hexadecimal digits, and nothing after them. Where there is no word no memory is asked for.
 #[tactic(auto, unfolding(crate::specs::FieldsReading::last_octets_at))]
 pub fn last_octets(alloc: Global, words: Words<'_>) -> Result<Option<Vec<u8>>, AllocError>
-    ensures { IfOk result (λ found. octets_found found ≡ last_octets_at words.entry) }
+    ensures octets { IfOk result (λ found. octets_found found ≡ last_octets_at words.entry) }
+    ensures memory { OnErr result (IsSome (word_at words.entry)) }
 {
     match next_octets(alloc, words)? {
         Some((octets, rest)) if rest.is_empty() => Ok(Some(octets)),

@@ -1,6 +1,6 @@
 //! Pages as octets: of each page its times, its background, and an octet for each cell.
 
-ghost use Rattle.std.specs.Prelude.{◌≡◌, ◌++◌, ◌∷◌, [], ◌<◌, ◌≤◌, ◌+◌, ◌*◌, ◌/◌, length, drop, IfOk, OnOk};
+ghost use Rattle.std.specs.Prelude.{◌≡◌, ◌++◌, ◌∷◌, [], ◌<◌, ◌≤◌, ◌+◌, ◌*◌, ◌/◌, length, drop, IfOk, OnOk, OnErr};
 ghost use Rattle.dms_lines.specs.PageOctets.{first_mark, lit_mark, look, lit_time, dark_time, cell_octet, row_octets};
 ghost use Rattle.dms_lines.specs.PageOctets.{rows_octets, page_octets, pages_octets, lit_in, eight_bits, row_bits};
 
@@ -36,9 +36,10 @@ impl Layer {
     }
 }
 
-/// Pages as octets, which say of each cell what `layer` names.
+/// Pages as octets, which say of each cell what `layer` names. Where there is no page no memory is asked for.
 pub fn pages_octets(alloc: Global, layer: Layer, pages: &[Page]) -> Result<Vec<u8>, AllocError>
-    ensures { IfOk result (λ octets. octets.items ≡ pages_octets layer pages.now) }
+    ensures octets { IfOk result (λ octets. octets.items ≡ pages_octets layer pages.now) }
+    ensures memory { OnErr result (0 < length pages.now) }
 {
     let mut octets = Vec::new(alloc);
     put_pages(&mut octets, layer, pages)?;
@@ -46,7 +47,8 @@ pub fn pages_octets(alloc: Global, layer: Layer, pages: &[Page]) -> Result<Vec<u
 }
 
 fn put_pages(octets: &mut Vec<u8>, layer: Layer, pages: &[Page]) -> Result<(), AllocError>
-    ensures { OnOk result (octets.new.items ≡ octets.old.items ++ pages_octets layer pages.now) }
+    ensures octets { OnOk result (octets.new.items ≡ octets.old.items ++ pages_octets layer pages.now) }
+    ensures memory { OnErr result (0 < length pages.now) }
 {
     for page in pages {
         put_page(octets, layer, page)?;

@@ -1,6 +1,6 @@
 //! Pages as text: a line of a page's times and its background, and a line for each row of the matrix.
 
-ghost use Rattle.std.specs.Prelude.{◌≡◌, ◌++◌, ◌<◌, IfOk, OnOk};
+ghost use Rattle.std.specs.Prelude.{◌≡◌, ◌++◌, ◌<◌, length, IfOk, OnOk, OnErr};
 ghost use Rattle.dms_lines.specs.PageText.{cell_text, cells_text, row_text, page_line, rows_text, page_text};
 ghost use Rattle.dms_lines.specs.PageText.{pages_text};
 
@@ -12,15 +12,15 @@ use std::io::Write;
 
 /// Pages as text, counted from 1: a line `page NUMBER on TENTHS off TENTHS back COLOUR` with a page's times, in tenths
 /// of a second, and its background, and a line for each row of the matrix, from the top, with a dot for each
-/// cell that is unlit, else the digit of its colour. Each line ends in a newline.
+/// cell that is unlit, else the digit of its colour. Each line ends in a newline. Where there is no page no memory is
+/// asked for.
 pub fn pages_text(alloc: Global, pages: &[Page]) -> Result<Vec<u8>, AllocError>
-    ensures { IfOk result (λ text. text.items ≡ pages_text pages.now) }
+    ensures text { IfOk result (λ text. text.items ≡ pages_text pages.now) }
+    ensures memory { OnErr result (0 < length pages.now) }
 {
     let mut text = Vec::new(alloc);
-    match put_pages(&mut text, pages) {
-        Ok(()) => Ok(text),
-        Err(_) => Err(AllocError),
-    }
+    put_pages(&mut text, pages)?;
+    Ok(text)
 }
 
 /// The text of one page under its number, as the text of pages has it.
@@ -34,12 +34,16 @@ pub fn numbered_page(alloc: Global, number: usize, page: &Page) -> Result<Vec<u8
     }
 }
 
-/// Appends the text of pages.
-pub fn put_pages(text: &mut Vec<u8>, pages: &[Page]) -> io::Result<()>
-    ensures { OnOk result (text.new.items ≡ text.old.items ++ pages_text pages.now) }
+/// Appends the text of pages. Where there is none no memory is asked for.
+pub fn put_pages(text: &mut Vec<u8>, pages: &[Page]) -> Result<(), AllocError>
+    ensures text { OnOk result (text.new.items ≡ text.old.items ++ pages_text pages.now) }
+    ensures memory { OnErr result (0 < length pages.now) }
 {
     for (index, page) in pages.iter().enumerate() {
-        put_page(text, index + 1, page)?;
+        match put_page(text, index + 1, page) {
+            Ok(()) => {}
+            Err(_) => return Err(AllocError),
+        }
     }
     Ok(())
 }

@@ -1,5 +1,6 @@
 -- The objects of a sign, one table (NTCIP 1203, each object's SYNTAX and ACCESS, narrowed to this profile).
 use Rattle.std.specs.Prelude.{ℕ, Bool, true, false, List, [], ◌∷◌, ◌++◌, map, codes}
+use Rattle.dms_codes.specs.Limits.{longest_text, longest_owner}
 use Rattle.dms_objects.specs.declared.column.Column.{Column}
 use Rattle.dms_objects.specs.declared.column.Column.TheVariants.{MemoryType, Number, MultiString, Owner, Crc}
 use Rattle.dms_objects.specs.declared.column.Column.TheVariants.{Beacon, PixelService, RunTimePriority, Status}
@@ -160,9 +161,9 @@ column_row MemoryType = row (codes "dmsMessageMemoryType") DmsMessageEntry 1 Rea
 -- The number of the row in its kind of memory.
 column_row Number = row (codes "dmsMessageNumber") DmsMessageEntry 2 Read (Range 1 65535)
 -- The text of the message, in MULTI.
-column_row MultiString = row (codes "dmsMessageMultiString") DmsMessageEntry 3 Write (Octets 0 512)
+column_row MultiString = row (codes "dmsMessageMultiString") DmsMessageEntry 3 Write (Octets 0 longest_text)
 -- Who the message is from.
-column_row Owner = row (codes "dmsMessageOwner") DmsMessageEntry 4 Write (Octets 0 127)
+column_row Owner = row (codes "dmsMessageOwner") DmsMessageEntry 4 Write (Octets 0 longest_owner)
 -- The checksum of text, beacon and pixel service while the row is valid, else 0; in the sign's order of its two
 -- octets.
 column_row Crc = row (codes "dmsMessageCRC") DmsMessageEntry 5 Read (Range 0 65535)

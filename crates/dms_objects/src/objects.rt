@@ -2,6 +2,7 @@
 
 use crate::column::Column;
 use crate::scalar::Scalar;
+use dms_codes::{MAX_OWNER, MAX_TEXT};
 
 /// A node below dms that objects stand under.
 #[derive(Clone, Copy, Debug, PartialEq, Eq)]
@@ -278,7 +279,7 @@ pub const OBJECTS: [(&str, Object); 45] = [
             group: Group::DmsMessageEntry,
             number: 3,
             access: Access::Write,
-            syntax: Syntax::Octets(0, 512),
+            syntax: Syntax::Octets(0, MAX_TEXT as u16),
             instances: Instances::EachRow(Column::MultiString),
         },
     ),
@@ -288,7 +289,7 @@ pub const OBJECTS: [(&str, Object); 45] = [
             group: Group::DmsMessageEntry,
             number: 4,
             access: Access::Write,
-            syntax: Syntax::Octets(0, 127),
+            syntax: Syntax::Octets(0, MAX_OWNER as u16),
             instances: Instances::EachRow(Column::Owner),
         },
     ),

@@ -1,11 +1,12 @@
 //! A sign and a centre that answer lines.
 
-ghost use Rattle.std.specs.Prelude.{◌≡◌, IfOk};
+ghost use Rattle.std.specs.Prelude.{◌≡◌, IfOk, IsOk};
 ghost use Rattle.dms_centre.specs.State.{start};
 
 use dms_centre::{Centre, Settings};
 use dms_description::Setup;
 use dms_sign::Sign;
+use dms_sign::laws::signs_are_kept;
 use dms_streams::Party;
 use std::alloc::{AllocError, Global};
 use std::marker::Model;
@@ -66,12 +67,14 @@ impl Model for LiveCentre {
 
 impl LiveCentre {
     /// The centre of a sign, as it starts: it has the sign's writing community and its order, and the first number that
-    /// was described. `Err` only out of memory.
+    /// was described. It is always `Ok`: a sign's communities are a centre's, and no memory is taken.
     pub fn new(alloc: Global, setup: &Setup) -> Result<LiveCentre, AllocError>
-        ensures { IfOk result (λ party. party
+        ensures party { IfOk result (λ party. party
             ≡ start (record { community = setup.now.sign.config.writer; order = setup.now.sign.table.order })
             setup.now.first) }
+        ensures always { IsOk result }
     {
+        signs_are_kept(&setup.sign);
         let settings = Settings {
             community: setup.sign.writer(),
             order: setup.sign.order(),

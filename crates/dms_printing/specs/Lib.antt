@@ -1,4 +1,7 @@
 -- what a reader must believe of what is printed
 pub mod CodeLine
+pub mod CodeAnswers
 pub mod ExitNumbers
 pub mod ObjectNames
+pub mod Printed
+pub mod TextAnswers

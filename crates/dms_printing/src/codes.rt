@@ -1,99 +1,223 @@
 //! The codes that activate messages.
 
-ghost use Rattle.std.specs.Prelude.{◌≡◌, ◌++◌, if◌then◌else◌, OnOk};
-ghost use Rattle.dms_codes.specs.declared.codes.Order.{Order};
-ghost use Rattle.dms_codes.specs.declared.codes.Order.TheVariants.{High, Swapped};
-ghost use Rattle.dms_codes.specs.declared.codes.Activation.{Activation};
+ghost use Rattle.std.specs.Prelude.{◌≡◌, ◌++◌, codes, IfOk, OnOk};
+ghost use Rattle.dms_printing.specs.Printed.{answer, PrintsOrMemory};
+ghost use Rattle.dms_printing.specs.declared.statuses.ExitStatus.TheVariants.{Done, Refused, Misused};
 ghost use Rattle.dms_printing.specs.CodeLine.{code_line};
+ghost use Rattle.dms_printing.specs.CodeAnswers.{bit, order_of, on_terms, checksum_line, id_of, code_lines};
+ghost use Rattle.dms_printing.specs.CodeAnswers.{addressed_answer, code_answer, message_of, activation_line};
+ghost use Rattle.dms_printing.specs.CodeAnswers.{read_activation, activation_answer};
 
-use crate::statuses::{ExitStatus, print_line, status};
+use crate::statuses::{ExitStatus, print_made, print_memory, print_text};
 use dms_calls::{ActivationWords, CodeWords, TermWords};
 use dms_codes::{Activation, MAX_TEXT, MessageId, Order, crc};
+use dms_streams::{Failed, Sink};
 use dms_text::version;
 use std::alloc::{AllocError, Global};
 use std::io::Write;
 
 /// Prints the checksum of a message, and the code that puts it up. `address` is what the address of its terms spells.
-pub fn code<W: Write>(
+/// Why it is refused is said in words too.
+pub fn code<W: Sink, E: Write>(
     alloc: Global,
     words: &CodeWords<'_>,
     address: Option<[u8; 4]>,
     writer: &mut W,
-) -> ExitStatus {
-    let Some(address) = address else {
-        return print_line(writer, "bad address", ExitStatus::Misused);
-    };
-    if words.text.len() > MAX_TEXT {
-        return print_line(writer, "text too long", ExitStatus::Refused);
+    errors: &mut E,
+) -> Result<ExitStatus, Failed>
+    ensures { PrintsOrMemory (W.contents writer.old) (W.contents writer.new) (W.failed writer.old)
+        (W.failed writer.new) result (code_answer words.now address) }
+{
+    match address {
+        Some(address) => print_code(alloc, words, address, writer, errors),
+        None => print_bad_address(&words.terms, writer, errors),
     }
-    let crc = crc(
-        words.text.as_bytes(),
-        u8::from(words.beacon),
-        u8::from(words.pixel),
+}
+
+fn print_code<W: Sink, E: Write>(
+    alloc: Global,
+    words: &CodeWords<'_>,
+    address: [u8; 4],
+    writer: &mut W,
+    errors: &mut E,
+) -> Result<ExitStatus, Failed>
+    ensures { PrintsOrMemory (W.contents writer.old) (W.contents writer.new) (W.failed writer.old)
+        (W.failed writer.new) result (addressed_answer words.now address) }
+{
+    if words.text.len() > MAX_TEXT {
+        print_too_long(words.text.len(), writer, errors)
+    } else {
+        print_code_lines(alloc, words, address, writer)
+    }
+}
+
+/// Prints that a text is too long, and says by how much.
+fn print_too_long<W: Sink, E: Write>(
+    length: usize,
+    writer: &mut W,
+    errors: &mut E,
+) -> Result<ExitStatus, Failed>
+    ensures { PrintsOrMemory (W.contents writer.old) (W.contents writer.new) (W.failed writer.old)
+        (W.failed writer.new) result (answer Refused (codes "text too long\n")) }
+{
+    let count = length.saturating_sub(MAX_TEXT);
+    let _ = writeln!(
+        errors,
+        "the text has {length} octets, {count} more than {MAX_TEXT}"
     );
-    let id = MessageId {
+    print_text(writer, b"text too long\n", ExitStatus::Refused)
+}
+
+fn print_code_lines<W: Sink>(
+    alloc: Global,
+    words: &CodeWords<'_>,
+    address: [u8; 4],
+    writer: &mut W,
+) -> Result<ExitStatus, Failed>
+    ensures { PrintsOrMemory (W.contents writer.old) (W.contents writer.new) (W.failed writer.old)
+        (W.failed writer.new) result (answer Done (code_lines words.now address)) }
+{
+    match code_lines(alloc, words, address) {
+        Ok(lines) => print_made(writer, lines, ExitStatus::Done),
+        Err(_) => print_memory(writer),
+    }
+}
+
+/// The lines of a message's checksum and of the code that puts it up.
+fn code_lines(alloc: Global, words: &CodeWords<'_>, address: [u8; 4]) -> Result<Vec<u8>, AllocError>
+    ensures { IfOk result (λ lines. lines.items ≡ code_lines words.now address) }
+{
+    let id = id_of(words);
+    let mut lines = Vec::new(alloc);
+    put_checksum(alloc, &mut lines, id.crc)?;
+    put_code(
+        alloc,
+        &mut lines,
+        order_of(&words.terms),
+        &on_terms(id, &words.terms, address),
+    )?;
+    Ok(lines)
+}
+
+/// The message that a call of `code` names.
+fn id_of(words: &CodeWords<'_>) -> MessageId
+    ensures { result ≡ id_of words.now }
+{
+    MessageId {
         memory: words.row.memory,
         number: words.row.number,
-        crc,
-    };
-    match checksum_line(alloc, crc) {
-        Ok(lines) => print_code(alloc, lines, id, &words.terms, address, writer),
-        Err(_) => print_line(writer, "memory", ExitStatus::Refused),
+        crc: crc(words.text.as_bytes(), bit(words.beacon), bit(words.pixel)),
     }
 }
 
-/// The line that says a checksum.
-fn checksum_line(alloc: Global, crc: u16) -> Result<Vec<u8>, AllocError> {
-    let mut line = Vec::new(alloc);
-    writeln!(line, "crc {crc:04x}").or(Err(AllocError))?;
-    Ok(line)
+fn bit(flag: bool) -> u8
+    ensures { result ≡ bit flag }
+{
+    if flag { 1 } else { 0 }
 }
 
-/// Prints the code that puts up the message of a checksum. `address` is what the address of its terms spells.
-pub fn activation<W: Write>(
+/// Appends the line that says a checksum.
+fn put_checksum(alloc: Global, lines: &mut Vec<u8>, crc: u16) -> Result<(), AllocError>
+    ensures { OnOk result (lines.new.items ≡ lines.old.items ++ checksum_line crc) }
+{
+    let digits = hex::encode(alloc, crc.to_be_bytes().as_slice())?;
+    writeln!(lines, "crc {digits}").or(Err(AllocError))
+}
+
+/// Prints the code that puts up the message of a checksum. `address` is what the address of its terms spells. Why it is
+/// refused is said in words too.
+pub fn activation<W: Sink, E: Write>(
     alloc: Global,
     words: &ActivationWords<'_>,
     address: Option<[u8; 4]>,
     writer: &mut W,
-) -> ExitStatus {
-    let Some(crc) = version(words.checksum.as_bytes()) else {
-        return print_line(writer, "bad checksum", ExitStatus::Misused);
-    };
-    let Some(address) = address else {
-        return print_line(writer, "bad address", ExitStatus::Misused);
-    };
+    errors: &mut E,
+) -> Result<ExitStatus, Failed>
+    ensures { PrintsOrMemory (W.contents writer.old) (W.contents writer.new) (W.failed writer.old)
+        (W.failed writer.new) result (activation_answer words.now address) }
+{
+    print_activation(
+        alloc,
+        words,
+        version(words.checksum.as_bytes()),
+        address,
+        writer,
+        errors,
+    )
+}
+
+fn print_activation<W: Sink, E: Write>(
+    alloc: Global,
+    words: &ActivationWords<'_>,
+    checksum: Option<u16>,
+    address: Option<[u8; 4]>,
+    writer: &mut W,
+    errors: &mut E,
+) -> Result<ExitStatus, Failed>
+    ensures { PrintsOrMemory (W.contents writer.old) (W.contents writer.new) (W.failed writer.old)
+        (W.failed writer.new) result (read_activation words.now checksum address) }
+{
+    match (checksum, address) {
+        (None, _) => {
+            let _ = writeln!(
+                errors,
+                "a checksum is four hexadecimal digits, and not `{}`",
+                words.checksum
+            );
+            print_text(writer, b"bad checksum\n", ExitStatus::Misused)
+        }
+        (Some(_), None) => print_bad_address(&words.terms, writer, errors),
+        (Some(crc), Some(address)) => match activation_line(alloc, words, crc, address) {
+            Ok(line) => print_made(writer, line, ExitStatus::Done),
+            Err(_) => print_memory(writer),
+        },
+    }
+}
+
+/// The line of the code that puts up the message of this checksum.
+fn activation_line(
+    alloc: Global,
+    words: &ActivationWords<'_>,
+    crc: u16,
+    address: [u8; 4],
+) -> Result<Vec<u8>, AllocError>
+    ensures { IfOk result (λ line. line.items ≡ activation_line words.now crc address) }
+{
     let id = MessageId {
         memory: words.message.memory,
         number: words.message.number,
         crc,
     };
-    print_code(alloc, Vec::new(alloc), id, &words.terms, address, writer)
+    let mut line = Vec::new(alloc);
+    put_code(
+        alloc,
+        &mut line,
+        order_of(&words.terms),
+        &on_terms(id, &words.terms, address),
+    )?;
+    Ok(line)
 }
 
-/// Prints these lines, and after them the code that puts up a message on these terms.
-fn print_code<W: Write>(
-    alloc: Global,
-    mut lines: Vec<u8>,
-    id: MessageId,
+/// Prints that an address is none, and says what one is.
+fn print_bad_address<W: Sink, E: Write>(
     terms: &TermWords<'_>,
-    address: [u8; 4],
     writer: &mut W,
-) -> ExitStatus {
-    let code = on_terms(id, terms, address);
-    match put_code(alloc, &mut lines, order_of(terms), &code) {
-        Ok(()) => status(writer.write_all(lines.as_slice())),
-        Err(_) => print_line(writer, "memory", ExitStatus::Refused),
-    }
+    errors: &mut E,
+) -> Result<ExitStatus, Failed>
+    ensures { PrintsOrMemory (W.contents writer.old) (W.contents writer.new) (W.failed writer.old)
+        (W.failed writer.new) result (answer Misused (codes "bad address\n")) }
+{
+    let _ = writeln!(
+        errors,
+        "an address is four numbers from 0 to 255 with dots between them, as 192.0.2.1, and not `{}`",
+        terms.address
+    );
+    print_text(writer, b"bad address\n", ExitStatus::Misused)
 }
 
 /// The activation of a message on these terms, from this address.
 fn on_terms(id: MessageId, terms: &TermWords<'_>, address: [u8; 4]) -> Activation
-    ensures { result ≡ record {
-      minutes = terms.now.duration;
-      priority = terms.now.priority;
-      id = id;
-      address = address;
-    } }
+    ensures { result ≡ on_terms id terms.now address }
 {
     Activation {
         minutes: terms.duration,
@@ -105,7 +229,7 @@ fn on_terms(id: MessageId, terms: &TermWords<'_>, address: [u8; 4]) -> Activatio
 
 /// In which order a checksum has its octets.
 fn order_of(terms: &TermWords<'_>) -> Order
-    ensures { result ≡ if terms.now.swapped then Swapped else High }
+    ensures { result ≡ order_of terms.now }
 {
     if terms.swapped {
         Order::Swapped

@@ -2,10 +2,11 @@
 //! lacks for a text, in words. It needs no sign.
 //!
 //! ```
-//! let mut printed = Vec::new(alloc);
-//! let status = decode(alloc, "300a", false, Form::Lines, &mut printed);
-//! assert_eq!(rt; status, ExitStatus::Refused);
-//! assert_eq!(rt; printed.as_slice(), b"fault truncated at octet 2\n".as_slice());
+//! let mut printed = Gathered::new(alloc);
+//! let mut said = Vec::new(alloc);
+//! let outcome = decode(alloc, ("300a", false, Form::Lines), &mut printed, &mut said);
+//! assert_eq!(rt; status(outcome), ExitStatus::Refused);
+//! assert_eq!(rt; printed.bytes(), b"fault truncated at octet 2\n".as_slice());
 //! ```
 #![tactic(auto)]
 
@@ -21,6 +22,6 @@ mod statuses;
 mod texts;
 
 pub use codes::{activation, code};
-pub use reading::{decode, list_items, print_hex_fault, say_why_dropped};
-pub use statuses::{ExitStatus, print_line, status, status_after};
+pub use reading::{decode, list_items, print_hex_fault, print_no_memory, say_why_dropped};
+pub use statuses::{ExitStatus, print, print_made, print_memory, print_text, status};
 pub use texts::{print_count, print_pages};

@@ -1,12 +1,10 @@
 //! Exit statuses of what was written, or not.
 
-ghost use Rattle.std.specs.Prelude.{◌≡◌, ◌≢◌, ◌++◌, codes, OnOk, OnErr};
-ghost use Rattle.std.specs.Io.KnownBytes.{Appends};
-ghost use Rattle.dms_printing.specs.declared.statuses.ExitStatus.TheVariants.{Done, Refused};
+ghost use Rattle.std.specs.Prelude.{◌≡◌, ℕ, List};
 ghost use Rattle.dms_printing.specs.ExitNumbers.{exit_number};
+ghost use Rattle.dms_printing.specs.Printed.{Answer, answer, status_of, Prints, PrintsOrMemory};
 
-use std::io;
-use std::io::Write;
+use dms_streams::{Failed, Sink, write_whole};
 
 /// How a call of the program ends.
 #[derive(Clone, Copy, Debug, PartialEq, Eq)]
@@ -32,30 +30,55 @@ impl ExitStatus {
     }
 }
 
-/// The status of a call whose answer was written, or `Refused` where it was not.
-pub fn status(written: io::Result<()>) -> ExitStatus
-    ensures written { OnOk written (result ≡ Done) }
-    ensures failed { OnErr written (result ≡ Refused) }
+/// The status of a call: that of its answer, or `Refused` where that could not be printed.
+pub fn status(printed: Result<ExitStatus, Failed>) -> ExitStatus
+    ensures { result ≡ status_of printed }
 {
-    status_after(ExitStatus::Done, written)
-}
-
-/// The status of a call whose last words were written, or `Refused` where they were not.
-pub fn status_after(status: ExitStatus, written: io::Result<()>) -> ExitStatus
-    ensures written { OnOk written (result ≡ status) }
-    ensures failed { OnErr written (result ≡ Refused) }
-{
-    match written {
-        Ok(()) => status,
+    match printed {
+        Ok(status) => status,
         Err(_) => ExitStatus::Refused,
     }
 }
 
-/// Prints a line, and gives the status, or `Refused` where the line was not written.
-pub fn print_line<W: Write>(writer: &mut W, line: &str, status: ExitStatus) -> ExitStatus
-    ensures status { result ≢ Refused → result ≡ status }
-    ensures printed { result ≢ Refused
-        → Appends (W.contents writer.old) (W.contents writer.new) (line.now ++ codes "\n") }
+/// Prints a text, and gives the status of the answer.
+pub fn print<W: Sink>(writer: &mut W, text: &[u8], status: ExitStatus) -> Result<ExitStatus, Failed>
+    ensures { Prints (W.contents writer.old) (W.contents writer.new) (W.failed writer.old) (W.failed writer.new) result
+        (answer status text.now) }
 {
-    status_after(status, writeln!(writer, "{line}"))
+    match write_whole(writer, text) {
+        Ok(()) => Ok(status),
+        Err(failed) => Err(failed),
+    }
+}
+
+/// Prints a text that no memory is needed for.
+pub fn print_text<W: Sink>(
+    writer: &mut W,
+    text: &[u8],
+    status: ExitStatus,
+) -> Result<ExitStatus, Failed>
+    ensures { PrintsOrMemory (W.contents writer.old) (W.contents writer.new) (W.failed writer.old)
+        (W.failed writer.new) result (answer status text.now) }
+{
+    print(writer, text, status)
+}
+
+/// Prints a text that there was memory for.
+pub fn print_made<W: Sink>(
+    writer: &mut W,
+    text: Vec<u8>,
+    status: ExitStatus,
+) -> Result<ExitStatus, Failed>
+    ensures { (wanted : List ℕ) → text.items ≡ wanted → PrintsOrMemory (W.contents writer.old)
+        (W.contents writer.new) (W.failed writer.old) (W.failed writer.new) result (answer status wanted) }
+{
+    print(writer, text.as_slice(), status)
+}
+
+/// Prints that there is no memory for an answer, whichever that is.
+pub fn print_memory<W: Sink>(writer: &mut W) -> Result<ExitStatus, Failed>
+    ensures { (wanted : Answer) → PrintsOrMemory (W.contents writer.old) (W.contents writer.new) (W.failed writer.old)
+        (W.failed writer.new) result wanted }
+{
+    print(writer, b"memory\n", ExitStatus::Refused)
 }

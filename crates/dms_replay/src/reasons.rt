@@ -126,12 +126,12 @@ fn line_numbered(lines: Lines<'_>, number: usize) -> Option<&[u8]>
     ensures { option_map line_found result ≡ line_numbered number (lines_left lines.entry) }
 {
     let mut lines = lines;
-    let line = lines.next_line()?;
-    if line.number == number {
-        Some(line.octets)
-    } else {
-        line_numbered(lines, number)
+    while let Some(line) = lines.next_line() {
+        if line.number == number {
+            return Some(line.octets);
+        }
     }
+    None
 }
 
 /// Why a line is no event.

@@ -1,7 +1,7 @@
 //! A script, run to its report.
 
 ghost use Rattle.std.specs.Prelude.{◌≡◌, ◌≢◌, ◌⊎◌, ◌≤◌, ◌<◌, ◌++◌, ◌∷◌, [], List, ℕ, length, Ok, Err, IfOk, IfErr};
-ghost use Rattle.std.specs.Prelude.{OnOk, OnErr, IfSome};
+ghost use Rattle.std.specs.Prelude.{OnOk, OnErr, IsOk, IfSome};
 ghost use Rattle.std.specs.Int.Digits.{AllBelowBase};
 ghost use Rattle.std.specs.Io.KnownBytes.{Keeps};
 ghost use Rattle.dms_streams.specs.Calls.{one_more};
@@ -29,6 +29,7 @@ use crate::script_event::ScriptEvent;
 use dms_centre::{Centre, Settings};
 pub use dms_description::{LONGEST_INPUT, described};
 use dms_description::{ReplayFault, Setup, whole_input};
+use dms_sign::laws::signs_are_kept;
 use dms_streams::{Sink, Source, write_whole};
 use dms_world::{Event, World, run};
 use std::alloc::Global;
@@ -120,13 +121,16 @@ fn are_octets(octets: &[u8])
     ensures { AllBelowBase 256 octets.now }
 {}
 
-/// The world of a sign and of its centre, which has the sign's writing community and its order.
+/// The world of a sign and of its centre, which has the sign's writing community and its order. It is always `Ok`: a
+/// sign's communities are a centre's, and no memory is taken.
 fn fresh_world(alloc: Global, setup: Setup) -> Result<World, ReplayFault>
     ensures world { IfOk result (λ world. seen world ≡ beginning setup.sign
         (start (record { community = setup.sign.config.writer; order = setup.sign.table.order }) setup.first)) }
     ensures memory { IfErr result (λ fault. fault ≡ faults.Memory) }
+    ensures always { IsOk result }
 {
     let Setup { sign, first } = setup;
+    signs_are_kept(&sign);
     let settings = Settings {
         community: sign.writer(),
         order: sign.order(),

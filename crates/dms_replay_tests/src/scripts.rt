@@ -2,6 +2,7 @@
 
 use dms_codes::{Activation, MessageId, Order};
 use dms_commands::OwnedCommand;
+use dms_description::write_fault;
 use dms_replay::event_line::event;
 use dms_replay::fault::ReplayFault;
 use dms_replay::fields::address;
@@ -238,7 +239,8 @@ fn first_of_bench(alloc: Global) -> Result<u32, ReplayFault> {
     Ok(bench(alloc)?.first)
 }
 
-/// What is printed of each fault, and the bench sign is there without one.
+/// What is printed of each fault, by its `Display` and by the function that the program calls; and the bench sign is
+/// there without one.
 #[test]
 fn texts(rt: HostRuntime) -> Result<(), Fail> {
     for (fault, text) in [
@@ -250,6 +252,9 @@ fn texts(rt: HostRuntime) -> Result<(), Fail> {
     ] {
         let printed = format!(in rt.alloc(); "{fault}")?;
         assert_eq!(rt; printed.as_str(), text);
+        let mut written = Vec::new(rt.alloc());
+        write_fault(&mut written, fault)?;
+        assert!(rt; written.as_slice() == text.as_bytes());
     }
     assert_eq!(rt; first_of_bench(rt.alloc()), Ok(1));
     Ok(())

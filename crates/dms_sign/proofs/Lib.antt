@@ -19,3 +19,4 @@ pub mod Writes
 pub mod Causes
 pub mod Assigned
 pub mod Activations
+pub mod Seconds

@@ -1,8 +1,8 @@
 -- What a second, a loss of power and its return make of a sign (this profile).
-use Rattle.std.specs.Prelude.{ℕ, ◌+◌, ◌-◌, ◌*◌, ◌==◌, ◌&&◌, true, false, List}
-use Rattle.std.specs.Prelude.{Option, Some, None, nat_lt, nat_le, if◌then◌else◌}
+use Rattle.std.specs.Prelude.{ℕ, zero, suc, ◌+◌, ◌-◌, ◌*◌, ◌==◌, ◌&&◌, ◌||◌, Bool, true, false, not, List}
+use Rattle.std.specs.Prelude.{Option, Some, None, is_none, nat_lt, nat_le, if◌then◌else◌}
 use Rattle.dms_face.specs.Layout.{under}
-use Rattle.dms_table.specs.Rows.{after_power}
+use Rattle.dms_table.specs.Rows.{after_power, is_settling}
 use Rattle.dms_table.specs.Validation.{settled, verdict}
 use Rattle.dms_sign.specs.State.{SignState, power_recovery_mode, communications_loss_mode}
 use Rattle.dms_sign.specs.State.{power_loss_mode, end_duration_mode}
@@ -47,6 +47,18 @@ after_silence s =
 -- A second: a row is settled, the duration goes on, and then the silence. A sign without power does nothing.
 unfoldable pub after_tick : SignState → SignState
 after_tick s = if s.powered then after_silence (after_duration (after_settling s)) else s
+
+-- so many seconds, one after another
+unfoldable pub after_ticks : ℕ → SignState → SignState
+after_ticks zero s = s
+after_ticks (suc seconds) s = after_tick (after_ticks seconds s)
+
+-- A sign that a second leaves as it is: it has no power; or no row is being validated, what is shown has no end, and
+-- silence has come to its limit.
+abbrev pub is_at_rest : SignState → Bool
+is_at_rest s =
+    not s.powered
+    || (is_none s.shown.remaining && nat_le (longest_silence s) s.silent_seconds && not (is_settling s.table))
 
 -- ---- power
 

@@ -1,12 +1,13 @@
 //! Laws on what a sign answers and on its rows, stated as functions with nothing to run.
 
-ghost use Rattle.std.specs.Prelude.{◌≡◌, ◌↔◌, ℕ, List, [], ◌∷◌, length, IsTrue, Some, None};
+ghost use Rattle.std.specs.Prelude.{◌≡◌, ◌↔◌, ℕ, List, [], ◌∷◌, length, true, IsTrue, Some, None};
 ghost use Rattle.std.specs.List.{Contains};
 ghost use Rattle.dms_wire.specs.declared.message.Kind.TheVariants.{Set};
 ghost use Rattle.dms_wire.specs.declared.error_status.ErrorStatus.TheVariants.{NoError};
 ghost use Rattle.dms_wire.specs.ErrorStatus.{error_status_number};
 ghost use Rattle.dms_wire.specs.Message.{SnmpMessage};
 ghost use Rattle.dms_wire.specs.MessageOf.{message_of};
+ghost use Rattle.dms_wire.specs.Spelling.{Spells};
 ghost use Rattle.dms_wire.specs.Canonical.{canonical};
 ghost use Rattle.dms_wire.specs.Response.{response_to};
 ghost use Rattle.dms_codes.specs.declared.codes.Activation.{Activation};
@@ -16,7 +17,7 @@ ghost use Rattle.dms_table.specs.declared.stock.Stock.{Stock};
 ghost use Rattle.dms_table.specs.Stock.{table_of};
 ghost use Rattle.dms_sign.specs.State.{ConfigModel, SignState, start};
 ghost use Rattle.dms_sign.specs.Requests.{answer_of_any_size};
-ghost use Rattle.dms_sign.specs.Reply.{reply_to, received, after_get};
+ghost use Rattle.dms_sign.specs.Reply.{is_heard, reply_to, received, after_get, after_message};
 ghost use Rattle.dms_sign.specs.Events.{after_tick, after_power_loss, after_power_return};
 ghost use Rattle.dms_sign.specs.Promises.{IsReplyTo, AsksFor, activates, is_get};
 
@@ -24,6 +25,15 @@ ghost use Rattle.dms_sign.specs.Promises.{IsReplyTo, AsksFor, activates, is_get}
 pub fn replies_name_their_request()
     ensures { (s : SignState) (datagram : List ℕ) (reply : List ℕ) → (received s datagram).reply ≡ Some reply
         → IsReplyTo datagram reply }
+{}
+
+/// A message that octets spell is answered, where the sign hears it: what is sent, what is accepted and the sign
+/// afterwards are those of the message, however it is spelled.
+pub fn messages_are_answered()
+    ensures reply { (s : SignState) (m : SnmpMessage) (datagram : List ℕ) → Spells m datagram
+        → is_heard s m ≡ true → (received s datagram).reply ≡ Some (reply_to m (answer_of_any_size s m)) }
+    ensures after { (s : SignState) (m : SnmpMessage) (datagram : List ℕ) → Spells m datagram
+        → (received s datagram).after ≡ after_message s m }
 {}
 
 /// A SET of one binding is never answered by tooBig: its reply has the status and the index of what is answered, and

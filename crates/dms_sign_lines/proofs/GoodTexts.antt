@@ -13,13 +13,13 @@ use Rattle.dms_table.specs.Rows.{TableModel}
 use Rattle.dms_table.specs.Activation.{ShownModel}
 use Rattle.dms_sign.specs.State.{ConfigModel, SignState, start}
 use Rattle.dms_sign.specs.Reply.{awake}
-use Rattle.dms_sign.specs.Events.{after_tick}
+use Rattle.dms_sign.specs.Events.{after_tick, after_ticks}
 use Rattle.dms_sign.specs.Transitions.{HasFitDefaults, IsSameMessage, IsBlankedUnder, IsRowOf, ShowsNow, stayed, came_back, blanked, activated, fell_back, IsSignStep}
 use Rattle.dms_sign.proofs.StepDefaults.{received_fits, tick_fits, power_loss_fits, power_return_fits}
 use Rattle.dms_sign_laws.proofs.StepEvents.{step_received, step_tick, step_power_loss, step_power_return}
 use Rattle.dms_sign_lines.specs.SignCall.{SignCall, datagram, tick, ticks, heard, power_lost, power_back, show, state}
 use Rattle.dms_sign_lines.specs.SignReading.{call_of}
-use Rattle.dms_sign_lines.specs.Answer.{pages_or_none, shown_pages, after_ticks, after_call, after_if, after_line}
+use Rattle.dms_sign_lines.specs.Answer.{pages_or_none, shown_pages, after_call, after_if, after_line}
 use Rattle.dms_sign_lines.specs.GoodTexts.{CanBeDrawn, ShowsGoodTexts}
 
 -- ---- as a sign is made

@@ -1,23 +1,12 @@
 -- So many seconds are so many lines of one second.
-use Rattle.std.proofs.Common.{◌≡◌, ℕ, zero, suc, ◌+◌, List, refl, sym, ap, ◌∙◌, replicate, arith}
+use Rattle.std.proofs.Common.{◌≡◌, ℕ, zero, suc, List, refl, sym, ap, ◌∙◌, replicate}
 use Rattle.std.specs.Prelude.{codes, fold}
 use Rattle.dms_sign.specs.State.{SignState}
-use Rattle.dms_sign.specs.Events.{after_tick}
+use Rattle.dms_sign.specs.Events.{after_tick, after_ticks}
 use Rattle.dms_sign_lines.specs.SignCall.{tick, ticks}
 use Rattle.dms_sign_lines.specs.SignLine.{SpellsSignCall}
-use Rattle.dms_sign_lines.specs.Answer.{after_ticks, after_line}
+use Rattle.dms_sign_lines.specs.Answer.{after_line}
 use Rattle.dms_sign_lines.proofs.CallLaws.{after_the_call}
-
-pub none_passed : (s : SignState) → s ≡ after_ticks 0 s
-unfolding after_ticks
-none_passed s = refl
-
--- one second more
-pub one_more : (seconds : ℕ) (s now next : SignState) → now ≡ after_ticks seconds s → next ≡ after_tick now → next ≡ after_ticks (seconds + 1) s
-unfolding after_ticks
-one_more seconds s now next so_far more =
-    let same : suc seconds ≡ seconds + 1 = omega arith in
-    more ∙ ap after_tick so_far ∙ ap (λ n. after_ticks n s) same
 
 -- one second first
 first_passes : (seconds : ℕ) (s : SignState) → after_ticks seconds (after_tick s) ≡ after_tick (after_ticks seconds s)

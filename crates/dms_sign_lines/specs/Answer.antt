@@ -1,7 +1,7 @@
 -- What a live sign answers to a line, and what it is afterwards (this profile). Each line of an answer ends in a
 -- newline.
-use Rattle.std.specs.Prelude.{ℕ, zero, suc, ◌+◌, ◌*◌, if◌then◌else◌, List, []}
-use Rattle.std.specs.Prelude.{◌++◌, codes, Option, Some, None, Result, Ok, Err}
+use Rattle.std.specs.Prelude.{ℕ, ◌+◌, ◌*◌, ◌&&◌, Bool, if◌then◌else◌, List, []}
+use Rattle.std.specs.Prelude.{◌++◌, codes, Option, Some, None, Result, Ok, Err, is_ok}
 use Rattle.hex.specs.Hex.{encode_lower}
 use Rattle.dms_ber.specs.Limits.{longest_datagram}
 use Rattle.dms_codes.specs.declared.codes.Order.{Order}
@@ -12,7 +12,7 @@ use Rattle.dms_face.specs.Layout.{under}
 use Rattle.dms_pages.specs.Drawn.{DrawnPage, drawn_text}
 use Rattle.dms_sign.specs.State.{SignState}
 use Rattle.dms_sign.specs.Reply.{Received, received, after_get}
-use Rattle.dms_sign.specs.Events.{after_tick, after_power_loss, after_power_return}
+use Rattle.dms_sign.specs.Events.{after_tick, after_ticks, after_power_loss, after_power_return}
 use Rattle.dms_forms.specs.LineText.{ended, code_text}
 use Rattle.dms_description.specs.ShownLine.{shown_line}
 use Rattle.dms_lines.specs.PageText.{pages_text}
@@ -47,6 +47,12 @@ abbrev pub pages_or_none : Result (List DrawnPage) MultiFault → List DrawnPage
 pages_or_none (Ok pages) = pages
 pages_or_none (Err fault) = []
 
+-- what is shown has pages, under the copy of the defaults that belongs to it
+abbrev pub has_pages : SignState → Bool
+has_pages s =
+    fit s.config.face.fonts s.shown.defaults
+    && is_ok (drawn_text (under s.config.face s.shown.defaults) s.shown.text)
+
 -- The pages of what is shown, under the copy of the defaults that belongs to it. What a sign shows has pages: the other
 -- cases never come (`signs_show_good_texts` of laws).
 abbrev pub shown_pages : SignState → List DrawnPage
@@ -65,11 +71,6 @@ call_text s power_lost = ok_line
 call_text s (power_back seconds) = ok_line
 call_text s show = pages_text (shown_pages s) ++ ok_line
 call_text s state = shown_line s.shown ++ ok_line
-
--- so many seconds, one after another
-unfoldable pub after_ticks : ℕ → SignState → SignState
-after_ticks zero s = s
-after_ticks (suc seconds) s = after_tick (after_ticks seconds s)
 
 abbrev pub after_call : SignState → SignCall → SignState
 after_call s (datagram octets) = (received s octets).after

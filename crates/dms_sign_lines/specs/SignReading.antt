@@ -35,6 +35,12 @@ call_after key.PowerBack words = option_map power_back (last_number_at words)
 call_after key.Show words = if_last show words
 call_after key.State words = if_last state words
 
+-- the keyword of a line
+unfoldable pub keyword_in : List ℕ → Option Keyword
+keyword_in line = do
+  found ← word_at (words_of line)
+  keyword_of found.0
+
 -- the call of a line
 unfoldable pub call_of : List ℕ → Option SignCall
 call_of line = do

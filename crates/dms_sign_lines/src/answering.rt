@@ -1,7 +1,7 @@
 //! The answer of a live sign to a line.
 
 ghost use Rattle.std.specs.Prelude.{◌≡◌, ◌++◌, ◌+◌, ◌≤◌, codes, length, vec_len, vec_capacity};
-ghost use Rattle.std.specs.Prelude.{IfOk, OnOk, OnErr};
+ghost use Rattle.std.specs.Prelude.{IfOk, OnOk, OnErr, IsTrue};
 ghost use Rattle.hex.specs.Hex.{encode_lower};
 ghost use Rattle.dms_ber.specs.Limits.{longest_datagram};
 ghost use Rattle.dms_sign.specs.Reply.{received};
@@ -11,8 +11,9 @@ ghost use Rattle.dms_description.specs.ShownLine.{shown_line};
 ghost use Rattle.dms_lines.specs.PageText.{pages_text};
 ghost use Rattle.dms_lines.specs.AnswerLines.{ok_line};
 ghost use Rattle.dms_sign_lines.specs.CallView.{call_model};
-ghost use Rattle.dms_sign_lines.specs.Answer.{answer_text, after_line, call_text, after_ticks, after_call};
-ghost use Rattle.dms_sign_lines.specs.Answer.{receipt_line, received_line, longest_receipt_line, shown_pages};
+ghost use Rattle.dms_sign_lines.specs.Answer.{answer_text, after_line, call_text, after_call};
+ghost use Rattle.dms_sign_lines.specs.Answer.{receipt_line, received_line, longest_receipt_line};
+ghost use Rattle.dms_sign_lines.specs.Answer.{has_pages, shown_pages};
 
 use crate::sign_call::{SignCall, call};
 use dms_codes::Order;
@@ -36,7 +37,9 @@ const LONGEST_RECEIPT: usize = 8 + 2 * 12 + 2 * MAX_DATAGRAM + 3;
 /// ```text
 /// datagram OCTETS      the sign receives it: `reply OCTETS`, `accepted CODE OCTETS` or `dropped`
 /// tick                 a second passes: `ok`
-/// ticks SECONDS        so many seconds pass, 0 to 4294967295, as by so many lines `tick`: `ok`
+/// ticks SECONDS        so many seconds pass, 0 to 4294967295, as by so many lines `tick`: `ok`. They are counted one
+///                      by one while one changes something: for two seconds more than is left of a duration, or than
+///                      the longest silence
 /// heard                what a Get or a GetNext leaves that is answered, the end of the silence: `ok`
 /// power-lost           the power is lost: `ok`
 /// power-back SECONDS   the power is back after so many seconds, 0 to 4294967295: `ok`
@@ -72,7 +75,7 @@ fn carry_out(alloc: Global, sign: &mut Sign, call: &SignCall) -> Result<Vec<u8>,
         }
         SignCall::Ticks(seconds) => {
             let done = ok_line(alloc)?;
-            pass(sign, *seconds);
+            sign.pass(*seconds);
             Ok(done)
         }
         SignCall::Heard => {
@@ -92,15 +95,6 @@ fn carry_out(alloc: Global, sign: &mut Sign, call: &SignCall) -> Result<Vec<u8>,
         }
         SignCall::Show => show(alloc, sign),
         SignCall::State => state(alloc, sign),
-    }
-}
-
-/// So many seconds pass.
-fn pass(sign: &mut Sign, seconds: u32)
-    ensures { sign.new ≡ after_ticks seconds sign.old }
-{
-    for _ in 0..seconds {
-        sign.tick();
     }
 }
 
@@ -162,15 +156,15 @@ fn show(alloc: Global, sign: &Sign) -> Result<Vec<u8>, AllocError>
 {
     let pages = shown_pages(alloc, sign)?;
     let mut text = Vec::new(alloc);
-    match put_show(&mut text, pages.as_slice()) {
-        Ok(()) => Ok(text),
-        Err(_) => Err(AllocError),
-    }
+    put_show(&mut text, pages.as_slice())?;
+    Ok(text)
 }
 
-/// The pages of what is shown, under the copy of the defaults that belongs to it.
+/// The pages of what is shown, under the copy of the defaults that belongs to it. Where it has none no memory is asked
+/// for.
 pub fn shown_pages(alloc: Global, sign: &Sign) -> Result<Vec<Page>, AllocError>
-    ensures { IfOk result (λ pages. pages.items ≡ shown_pages sign.now) }
+    ensures pages { IfOk result (λ pages. pages.items ≡ shown_pages sign.now) }
+    ensures memory { OnErr result (IsTrue (has_pages sign.now)) }
 {
     let shown = sign.shown();
     if !shown.defaults.fits(sign.face()) {
@@ -183,11 +177,11 @@ pub fn shown_pages(alloc: Global, sign: &Sign) -> Result<Vec<Page>, AllocError>
     }
 }
 
-fn put_show(text: &mut Vec<u8>, pages: &[Page]) -> io::Result<()>
+fn put_show(text: &mut Vec<u8>, pages: &[Page]) -> Result<(), AllocError>
     ensures { OnOk result (text.new.items ≡ text.old.items ++ (pages_text pages.now ++ ok_line)) }
 {
     put_pages(text, pages)?;
-    writeln!(text, "ok")
+    text.extend_from_slice(b"ok\n")
 }
 
 /// The line of what is shown.

@@ -1,7 +1,8 @@
 //! What a line asks of a live sign.
 
-ghost use Rattle.std.specs.Prelude.{◌≡◌, IfOk, option_map};
-ghost use Rattle.dms_sign_lines.specs.SignReading.{call_of};
+ghost use Rattle.std.specs.Prelude.{◌≡◌, Some, IfOk, OnErr, option_map};
+ghost use Rattle.dms_sign_lines.specs.SignReading.{call_of, keyword_in};
+ghost use Rattle.dms_sign_lines.specs.declared.keyword.Keyword.TheVariants.{Datagram};
 ghost use Rattle.dms_sign_lines.specs.CallView.{call_model};
 
 use crate::keyword::Keyword;
@@ -31,10 +32,11 @@ pub(crate) enum SignCall {
     State,
 }
 
-/// The call that a line spells, or none.
-#[tactic(auto, unfolding(crate::specs::SignReading::call_of))]
+/// The call that a line spells, or none. Memory is asked for by a datagram alone.
+#[tactic(auto, unfolding(crate::specs::SignReading::call_of, crate::specs::SignReading::keyword_in))]
 pub(crate) fn call(alloc: Global, line: &[u8]) -> Result<Option<SignCall>, AllocError>
-    ensures { IfOk result (λ found. option_map call_model found ≡ call_of line.now) }
+    ensures read { IfOk result (λ found. option_map call_model found ≡ call_of line.now) }
+    ensures memory { OnErr result (keyword_in line.now ≡ Some Datagram) }
 {
     let Some((word, words)) = Words::of(line).next_word() else {
         return Ok(None);

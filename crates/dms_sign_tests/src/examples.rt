@@ -29,6 +29,11 @@ fn access(rt: HostRuntime) -> Result<(), Fail> {
     let change = write_of(&face, seconds, &Value::Integer(60)).ok_or("no change")?;
     let mut settings = Settings::new(face.defaults());
     settings.assign(&change);
+    let wanted = Settings {
+        short_power_loss_time: 60,
+        ..Settings::new(face.defaults())
+    };
+    assert!(rt; settings == wanted && wanted != Settings::new(face.defaults()));
     Ok(())
 }
 

@@ -5,7 +5,7 @@ use Rattle.std.specs.List.{position}
 use Rattle.std.specs.Io.BufRead.{take_through, drop_through}
 use Rattle.std.specs.Str.Lines.{lines}
 use Rattle.std.proofs.BufReadLemmas.{take_through-append, drop_through-append, take_through-nil}
-use Rattle.dms_streams.specs.Lines.{Takes, line_of}
+use Rattle.dms_streams.specs.Lines.{Takes, TakesAtMost, line_of}
 use Rattle.dms_streams.specs.DescriptionText.{is_end, lines_through_end, lines_after_end, TakesDescription}
 use Rattle.dms_streams.proofs.Parts.{is_newline, before_newline}
 use Rattle.dms_streams.proofs.LineCuts.{first_line_is, to_newline, to_end}
@@ -124,20 +124,27 @@ pub without_end : (first now after : Option (List ℕ)) (text line longer : List
 without_end first now after text line longer room before taken short p is = grind (arith, take_through-nil, held_whole, append-nil, all_there)
 
 -- where a line does not fit, there are more octets than the limit
-pub too_many : (first now after : Option (List ℕ)) (text line : List ℕ) (limit room : ℕ) → Collects first text now → Takes (room + 1) now line after
-    → length text + room ≡ limit → room < length line → IfSome first (λ octets. limit < length octets)
-too_many None now after text line limit room before taken same long = tt
-too_many (Some octets) None after text line limit room before taken same long = absurd before
-too_many (Some octets) (Some rest) None text line limit room before taken same long = absurd taken
-too_many (Some octets) (Some rest) (Some later) text line limit room before taken same long =
-    omega (
-      arith,
-      ap length before.whole,
-      length-append text rest,
-      ap length taken.0,
-      length-take (room + 1) (take_through 10 rest),
-      ap length (both rest),
-      length-append (take_through 10 rest) (drop_through 10 rest),
-    )
+pub too_many : (first now : Option (List ℕ)) (text : List ℕ) (limit room : ℕ) → Collects first text now → length text + room ≡ limit
+    → IfSome now (λ octets. room < length octets) → IfSome first (λ octets. limit < length octets)
+too_many None now text limit room before same long = tt
+too_many (Some octets) None text limit room before same long = absurd before
+too_many (Some octets) (Some rest) text limit room before same long = omega (arith, ap length before.whole, length-append text rest, long)
 
-pub ruleset descriptions = (none_collected, collected_more, described, without_end, too_many)
+-- what was taken, and the part of a line after it
+pub lost_so_far : (first now after : Option (List ℕ)) (text : List ℕ) (limit room : ℕ) → Collects first text now → length text + room ≡ limit
+    → TakesAtMost room now after → TakesAtMost limit first after
+lost_so_far None now after text limit room before same more = tt
+lost_so_far (Some octets) None after text limit room before same more = absurd before
+lost_so_far (Some octets) (Some rest) None text limit room before same more = absurd more
+lost_so_far (Some octets) (Some rest) (Some later) text limit room before same more =
+    (text ++ more.0, before.whole ∙ ap (λ l. text ++ l) more.1 ∙ sym (append_assoc text more.0 later), omega (arith, length-append text more.0, more.2))
+
+-- a line that was taken, and not kept
+pub lost_line : (now after : Option (List ℕ)) (line : List ℕ) (room : ℕ) → Takes (room + 1) now line after → length line ≤ room → TakesAtMost room now after
+lost_line None after line room taken short = tt
+lost_line (Some rest) None line room taken short = absurd taken
+lost_line (Some rest) (Some later) line room taken short =
+    let whole = held_whole rest line room taken.0 short in
+    (line, sym (both rest) ∙ ap (λ l. take_through 10 rest ++ l) (sym taken.1) ∙ ap (λ l. l ++ later) (sym whole), short)
+
+pub ruleset descriptions = (none_collected, collected_more, described, without_end)

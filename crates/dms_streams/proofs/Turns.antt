@@ -139,7 +139,7 @@ module _ {S : Type 0} (reply : S → List ℕ → List ℕ) (after : S → List 
   pub said_in_part : (count : ℕ) (start : S) (first old : Option (List ℕ)) (state next : S) (now left new written : Option (List ℕ)) (line : List ℕ)
       → Said count start first old state now new → Takes held now line left → 0 < length line
       → next ≡ left_by after state (line_of line) → AppendsPrefix new written (answered reply state (line_of line))
-      → IfSome first (λ octets. AnswersInPart reply after start next octets old written)
+      → IfSome first (λ octets. AnswersInPart reply after start next octets left old written)
   said_in_part count start None old state next now left new written line said taken some goes wrote = tt
   said_in_part count start (Some octets) old state next None left new written line said taken some goes wrote = absurd said
   said_in_part count start (Some octets) old state next (Some rest) None new written line said taken some goes wrote = absurd taken
@@ -156,6 +156,7 @@ module _ {S : Type 0} (reply : S → List ℕ → List ℕ) (after : S → List 
         answer_is = sym (the_answer state end rest line said.2 taken.0) ∙ wrote.2;
         written = Appends-trans old new written (answers reply after start said.0) wrote.0 said.3 wrote.3;
         left = goes ∙ the_state state end rest line said.2 taken.0 ∙ sym (left-append after start said.0 (first_is ∷ []));
+        next = refl;
       }
 
   pub said_as_many : (count : ℕ) (start : S) (first old : Option (List ℕ)) (state : S) (now new : Option (List ℕ)) → Said count start first old state now new

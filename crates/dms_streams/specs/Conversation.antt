@@ -1,6 +1,7 @@
 -- A conversation by lines (this profile): each line is answered, and the answer to a line may depend on those before
 -- it. Of a party, `reply` is what it answers to a line, and `after` what it is after it.
-use Rattle.std.specs.Prelude.{ℕ, nat_lt, if◌then◌else◌, List, [], ◌∷◌, ◌++◌, take, drop, length, Option, codes, ◌≡◌}
+use Rattle.std.specs.Prelude.{◌≡◌, ℕ, nat_lt, if◌then◌else◌, List, [], ◌∷◌, ◌++◌, take, drop, length, codes}
+use Rattle.std.specs.Prelude.{Option, IfSome}
 use Rattle.std.specs.Io.KnownBytes.{Appends}
 use Rattle.std.specs.Str.Lines.{lines}
 use Rattle.dms_streams.specs.Lines.{IsInLine}
@@ -42,9 +43,9 @@ AnswersWholeLines reply after state now octets rest old new =
     × (drop count (lines octets) ≡ lines (part ++ rest)) × IsInLine part
 
 -- The lines before one are answered, and of the answer to that one the octets of `part` are written, perhaps none of
--- them; the party is now what these lines and that one leave.
+-- them; the party is now what these lines and that one leave, and the lines after that one are left of the input.
 pub record AnswersInPart {S : Type 0} (reply : S → List ℕ → List ℕ) (after : S → List ℕ → S) (state now : S)
-    (octets : List ℕ) (old new : Option (List ℕ)) : Type 0 where
+    (octets : List ℕ) (untaken old new : Option (List ℕ)) : Type 0 where
   pub done : List (List ℕ)
   pub line : List ℕ
   pub more : List (List ℕ)
@@ -54,3 +55,4 @@ pub record AnswersInPart {S : Type 0} (reply : S → List ℕ → List ℕ) (aft
   pub answer_is : answered reply (left_by_all after state done) line ≡ part ++ rest
   pub written : Appends old new (answers reply after state done ++ part)
   pub left : now ≡ left_by_all after state (done ++ line ∷ [])
+  pub next : IfSome untaken (λ octets. lines octets ≡ more)

@@ -26,3 +26,9 @@ TakesDescription None text after = ⊤
 TakesDescription (Some octets) text None = ⊥
 TakesDescription (Some octets) text (Some rest) = (octets ≡ text ++ rest)
     × (lines text ≡ lines_through_end (lines octets)) × (lines rest ≡ lines_after_end (lines octets))
+
+-- what is left are the lines after the first line `end`
+abbrev pub LeavesLinesAfterEnd : Option (List ℕ) → Option (List ℕ) → Type 0
+LeavesLinesAfterEnd None after = ⊤
+LeavesLinesAfterEnd (Some octets) None = ⊥
+LeavesLinesAfterEnd (Some octets) (Some rest) = lines rest ≡ lines_after_end (lines octets)

@@ -33,6 +33,16 @@ Takes limit (Some octets) line None = ⊥
 Takes limit (Some octets) line (Some rest) = (line ≡ take limit (take_through 10 octets))
     × (rest ≡ drop_through 10 octets)
 
+-- the most octets that one call of a reader is asked for
+abbrev pub longest_piece : ℕ
+longest_piece = 4096
+
+-- the first octets are taken, at most so many, and are lost
+abbrev pub TakesAtMost : ℕ → Option (List ℕ) → Option (List ℕ) → Type 0
+TakesAtMost limit None after = ⊤
+TakesAtMost limit (Some octets) None = ⊥
+TakesAtMost limit (Some octets) (Some rest) = (part : List ℕ) × (octets ≡ part ++ rest) × (length part ≤ limit)
+
 -- octets without a newline
 abbrev pub IsInLine : List ℕ → Type 0
 IsInLine octets = All (λ (octet : ℕ). octet ≢ 10) octets
@@ -43,6 +53,12 @@ Continues limit count None line after = ⊤
 Continues limit count (Some octets) line None = ⊥
 Continues limit count (Some octets) line (Some rest) =
     (part : List ℕ) × (octets ≡ part ++ rest) × IsInLine part × (line ≡ take limit part) × (count ≤ length part)
+
+-- some octets before the first newline are taken and held, no more than a limit
+abbrev pub Holds : ℕ → Option (List ℕ) → List ℕ → Option (List ℕ) → Type 0
+Holds limit None line after = ⊤
+Holds limit (Some octets) line None = ⊥
+Holds limit (Some octets) line (Some rest) = (octets ≡ line ++ rest) × IsInLine line × (length line ≤ limit)
 
 -- some octets before the first newline are taken, or none
 abbrev pub Breaks : Option (List ℕ) → Option (List ℕ) → Type 0

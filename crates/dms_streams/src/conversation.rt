@@ -31,7 +31,7 @@ const HELD: usize = LONGEST_LINE + 3;
 ///
 /// At the end of the input the party is what all its lines leave. Where a read fails or memory runs out it is what
 /// the first lines leave, whose whole answers were written; where a write fails, what these leave and the line whose
-/// answer was not written to its end.
+/// answer was not written to its end, and the lines after that one are left of the input.
 #[tactic(auto, using(crate::proofs::Turns::turns))]
 pub fn converse<P: Party, S: Source, W: Sink>(
     alloc: Global,
@@ -51,7 +51,8 @@ pub fn converse<P: Party, S: Source, W: Sink>(
         (W.contents sink.new) (answers P.reply P.after (P.state party.old) (take count (lines octets)))
         × (P.state party.new ≡ left_by_all P.after (P.state party.old) (take count (lines octets))))) }
     ensures in_part { result ≡ Err faults.Write → IfSome (left S.remaining input.old) (λ octets. AnswersInPart P.reply
-        P.after (P.state party.old) (P.state party.new) octets (W.contents sink.old) (W.contents sink.new)) }
+        P.after (P.state party.old) (P.state party.new) octets (left S.remaining input.new) (W.contents sink.old)
+        (W.contents sink.new)) }
     ensures too_long { result ≡ Err faults.TooLong
         → IfSome (left S.remaining input.old) (λ octets. 2 ^ 64 - 1 ≤ length octets) }
     ensures read { result ≡ Err faults.Read → S.failed input.new.source ≡ one_more (S.failed input.old.source) }

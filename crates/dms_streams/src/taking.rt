@@ -6,7 +6,7 @@ ghost use Rattle.std.specs.Prelude.{vec_len, true, false, Ok, Err, IfOk, OnOk, O
 ghost use Rattle.std.specs.Io.KnownBytes.{Keeps, Consumes, IsAtEnd, prepend_known};
 ghost use Rattle.dms_streams.specs.Calls.{one_more};
 ghost use Rattle.dms_streams.specs.declared.fault.InputFault.TheVariants as faults;
-ghost use Rattle.dms_streams.specs.Lines.{left, Breaks, Continues, Takes, IsPart, IsLastPart};
+ghost use Rattle.dms_streams.specs.Lines.{left, Breaks, Continues, Holds, Takes, TakesAtMost, IsPart, IsLastPart};
 
 use crate::failed::Failed;
 use crate::fault::InputFault;
@@ -60,6 +60,64 @@ impl<S: Source> Input<S> {
             }
         }
         Err(InputFault::TooLong)
+    }
+
+    /// Takes the next line as `take_line` does, and puts it into `whole`, where it has at most `limit` octets, its
+    /// newline among them. It stops before the first octet past the limit, so also at a line that never ends.
+    ///
+    /// After an error the octets of this line that were taken before it are lost, at most `limit` of them: the next
+    /// call takes what is left of the line as a line.
+    pub fn take_line_within(&mut self, whole: &mut Vec<u8>, limit: usize) -> Result<(), InputFault>
+        ensures line { OnOk result
+            (Takes (limit + 1) (left S.remaining self.old) whole.new.items (left S.remaining self.new)) }
+        ensures short { length whole.new.items ≤ limit }
+        ensures lost { OnErr result (TakesAtMost limit (left S.remaining self.old) (left S.remaining self.new)) }
+        ensures too_long { result ≡ Err faults.TooLong
+            → IfSome (left S.remaining self.old) (λ octets. limit < length octets) }
+        ensures failed { result ≡ Err faults.Read → S.failed self.new.source ≡ one_more (S.failed self.old.source) }
+        ensures unfailed { result ≢ Err faults.Read → S.failed self.new.source ≡ S.failed self.old.source }
+    {
+        whole.clear();
+        loop {
+            match self.take_part_within(whole, limit) {
+                Ok(true) => return Ok(()),
+                Ok(false) => {}
+                Err(fault) => return Err(fault),
+            }
+        }
+    }
+
+    /// Takes a part of a line that fits below the limit, and reports whether the line ends there. An error takes
+    /// nothing.
+    fn take_part_within(&mut self, line: &mut Vec<u8>, limit: usize) -> Result<bool, InputFault>
+        requires { length line.old.items ≤ limit }
+        ensures goes_on { result ≡ Ok false → (first : Option (List ℕ))
+            → Holds limit first line.old.items (left S.remaining self.old)
+            → Holds limit first line.new.items (left S.remaining self.new) }
+        ensures longer { result ≡ Ok false → length line.old.items < length line.new.items }
+        ensures ends { result ≡ Ok true → (first : Option (List ℕ))
+            → Holds limit first line.old.items (left S.remaining self.old)
+            → Takes (limit + 1) first line.new.items (left S.remaining self.new) }
+        ensures short { length line.new.items ≤ limit }
+        ensures too_long { result ≡ Err faults.TooLong → IfSome (left S.remaining self.old)
+            (λ octets. limit < length line.old.items + length octets) }
+        ensures failed { result ≡ Err faults.Read → S.failed self.new.source ≡ one_more (S.failed self.old.source) }
+        ensures unfailed { result ≢ Err faults.Read → S.failed self.new.source ≡ S.failed self.old.source }
+        ensures kept { OnErr result (Keeps (left S.remaining self.old) (left S.remaining self.new)) }
+    {
+        if self.fill().is_err() {
+            return Err(InputFault::Read);
+        }
+        let piece = self.unread();
+        let (count, is_end) = part_length(piece);
+        if count > limit - line.len() {
+            return Err(InputFault::TooLong);
+        }
+        if hold(line, &piece[..count], limit).is_err() {
+            return Err(InputFault::Memory);
+        }
+        self.skip(count);
+        Ok(is_end)
     }
 
     /// Takes a part of a line, and reports whether the line ends there.

@@ -1,8 +1,12 @@
 //! Readers and writers by their values.
 
-use dms_streams::{Counted, Failed, Gathered, InputFault, Sink, Source, read_whole, write_whole};
+use dms_streams::{
+    Counted, Failed, Gathered, Input, InputFault, Sink, Source, description_text, read_whole,
+    write_whole,
+};
 use std::alloc::{AllocError, Global};
 use std::io::{Read, Write};
+use std::test::Fail;
 
 /// Gives an octet a call and never ends, but for the call that fails.
 #[derive(Drop)]
@@ -119,6 +123,26 @@ fn reading_ends(rt: HostRuntime) {
         let found = read_whole(rt.alloc(), &mut endless, limit).err();
         assert_eq!(rt; (found, endless.failures()), (Some(fault), failures));
     }
+}
+
+/// How the taking of a description ends of which no line ever does.
+fn fault_of_an_endless_line(alloc: Global) -> Result<Option<InputFault>, AllocError> {
+    let endless = Endless {
+        before_failure: 1_048_577,
+        failed: 0,
+    };
+    let mut input = Input::new(alloc, endless)?;
+    Ok(description_text(alloc, &mut input).err())
+}
+
+/// The reader would fail at the call after the first octet past the limit, so it is not called again.
+#[test]
+fn a_description_that_never_ends_is_too_long(rt: HostRuntime) -> Result<(), Fail> {
+    assert_eq!(rt;
+        fault_of_an_endless_line(rt.alloc())?,
+        Some(InputFault::TooLong)
+    );
+    Ok(())
 }
 
 #[test]

@@ -1,6 +1,8 @@
 -- What the library answers to C, and what it leaves in a buffer (this profile).
 use Rattle.std.specs.Prelude.{ℕ, ◌==◌, if◌then◌else◌, List, ◌++◌, drop, length, nat_lt, Option, Some, None}
 use Rattle.dms_ber.specs.Limits.{longest_datagram}
+use Rattle.dms_description.specs.declared.fault.DescriptionFault.{DescriptionFault}
+use Rattle.dms_description.specs.declared.fault.DescriptionFault.TheVariants as faults
 use Rattle.dms_sign.specs.State.{SignState}
 use Rattle.dms_sign.specs.Reply.{received}
 
@@ -52,6 +54,17 @@ given_buffer octets buffer = if nat_lt (length buffer) (length octets) then buff
 -- out of memory what is old stays
 abbrev pub unless_memory : {A : Type 0} → ℕ → A → A → A
 unless_memory answer old new = if answer == no_memory then old else new
+
+-- ---- a description of which no sign is made
+
+abbrev pub fault_answer : DescriptionFault → ℕ
+fault_answer (faults.Line number) = at_fault
+fault_answer faults.Memory = no_memory
+
+-- the number of the line at fault; out of memory what is old stays
+abbrev pub line_after : DescriptionFault → ℕ → ℕ
+line_after (faults.Line number) old = number
+line_after faults.Memory old = old
 
 -- ---- what is sent, if anything is
 

@@ -10,7 +10,7 @@ use Rattle.dms_centre.specs.declared.ended.Ended.TheVariants as endings
 use Rattle.dms_centre.specs.declared.ended.Why.{Why}
 use Rattle.dms_centre.specs.declared.ended.Why.TheVariants as reasons
 use Rattle.dms_centre.specs.State.{CentreState, Entry, is_busy}
-use Rattle.dms_centre.specs.Room.{CentreModel}
+use Rattle.dms_centre.specs.Room.{CentreModel, enters_by}
 use Rattle.dms_requests.specs.Commands.{CommandModel}
 use Rattle.dms_centre.specs.Commands.{commanded, refusal_of}
 use Rattle.dms_commands.specs.CommandReading.{command_of}
@@ -56,6 +56,11 @@ given_command_buffer state asked (Some fault) buffer = buffer
 abbrev pub command_answer : CentreState → Option CentreCall → ℕ
 command_answer state (Some (command asked)) = given_command_answer state asked (refusal_of state asked)
 command_answer state call = at_fault
+
+-- the command that a line spells makes an entry of the ledger
+abbrev pub enters_by_call : CentreState → Option CentreCall → Bool
+enters_by_call state (Some (command asked)) = enters_by state asked
+enters_by_call state call = false
 
 abbrev pub command_size : CentreState → Option CentreCall → ℕ → ℕ
 command_size state (Some (command asked)) old = given_command_size state asked (refusal_of state asked) old

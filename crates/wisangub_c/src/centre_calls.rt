@@ -1,20 +1,24 @@
 //! A central system's calls from C.
 
-ghost use Rattle.std.specs.Prelude.{◌≡◌, ◌⊎◌, ◌≤◌, ◌<◌, ◌==◌, false, length, IsTrue, slice_get, None, IfOk, IfErr};
+ghost use Rattle.std.specs.Prelude.{◌≡◌, ◌⊎◌, ◌≤◌, ◌<◌, ◌==◌, true, false, length, IsTrue, slice_get};
+ghost use Rattle.std.specs.Prelude.{None, IfOk, IfErr};
 ghost use denote.RawPtr.{null_ptr};
 ghost use Rattle.dms_ber.specs.Limits.{longest_datagram};
 ghost use Rattle.dms_codes.specs.Limits.{has_community_size};
 ghost use Rattle.dms_centre.specs.State.{start};
 ghost use Rattle.dms_centre.specs.Inputs.{received, ticked, restarted};
+ghost use Rattle.dms_centre.specs.Room.{enters_at_tick};
 ghost use Rattle.dms_centre.specs.Commands.{commanded, refusal_of};
 ghost use Rattle.dms_requests.specs.CodeView.{command_model};
 ghost use Rattle.dms_centre.specs.CodeView.{settings_model, entry_model, sent_in};
 ghost use Rattle.wisangub_c.specs.Answers.{done, no_memory, too_small, at_fault, unless_memory, answer_of, size_of};
 ghost use Rattle.wisangub_c.specs.Answers.{buffer_with};
 ghost use Rattle.wisangub_c.specs.Codes.{order_of};
+ghost use Rattle.dms_centre.specs.Room.{enters_by};
+ghost use Rattle.dms_commands.specs.CommandReading.{IsOfOctets};
 ghost use Rattle.wisangub_c.specs.Centre.{IsPlaced, command_in, refusal_answer, given_command_answer};
 ghost use Rattle.wisangub_c.specs.Centre.{given_command_size, given_command_buffer, command_answer, command_size};
-ghost use Rattle.wisangub_c.specs.Centre.{command_buffer, after_command, code_parts};
+ghost use Rattle.wisangub_c.specs.Centre.{command_buffer, after_command, enters_by_call, code_parts};
 ghost use Rattle.wisangub_c.specs.Centre.{outcome_number, outcome_status, ledger_entry, entry_answer, entry_after};
 ghost use Rattle.wisangub_c.specs.Centre.{ended_number, ended_step, ended_why, ended_value, why_number, why_value};
 ghost use Rattle.wisangub_c.specs.Centre.{busy_number, centre_status};
@@ -171,6 +175,8 @@ fn give_command(
     ensures request { request.new ≡ unless_memory result request.old
         (given_command_buffer centre.old.state (command_model asked.entry)
         (refusal_of centre.old.state (command_model asked.entry)) request.old) }
+    ensures memory { result ≡ no_memory → IsTrue (enters_by centre.old.state (command_model asked.entry))
+        × (centre.old.spare ≡ 0) }
 {
     if let Some(fault) = centre.refusal(&asked) {
         return refusal_answer(fault);
@@ -199,6 +205,8 @@ fn command(
         (command_size centre.old.state (command_in centre.old.state line.now) size.old) }
     ensures request { request.new ≡ unless_memory result request.old
         (command_buffer centre.old.state (command_in centre.old.state line.now) request.old) }
+    ensures memory { result ≡ no_memory → IsOfOctets line.now
+        ⊎ (IsTrue (enters_by_call centre.old.state (command_in centre.old.state line.now)) × (centre.old.spare ≡ 0)) }
 {
     match read_command(alloc, centre.order(), line) {
         Ok(Some(asked)) => give_command(centre, asked.lent(), request, size),
@@ -232,6 +240,9 @@ pub extern "C" fn wisangub_centre_command_at(
     ensures request { longest_datagram ≤ length request.old
         → request.new ≡ unless_memory result request.old
         (command_buffer centre.old.value.state (command_in centre.old.value.state line.now) request.old) }
+    ensures memory { result ≡ no_memory → IsOfOctets line.now
+        ⊎ (IsTrue (enters_by_call centre.old.value.state (command_in centre.old.value.state line.now))
+        × (centre.old.value.spare ≡ 0)) }
 {
     if request.len() < MAX_DATAGRAM {
         *size = MAX_DATAGRAM;
@@ -247,6 +258,7 @@ fn hear(centre: &mut Centre, datagram: &[u8], request: &mut [u8], size: &mut usi
     ensures answer { result ≡ answer_of (received centre.old.state datagram.now).sent }
     ensures size { size.new ≡ size_of (received centre.old.state datagram.now).sent }
     ensures request { request.new ≡ buffer_with (received centre.old.state datagram.now).sent request.old }
+    ensures room { centre.new.spare ≡ centre.old.spare }
 {
     let mut out = Out::new();
     centre.receive(datagram, &mut out);
@@ -273,6 +285,7 @@ pub extern "C" fn wisangub_centre_receive_at(
         → size.new ≡ size_of (received centre.old.value.state datagram.now).sent }
     ensures request { longest_datagram ≤ length request.old
         → request.new ≡ buffer_with (received centre.old.value.state datagram.now).sent request.old }
+    ensures room { centre.new.value.spare ≡ centre.old.value.spare }
 {
     if request.len() < MAX_DATAGRAM {
         *size = MAX_DATAGRAM;
@@ -289,6 +302,8 @@ fn tick(centre: &mut Centre, request: &mut [u8], size: &mut usize) -> u32
     ensures size { size.new ≡ unless_memory result size.old (size_of (ticked centre.old.state).sent) }
     ensures request { request.new ≡ unless_memory result request.old
         (buffer_with (ticked centre.old.state).sent request.old) }
+    ensures memory { result ≡ no_memory → (enters_at_tick centre.old.state ≡ true) × (centre.old.spare ≡ 0) }
+    ensures room { enters_at_tick centre.old.state ≡ false → centre.new.spare ≡ centre.old.spare }
 {
     let mut out = Out::new();
     match centre.tick(&mut out) {
@@ -317,6 +332,9 @@ pub extern "C" fn wisangub_centre_tick_at(
     ensures request { longest_datagram ≤ length request.old
         → request.new ≡ unless_memory result request.old
         (buffer_with (ticked centre.old.value.state).sent request.old) }
+    ensures memory { result ≡ no_memory
+        → (enters_at_tick centre.old.value.state ≡ true) × (centre.old.value.spare ≡ 0) }
+    ensures room { enters_at_tick centre.old.value.state ≡ false → centre.new.value.spare ≡ centre.old.value.spare }
 {
     if request.len() < MAX_DATAGRAM {
         *size = MAX_DATAGRAM;

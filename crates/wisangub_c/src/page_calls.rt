@@ -1,6 +1,6 @@
 //! Pages of what a sign shows and of any text, from C.
 
-ghost use Rattle.std.specs.Prelude.{◌≡◌, length};
+ghost use Rattle.std.specs.Prelude.{◌≡◌, length, is_ok, IsTrue};
 ghost use Rattle.dms_lines.specs.PageOctets.{layer_of, pages_octets, row_bits};
 ghost use Rattle.dms_pages.specs.Drawn.{drawn_text};
 ghost use Rattle.dms_sign_lines.specs.Answer.{shown_pages};
@@ -78,6 +78,7 @@ pub extern "C" fn wisangub_sign_text_pages_at(
         (drawn_buffer (layer_of layer) (drawn_text sign.old.value.config.face text.now) octets.old) }
     ensures fault { fault.new ≡ unless_memory result fault.old
         (fault_after (drawn_text sign.old.value.config.face text.now) fault.old) }
+    ensures memory { result ≡ no_memory → IsTrue (is_ok (drawn_text sign.old.value.config.face text.now)) }
 {
     match pages(alloc, sign.as_mut().face(), text) {
         Ok(pages) => give_pages(alloc, Layer::of(layer), pages.as_slice(), octets, size),

@@ -11,6 +11,7 @@ ghost use Rattle.dms_sign.specs.State.{start};
 ghost use Rattle.dms_sign.specs.Reply.{received, after_get};
 ghost use Rattle.dms_sign.specs.Events.{after_tick, after_power_loss, after_power_return};
 ghost use Rattle.wisangub_c.specs.Answers.{done, no_memory, at_fault, answer_of, size_of, buffer_with, after_datagram};
+ghost use Rattle.wisangub_c.specs.Answers.{fault_answer, line_after};
 ghost use Rattle.wisangub_c.specs.Answers.{datagram_answer, datagram_size, datagram_buffer};
 
 use crate::answers::{AT_FAULT, DONE, NO_MEMORY, NOTHING_SENT, TOO_SMALL, put_first};
@@ -68,11 +69,21 @@ pub extern "C" fn wisangub_sign_new_at(
             sign.put(SignPlace::of(Loose::of(made.sign)));
             DONE
         }
-        Err(DescriptionFault::Line(number)) => {
+        Err(fault) => fault_answer(fault, line),
+    }
+}
+
+/// What is answered where no sign is made: of a description at fault, with the number of its line.
+fn fault_answer(fault: DescriptionFault, line: &mut usize) -> u32
+    ensures answer { result ≡ fault_answer fault }
+    ensures line { line.new ≡ line_after fault line.old }
+{
+    match fault {
+        DescriptionFault::Line(number) => {
             *line = number;
             AT_FAULT
         }
-        Err(DescriptionFault::Memory) => NO_MEMORY,
+        DescriptionFault::Memory => NO_MEMORY,
     }
 }
 

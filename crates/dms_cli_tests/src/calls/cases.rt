@@ -50,6 +50,22 @@ pub static HINTED: [(&str, bool); 6] = [
     ("check --sign", false),
 ];
 
+/// Lines with a word that is no number of the command line, and after `|` what is said of it.
+pub const NO_NUMBERS: &str = "\
+code +3 1 A|'+3' for 'TYPE': a number from 2 to 4,
+code 3 +1 A|'+1' for 'NUMBER': a number from 1 to 65535,
+code 3 '' A|'' for 'NUMBER': a number from 1 to 65535,
+code 3 1x A|'1x' for 'NUMBER': a number from 1 to 65535,
+code 3 1 A --duration +5|'+5' for '--duration': a number from 0 to 65535,
+code 3 1 A --duration=-0|'-0' for '--duration': a number from 0 to 65535,
+code 3 1 A --priority=+5|'+5' for '--priority': a number from 0 to 255,
+code 3 1 A --priority 256|'256' for '--priority': a number from 0 to 255,
+pages --page +1 A|'+1' for '--page': a number from 1 to 6,
+pages --page 0 A|'0' for '--page': a number from 1 to 6,
+pages --page 7 A|'7' for '--page': a number from 1 to 6,
+activation +3 1 9a66|'+3' for 'MEMORY': a number from 2 to 7,
+";
+
 /// Calls that print something.
 pub static PRINTING: [&str; 6] = [
     // a datagram that is dropped
@@ -404,7 +420,13 @@ page 1 on 30 off 0 back 0
 ];
 
 /// Calls that print the code of a text, the checksum that they print, and the code.
-pub static CODES: [(&str, &str, &str); 5] = [
+pub static CODES: [(&str, &str, &str); 6] = [
+    // numbers with zeros before them
+    (
+        "code 03 0000001 A --duration 00065535 --priority 0255",
+        "9a66",
+        "ffffff0300019a6600000000",
+    ),
     // the code of `A` in changeable 1
     (
         "code 3 1 A --address 192.0.2.1",
@@ -433,55 +455,21 @@ pub static CODES: [(&str, &str, &str); 5] = [
     ),
 ];
 
-/// Calls that print the code of a checksum.
-pub static ACTIVATIONS: [(&str, &str, u8); 11] = [
-    // the code of changeable 1 from its checksum
-    (
-        "activation 3 1 9a66 --address 192.0.2.1",
-        "code ffffff0300019a66c0000201\n",
-        0,
-    ),
-    // the same, with the octets of the checksum in the other order
-    (
-        "activation 3 1 9A66 --address 192.0.2.1 --swapped",
-        "code ffffff030001669ac0000201\n",
-        0,
-    ),
-    // the code of the permanent row from its checksum
-    ("activation 2 1 7502", "code ffffff020001750200000000\n", 0),
-    // the code of a volatile row from its checksum, for five minutes with priority 10
-    (
-        "activation 4 65535 83be --duration 5 --priority 10",
-        "code 00050a04ffff83be00000000\n",
-        0,
-    ),
-    // the code of what is shown, for ten minutes
-    (
-        "activation 5 1 0000 --duration 10",
-        "code 000aff050001000000000000\n",
-        0,
-    ),
-    // the code of a blank message, with each value as where it is not given
-    (
-        "activation 7 1 0000 --priority 255 --duration 65535",
-        "code ffffff070001000000000000\n",
-        0,
-    ),
-    // the code of the last blank message
-    (
-        "activation 7 255 0000",
-        "code ffffff0700ff000000000000\n",
-        0,
-    ),
-    // a checksum of three digits
-    ("activation 3 1 9a6", "bad checksum\n", 2),
-    // of five
-    ("activation 3 1 09a66", "bad checksum\n", 2),
-    // a checksum that has no digit is reported before a bad address
-    ("activation 3 1 9a6g --address 1.2.3", "bad checksum\n", 2),
-    // the address alone is bad
-    ("activation 3 1 9a66 --address 1.2.3", "bad address\n", 2),
-];
+/// Activations that are printed or refused: the line, and after `|` what is printed and the status.
+pub const ACTIVATIONS: &str = "\
+activation 03 001 9a66|code ffffff0300019a6600000000|0
+activation 3 1 9a66 --address 192.0.2.1|code ffffff0300019a66c0000201|0
+activation 3 1 9A66 --address 192.0.2.1 --swapped|code ffffff030001669ac0000201|0
+activation 2 1 7502|code ffffff020001750200000000|0
+activation 4 65535 83be --duration 5 --priority 10|code 00050a04ffff83be00000000|0
+activation 5 1 0000 --duration 10|code 000aff050001000000000000|0
+activation 7 1 0000 --priority 255 --duration 65535|code ffffff070001000000000000|0
+activation 7 255 0000|code ffffff0700ff000000000000|0
+activation 3 1 9a6|bad checksum|2
+activation 3 1 09a66|bad checksum|2
+activation 3 1 9a6g --address 1.2.3|bad checksum|2
+activation 3 1 9a66 --address 1.2.3|bad address|2
+";
 
 /// Calls over a sign's description: the words, the standard input, what is printed, and the status.
 pub static DESCRIBED: [(&str, &str, &str, u8); 7] = [
@@ -677,22 +665,47 @@ binding 1.1.7: Opaque 00
         "",
     ),
     // a datagram that ends too early
-    ("decode 30", "fault truncated at octet 1\n", 1, ""),
+    (
+        "decode 30",
+        "fault truncated at octet 1\n",
+        1,
+        "truncated at octet 1\n",
+    ),
     // a blank within an octet
-    ("decode --spaced '3 0'", "not hex\n", 2, ""),
+    (
+        "decode --spaced '3 0'",
+        "not hex\n",
+        2,
+        "octet 2 of the word, 20 in hexadecimal, is no digit of a pair\n",
+    ),
     // a blank where none may stand
-    ("decode '30 00'", "not hex\n", 2, ""),
+    (
+        "decode '30 00'",
+        "not hex\n",
+        2,
+        "octet 3 of the word, 20 in hexadecimal, is no digit of a pair\n",
+    ),
     // a colon where none may stand
-    ("decode 30:00", "not hex\n", 2, ""),
+    (
+        "decode 30:00",
+        "not hex\n",
+        2,
+        "octet 3 of the word, 3a in hexadecimal, is no digit of a pair\n",
+    ),
     // an odd number of digits
-    ("decode 3", "not hex\n", 2, ""),
+    (
+        "decode 3",
+        "not hex\n",
+        2,
+        "the word has an odd number of hexadecimal digits\n",
+    ),
     // a datagram that ends too early, as JSON
     (
         "decode --json 300a",
         r#"{"fault":"truncated","octet":2}
 "#,
         1,
-        "",
+        "truncated at octet 2\n",
     ),
     // an odd number of digits, as JSON
     (
@@ -700,7 +713,7 @@ binding 1.1.7: Opaque 00
         r#"{"refused":"not hex"}
 "#,
         2,
-        "",
+        "the word has an odd number of hexadecimal digits\n",
     ),
     // a Get of changeable 1 by `public`, as JSON
     (
@@ -781,72 +794,33 @@ fault 3 at 63
     ),
 ];
 
+/// Calls that are refused: the line, what is printed, the status, and what is said on the standard error.
+pub const REFUSED: &str = "\
+pages --page 2 A|no such page|1|the text has no page 2: pages are counted from 1 to 1
+pages --page 2 --svg A|no such page|1|the text has no page 2: pages are counted from 1 to 1
+check A[sc1]|fault 3 at 1|1|unsupported tag at octet 1
+pages --svg C|fault 7 at 0|1|character not defined at octet 0: character 67 is not in font 1
+answer 3000|dropped|1|truncated at octet 2
+answer 301802010004067075626c6963a20b0201010201000201003000|dropped|1|no request, or not of a community that may ask this
+check AAAAA|fault 5 at 4|1|text too big at octet 4: wider than the matrix by 6 columns
+pages A[nl]A[nl]A|fault 5 at 5|1|text too big at octet 5: higher than the matrix by 9 rows
+check [fo2]B|fault 7 at 5|1|character not defined at octet 5: character 66 is not in font 2
+check [fo2]A[fo]C|fault 7 at 10|1|character not defined at octet 10: character 67 is not in font 1
+check A[fo7]A|fault 6 at 1|1|font not defined at octet 1: the sign has no font 7
+pages A[np]AAAAA[nl]A|fault 5 at 9|1|text too big at octet 9: wider than the matrix by 6 columns
+decode --spaced ' 30'|not hex|2|octet 1 of the word, 20 in hexadecimal, is no digit of a pair
+decode --spaced '30 '|not hex|2|octet 3 of the word, 20 in hexadecimal, is no digit of a pair
+decode --spaced 30:|not hex|2|octet 3 of the word, 3a in hexadecimal, is no digit of a pair
+decode --spaced 30::0|not hex|2|the word has an odd number of hexadecimal digits
+answer 3g|not hex|2|octet 2 of the word, 67 in hexadecimal, is no digit of a pair
+code 3 1 A --address 1.2.3|bad address|2|an address is four numbers from 0 to 255 with dots between them, as 192.0.2.1, and not `1.2.3`
+activation 3 1 9a6|bad checksum|2|a checksum is four hexadecimal digits, and not `9a6`
+";
+
 /// What is said of a call on the standard error, beside what it prints.
-pub static SAID: [(&str, &str, u8, &str); 16] = [
+pub static SAID: [(&str, &str, u8, &str); 4] = [
     // the version
     ("--version", "signtool 1.0.0\n", 0, ""),
-    // a page that a text has not
-    ("pages --page 2 A", "no such page\n", 1, ""),
-    // a picture of it
-    ("pages --page 2 --svg A", "no such page\n", 1, ""),
-    // a tag that is not supported
-    (
-        "check A[sc1]",
-        "fault 3 at 1\n",
-        1,
-        "unsupported tag at octet 1\n",
-    ),
-    // a character that the first font has not
-    (
-        "pages --svg C",
-        "fault 7 at 0\n",
-        1,
-        "character not defined at octet 0: character 67 is not in font 1\n",
-    ),
-    // a datagram that ends too early
-    ("answer 3000", "dropped\n", 1, "truncated at octet 2\n"),
-    // a Response to a sign
-    (
-        "answer 301802010004067075626c6963a20b0201010201000201003000",
-        "dropped\n",
-        1,
-        "no request, or not of a community that may ask this\n",
-    ),
-    // a line that is too wide
-    (
-        "check AAAAA",
-        "fault 5 at 4\n",
-        1,
-        "text too big at octet 4: wider than the matrix by 6 columns\n",
-    ),
-    // lines that are too high
-    (
-        "pages A[nl]A[nl]A",
-        "fault 5 at 5\n",
-        1,
-        "text too big at octet 5: higher than the matrix by 9 rows\n",
-    ),
-    // a character that a text's font has not
-    (
-        "check [fo2]B",
-        "fault 7 at 5\n",
-        1,
-        "character not defined at octet 5: character 66 is not in font 2\n",
-    ),
-    // a character that the font after it has not
-    (
-        "check [fo2]A[fo]C",
-        "fault 7 at 10\n",
-        1,
-        "character not defined at octet 10: character 67 is not in font 1\n",
-    ),
-    // a font that the sign has not
-    (
-        "check A[fo7]A",
-        "fault 6 at 1\n",
-        1,
-        "font not defined at octet 1: the sign has no font 7\n",
-    ),
     // two pages, as JSON
     (
         "check --json A[np]A",
@@ -873,13 +847,6 @@ pub static SAID: [(&str, &str, u8, &str); 16] = [
 line 1: the text ends before its line `end`
 the standard input is empty: < FILE gives it one
 ",
-    ),
-    // a second page that is too wide
-    (
-        "pages A[np]AAAAA[nl]A",
-        "fault 5 at 9\n",
-        1,
-        "text too big at octet 9: wider than the matrix by 6 columns\n",
     ),
 ];
 

@@ -30,6 +30,10 @@ busy
 last none
 ledger 1 ffffff070001000000000000 waiting
 ok
+> status last
+busy
+last none
+ok
 ";
 
 /// Commands where no number is left.
@@ -194,6 +198,10 @@ idle
 last accepted
 ledger 7 ffffff0300019a66c0000201 accepted
 ok
+> status last
+idle
+last accepted
+ok
 ";
 
 /// Lines that are none.
@@ -221,6 +229,11 @@ Tick
 restart 0
 restarts
 status 1
+status last 1
+status last last
+status Last
+status first
+last
 state
 show
 power-lost

@@ -147,6 +147,51 @@ ok
 > state
 shown 7 1 0000 mode 12 priority 1 remaining 65535 text -
 ok
+# the longest silence there is: 65535 minutes
+> datagram 302d020100040561646d696ea32102010b02010002010030163014060d2b060104018936040203060d00020300ffff
+reply 302d020100040561646d696ea22102010b02010002010030163014060d2b060104018936040203060d00020300ffff
+# `admin` sets dmsActivateMessage.0 to row 2.1, for two minutes
+> datagram 3036020100040561646d696ea32a02010c020100020100301f301d060d2b060104018936040203060300040c000264020001750200000000
+accepted 000264020001750200000000 3036020100040561646d696ea22a02010c020100020100301f301d060d2b060104018936040203060300040c000264020001750200000000
+> ticks 119
+ok
+> state
+shown 2 1 7502 mode 8 priority 100 remaining 1 text 42
+ok
+> ticks 3931980
+ok
+> state
+shown 7 1 0000 mode 14 priority 1 remaining 65535 text -
+ok
+> ticks 1
+ok
+> state
+shown 7 1 0000 mode 12 priority 1 remaining 65535 text -
+ok
+# more seconds than that change nothing: they are not counted one by one
+> ticks 4294967295
+ok
+> state
+shown 7 1 0000 mode 12 priority 1 remaining 65535 text -
+ok
+# nor do they while the power is off
+> power-lost
+ok
+> ticks 4294967295
+ok
+> state
+shown 7 1 0000 mode 13 priority 1 remaining 65535 text -
+ok
+> power-back 1
+ok
+# the same message once more, and all seconds at once: its end, and then that of the silence
+> datagram 3036020100040561646d696ea32a02010d020100020100301f301d060d2b060104018936040203060300040c000264020001750200000000
+accepted 000264020001750200000000 3036020100040561646d696ea22a02010d020100020100301f301d060d2b060104018936040203060300040c000264020001750200000000
+> ticks 4294967295
+ok
+> state
+shown 7 1 0000 mode 12 priority 1 remaining 65535 text -
+ok
 ";
 
 /// The pages of `[cb3][pt5o2]1[np][fo2][cf1]A`.

@@ -2,7 +2,8 @@
 
 ghost use Rattle.std.specs.Prelude.{◌≡◌};
 ghost use Rattle.std.specs.Int.Digits.{AllBelowBase};
-ghost use Rattle.dms_sign.specs.Events.{after_duration, after_silence, after_tick};
+ghost use Rattle.dms_table.specs.Rows.{is_settling};
+ghost use Rattle.dms_sign.specs.Events.{after_duration, after_silence, after_tick, after_ticks, is_at_rest};
 ghost use Rattle.dms_sign.specs.Events.{after_power_loss, recovery_code, after_power_return};
 ghost use Rattle.dms_sign.specs.Reply.{after_get};
 
@@ -20,6 +21,34 @@ impl Sign {
             self.count_down();
             self.count_silence();
         }
+    }
+
+    /// So many seconds, one by one while a second changes something.
+    pub fn pass(&mut self, seconds: u32)
+        ensures { self.new ≡ after_ticks seconds self.old }
+    {
+        for _ in 0..seconds {
+            if self.is_at_rest() {
+                return;
+            }
+            self.tick();
+        }
+    }
+
+    /// Whether a second leaves the sign as it is.
+    pub fn is_at_rest(&self) -> bool
+        ensures { result ≡ is_at_rest self.now }
+    {
+        !self.powered
+            || (self.shown.remaining.is_none()
+                && 60 * u32::from(self.settings.time_comm_loss) <= self.silent_seconds
+                && !self.is_settling())
+    }
+
+    fn is_settling(&self) -> bool
+        ensures { result ≡ is_settling self.now.table }
+    {
+        self.table.settling().is_some()
     }
 
     /// The message has a second less; at its end the code of the end of a duration is activated.

@@ -434,6 +434,13 @@ pub const FONT_TWO: &str = "...........9...........
 .......................
 ";
 
+/// The message of lost communications comes up after a minute.
+pub const SILENT_AFTER_A_MINUTE: &str = "\
+# admin sets dmsTimeCommLoss.0 to 1: done
+> 302b020100040561646d696ea31f02010302010002010030143012060d2b060104018936040203060d00020101
+< 302b020100040561646d696ea21f02010302010002010030143012060d2b060104018936040203060d00020101
+";
+
 /// A loss of communications: at 60 seconds, after an answer, under a code of the current buffer, with a duration, with
 /// the power off.
 pub const SILENCE: &str = "\

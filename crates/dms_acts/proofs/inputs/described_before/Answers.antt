@@ -1,5 +1,5 @@
 use Rattle.dms_streams.specs.Lines.{left}
-use Rattle.dms_acts.proofs.Carried.{not_described_before, empty_of_text}
+use Rattle.dms_acts.proofs.Carried.{not_described_before, refused_before, empty_of_text}
 use Rattle.dms_acts.proofs.inputs.described_before.Goals as goal
 
 pub returns-in-Ok-clause-line : goal.returns-in-Ok-clause-line
@@ -11,3 +11,8 @@ pub returns-in-Ok-clause-empty : goal.returns-in-Ok-clause-empty
 returns-in-Ok-clause-empty g c =
     empty_of_text c.as_slice.result.now c.in-Ok.text.items (left g.S.Source.remaining c.args.input.now) (left g.S.Source.remaining c.text_before.new.input)
     c.described_text.result c.as_slice.ensures.value c.in-Ok.ensures.text c.described_text.ensures.empty
+
+pub returns-in-Ok-clause-number : goal.returns-in-Ok-clause-number
+returns-in-Ok-clause-number g c number is =
+    refused_before c.as_slice.result.now c.in-Ok.text.items (left g.S.Source.remaining c.args.input.now) (left g.S.Source.remaining c.text_before.new.input) number
+    c.as_slice.ensures.value c.in-Ok.ensures.text (c.described_text.ensures.number number is)

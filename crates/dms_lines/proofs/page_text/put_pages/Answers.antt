@@ -5,4 +5,4 @@ use Rattle.dms_lines.proofs.page_text.put_pages.Goals as goal
 pub loop-index-preserved : goal.loop-index-preserved
 loop-index-preserved c =
     thing_more page_text c.args.pages.now c.loop-index.index c.index-pages-index.result _ _ _ c.loop-index-test.true c.index-pages-index.is
-    c.loop-index.invariant c.in_ok-put_page.ensures
+    c.loop-index.invariant c.in-Ok.ensures

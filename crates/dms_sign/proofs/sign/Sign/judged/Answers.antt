@@ -30,7 +30,7 @@ loop-binding-preserved c =
           command c.loop-binding.rest c.next.new.self b w c.note.new.self.settings c.note.new.self.index
           (option_map write_by c.note.new.self.command) c.loop-binding.invariant.0 c.in-Some.ensures.steps c.in-Ok.ensures.none c.in-Ok.ensures.change
           alone c.note.ensures.settings c.note.ensures.command c.note.ensures.index,
-      subst (AreTaken c.mark_name.new.slots) next (c.mark_name.ensures (take index c.args.binds.now) b refl c.loop-binding.invariant.1),
+      subst (AreTaken c.mark_name.new.slots) next (c.mark_name.ensures.taken (take index c.args.binds.now) b refl c.loop-binding.invariant.1),
       stays_more c.args.self.now (take index c.args.binds.now) (take (index + 1) c.args.binds.now) b w c.loop-binding.judged.fields
           c.note.new.self.fields c.in-Ok.ensures.change next c.note.ensures.fields c.loop-binding.invariant.2,
     )
