@@ -1,172 +1,194 @@
 #!/usr/bin/env python3
-"""Tries a crate's wrong bodies many at a time, in a clone that may be written to. With no crate it tries those of all.
+"""Tries the wrong bodies of must-fail/ and wrong-bodies/, many in one check, crates side by side: all, or those of some.
 
-The gate tries one a check. Here a check tries as many as change functions of their own, and an edit is refused where a
-goal of the function that it changes stays open. One that leaves none open there, or changes a constant or a table, or
-stands beside one that cannot be read, is tried by itself, and then any goal counts: that of a caller, too. A proof file
-that names what an edit took away says nothing of a contract, nor do the goals that stay open beside it, nor does a
-function that the prover does not cover, so an edit is not refused by these. What was not refused is printed with the
-reason, and last `N passed, N failed`.
+    tools/try_edits.py [CRATE ..] [--only NAME] [--goals] [--anew] [--jobs N]
+
+A check tries as many edits as change functions of their own, in these functions alone, and an edit is refused where a
+goal of the function that it changes stays open; where it changes a constant or a type, one of any function. It is not
+refused by a text that does not read, a proof file that names what it took away, a check that was killed or met a limit,
+nor by a goal of another function. Where anything of these is met in a check of several, each is tried by itself.
+
+A crate is checked on a copy, over the statements of those below it: those that `rt ci` or tools/build.py proved of the
+same sources, or else they are proved first. What is refused is kept on this machine (in ~/.cache/wisangub) by a sum of
+all that the check reads, and a later run takes it; --anew tries all. What was not refused is printed with the reason,
+and last `N passed, N failed`.
 """
 
+from __future__ import annotations
+
 import argparse
-import collections
-import dataclasses
+import concurrent.futures
+import os
 import pathlib
-import re
-import subprocess
 import sys
+import tempfile
+import threading
+import time
 from collections.abc import Iterator
+from contextlib import contextmanager
+from dataclasses import dataclass
 
-from upkeep.edits import BadEdit, Edit, applied, edits_of
+from building.kit import Kit
+from building.plan import TOP, Crate, Plan
+from building.proofs import Proofs
+from building.schedule import free_memory
+from tries.check import Checker
+from tries.kept import Kept, folder, sum_of
+from tries.libraries import libraries, whole_plan
+from tries.trial import Outcome, tried
+from upkeep.edits import Edit, edits_of, faults
 
-TOP = pathlib.Path(__file__).resolve().parent.parent
-
-# What a proof file says where it names what the edit took away, or cites a proof that does.
-UNREAD = re.compile(r"has no field|is not in scope|has no `|was not admitted|is no name")
-
-
-@dataclasses.dataclass
-class Said:
-    """What a check said: the open goals of each function, why nothing is known of others, and whether a text is bad."""
-    goals: dict[str, list[str]]
-    unknown: list[str]
-    # the functions whose proof files name what is gone: their open goals may only want an answer under another name
-    unread: set[str]
-    bad: str | None = None
+JUDGES = ("try_edits.py", "tries/*.py", "upkeep/edits.py", "building/kit.py")  # what an outcome is decided by
 
 
-def owner(path: str) -> str:
-    """The function, or that of a closure: `module::fn::Type::function::closure` stands in `module::Type::function`."""
-    module, is_closure, rest = re.sub(r"\+Fn\w*::\w+$", "", path).partition("::fn::")
-    return f"{module}::{rest.rpartition('::')[0]}" if is_closure else path
+class Memory:
+    """Room for checks side by side, in octets."""
 
+    def __init__(self, most: float) -> None:
+        self.left, self.most, self.changed = most, most, threading.Condition()
 
-def heard(crate: pathlib.Path, lines: list[str]) -> Said:
-    said = Said(collections.defaultdict(list), [], set())
-    for line in lines:
-        of_source = re.match(r"(?:\./)?src/\S+: error\S*: (`[^`]*`: )?(.*)", line)
-        of_proof = re.match(r"(?:\./)?proofs/(\S+)/\w+\.antt:[\d:]+ error: (.*)", line)
-        of_function = re.match(r"fn (\S+): no proof: expected .*?; (.*)", line)
-        if of_source and (not of_source.group(1) or UNREAD.search(of_source.group(2))):
-            said.bad = said.bad or line
-        elif of_proof and UNREAD.search(of_proof.group(2)):
-            said.unknown.append(f"a proof file names what it takes away: {of_proof.group(2)}")
-            said.unread.add("::".join([crate.name, *of_proof.group(1).split("/")]))
-        elif of_proof:
-            said.goals["::".join([crate.name, *of_proof.group(1).split("/")])].append(of_proof.group(2))
-        elif of_function:
-            left = re.search(r"did not prove ([^;]*)", of_function.group(2))
-            said.goals[owner(of_function.group(1))] += re.findall(r"`([^`]+)`", left.group(1)) if left else []
-            said.unknown += [] if left else [of_function.group(2)]
-    return said
-
-
-def checked(crate: pathlib.Path, edits: list[Edit]) -> Said:
-    """What a check says with these edits in place, each of a text of its own."""
-    texts: dict[pathlib.Path, str] = {}
-    for edit in edits:
-        texts = applied(edit, texts)
-    saved = {file: file.read_text(encoding="utf-8") for file in texts}
-    try:
-        for file, text in texts.items():
-            file.write_text(text, encoding="utf-8")
-        ran = subprocess.run(["rt", "check", "--allow-holes"], cwd=crate, capture_output=True, text=True, check=False)
-    finally:
-        for file, text in saved.items():
-            file.write_text(text, encoding="utf-8")
-    said = heard(crate, (ran.stdout + ran.stderr).splitlines())
-    if ran.returncode and not (said.goals or said.unknown or said.bad):
-        said.unknown.append(f"the check ended with {ran.returncode} and said nothing")
-    return said
-
-
-def are_apart(edits: list[Edit]) -> bool:
-    """Whether each can be applied where the others are: none makes a text twice that another one changes."""
-    texts: dict[pathlib.Path, str] = {}
-    try:
-        for edit in edits:
-            texts = applied(edit, texts)
-    except BadEdit:
-        return False
-    return True
-
-
-def groups(edits: list[Edit]) -> list[list[Edit]]:
-    """Edits that change functions of their own, and each other one alone."""
-    made: list[list[Edit]] = []
-    for edit in edits:
-        place = next((group for group in made if None not in edit.functions and not any(
-            None in other.functions or other.functions & edit.functions for other in group)
-            and are_apart([*group, edit])), None)
-        if place is None:
-            made.append([edit])
-        else:
-            place.append(edit)
-    return made
-
-
-def goals_of(said: Said, paths: list[str]) -> list[str]:
-    """The open goals of these functions, each after the function's name; none of one whose proof files do not read."""
-    read = [path for path in paths if path not in said.unread]
-    return [f"{path.rpartition('::')[2]}: {goal}" for path in read for goal in said.goals.get(path, [])]
-
-
-def tried(crate: pathlib.Path, edits: list[Edit]) -> Iterator[tuple[Edit, list[str], str]]:
-    """Each edit with the goals that it leaves open, or with why there is none."""
-    for group in groups(edits):
-        said = checked(crate, group) if len(group) > 1 else None
-        for edit in group:
-            goals = goals_of(said, sorted(path for path in edit.functions if path)) if said and not said.bad else []
-            yield edit, *((goals, "") if goals else tried_alone(crate, edit))
-
-
-def tried_alone(crate: pathlib.Path, edit: Edit) -> tuple[list[str], str]:
-    said = checked(crate, [edit])
-    goals = goals_of(said, sorted(said.goals))
-    if said.bad:
-        return [], f"cannot be read: {said.bad}"
-    return goals, next(iter(said.unknown), "not refused")
-
-
-def applicable(crate: pathlib.Path, edits: list[Edit]) -> tuple[int, int]:
-    """How many edits can be applied, and how many cannot."""
-    stands = 0
-    for edit in edits:
+    @contextmanager
+    def taken(self, much: float) -> Iterator[None]:
+        much = min(much, self.most)
+        with self.changed:
+            self.changed.wait_for(lambda: self.left >= much)
+            self.left -= much
         try:
-            stands += bool(applied(edit, {}))
-        except BadEdit as fault:
-            print(f"{crate.name}/{edit.name}: cannot be applied: {fault}")
-    return stands, len(edits) - stands
+            yield
+        finally:
+            with self.changed:
+                self.left += much
+                self.changed.notify_all()
 
 
-def refused(crate: pathlib.Path, edits: list[Edit], says_goals: bool) -> tuple[int, int]:
-    """How many edits are refused, and how many are not."""
-    passed = 0
-    for edit, goals, why in tried(crate, edits):
-        passed += bool(goals)
-        if not goals:
-            print(f"{crate.name}/{edit.name}: {why}", flush=True)
-        elif says_goals:
-            print(f"{crate.name}/{edit.name}: {'; '.join(dict.fromkeys(goals))}", flush=True)
-    return passed, len(edits) - passed
+@dataclass
+class Work:
+    """The edits of a crate: what is known of some, and those that are to be tried."""
+
+    crate: Crate
+    total: str  # a sum of all that its checks read
+    known: list[Outcome]
+    left: list[Edit]
 
 
-def main() -> int:
+@dataclass
+class Run:
+    """What all crates of a run have in common."""
+
+    plan: Plan
+    kit: Kit
+    kept: Kept
+    says_goals: bool
+
+    def sum_of(self, crate: Crate) -> str:
+        """A sum of all that a check of the crate reads, and of what judges it."""
+        tools = [path for name in JUDGES for path in sorted((TOP / "tools").glob(name))]
+        read = [path.read_bytes() for path in [*tools, self.kit.folder / "KIT-ID", self.kit.folder / "WHAT"]]
+        program = (self.kit.folder / "bin/rattle").stat()
+        return sum_of(Proofs(self.plan, self.kit, TOP).sum_of(crate.name), read, program.st_size, program.st_mtime_ns)
+
+    def name_of(self, total: str, edit: Edit) -> str:
+        """The name under which it is kept what refused an edit."""
+        pairs = [(str(pair.file.relative_to(TOP / "crates")), pair.old, pair.new) for pair in edit.pairs]
+        return sum_of(total, edit.name, pairs)
+
+    def begin(self, name: str, edits: list[Edit]) -> Work:
+        """What is known of these edits before any is tried."""
+        crate, wrong = self.plan.crates[name], faults(edits)
+        total = self.sum_of(crate)
+        known = [Outcome(edit, why=f"cannot be applied: {wrong[edit.name]}") for edit in edits if edit.name in wrong]
+        edits = [edit for edit in edits if edit.name not in wrong]
+        earlier = {edit.name: self.kept.goals(self.name_of(total, edit)) for edit in edits}
+        known += [Outcome(edit, earlier[edit.name], is_kept=True) for edit in edits if earlier[edit.name]]
+        return Work(crate, total, known, [edit for edit in edits if not earlier[edit.name]])
+
+    def outcomes(self, work: Work, below: pathlib.Path) -> Iterator[Outcome]:
+        """Each of the edits, tried or as it is known."""
+        yield from work.known
+        if not work.left:
+            return
+        with tempfile.TemporaryDirectory(prefix="wrong-bodies-") as room:
+            checker = Checker(self.plan, self.kit, work.crate, below, pathlib.Path(room))
+            for outcome in tried(checker, work.left):
+                if outcome.is_refused and self.sum_of(work.crate) == work.total:
+                    self.kept.keep(self.name_of(work.total, outcome.edit), outcome.goals)
+                yield outcome
+
+    def counted(self, work: Work, below: pathlib.Path) -> tuple[int, int, int]:
+        """How many edits are refused, how many are not, and how many of the first an earlier run refused."""
+        begun, found = time.monotonic(), []
+        for outcome in self.outcomes(work, below):
+            found.append(outcome)
+            if not outcome.is_refused:
+                print(f"{work.crate.name}/{outcome.edit.name}: {outcome.why}", flush=True)
+            elif self.says_goals:
+                print(f"{work.crate.name}/{outcome.edit.name}: {'; '.join(dict.fromkeys(outcome.goals))}", flush=True)
+        passed, kept = sum(one.is_refused for one in found), sum(one.is_kept for one in found)
+        words = f"{passed} of {len(found)} refused, {kept} of them by an earlier run"
+        print(f"{work.crate.name}: {words} ({time.monotonic() - begun:.0f} s)", file=sys.stderr, flush=True)
+        return passed, len(found) - passed, kept
+
+    def side_by_side(self, works: list[Work], below: pathlib.Path, jobs: int) -> list[tuple[int, int, int]]:
+        """The counts of each crate, those with the most work first, as many at once as memory holds."""
+        memory = Memory(free_memory())
+
+        def one(work: Work) -> tuple[int, int, int]:
+            with memory.taken(work.crate.memory if work.left else 0):
+                try:
+                    return self.counted(work, below)
+                except (OSError, ValueError, LookupError) as fault:  # no room on the disk, say: the others go on
+                    print(f"{work.crate.name}: its edits were not tried to the end: {fault!r}", flush=True)
+                    return 0, len(work.known) + len(work.left), 0
+
+        with concurrent.futures.ThreadPoolExecutor(jobs) as pool:
+            return list(pool.map(one, sorted(works, key=lambda work: -work.crate.work * len(work.left))))
+
+
+def applicable(name: str, edits: list[Edit]) -> tuple[int, int, int]:
+    """How many edits can be applied, and how many cannot."""
+    wrong = faults(edits)
+    for edit, why in wrong.items():
+        print(f"{name}/{edit}: cannot be applied: {why}")
+    return len(edits) - len(wrong), len(wrong), 0
+
+
+def asked_for() -> argparse.Namespace:
     words = argparse.ArgumentParser(description=__doc__, formatter_class=argparse.RawDescriptionHelpFormatter)
     words.add_argument("crates", nargs="*", metavar="CRATE", help="a crate whose edits are tried")
     words.add_argument("--only", action="append", metavar="NAME", help="of these names alone")
     words.add_argument("--apply", action="store_true", help="only look that each can be applied, in a second")
     words.add_argument("--goals", action="store_true", help="print the goals that each leaves open")
+    words.add_argument("--anew", action="store_true", help="take nothing from earlier runs")
+    words.add_argument("--jobs", type=int, default=len(os.sched_getaffinity(0)), metavar="N", help="crates at a time")
+    words.add_argument("--libraries", type=pathlib.Path, metavar="FOLDER", help="another out/proved of tools/build.py")
     asked = words.parse_args()
-    counts = []
-    for name in asked.crates or sorted(path.name for path in (TOP / "crates").iterdir()):
-        crate = TOP / "crates" / name
-        edits = [edit for edit in edits_of(crate) if not asked.only or edit.name.partition("/")[2] in asked.only]
-        counts.append(applicable(crate, edits) if asked.apply else refused(crate, edits, asked.goals))
-    passed, failed = (sum(column) for column in zip(*counts))
+    names = sorted(path.name for path in (TOP / "crates").iterdir())
+    if unknown := set(asked.crates) - set(names):
+        words.error(f"no crate {', '.join(sorted(unknown))}")
+    asked.crates = asked.crates or names
+    return asked
+
+
+def main() -> int:
+    asked = asked_for()
+    edits = {name: edits_of(TOP / "crates" / name) for name in asked.crates}
+    if asked.only:
+        edits = {name: [edit for edit in of if edit.name.partition("/")[2] in asked.only] for name, of in edits.items()}
+    edits = {name: of for name, of in edits.items() if of}
+    if asked.apply:
+        counts = [applicable(name, of) for name, of in edits.items()]
+    else:
+        run = Run(whole_plan(), Kit.found(), Kept(folder(), asked.anew), asked.goals)
+        works = [run.begin(name, of) for name, of in edits.items()]
+        names = [work.crate.name for work in works if work.left]
+        with libraries(run.plan, names, asked.libraries, asked.jobs) as below:
+            counts = run.side_by_side(works, below, asked.jobs)
+        run.kept.shrink()
+    passed, failed, kept = (sum(column) for column in zip(*counts)) if counts else (0, 0, 0)
+    if kept:
+        print(f"{kept} of them were refused by an earlier run on this machine, over the same files")
     print(f"{passed} passed, {failed} failed")
-    return 1 if failed else 0
+    return 1 if failed or not counts else 0
 
 
 if __name__ == "__main__":

@@ -3,7 +3,7 @@
 from collections.abc import Callable
 from dataclasses import dataclass
 
-from . import code, crates, documents, drawing, rows, tools, words
+from . import code, counts, crates, documents, drawing, rows, tools, words, wrong
 from .tree import Tree
 
 
@@ -33,6 +33,9 @@ BARS = (
     Bar("examples of crates", crates.examples),
     Bar("public functions", crates.unsaid),
     Bar("one door to each name", crates.doors),
+    Bar("wrong bodies are kept", wrong.listed),
+    Bar("a wrong body of each crate", wrong.owed),
+    Bar("wrong bodies apply", wrong.applied),
     Bar("the drawing of the houses", drawing.drawn),
     Bar("what stands on what", drawing.told),
     Bar("crates that a live line crosses", drawing.crossed),
@@ -40,6 +43,7 @@ BARS = (
     Bar("tools can be called", tools.executable),
     Bar("tools have a help", tools.has_help),
     Bar("rows of hexadecimal", rows.without_words),
+    Bar("numbers of the page on tests", counts.stale),
     Bar("nothing is put off", words.put_off),
     Bar("nothing is named that is gone", words.gone),
     Bar("lines of code", code.wide),

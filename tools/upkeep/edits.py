@@ -5,7 +5,9 @@ import pathlib
 import re
 from collections.abc import Iterator
 
-FUNCTION = re.compile(r"^(?P<indent> *)(?:pub(?:\([a-z]+\))? )?(?:const )?fn (?P<name>\w+)")
+FUNCTION = re.compile(
+    r'^(?P<indent> *)(?:pub(?:\([a-z]+\))? )?(?:const )?(?:unsafe )?(?:extern "C" )?fn (?P<name>\w+)'
+)
 BLOCK = re.compile(r"^(?:pub(?:\([a-z]+\))? )?(?P<kind>impl|trait|mod)\b(?P<head>[^{]*)\{")
 
 
@@ -26,6 +28,7 @@ class Edit:
     pairs: list[Pair]
     # the paths of the functions that it changes; None for what stands in no function
     functions: set[str | None]
+    fault: str = ""  # why it cannot be read
 
 
 def read_pairs(crate: pathlib.Path, path: pathlib.Path) -> Iterator[Pair]:
@@ -37,13 +40,18 @@ def read_pairs(crate: pathlib.Path, path: pathlib.Path) -> Iterator[Pair]:
         elif line.startswith("old: "):
             old = line.removeprefix("old: ")
         elif line.startswith("new:"):
-            assert file is not None and old is not None
+            if file is None or not old:
+                raise BadEdit("a `new:` line stands before any `file:` or `old:` line")
             yield Pair(file, old, line.removeprefix("new:").removeprefix(" "))
 
 
 def read_edit(crate: pathlib.Path, path: pathlib.Path) -> Edit:
-    pairs = list(read_pairs(crate, path))
-    return Edit(f"{path.parent.name}/{path.stem}", pairs, {function_at(crate, pair) for pair in pairs})
+    name = f"{path.parent.name}/{path.stem}"
+    try:
+        pairs = list(read_pairs(crate, path))
+        return Edit(name, pairs, {function_at(crate, pair) for pair in pairs})
+    except (BadEdit, OSError, ValueError) as fault:
+        return Edit(name, [], {None}, str(fault))
 
 
 def edits_of(crate: pathlib.Path) -> list[Edit]:
@@ -104,10 +112,29 @@ def function_at(crate: pathlib.Path, pair: Pair) -> str | None:
 
 def applied(edit: Edit, texts: dict[pathlib.Path, str]) -> dict[pathlib.Path, str]:
     """These texts of files with the edit in place."""
-    texts = dict(texts)
+    if edit.fault or not edit.pairs:
+        raise BadEdit(edit.fault or "it has no `old:` and `new:` pair")
+    texts, were = dict(texts), dict(texts)
     for pair in edit.pairs:
-        text = texts.get(pair.file) or pair.file.read_text(encoding="utf-8")
+        try:
+            text = texts[pair.file] if pair.file in texts else pair.file.read_text(encoding="utf-8")
+        except (OSError, ValueError) as fault:
+            raise BadEdit(str(fault)) from fault
         if text.count(pair.old) != 1:
             raise BadEdit(f"`{pair.old}` stands {text.count(pair.old)} times in {pair.file.name}")
+        were.setdefault(pair.file, text)
         texts[pair.file] = text.replace(pair.old, pair.new)
+    if texts == were:
+        raise BadEdit("it changes nothing")
     return texts
+
+
+def faults(edits: list[Edit]) -> dict[str, str]:
+    """Why edits cannot be applied, by their names."""
+    found = {}
+    for edit in edits:
+        try:
+            applied(edit, {})
+        except BadEdit as fault:
+            found[edit.name] = str(fault)
+    return found

@@ -96,15 +96,15 @@ def test_doors(made: MakesTree) -> None:
 
 def test_sizes(made: MakesTree) -> None:
     texts = {
-        "crates__one__src__lib_rt": "fn called() {}\n" * 99 + "// a line\n" * 1000,
-        "crates__one__src__more_rt": "// a line\n" * 401,
+        "crates__one__src__lib_rt": "fn called() {}\n" * 130 + "// a line\n" * 1000,
+        "crates__one__src__more_rt": "// a line\n" * 870,
         "crates__two__src__lib_rt": "fn called() {}\n" * 60,
-        "crates__two__src__more_rt": "fn called() {}\n" * 40 + "// a line\n" * 1400,
+        "crates__two__src__more_rt": "fn called() {}\n" * 71 + "// a line\n" * 1400,
     }
     tree = made(crates_txt="one:\ntwo:\n", crates__one__specs__Lib_rt="a\n" * 2000, **texts)
-    assert crates.large(tree) == ["two: 100 functions, 99 at most"]
-    longer = made(**{**texts, "crates__one__src__more_rt": "// a line\n" * 402})
-    assert crates.large(longer) == ["one: 1,501 lines of code, 1,500 at most", "two: 100 functions, 99 at most"]
+    assert crates.large(tree) == ["two: 131 functions, 130 at most"]
+    longer = made(**{**texts, "crates__one__src__more_rt": "// a line\n" * 871})
+    assert crates.large(longer) == ["one: 2,001 lines of code, 2,000 at most", "two: 131 functions, 130 at most"]
 
 
 LISTED = "# low\nfirst:\nsecond: first\n# high\nthird: first second other\nthird_tests: third\n"

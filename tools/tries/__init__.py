@@ -1,0 +1,1 @@
+"""Wrong bodies, tried many in one check."""

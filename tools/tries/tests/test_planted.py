@@ -1,0 +1,175 @@
+"""Planted edits of a tiny crate: which are refused, and that nothing else refuses one."""
+
+from __future__ import annotations
+
+import pathlib
+import shutil
+import subprocess
+
+import pytest
+from building import plan as planning
+from building.kit import Kit
+from building.plan import Plan
+from tries.check import Checker
+from tries.trial import Outcome, tried
+from upkeep.edits import Edit, edits_of
+
+HAS_KIT = shutil.which("rt") is not None
+wants_kit = pytest.mark.skipif(not HAS_KIT, reason="the kit is not here")
+CODE = """//! A crate of five functions.
+#![tactic(auto)]
+
+ghost use Rattle.std.specs.Prelude.{◌≡◌};
+
+const STEP: u8 = 3;
+
+pub fn one() -> u8
+    ensures { result ≡ 1 }
+{
+    1 + 0
+}
+
+pub fn two() -> u8
+    ensures { result ≡ 2 }
+{
+    2 + 0
+}
+
+pub fn three() -> u8
+    ensures { result ≡ 3 }
+{
+    STEP
+}
+
+fn inner(n: u8) -> u8
+    ensures { result ≡ n }
+{
+    n
+}
+
+pub fn outer(n: u8) -> u8
+    ensures { result ≡ n }
+{
+    inner(n)
+}
+"""
+ANSWERS = """use Rattle.tiny.proofs.outer.Goals as goal
+
+pub returns : goal.returns
+returns c = c.inner.ensures
+"""
+WRONG, RIGHT = ("1 + 0", "2 + 0"), ("2 + 0", "1 + 1")
+PLANTED = {
+    "wrong": WRONG,
+    "right": RIGHT,
+    "constant": ("u8 = 3;", "u8 = 4;"),
+    "name_that_a_proof_cites": ("inner(n)", "n + 0"),
+    "no_text": ("1 + 0", "1 + ("),
+    "no_number": ("2 + 0", "true"),
+}
+
+
+def plant(crate: pathlib.Path, names: list[str]) -> list[Edit]:
+    """Edits of the crate, and no others."""
+    shutil.rmtree(crate / "must-fail", ignore_errors=True)
+    (crate / "must-fail").mkdir()
+    for name in names:
+        old, new = PLANTED[name]
+        edit = f"file: src/lib.rt\nold: {old}\nnew: {new}\n"
+        (crate / f"must-fail/{name}.edit").write_text(edit, encoding="utf-8")
+    return edits_of(crate)
+
+
+def made(top: pathlib.Path) -> pathlib.Path:
+    """The folder of the tiny crate."""
+    crate = top / "crates/tiny"
+    for name, text in (("src/lib.rt", CODE), ("proofs/outer/Answers.antt", ANSWERS)):
+        (crate / name).parent.mkdir(parents=True)
+        (crate / name).write_text(text, encoding="utf-8")
+    (top / "crates/program/src").mkdir(parents=True)
+    (top / "crates/program/src/main.rt").write_text("", encoding="utf-8")
+    (top / "crates.txt").write_text("tiny:\nprogram: tiny\n", encoding="utf-8")
+    (top / "room").mkdir()
+    return crate
+
+
+@pytest.fixture
+def crate(tmp_path: pathlib.Path, monkeypatch: pytest.MonkeyPatch) -> pathlib.Path:
+    monkeypatch.setattr(planning, "TOP", tmp_path)
+    return made(tmp_path)
+
+
+def checker_of(crate: pathlib.Path, kit: Kit) -> Checker:
+    plan, top = Plan(), crate.parent.parent
+    return Checker(plan, kit, plan.crates["tiny"], top, top / "room")
+
+
+def words(outcomes: list[Outcome]) -> dict[str, str]:
+    return {one.edit.name.partition("/")[2]: "; ".join(one.goals) or one.why for one in outcomes}
+
+
+@wants_kit
+def test_an_edit_is_refused_by_a_goal_of_what_it_changes_alone(crate: pathlib.Path) -> None:
+    checker = checker_of(crate, Kit.found())
+    found = words(list(tried(checker, plant(crate, ["wrong", "right"]))))
+    assert found == {"wrong": "one: returns", "right": "not refused: it is still proved"}
+    assert checker.checks == 2  # both together, and the one of which nothing was open
+    found = words(list(tried(checker, plant(crate, ["constant", "name_that_a_proof_cites", "no_text", "no_number"]))))
+    assert found["constant"].startswith("three: ")
+    assert found["name_that_a_proof_cites"].startswith("nothing is known of it: a proof file names what it takes away")
+    assert found["no_text"].startswith("cannot be read: src/lib.rt")
+    assert found["no_number"].startswith("cannot be read: src/lib.rt")
+
+
+@wants_kit
+def test_beside_what_cannot_be_read_each_is_tried_by_itself(crate: pathlib.Path) -> None:
+    checker = checker_of(crate, Kit.found())
+    found = words(list(tried(checker, plant(crate, ["wrong", "no_number"]))))
+    assert found["wrong"] == "one: returns" and found["no_number"].startswith("cannot be read")
+    assert checker.checks == 3
+
+
+class Scripted(Checker):
+    """A checker whose checks end as a script has it."""
+
+    def script(self, *ends: tuple[int, str]) -> Scripted:
+        self.ends = list(ends)
+        return self
+
+    def run(self, only: list[str]) -> subprocess.CompletedProcess[str]:
+        status, text = self.ends.pop(0)
+        return subprocess.CompletedProcess(only, status, text, "")
+
+
+OPEN = "fn tiny::{}: no proof: expected answers in ./proofs/{}/Answers.antt; `search` did not prove `returns`\nonly=1 holes=0\n"
+KILLED = (-9, OPEN.format("one", "one"))
+
+
+@pytest.fixture
+def scripted(crate: pathlib.Path, tmp_path: pathlib.Path) -> Scripted:
+    plan = Plan()
+    return Scripted(plan, Kit(tmp_path), plan.crates["tiny"], tmp_path, tmp_path / "room")
+
+
+def test_a_check_that_was_killed_refuses_nothing(crate: pathlib.Path, scripted: Scripted) -> None:
+    ends = scripted.script(*[KILLED] * 4)  # each is tried once more, and then all functions are
+    assert "was killed" in words(list(tried(ends, plant(crate, ["wrong"]))))["wrong"]
+
+
+def test_after_a_group_that_was_killed_each_is_tried_by_itself(crate: pathlib.Path, scripted: Scripted) -> None:
+    proved = "fn tiny::two: no holes\nonly=1 holes=0\n"
+    ends = scripted.script(KILLED, KILLED, (0, proved), (1, OPEN.format("one", "one")))
+    found = words(list(tried(ends, plant(crate, ["right", "wrong"]))))
+    assert found == {"wrong": "one: returns", "right": "not refused: it is still proved"}
+    assert ends.ends == []
+
+
+def test_memory_that_ran_out_refuses_nothing(crate: pathlib.Path, scripted: Scripted) -> None:
+    ends = scripted.script(*[(1, f"note: antt ran out of memory\n{OPEN.format('one', 'one')}")] * 2)
+    assert "ran out of memory" in words(list(tried(ends, plant(crate, ["wrong"]))))["wrong"]
+
+
+def test_a_goal_of_a_neighbour_refuses_nothing(crate: pathlib.Path, scripted: Scripted) -> None:
+    text = f"fn tiny::two: no holes\n{OPEN.format('one', 'one')}"
+    ends = scripted.script((1, text))
+    assert "open are ['one: returns'] alone" in words(list(tried(ends, plant(crate, ["right"]))))["right"]

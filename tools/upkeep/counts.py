@@ -1,0 +1,70 @@
+"""A bar of the page on tests: the numbers that it says are about those that are counted."""
+
+from __future__ import annotations
+
+import re
+from dataclasses import dataclass
+
+from .tree import Tree
+
+PAGE = "docs/TESTING.md"
+LAST = "The last whole gate: "
+OFF = 0.1  # of the number, and no more
+OWN = r"crates/(?!\w+_tests/|dms_measures/)\w+/src/.*\.rt"  # what is neither a test nor a measure
+FUNCTION = r'(?m)^\s*(?:pub(?:\([\w ]+\))? )?(?:const )?(?:extern "C" )?fn '
+TEST = r"(?m)^def test_"
+
+
+@dataclass(frozen=True)
+class Count:
+    """What stands after `some N` on the page; in these files it is what is found, or each file where nothing is."""
+
+    words: str
+    files: str
+    found: str = ""
+
+    def of(self, tree: Tree) -> int:
+        names = [name for name in tree.names if re.fullmatch(self.files, name)]
+        return sum(len(re.findall(self.found, tree.text(name))) for name in names) if self.found else len(names)
+
+
+COUNTS = (
+    Count("crates", r"crates\.txt", r"(?m)^\w[^:\n]*:"),
+    Count("functions", OWN, FUNCTION),
+    Count("clauses", OWN, r"\bensures\b"),
+    Count("wrong bodies", r"crates/\w+/(?:must-fail|wrong-bodies)/[^/]+\.edit"),
+    Count("tests in Rattle", r"crates/\w+/src/.*\.rt", r"#\[test\]"),
+    Count("cases of vectors", r"vectors/\w+\.jsonl", r"(?m)^."),
+    Count("wrong signs", r"conform/mutants/\w+\.txt", r"(?m)^rule: "),
+    Count("kinds of trial", r"tools/lasting\.py", r'": Kind\('),
+    Count("tests of tools", r"(?:tools/\w+|measures)/tests/\w+\.py", TEST),
+    Count("tests of the tester", r"conform/tests/\w+\.py", TEST),
+    Count("tests of the control room", r"control/tests/\w+\.py", TEST),
+    Count("bars", r"tools/upkeep/bars\.py", r"(?m)^    Bar\("),
+    Count("steps", r"tools/after_gate\.py", r"(?m)^    Step\("),
+)
+
+
+def said(text: str, words: str) -> list[int]:
+    """The numbers that a page says of this."""
+    spaced = r"\s+".join(["some", r"([\d,]+)", *words.split()])
+    numbers = re.findall(rf"\b{spaced}\b", text)
+    return [int(number.replace(",", "")) for number in numbers]
+
+
+def stale(tree: Tree) -> list[str]:
+    """Numbers that are further off than a tenth, or that the page does not say, or the last gate's line."""
+    if not tree.has(PAGE):
+        return []
+    text = tree.text(PAGE)
+    found = [] if f"\n{LAST}" in text else [f"{PAGE}: no line '{LAST}..'"]
+    for count in COUNTS:
+        number, numbers = count.of(tree), said(text, count.words)
+        if not numbers:
+            found.append(f"{PAGE}: it does not say 'some {number:,} {count.words}'")
+        found += [
+            f"{PAGE}: some {one:,} {count.words}, where there are {number:,}"
+            for one in numbers
+            if abs(one - number) > OFF * number
+        ]
+    return found
