@@ -50,7 +50,9 @@ int main(int count, char **words)
         wisangub_sign_free(&sign);
         return fputs("blink: out of memory\n", stderr), 2;
     }
-    for (char *text = words[1], *to = line + strlen(line); *text != '\0'; to += sprintf(to, "%02x", *text++ & 255U)) {
+    char *to = line + strlen(line);
+    for (const char *text = words[1]; *text != '\0'; text++) {
+        to += sprintf(to, "%02x", (unsigned)(unsigned char)*text);
     }
     int failed_at = carry_out(line, strlen(strcat(line, " - 0 0 200 65535 255 127.0.0.1")));
     wisangub_sign_matrix(&sign, &width, &height);

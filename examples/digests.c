@@ -3,24 +3,43 @@
 #include <stdio.h>
 #include <string.h>
 
+static uint32_t table[256];
+static uint8_t index_of[256]; /* of the table's entry with this high octet */
+
+static void make_table(void)
+{
+    for (uint32_t octet = 0; octet < 256; octet++) {
+        uint32_t left = octet;
+        for (int bit = 0; bit < 8; bit++) {
+            left = (left >> 1) ^ ((left & 1) != 0 ? 0xEDB88320u : 0u);
+        }
+        table[octet] = left;
+    }
+    for (uint32_t octet = 0; octet < 256; octet++) {
+        index_of[table[octet] >> 24] = (uint8_t)octet;
+    }
+}
+
 uint32_t crc32_after(uint32_t before, const void *octets, size_t size)
 {
-    static uint32_t table[256];
     const uint8_t *at = octets;
     uint32_t sum = ~before;
     if (table[1] == 0) {
-        for (uint32_t octet = 0; octet < 256; octet++) {
-            uint32_t left = octet;
-            for (int bit = 0; bit < 8; bit++) {
-                left = (left >> 1) ^ (left & 1 ? 0xEDB88320u : 0);
-            }
-            table[octet] = left;
-        }
+        make_table();
     }
     while (size-- > 0) {
         sum = (sum >> 8) ^ table[(sum ^ *at++) & 255];
     }
     return ~sum;
+}
+
+uint32_t crc32_without(uint32_t sum, uint8_t last)
+{
+    if (table[1] == 0) {
+        make_table();
+    }
+    uint8_t found = index_of[~sum >> 24];
+    return ~(((~sum ^ table[found]) << 8) | (uint32_t)(found ^ last));
 }
 
 static const uint32_t constants[64] = {

@@ -6,35 +6,68 @@
 #include <stdint.h>
 #include <sys/types.h>
 
-#include "wisangub.h"
-
-struct journal {
-    const char *path;
-    int file;
-    int refused;          /* the error with which the disk refused last; 0 where it takes records */
-    off_t size;
-    uint32_t sum;         /* the CRC-32 of all octets so far */
-    uint64_t seconds;     /* that were handed over and are in no line yet */
-    uint64_t since_clock; /* seconds */
-    int heard;            /* the silence is over since the last second */
-    char *owed;           /* lines that wait for the next record */
-    size_t owed_size, owed_room;
-    size_t owed_ticks;    /* where the last of them that counts seconds begins; SIZE_MAX where more than a clock
-                             follows */
-};
+#include "lines.h"
+#include "moments.h"
+#include "waits.h"
 
 /* What the time without a process was: told by the boot's id, a loss of power, or seconds. */
 enum down { DOWN_BY_BOOT, DOWN_POWER, DOWN_PROCESS };
 
-/* The seconds since the machine's boot, with those in which it slept. */
-double running(void);
+struct journal_asked {
+    const char *path, *digest; /* of the description */
+    enum down down;
+    int accepts_damage;        /* it goes on from where the file is damaged */
+    int is_needed;             /* the process ends where the disk takes no records */
+};
+
+/* The sign's power, and since when it has none. */
+struct power {
+    int is_off;
+    struct moment lost;
+};
+
+/* Whoever a line is handed to. */
+struct handing {
+    void (*hand)(void *sign, const struct line *line);
+    void *sign;
+};
+
+/* What has to be done with a file before a record can follow what is kept of it. */
+struct mending {
+    off_t found;     /* the octets that it was found with */
+    size_t kept;     /* of these */
+    int is_older;    /* it is of form 1 */
+    int is_readable; /* it was opened for reading alone */
+    int is_aside;    /* what is not kept is put aside already */
+    int error;       /* with which the disk refused much of it last */
+    double again;    /* when it is tried again then, in seconds since the boot */
+};
+
+struct journal {
+    struct journal_asked asked;
+    int file;               /* -1 where there is none yet */
+    int refused;            /* the error with which the disk refused last; 0 where it takes records */
+    int is_started;         /* the start is recorded */
+    struct mending mending; /* before it */
+    off_t size;
+    uint64_t count;         /* of its records */
+    uint64_t synced;        /* so many of them are known to be on the disk */
+    char start[1024];       /* the lines that a start is recorded by */
+    struct waits waits;     /* what is recorded with the next record */
+    uint64_t since_clock;   /* seconds */
+    int is_heard;           /* the silence is over since the last second */
+};
 
 /*
- * Opens the journal of this description's sign, hands the sign all that is in it, and what the time without a process
- * was up to this moment. What it cannot go on from is told on standard error, and the process ends.
+ * Opens the journal of this description's sign, hands over all that is in it, and what the time without a process was
+ * up to this moment; *power is how the sign's stands then. What it cannot go on from is told on standard error, and the
+ * process ends. Where the disk takes no records it goes on from what is there.
  */
-void journal_open(struct journal *journal, const char *path, const char *digest, struct wisangub_sign *sign, double up,
-                  enum down down);
+void journal_open(struct journal *journal, struct journal_asked asked, double up, struct handing handing,
+                  struct power *power);
+
+/* Records the start, where that is not done yet: whether records may follow it. */
+int journal_begun(struct journal *journal);
 
 /* Whether these lines, each with a newline at its end, are on the disk, and so may be handed over. */
 int journal_keep(struct journal *journal, const char *lines, size_t size);
@@ -42,10 +75,11 @@ int journal_keep(struct journal *journal, const char *lines, size_t size);
 /* Seconds passed up to this moment, and were handed over. */
 void journal_tick(struct journal *journal, uint64_t seconds, double up);
 
-/* A datagram was answered; by a line that was kept or by none. */
-void journal_heard(struct journal *journal, int by_kept);
+/* A datagram was answered; by a line that was kept or by none. Where the disk refuses, the sign acts on a silence of so
+ * many seconds, or on none where they are 0. */
+void journal_heard(struct journal *journal, int by_kept, uint64_t limit);
 
-/* The last seconds, up to this moment. */
-void journal_end(struct journal *journal, double up);
+/* The last seconds, up to this moment: whether all is recorded. */
+int journal_end(struct journal *journal, double up);
 
 #endif

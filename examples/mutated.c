@@ -11,53 +11,13 @@
 #include <string.h>
 #include <time.h>
 
+#include "mutations.h"
 #include "wisangub.h"
 
-enum { SEEDS_MOST = 2000, GUARD = 64 };
+enum { GUARD = 64 };
 
-static char description[1 << 20], line[8192];
-static uint8_t seeds[SEEDS_MOST][WISANGUB_DATAGRAM], reply[WISANGUB_DATAGRAM + GUARD];
-static size_t sizes[SEEDS_MOST], count;
-static uint64_t random_state;
-
-static uint64_t any(uint64_t below)
-{
-    random_state ^= random_state << 13;
-    random_state ^= random_state >> 7;
-    random_state ^= random_state << 17;
-    return random_state % below;
-}
-
-static void read_seeds(void)
-{
-    while (count < SEEDS_MOST && fgets(line, sizeof line, stdin) != NULL) {
-        size_t size = strcspn(line, "\n") / 2;
-        for (size_t at = 0; at < size && at < WISANGUB_DATAGRAM; at++) {
-            char pair[3] = {line[2 * at], line[2 * at + 1], '\0'};
-            seeds[count][at] = (uint8_t)strtoul(pair, NULL, 16);
-        }
-        sizes[count++] = size < WISANGUB_DATAGRAM ? size : WISANGUB_DATAGRAM;
-    }
-}
-
-/* A datagram like one of the seeds, in a block of its own size. */
-static uint8_t *mutated(size_t *size)
-{
-    uint64_t seed = any(count);
-    size_t room = sizes[seed] + any(8);
-    uint8_t *made = malloc(room > 0 ? room : 1);
-    if (made == NULL) {
-        fputs("out of memory\n", stderr);
-        exit(1);
-    }
-    memset(made, (int)any(256), room);
-    memcpy(made, seeds[seed], sizes[seed]);
-    for (uint64_t times = any(4); times > 0 && room > 0; times--) {
-        made[any(room)] = (uint8_t)any(256);
-    }
-    *size = any(4) == 0 ? any(room + 1) : any(3) == 0 ? room : sizes[seed];
-    return made;
-}
+static char description[1 << 20];
+static uint8_t reply[WISANGUB_DATAGRAM + GUARD];
 
 /* Ends where a reply is too long, or what is behind the buffer was written. */
 static void look(enum wisangub_answer answer, size_t size)
@@ -112,8 +72,7 @@ int main(int words, char **word)
         return 2;
     }
     fclose(file);
-    random_state = strtoull(word[3], NULL, 10) * 2 + 1;
-    read_seeds();
+    size_t count = mutations_begin(strtoull(word[3], NULL, 10));
     memset(reply, 0xA5, sizeof reply);
     for (time_t end = time(NULL) + strtol(word[2], NULL, 10); count > 0 && (done % 1000 != 0 || time(NULL) < end);
          done++) {

@@ -1,110 +1,140 @@
+#define _GNU_SOURCE
 #include "records.h"
 
+#include <inttypes.h>
 #include <stdio.h>
-#include <stdlib.h>
 #include <string.h>
 
 #include "digests.h"
 
-enum { TAIL = RECORD_SUM - 1, SECTOR = 512, TORN_MOST = 1 << 20 };
+enum { DIGITS = 8, MOST_DIGITS = 18, LEAST = 15 }; /* a record has at least `x #1 1 ` and eight digits */
 
-size_t record_made(char *record, const char *line, size_t size, uint32_t *sum)
+size_t record_made(char *to, const char *line, size_t size, uint64_t number, uint64_t since)
 {
-    char digits[TAIL + 1];
-    memcpy(record, line, size);
-    memcpy(record + size, " #", 2);
-    *sum = crc32_after(*sum, record, size + 2);
-    snprintf(digits, sizeof digits, "%08x\n", (unsigned)*sum);
-    memcpy(record + size + 2, digits, TAIL);
-    *sum = crc32_after(*sum, digits, TAIL);
-    return size + 2 + TAIL;
+    char tail[RECORD_ROOM];
+    int written = snprintf(tail, sizeof tail, " #%" PRIu64 " %" PRIu64 " ", number, since);
+    size_t summed = size + (size_t)written;
+    memcpy(to, line, size);
+    memcpy(to + size, tail, (size_t)written);
+    snprintf(tail, sizeof tail, "%08x\n", (unsigned)crc32_after(0, to, summed));
+    memcpy(to + summed, tail, DIGITS + 1);
+    return summed + DIGITS + 1;
 }
 
-/* The sum that a record says, or -1. */
-static int64_t said_sum(const char *text, size_t begin, size_t end)
+/* The number whose decimal digits end at *end and begin behind `begin`; *end is its first digit then. 0 for none. */
+static uint64_t number_before(const char *text, size_t begin, size_t *end)
 {
-    if (end - begin < RECORD_SUM + 1 || memcmp(text + end - TAIL - 2, " #", 2) != 0) {
-        return -1;
+    size_t first = *end;
+    uint64_t number = 0;
+    while (first > begin && *end - first < MOST_DIGITS && text[first - 1] >= '0' && text[first - 1] <= '9') {
+        first--;
     }
-    for (size_t at = end - TAIL; at < end - 1; at++) {
-        if (memchr("0123456789abcdef", text[at], 16) == NULL) {
-            return -1;
+    if (first == *end || text[first] == '0') {
+        return 0;
+    }
+    for (size_t at = first; at < *end; at++) {
+        number = number * 10 + (uint64_t)(text[at] - '0');
+    }
+    *end = first;
+    return number;
+}
+
+/* Whether eight small hexadecimal digits stand there, which *sum then is. */
+static int sum_at(const char *text, size_t at, uint32_t *sum)
+{
+    *sum = 0;
+    for (size_t end = at + DIGITS; at < end; at++) {
+        char digit = text[at];
+        if (!((digit >= '0' && digit <= '9') || (digit >= 'a' && digit <= 'f'))) {
+            return 0;
         }
+        *sum = *sum << 4 | (uint32_t)(digit <= '9' ? digit - '0' : digit - 'a' + 10);
     }
-    return (int64_t)strtoul(text + end - TAIL, NULL, 16);
+    return 1;
 }
 
-size_t record_end(const char *text, size_t size, size_t at)
+/* Whether a record's ` #NUMBER SINCE SUM` ends at `end`, and begins at or behind `begin`: then *line is where. */
+static int tail_before(const char *text, size_t begin, size_t end, struct record *found, uint32_t *sum, size_t *line)
+{
+    size_t at = end - DIGITS - 1;
+    if (end < begin + LEAST || text[at] != ' ' || !sum_at(text, at + 1, sum)) {
+        return 0;
+    }
+    found->since = number_before(text, begin, &at);
+    if (found->since == 0 || at == begin || text[--at] != ' ') {
+        return 0;
+    }
+    found->number = number_before(text, begin, &at);
+    if (found->number < found->since || at < begin + 2 || text[at - 1] != '#' || text[at - 2] != ' ') {
+        return 0;
+    }
+    *line = at - 2;
+    return *line > begin;
+}
+
+int record_spelled(const char *text, size_t begin, size_t end, struct record *found)
+{
+    uint32_t sum = 0;
+    size_t line = 0;
+    if (!tail_before(text, begin, end, found, &sum, &line)
+        || crc32_after(0, text + begin, end - DIGITS - begin) != sum) {
+        return 0;
+    }
+    found->begin = begin;
+    found->end = end + 1;
+    return 1;
+}
+
+size_t record_line(const char *text, size_t begin, size_t end)
+{
+    const char *mark = memrchr(text + begin, '#', end - begin);
+    return mark != NULL ? (size_t)(mark - text) - 1 - begin : 0;
+}
+
+size_t line_end(const char *text, size_t size, size_t at)
 {
     const char *newline = at < size ? memchr(text + at, '\n', size - at) : NULL;
     return newline != NULL ? (size_t)(newline - text) + 1 : at;
 }
 
-size_t records_whole(const char *text, size_t size, uint32_t *sum)
+size_t records_whole(const char *text, size_t size, uint64_t *count)
 {
-    for (size_t at = 0;;) {
-        size_t end = record_end(text, size, at);
-        uint32_t found = end > at + RECORD_SUM ? crc32_after(*sum, text + at, end - at - TAIL) : 0;
-        if (end == at || said_sum(text, at, end) != (int64_t)found) {
+    struct record found;
+    size_t at = 0;
+    for (*count = 0;; ++*count) {
+        size_t end = line_end(text, size, at);
+        if (end == at || !record_spelled(text, at, end - 1, &found) || found.number != *count + 1) {
             return at;
         }
-        *sum = crc32_after(found, text + end - TAIL, TAIL);
         at = end;
     }
 }
 
-uint32_t records_sum(const char *text, size_t end)
+/* Whether a whole record ends with the newline before `end`, wherever from `begin` on it begins. */
+static int record_within(const char *text, size_t begin, size_t end, struct record *found)
 {
-    return end > TAIL ? crc32_after((uint32_t)said_sum(text, 0, end), text + end - TAIL, TAIL) : 0;
-}
-
-size_t records_started(const char *text, size_t whole)
-{
-    size_t start = 0;
-    for (size_t at = 0, end; at < whole; at = end) {
-        end = record_end(text, whole, at);
-        if (end - at > 6 && memcmp(text + at, "start ", 6) == 0 && start == 0) {
-            start = at;
-        } else if (end - at > 6 && memcmp(text + at, "clock ", 6) == 0) {
-            start = 0;
+    uint32_t sum = 0;
+    size_t line = 0;
+    if (!tail_before(text, begin, end - 1, found, &sum, &line)) {
+        return 0;
+    }
+    for (size_t at = end - 1 - DIGITS; at > begin;) {
+        sum = crc32_without(sum, (uint8_t)text[--at]);
+        if (sum == 0 && at < line) {
+            found->begin = at;
+            found->end = end;
+            return 1;
         }
     }
-    return start > 0 ? start : whole;
+    return 0;
 }
 
-/* Whether zeros from there run up to the end of a sector, or of the file. */
-static int is_hole(const char *text, size_t size, size_t at)
+int record_behind(const char *text, size_t size, size_t at, struct record *found)
 {
-    size_t end = at + 1;
-    while (end < size && end % SECTOR != 0 && text[end] == '\0') {
-        end++;
+    for (size_t end; (end = line_end(text, size, at)) > at; at = end) {
+        if (record_within(text, at, end, found)) {
+            return 1;
+        }
     }
-    return end >= size || end % SECTOR == 0;
-}
-
-int records_are_torn(const char *text, size_t size, size_t whole)
-{
-    const char *newline = size > whole ? memchr(text + whole, '\n', size - whole) : NULL;
-    const char *zero = size > whole ? memchr(text + whole, '\0', size - whole) : NULL;
-    if (size - whole > TORN_MOST) {
-        return 0;
-    }
-    return newline == NULL || newline == text + size - 1
-           || (zero != NULL && is_hole(text, size, (size_t)(zero - text)));
-}
-
-int records_are_begun(const char *text, size_t size, const char *head)
-{
-    size_t octets = size, wanted = strlen(head);
-    while (octets > 0 && text[octets - 1] == '\0') {
-        octets--;
-    }
-    if (size >= SECTOR || (octets > 0 && memchr(text, '\n', octets - 1) != NULL)) {
-        return 0;
-    }
-    if (octets <= wanted) {
-        return memcmp(text, head, octets) == 0;
-    }
-    return memcmp(text, head, wanted) == 0
-           && memcmp(text + wanted, " #", octets - wanted < 2 ? octets - wanted : 2) == 0;
+    return 0;
 }

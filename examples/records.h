@@ -1,32 +1,38 @@
-/* The records of a journal as octets (docs/JOURNAL.md): which are whole, and what stands after them. */
+/* The records of a journal of form 2 as octets (docs/JOURNAL.md): LINE #NUMBER SINCE SUM, each one whole by itself. */
 #ifndef RECORDS_H
 #define RECORDS_H
 
 #include <stddef.h>
 #include <stdint.h>
 
-/* The octets of a record after its line and a space: `#`, eight digits and a newline. */
-enum { RECORD_SUM = 10 };
+/* The most octets of a record beside its line. */
+enum { RECORD_ROOM = 64 };
 
-/* Writes a line as a record whose sum goes on from *sum: its size. */
-size_t record_made(char *record, const char *line, size_t size, uint32_t *sum);
+struct record {
+    size_t begin, end; /* its newline stands at `end` - 1 */
+    uint64_t number;   /* of the record in its file, from 1 */
+    uint64_t since;    /* the number of the first record that may not have been on the disk when it was written */
+};
 
-/* The end of the records from the first on that are whole; *sum is that of all of them. */
-size_t records_whole(const char *text, size_t size, uint32_t *sum);
+/* Writes a line as a record: its size. */
+size_t record_made(char *to, const char *line, size_t size, uint64_t number, uint64_t since);
 
-/* The end of the record that begins at `at`, of whole records. */
-size_t record_end(const char *text, size_t size, size_t at);
+/* Whether the octets from `begin` up to `end` are a whole record without its newline, which *found then is. */
+int record_spelled(const char *text, size_t begin, size_t end, struct record *found);
 
-/* The end of the records up to a start that has no clock after it, or of all. */
-size_t records_started(const char *text, size_t whole);
+/* The octets of the line of a whole record, of form 1 or 2. */
+size_t record_line(const char *text, size_t begin, size_t end);
 
-/* The sum of all octets up to the end of a record. */
-uint32_t records_sum(const char *text, size_t end);
+/* The end of the line that begins at `at`, behind its newline; `at` where it has none. */
+size_t line_end(const char *text, size_t size, size_t at);
 
-/* Whether what follows the whole records is what a kill or a loss of power leaves. */
-int records_are_torn(const char *text, size_t size, size_t whole);
+/* The end of the records from the first on that are whole and have the numbers from 1 on; *count of them. */
+size_t records_whole(const char *text, size_t size, uint64_t *count);
 
-/* Whether a file without a whole record is what a door leaves that was killed at the first one; its line is `head`. */
-int records_are_begun(const char *text, size_t size, const char *head);
+/*
+ * The first whole record that stands anywhere at or behind `at`, at the beginning of a line or within one; `at` is not
+ * within a record. 0 where there is none.
+ */
+int record_behind(const char *text, size_t size, size_t at, struct record *found);
 
 #endif

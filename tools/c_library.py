@@ -8,11 +8,13 @@ Without --library it is made first, by `rt lib`. Needed is a C compiler; what el
 NAME: why`. Every datagram, request, text, code and script of vectors/ goes through the library, with the sanitizers of
 addresses and of undefined behaviour and under valgrind; talks of many lines are compared with the program's, with the
 whole walk after every call; each allocation of a talk is refused once; signd and tools/udp_sign.py go on from each
-other's journals; C++, CMake and pkg-config build with it; and mutated datagrams go in for --seconds. With --aarch64 the
-vectors go through that library too, for ARM64, under qemu-user.
+other's journals, which are changed, cut, and refused by the disk; strangers do not fill them; C++, CMake and pkg-config
+build with it; and mutated datagrams go in for --seconds. With --aarch64 the vectors go through that library too, for
+ARM64, under qemu-user.
 
 The short form begins nothing after 230 seconds, stops `rt lib` after 150 and all else after 280: what there is no time
-for is skipped by name. In the long form what takes too long has failed. It needs no network but loopback, and leaves no process and no file.
+for is skipped by name. In the long form what takes too long has failed. It needs no network but loopback, and leaves no
+process and no file.
 """
 
 from __future__ import annotations
@@ -30,7 +32,7 @@ import time
 from functools import partial
 from typing import Callable
 
-from c_trials import against_program, against_vectors, builds, hostile, journals
+from c_trials import against_program, against_vectors, builds, disks, hostile, journals, powers, strangers, tested
 from c_trials.trial import AARCH64, PLAIN, REFUSING, SANITIZE, SANITIZED, TOP, UNDER_VALGRIND, Late, Trial, Way
 
 BUILT = TOP / "crates/wisangub_c/out/libwisangub_c.a"
@@ -110,11 +112,16 @@ def all_tried(trial: Trial, library: pathlib.Path, for_aarch64: pathlib.Path | N
         ("refused memory", partial(hostile.refusals, trial)),
         ("mutated datagrams", lambda: hostile.mutated(trial, trial.way, trial.seconds(seconds), seed)),
         ("the program", partial(against_program.run, trial)),
+        ("tests in C", partial(tested.run, trial)),
         ("journals", partial(journals.run, trial)),
+        ("strangers", partial(strangers.run, trial)),
+        ("power", partial(powers.run, trial)),
+        ("disks", partial(disks.run, trial)),
     ]
     parts += [(way.name, partial(against_vectors.run, trial, way)) for way in by[1:]]
     if UNDER_VALGRIND in by:
         parts.append(("valgrind of a talk", partial(hostile.under_valgrind, trial)))
+        parts.append(("valgrind of tests in C", partial(tested.under_valgrind, trial)))
     for name, part in parts:
         begun = time.monotonic()
         if trial.left() <= 0:

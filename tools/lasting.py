@@ -24,8 +24,8 @@ from dataclasses import dataclass
 from typing import Callable
 
 from door.places import SIGNTOOL
-from trials import centres, disks, downs, faults, files, gets, kills, logs
-from trials import operators, parts, speed, spelled, stops, streams, words, year
+from trials import bits, centres, disks, downs, faults, files, gets, kills, logs
+from trials import operators, parts, speed, spelled, stops, strangers, streams, words, year
 from trials.bench import Trial
 from trials.patience import PACE, Hangs, watched
 
@@ -51,8 +51,10 @@ KINDS = {
     "faults": Kind(faults.run, 8.0),
     "centres": Kind(lambda trial: centres.run(trial, 6 if trial.is_short else 200), 11.0, True),
     "files": Kind(files.run, 6.0),
+    "bits": Kind(bits.run, 6.0),
     "gets": Kind(gets.run),
     "spelled": Kind(spelled.run, 4.0, True),
+    "strangers": Kind(strangers.run, 6.0, True),
     "disks": Kind(disks.run, 4.0),
     "downs": Kind(downs.run),
     "stops": Kind(stops.run, 8.0),

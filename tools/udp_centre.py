@@ -1,8 +1,8 @@
 #!/usr/bin/env python3
 """A centre over UDP: a door between a socket and `signtool centre`.
 
-    tools/udp_centre.py --to HOST:PORT [--signtool PATH] [--sign FILE] [--journal FILE [--fresh]] [--first N]
-        [--log FILE|- [--json]] [--tick SECONDS] [--wait SECONDS]
+    tools/udp_centre.py --to HOST:PORT [--signtool PATH] [--sign FILE] [--journal FILE [--fresh] [--need-journal]]
+        [--first N] [--log FILE|- [--json]] [--tick SECONDS] [--wait SECONDS]
 
 Its standard input has an operator's commands, a line each as in a script: `publish ..`, `blank ..`, `activate ..`. Each
 is carried out until the centre is idle, and how it ended is printed with the ledger's lines; one that takes longer than
@@ -10,8 +10,9 @@ is carried out until the centre is idle, and how it ended is printed with the le
 192.0.2.1` is `publish ..` with its text and its owner as they are read, in quotes (\\" and \\\\ are a quote and a
 backslash; a - without quotes is none), each character an octet of ISO 8859-1; `status` prints how things are at any
 time. With a journal (docs/JOURNAL.md) a centre goes on where it was; without one its request numbers begin at the
-description's, or at --first, which has to be above any that was used. The exit status is 0 where every command ended
-accepted, 1 where one did not, and 2 where it could not begin.
+description's, or at --first, which has to be above any that was used. Standard error names the step of a command that
+failed, and says what the sign found wrong with its message, or what may be the cause. The exit status is 0 where every
+command ended accepted, 1 where one did not, and 2 where it could not begin.
 """
 
 import door.interrupts  # noqa: F401, before all else
@@ -21,7 +22,8 @@ import math
 import sys
 
 from door import commands, description
-from door.centre_door import CentreDoor
+from door.centre_door import CentreDoor, last_command
+from door.questions import Questions
 from door.records import Head
 from door.refusal import Refusal, say, status_of, tell
 from door.setting import MOST_NUMBER, begun, checked, journal_of, log_of, options
@@ -73,7 +75,10 @@ def main() -> int:
             if journal.is_new:
                 say(f"{asked.journal}: a new journal, whose request numbers begin at {first}")
         centre = begun(asked, "centre", description.with_first(text, first), journal)
-        operator = CentreDoor(centre, socket, journal, log, asked.tick, asked.wait)
+        questions = Questions(asked.signtool, text)
+        operator = CentreDoor(centre, socket, journal, log, asked.tick, asked.wait, questions)
+        if operator.is_busy and journal:
+            operator.line = last_command(journal.lines())
         is_well = operator.finish([], asked.wait) if operator.is_busy else True
         for line in commands.lines(operator.waiting):
             if line is None:

@@ -2,77 +2,22 @@
 
 from __future__ import annotations
 
+import hashlib
 import os
 import pathlib
 import signal
-import socket
-import subprocess
-import sys
 import time
 
-from door.datagrams import is_get
+from door.records import FORM
 from model.text import BENCH
 
-from .against_vectors import cases
-from .trial import TOP, Trial
+from . import records
+from .doors import Door, settings
+from .trial import Trial
 
-MOST_START = 60.0  # seconds
-MOST_REPLY = 20.0
-
-
-class Door:
-    """A door of one kind over a journal, at a port of its own."""
-
-    def __init__(self, trial: Trial, kind: str, journal: pathlib.Path, *words: str) -> None:
-        sign = str(trial.folder / "bench.sign")
-        if kind == "signd":
-            command = [*trial.called(trial.way, "signd"), "--port", "0", "--journal", str(journal), *words, sign]
-        else:
-            command = [sys.executable, str(TOP / "tools/udp_sign.py"), "--port", "0", "--signtool", str(trial.program)]
-            command += ["--sign", sign, "--journal", str(journal), *words]
-        self.process = subprocess.Popen(command, stdout=subprocess.PIPE, stderr=subprocess.PIPE)
-        self.socket = socket.socket(socket.AF_INET, socket.SOCK_DGRAM)
-        self.socket.settimeout(MOST_REPLY)
-        self.said = self.first_line()
-        if self.said:
-            self.socket.connect(("127.0.0.1", int(self.said.rpartition(":")[2])))
-
-    def first_line(self) -> str:
-        """What it announces; nothing where it ended instead."""
-        assert self.process.stdout is not None
-        os.set_blocking(self.process.stdout.fileno(), False)
-        last, found = time.monotonic() + MOST_START, b""
-        while time.monotonic() < last and not found.endswith(b"\n") and self.process.poll() is None:
-            found += self.process.stdout.read() or b""
-            time.sleep(0.01)
-        return found.decode().strip() if found.endswith(b"\n") else ""
-
-    def ask(self, octets: str) -> str:
-        """The reply to a datagram; nothing where none comes."""
-        self.socket.send(bytes.fromhex(octets))
-        try:
-            return self.socket.recv(65536).hex()
-        except (TimeoutError, OSError):
-            return ""
-
-    def end(self, number: int = signal.SIGTERM) -> tuple[int, str]:
-        """Its exit status and what it said of faults."""
-        if self.process.poll() is None:
-            self.process.send_signal(number)
-        try:
-            _, faults = self.process.communicate(timeout=MOST_START)
-        except subprocess.TimeoutExpired:
-            self.process.kill()
-            _, faults = self.process.communicate()
-        self.socket.close()
-        return self.process.returncode, faults.decode("latin-1")
-
-
-def settings() -> tuple[list[str], list[str]]:
-    """Requests that the bench sign answers: some that change it, and Gets."""
-    found = [case for case in cases("requests") if case["reply"]]
-    gets = [case["request"] for case in found if is_get(bytes.fromhex(case["request"]))]
-    return [case["request"] for case in found if case["changes"]], gets[::4][:40]
+LONG = 20000  # records
+MOST_KILLS = 300
+MOMENT = [b"start - 1795543676 1", b"clock 1795543676 1"]
 
 
 def turns(trial: Trial, kinds: tuple[str, ...], is_killed: bool) -> None:
@@ -95,51 +40,81 @@ def turns(trial: Trial, kinds: tuple[str, ...], is_killed: bool) -> None:
     trial.check(f"journal, {name}: replies", all(before), before)
 
 
-def power(trial: Trial) -> None:
-    """SIGUSR1 takes the power away, and SIGUSR2 gives it back: a sign answers nothing meanwhile, and whoever goes on
-    from the journal has the same."""
-    journal = trial.folder / "power.journal"
-    sets, gets = settings()
-    door = Door(trial, "signd", journal)
-    for octets in sets[:8]:
-        door.ask(octets)
-    door.process.send_signal(signal.SIGUSR1)
-    time.sleep(0.1)
-    door.socket.settimeout(0.3)
-    trial.same("power: without it nothing is answered", door.ask(gets[0]), "")
-    door.process.send_signal(signal.SIGUSR2)
-    time.sleep(0.1)
-    door.socket.settimeout(MOST_REPLY)
-    before = [door.ask(octets) for octets in gets]
-    trial.check("power: it is back", all(before), before)
-    trial.same("power: signd ends", door.end()[0], 0)
-    lines = journal.read_bytes()
-    trial.check("power: it is recorded", b"\npower-lost #" in lines and b"\npower-back 0 #" in lines, lines[-300:])
-    for kind in ("signd", "door") if os.access(trial.program, os.X_OK) else ("signd",):
-        door = Door(trial, kind, journal)
-        trial.same(f"power: what {kind} reads", [door.ask(octets) for octets in gets], before)
-        door.end()
+def digest() -> bytes:
+    return hashlib.sha256(BENCH).hexdigest().encode()
+
+
+def head(form: int = 2) -> bytes:
+    """The first line of a journal of the bench sign."""
+    return b"journal %d sign rules 1 description %b" % (form, digest())
 
 
 def refusals(trial: Trial) -> None:
-    """What is no journal of this sign is refused, and a torn end is cut away."""
+    """What is no journal of this sign, or is damaged, is refused; a torn end is put aside."""
     journal = trial.folder / "refused.journal"
     Door(trial, "signd", journal).end()
     whole = journal.read_bytes()
-    head = whole.index(b"\n") + 1
+    first = whole.index(b"\n") + 1
+    trial.check("journal: its records", records.lines_of(whole)[0] == head(), whole[:200])
     for name, octets, is_taken in (
         ("torn", whole + b"datagram 30", True),
         ("zeros", whole + b"\0" * (512 - len(whole) % 512), True),
         ("two torn lines", whole + b"x\ny\n", False),
-        ("a changed record", whole[: head + 3] + b"x" + whole[head + 4 :] + b"tick #00000000\ntick #00000000\n", False),
-        ("another form", whole.replace(b"journal 1", b"journal 2", 1), False),
+        ("a changed record", whole[: first + 3] + b"x" + whole[first + 4 :], False),
+        ("a changed last record", whole[:-20] + b"x" + whole[-19:], False),
+        ("a changed last octet", whole[:-1] + b"\x0b", False),
+        ("another form", records.journal([head(3), *MOMENT]), False),
+        ("a line that no sign knows", records.journal([head(), *MOMENT, b"hello world"]), False),
+        ("form 1", records.older([head(1), *MOMENT, b"ticks 5"]), True),
         ("no octets", b"", True),
         ("a part of the first record", whole[:20], True),
     ):
         journal.write_bytes(octets)
         door = Door(trial, "signd", journal)
         status, faults = door.end()
-        trial.check(f"journal, {name}", bool(door.said) == is_taken and (status == 0) == is_taken, f"exit {status}: {faults}")
+        is_so = bool(door.said) == is_taken and (status == 0) == is_taken
+        trial.check(f"journal, {name}", is_so, f"exit {status}: {faults}")
+    aside = [path.read_bytes() for path in sorted(trial.folder.glob("refused.journal.cut-*"))]
+    trial.check("journal: what is torn is put aside", b"datagram 30" in aside and len(aside) == 3, aside)
+    trial.check("journal: form 1 is kept", (trial.folder / "refused.journal.form1").exists())
+
+
+def accepted(trial: Trial) -> None:
+    """What is damaged is accepted once, and put aside."""
+    journal = trial.folder / "accepted.journal"
+    octets = records.journal([head(), *MOMENT, b"ticks 5", b"ticks 6", b"ticks 7"]).replace(b"ticks 6", b"ticks 4")
+    journal.write_bytes(octets)
+    status, faults = Door(trial, "signd", journal).end()
+    place = f"octet {octets.index(b'ticks 4')},"
+    trial.check("damage is told by its octet", status == 2 and place in faults and "--accept-damage" in faults, faults)
+    door = Door(trial, "signd", journal, "--accept-damage")
+    trial.check("damage is accepted", bool(door.said) and door.end()[0] == 0, door.said)
+    aside = [path.read_bytes() for path in trial.folder.glob("accepted.journal.cut-*")]
+    trial.same("damage is put aside", aside, [octets[octets.index(b"ticks 4") :]])
+    lines = records.lines_of(journal.read_bytes())
+    trial.check("damage: what is before it stays", lines[3] == b"ticks 5" and lines[4].startswith(b"start "), lines)
+
+
+def killed_anew(trial: Trial) -> None:
+    """A journal of form 1 is written anew by doors that are killed at any moment: it is whole in one form, and all lines
+    are there. The old file is kept once."""
+    journal, older = trial.folder / "anew.journal", trial.folder / "anew.journal.form1"
+    lines = [head(1), *MOMENT, *(b"ticks %d" % (1 + number % 7) for number in range(LONG))]
+    octets = records.older(lines)
+    journal.write_bytes(octets)
+    kills = 0
+    while kills < MOST_KILLS and journal.read_bytes() == octets:
+        door = Door(trial, "signd", journal, waits=False)
+        time.sleep(trial.chance.random() * 0.02 * (1 + kills / 5))
+        door.end(signal.SIGKILL)
+        kills += 1
+    found = records.lines_of(journal.read_bytes())
+    trial.same("form 1, killed: its lines", found[1 : len(lines)], lines[1:])
+    kept = list(trial.folder.glob("anew.journal.form1*"))
+    trial.check("form 1, killed: the old file", kept == [older] and older.read_bytes() == octets, kept)
+    print(f"a journal of form 1 was written anew after {kills} kills", flush=True)
+    status, faults = Door(trial, "signd", journal).end()
+    trial.check("form 1, killed: it goes on", status == 0, faults)
 
 
 def run(trial: Trial) -> None:
@@ -147,9 +122,15 @@ def run(trial: Trial) -> None:
     turns(trial, ("signd", "signd"), False)
     turns(trial, ("signd", "signd", "signd"), True)
     refusals(trial)
-    power(trial)
+    accepted(trial)
+    killed_anew(trial)
     if not os.access(trial.program, os.X_OK):
         trial.skip("journals with the door", f"there is no program at {trial.program}")
+        return
+    turns(trial, ("door", "signd", "signd"), False)
+    turns(trial, ("door", "signd"), True)
+    if FORM < 2:
+        trial.skip("journals of signd with the door", f"it writes and reads form {FORM}")
         return
     turns(trial, ("signd", "door", "signd"), False)
     turns(trial, ("door", "signd", "door"), False)

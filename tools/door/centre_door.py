@@ -3,34 +3,61 @@
 import math
 import socket
 import time
+from typing import Iterable
 
-from .journal import Journal, NotKept
+from model import wire
+
+from . import endings
+from .questions import Questions
+from .files import NotKept
+from .journal import Journal
 from .log import Log
 from .mib import Mib
 from .process import CoProcess
 from .refusal import Refusal, reason, say, tell
-from .sockets import Address, Waiting, received, sent
+from .sockets import Address, Waiting, named, received, sent
 from .texts import ended, published
 
 COMMANDS = ("publish", "blank", "activate")
 MOST_LATE = 1000  # datagrams that are let go at once
 
 
+def last_command(chunks: Iterable[list[bytes]]) -> str:
+    """The last command of a journal's lines: the one that is under way where a centre is busy at a start."""
+    found = b""
+    for lines in chunks:
+        found = next((line for line in reversed(lines) if line.split(b" ")[0].decode("latin-1") in COMMANDS), found)
+    return found.decode("latin-1")
+
+
 class CentreDoor:
-    """`tick` is the time from tick to tick, `wait` how long a command may take, in seconds."""
+    """`tick` is the time from tick to tick, `wait` how long a command may take, in seconds. `questions` are those to a
+    sign that found a row in error."""
 
     def __init__(
-        self, centre: CoProcess, door: socket.socket, journal: Journal | None, log: Log | None, tick: float, wait: float
+        self,
+        centre: CoProcess,
+        door: socket.socket,
+        journal: Journal | None,
+        log: Log | None,
+        tick: float,
+        wait: float,
+        questions: Questions | None = None,
     ) -> None:
         self.centre, self.door, self.journal, self.log = centre, door, journal, log
         self.every, self.wait, self.mib = tick, wait, Mib.read()
         self.to: Address = door.getpeername()
-        self.waiting = Waiting()
-        self.is_busy = self.status()[0] == "busy"
+        self.waiting, self.questions = Waiting(), questions
+        self.line, self.heard = "", b""  # the last command, and the last datagram that was handed over
+        self.is_busy = self.has_job()
 
     def status(self) -> list[str]:
         """Whether it is busy, how the last job ended, and the ledger."""
         return [line.decode("latin-1") for line in self.centre.ask(b"status")[:-1]]
+
+    def has_job(self) -> bool:
+        """Whether a job is under way; the ledger, which grows, is not asked for."""
+        return self.centre.ask(b"status last")[0] == b"busy"
 
     def hand(self, line: bytes) -> bytes:
         """Records a line, hands it over, and sends what goes out: the answer. A centre that sends is busy."""
@@ -41,7 +68,7 @@ class CentreDoor:
         if self.is_busy:
             self.send(bytes.fromhex(answer[5:].decode()))
         else:
-            self.is_busy = self.status()[0] == "busy"
+            self.is_busy = self.has_job()
         return answer
 
     def send(self, octets: bytes) -> None:
@@ -77,6 +104,7 @@ class CentreDoor:
             if self.log:
                 self.log.datagram("in", self.to, heard[0])
             self.hand(b"datagram " + (heard[0].hex().encode() or b"-"))
+            self.heard = heard[0]
         return due
 
     def finish(self, before: list[str], wait: float) -> bool:
@@ -87,7 +115,18 @@ class CentreDoor:
             tell(f"{why}: the job is not done")
         now, known = self.status(), set(before[2:])
         self.show([*now[:2], *(line for line in now[2:] if line not in known)])
+        if is_done:
+            self.explain(now[1])
         return is_done and now[1] == "last accepted"
+
+    def explain(self, how: str) -> None:
+        """Says of a job that failed at which step that was, and what the sign says of a row in error. The reply that
+        ended the job has the number of the job's last request."""
+        said, ending = "", wire.spelled(self.heard)
+        if self.questions and ending is not None and ending.number > 0 and endings.is_in_error(how):
+            said = self.questions.verdict(self.to, self.waiting, -ending.number, self.line, self.log)
+        if words := endings.explained(how, named(self.to), said):
+            say(words)
 
     def show(self, lines: list[str]) -> None:
         """Prints lines of a status."""
@@ -119,10 +158,11 @@ class CentreDoor:
         self.late()
         if self.log:
             self.log.event("command", None, {"line": command})
+        self.line = command
         try:
             answer = self.hand(command.encode("utf-8")).decode("latin-1")
-        except NotKept:
-            tell("not begun: it cannot be recorded")
+        except NotKept as refused:
+            tell(f"not begun: it cannot be recorded: {refused}")
             return False
         if answer.split(" ")[0] in ("refused", "bad"):
             tell(answer)

@@ -8,7 +8,8 @@ from .refusal import Refusal
 
 BOOT = pathlib.Path("/proc/sys/kernel/random/boot_id")
 MOST_MADE_UP = 86_400  # seconds that are made up by ticks after a process died
-MOST_SECONDS = 2**32 - 1
+MOST_SECONDS = 2**32 - 1  # of a loss of power: longer than any that a sign takes for a short one
+SET = 1_577_836_800  # the wall clock at the begin of 2020: one that says less was never set
 
 
 def running() -> float:
@@ -60,11 +61,18 @@ class Moment:
             raise Refusal(f"{told} tell no moment: they were not written by a door") from fault
 
 
+def by_the_wall(last: Moment, now: Moment) -> int:
+    """The seconds between two moments by the wall clock; the most where it went back or was not set, since nobody knows
+    how long it was."""
+    is_known = last.wall >= SET and now.wall >= last.wall
+    return min(now.wall - last.wall, MOST_SECONDS) if is_known else MOST_SECONDS
+
+
 def down(last: Moment, now: Moment, overruled: str | None = None) -> list[bytes]:
     """The lines that tell a sign what the time without a process was: a loss of power, or the seconds that passed."""
     is_same_boot = last.boot == now.boot and (last.boot != "-" or last.up <= now.up)
     if overruled == "power" or overruled is None and not is_same_boot:
-        return [b"power-lost", b"power-back %d" % min(max(0, now.wall - last.wall), MOST_SECONDS)]
-    passed = now.up - last.up if is_same_boot else now.wall - last.wall
+        return [b"power-lost", b"power-back %d" % by_the_wall(last, now)]
+    passed = now.up - last.up if is_same_boot else by_the_wall(last, now)
     made_up = min(max(0, passed), MOST_MADE_UP)
     return [b"ticks %d" % made_up] if made_up else []

@@ -9,6 +9,8 @@ from .refusal import Refusal, reason
 
 FIRST = re.compile(rb"^first ([0-9]{1,10})(?=\r?$)", re.MULTILINE)
 
+COMMUNITIES = re.compile(rb"^communities ([^ \n]+) ([^ \n]+?)\r?$", re.MULTILINE)
+
 
 def read(path: str | None) -> bytes | None:
     """The lines up to and with the first `end` of a file; None for the bench sign."""
@@ -31,6 +33,14 @@ def read(path: str | None) -> bytes | None:
 def digest(text: bytes | None) -> str:
     """The SHA-256 of a description; the bench sign has the word `bench`."""
     return "bench" if text is None else hashlib.sha256(text).hexdigest()
+
+
+def communities_of(text: bytes | None) -> tuple[bytes, bytes]:
+    """Who reads, and who reads and writes."""
+    found = COMMUNITIES.search(BENCH if text is None else text)
+    if found is None:
+        raise Refusal("the description has no line `communities`")
+    return found[1], found[2]
 
 
 def first_of(text: bytes | None) -> int:

@@ -2,176 +2,247 @@
 
 import mmap
 import os
+from dataclasses import replace
 from typing import Iterator
 
+from . import older, reading
 from .clock import Moment
-from .files import NEW, cut, opened, own, put_aside, stands, synced_folder
-from .records import SECTOR, SUM, Head, checksum_at, is_torn, lines_of, records, whole
+from .files import NEW, NotKept, cut, kept_aside, opened, opened_to_read, own, put_aside, stands, synced_folder
+from .files import WRITTEN, refusal, written_anew
+from .owed import MOST_EXACT as MOST_OWED
+from .owed import Owed
+from .reading import Found
+from .records import FORM, Head, records
 from .refusal import Refusal, reason, say
-
-MOST_OWED = 1000  # lines that are written at once of those that waited for a disk
-
-
-class NotKept(Refusal):
-    """A record could not be written, and the file is as it was: what it is of counts as lost."""
 
 
 class Journal:
-    """The open file, locked; `append` writes to its end. Lines that may wait for the next record are `owed`."""
+    """The open file, locked; `append` writes to its end. Lines that may wait for the next record are `owed`. Where the
+    disk cannot be written at a start, what is left to do with the file is done before the first record that it takes:
+    it is not ready until then."""
 
-    def __init__(self, path: str, file: int, head: Head) -> None:
-        self.path, self.file, self.head = path, file, head
-        self.size = self.checksum = 0
-        self.last: Moment | None = None  # of the last record, its seconds since the clock counted in
-        self.owed: list[bytes] = []
-        self.is_new = False
+    def __init__(self, path: str, head: Head) -> None:
+        self.path, self.head = path, replace(head, form=FORM)
+        self.file, self.is_written = -1, False  # whether it is open to be written
+        self.size, self.number, self.since = 0, 1, 1  # octets, the next record's number, the first that is not synced
+        self.found: Found | None = None
+        self.last: Moment | None = None  # of the last record
+        self.owed = Owed()
+        self.is_new = self.is_ready = False
         self.refused = ""  # why the disk refused last, until it takes a record again
 
     @staticmethod
-    def opened(path: str, head: Head) -> "Journal":
-        """The journal of a file that is there, or of a new one; a torn end is cut away."""
-        journal = Journal(path, opened(path), head)
+    def opened(path: str, head: Head, accepts: bool = False, is_patient: bool = False) -> "Journal":
+        """The journal of a file that is there, or of a new one; a torn end is put aside, and with `accepts` what is
+        damaged. A patient one waits where the disk is full, or can only be read."""
+        journal = Journal(path, head)
         try:
-            if not journal.read():
-                cut(journal.file, 0, path)
-                journal.begin()
-            synced_folder(path)  # whoever made the file, or renamed it, may have been killed before this
+            journal.open(is_patient)
+            journal.read(accepts)
+            try:
+                journal.prepare()
+            except NotKept as refused:
+                if not is_patient:
+                    raise
+                journal.tell(str(refused))
         except Refusal:
-            os.close(journal.file)
+            journal.close()
             raise
         return journal
 
     @staticmethod
     def fresh(path: str, head: Head) -> "Journal":
         """A new journal in the place of an old one, which is put aside under a name with the date."""
-        file, aside = put_aside(path, lambda file: Journal(path + NEW, file, head).begin())
+
+        def begun(file: int) -> None:
+            new = Journal(path + NEW, head)
+            new.file = file
+            new.begin()
+
+        journal = Journal(path, head)
+        journal.file, aside = put_aside(path, begun)
+        journal.is_written = True
         say(f"{path}: put aside as {aside}")
-        journal = Journal(path, file, head)
-        journal.read()
+        journal.read(False)
+        journal.prepare()
         journal.is_new = True
         return journal
 
-    def begin(self) -> None:
-        """The first record of a file without octets."""
-        own(self.file, self.path)
-        self.append([self.head.line()], synced=True)
-        self.is_new = True
+    def open(self, is_patient: bool) -> None:
+        """Opens the file, to be read alone where that is all that the disk takes."""
+        try:
+            self.file, self.is_written = opened(self.path), True
+        except NotKept as refused:
+            if not is_patient:
+                raise
+            self.file = opened_to_read(self.path)
+            self.tell(str(refused))
 
     def text(self) -> mmap.mmap | bytes:
         """The file's octets."""
-        size = os.fstat(self.file).st_size
+        size = os.fstat(self.file).st_size if self.file >= 0 else 0
         return mmap.mmap(self.file, size, access=mmap.ACCESS_READ) if size else b""
 
-    def read(self) -> bool:
-        """Finds the end of the whole records and cuts what is torn; False where there is nothing yet."""
-        text = self.text()
-        size = whole(text)
-        if not size and self.is_begun(text):
-            return False
-        self.compare(text[: text.find(b"\n", 0, size) + 1])
-        if not is_torn(text, size):
-            raise Refusal(f"{self.path}: what stands at octet {size} was not written by a door (--fresh begins anew)")
-        own(self.file, self.path)
-        kept = self.started(text, size)
-        if kept < len(text):
-            say(f"{self.path}: {len(text) - kept} octets of records that were not finished are cut away")
-            cut(self.file, kept, self.path)
-        self.size, self.checksum = kept, checksum_at(text, kept)
-        return True
-
-    def is_begun(self, text: mmap.mmap | bytes) -> bool:
-        """Whether a file without a whole record is what a door leaves that was killed at the first one."""
-        begun, octets = self.head.line() + b" #", text[:SECTOR].rstrip(b"\0")
-        is_like = begun.startswith(octets) or octets.startswith(begun)
-        return len(text) < SECTOR and b"\n" not in octets[:-1] and is_like
-
-    def compare(self, first: bytes) -> None:
-        """Refuses a journal of something else, by what differs."""
-        found = Head.of(first[: -SUM - 1])
-        if found is None:
-            raise Refusal(f"{self.path} is no journal")
-        wanted = self.head
-        if found.end != wanted.end:
-            raise Refusal(f"{self.path}: its end is {found.end}, and this door's {wanted.end}")
-        for name, has, asked in (("form", found.form, wanted.form), ("rules", found.rules, wanted.rules)):
-            if has != asked:
-                raise Refusal(f"{self.path}: its {name} is {has}, and this door's {asked} (--fresh begins anew)")
-        if found.digest != wanted.digest:
-            raise Refusal(f"{self.path} is the journal of another description (--fresh begins anew)")
-        self.head = found
-
-    def started(self, text: mmap.mmap | bytes, size: int) -> int:
-        """The length of the records up to a start that was not finished, and the moment of the last record."""
-        start = text.rfind(b"\nstart ", 0, size) + 1
-        while (clock := text.rfind(b"\nclock ", 0, size) + 1) < start:
-            size, start = start, text.rfind(b"\nstart ", 0, start) + 1
-        if start:
-            line = text[start : text.find(b"\n", start)]
-            at = text.find(b"\n", clock) + 1
-            moment = Moment.of(line, text[clock:at])
-            self.last = moment.later(
-                sum(map(seconds_of, (line for lines in lines_of(text, at, size) for line in lines)))
-            )
-        return size
+    def read(self, accepts: bool) -> None:
+        """What the file has."""
+        found = reading.read(self.path, self.text(), self.head, accepts)
+        self.found = found
+        if found is not None:
+            self.head = replace(found.head, form=FORM)
+            self.size, self.number, self.since, self.last = found.size, found.number, found.since, found.last
 
     def lines(self) -> Iterator[list[bytes]]:
         """The lines that were handed over, many at a time."""
+        if self.found is None:
+            return iter(())
+        return replace(self.found, size=self.size).lines(self.text())
+
+    def prepare(self) -> None:
+        """What is to be done with the file before the next record."""
+        if not self.is_written:
+            self.open_again()
+        own(self.file, self.path)
+        if self.found is None:
+            self.begin()
+        elif self.found.head.form != FORM:
+            self.write_anew(self.found)
+        elif self.size < self.found.length:
+            self.cut_off(self.size, self.found.length)
+            self.found.length = self.size
+        synced_folder(self.path)  # whoever made the file, or renamed it, may have been killed before this
+        self.is_ready = True
+
+    def open_again(self) -> None:
+        """Opens a file to be written that was opened to be read, or was not there."""
+        try:
+            os.close(os.open(self.path, WRITTEN | os.O_CLOEXEC | os.O_NOCTTY, 0o600))
+        except OSError as fault:
+            raise refusal(fault) from fault
+        before = os.fstat(self.file) if self.file >= 0 else None
+        self.close()
+        self.file = opened(self.path)
+        now = os.fstat(self.file)
+        if before is not None and (not os.path.samestat(before, now) or before.st_size != now.st_size):
+            raise Refusal(f"{self.path}: another hand moved or changed it meanwhile", 1)
+        if before is None and now.st_size:
+            raise Refusal(f"{self.path}: another hand made it meanwhile", 1)
+        self.is_written = True
+
+    def begin(self) -> None:
+        """The first record of a file without one."""
+        length = os.fstat(self.file).st_size
+        if length:
+            self.cut_off(0, length)
+        own(self.file, self.path)
+        self.size, self.number, self.since = 0, 1, 1
+        self.write([self.head.line()], synced=True)
+        self.found = Found(self.head, self.size, self.size, self.number, self.since, None)
+        self.is_new = True
+
+    def cut_off(self, size: int, length: int) -> None:
+        """Puts what stands behind the kept records into a file of its own, and then cuts it away."""
+        name = kept_aside(self.file, size, length, self.path)
+        say(f"{self.path}: {length - size} octets from octet {size} on are cut away, and kept as {name}")
+        cut(self.file, size, self.path)
+        self.since = self.number
+
+    def write_anew(self, found: Found) -> None:
+        """A journal of form 1 becomes one of form 2."""
         text = self.text()
-        return lines_of(text, text.find(b"\n", 0, self.size) + 1, self.size)
+        made: list[int] = []
+        file, aside = written_anew(self.path, lambda file: made.append(self.copy(text, found.size, file)))
+        self.close()
+        self.file, self.is_written = file, True
+        self.size, self.number, self.since = os.fstat(file).st_size, made[0], made[0]
+        self.found = replace(found, head=self.head, size=self.size, length=self.size, number=self.number)
+        more = found.length - found.size
+        also = f", alone with {more} octets that were not finished" if more else ""
+        say(f"{self.path}: written anew in form {FORM}; as it was it is kept as {aside}{also}")
+
+    def copy(self, text: mmap.mmap | bytes, size: int, file: int) -> int:
+        """Writes the records of a journal of form 1 in form 2, each of which is on the disk when the file has its name:
+        the number after the last one's."""
+        number = 1
+        for lines in older.every_line(text, size):
+            if number == 1:
+                lines[0] = self.head.line()
+            written(file, records(lines, number))
+            number += len(lines)
+        os.fsync(file)
+        return number
 
     def keep(self, lines: list[bytes]) -> None:
         """These lines are on the disk after it, and what was owed before them; raises NotKept where they are not."""
-        self.pay(MOST_OWED)
-        self.append(self.owed + lines, synced=True)
-        self.owed = []
+        while self.owed.polls or len(self.owed.first) > MOST_OWED:
+            self.pay()
+        self.append(self.owed.first + lines, synced=True)
+        self.owed.first.clear()
 
     def owe(self, line: bytes) -> None:
         """A line that goes with the next record; it is written now if the disk takes it."""
-        self.owed.append(line)
-        try:
-            self.pay(0)
-        except NotKept:
-            return
+        self.owed.add([line])
+        self.is_paid()
 
-    def pay(self, left: int) -> None:
-        """Writes what is owed, a part after the other, until no more than so many lines are left. Where the disk
-        refuses, the rest is owed on."""
-        while len(self.owed) > left:
-            self.append(self.owed[:MOST_OWED], synced=False)
-            del self.owed[:MOST_OWED]
+    def is_paid(self) -> bool:
+        """Whether all that was owed is written."""
+        try:
+            while self.owed:
+                self.pay()
+        except NotKept:
+            return False
+        return True
+
+    def pay(self) -> None:
+        """Writes a part of what is owed. Where the disk refuses it is owed on."""
+        some = self.owed.some()
+        self.append(some, synced=False)
+        self.owed.drop(len(some))
 
     def append(self, lines: list[bytes], synced: bool) -> None:
+        """Writes records, once the file is ready for them."""
+        try:
+            if not self.is_ready:
+                self.prepare()
+            self.write(lines, synced)
+        except NotKept as refused:
+            self.tell(str(refused))
+            raise
+        self.tell("")
+
+    def write(self, lines: list[bytes], synced: bool) -> None:
         """Writes records. After a write that failed the file is cut back; what is on the disk is not known where that,
         or the sync, fails."""
-        octets, checksum = records(lines, self.checksum)
+        octets = records(lines, self.number, self.since)
         try:
-            written = 0
-            while written < len(octets):
-                written += os.write(self.file, octets[written:])
+            written(self.file, octets)
         except OSError as fault:
             cut(self.file, self.size, self.path)
-            self.tell(reason(fault))
-            raise NotKept(f"{self.path}: nothing can be recorded", 1) from fault
+            raise NotKept(f"{self.path}: {reason(fault)}", 1) from fault
         if synced:
             sync(self.file, self.path)
-        self.size, self.checksum = self.size + len(octets), checksum
+        self.size, self.number = self.size + len(octets), self.number + len(lines)
+        self.since = self.number if synced else self.since
         if not stands(self.file, self.path, self.size):
             raise Refusal(f"{self.path}: another hand moved or changed it: what was recorded last is not kept", 1)
-        self.tell("")
 
     def close(self) -> None:
         """Lets the file go."""
-        os.close(self.file)
+        if self.file >= 0:
+            os.close(self.file)
+        self.file, self.is_written = -1, False
 
     def tell(self, refused: str) -> None:
         """Says why the disk refuses, once, and when it takes records again."""
         if refused != self.refused:
-            say(
-                f"{self.path}: {refused}: what is not recorded is not answered"
-                if refused
-                else f"{self.path}: it is written again"
-            )
+            say(f"{refused}: what is not recorded is not answered" if refused else f"{self.path}: it is written again")
         self.refused = refused
+
+
+def written(file: int, octets: bytes) -> None:
+    """Writes all of these octets."""
+    done = 0
+    while done < len(octets):
+        done += os.write(file, octets[done:])
 
 
 def sync(file: int, path: str) -> None:
@@ -180,9 +251,3 @@ def sync(file: int, path: str) -> None:
         os.fdatasync(file)
     except OSError as fault:
         raise Refusal(f"{path}: {reason(fault)}: what is on the disk is not known", 1) from fault
-
-
-def seconds_of(line: bytes) -> int:
-    """The seconds that a recorded line counts."""
-    word, _, count = line.partition(b" ")
-    return int(count) if word == b"ticks" and count.isdigit() else int(line == b"tick")

@@ -1,17 +1,16 @@
-"""The form of a journal: records with running checksums, and how far a file is whole."""
+"""The form of a journal: records with a number and a sum of their own, and how far a file is whole."""
 
 import zlib
 from dataclasses import dataclass
-from typing import Iterator, Protocol
+from typing import Callable, Iterator, Protocol
 
-FORM = 1
+FORM = 2  # that is written; form 1 is read too
 RULES = 1  # the rules' number of docs/PROFILE.md: it goes up only where an answer of the sign or the centre changes
-TAIL = 9  # the eight digits of a sum and the newline
-SUM = 10  # a space, a number sign and the eight digits
+SUM = 8  # the digits of a sum
 CHUNK = 1 << 20
 SECTOR = 512
-SHORTEST = 15  # octets of the shortest record that is handed over: `tick`
-MOST_TORN = 1 << 20  # octets that a crash leaves unfinished at most: more than a door writes in an hour without a sync
+MOST_DIGITS = 20  # of a number of the first record
+SHORTEST = 15  # octets of the shortest record that is handed over, `tick` of form 1; in form 2 it has 19
 OWN = (b"journal ", b"start ", b"clock ")  # records of the door's own; all others are lines that are handed over
 
 
@@ -31,96 +30,119 @@ class Octets(Protocol):
         ...
 
 
-def record(line: bytes, before: int) -> tuple[bytes, int]:
-    """A line's record after octets with the CRC-32 `before`, and the CRC-32 with the record."""
-    summed = line + b" #"
-    total = zlib.crc32(summed, before)
-    tail = b"%08x\n" % total
-    return summed + tail, zlib.crc32(tail, total)
+@dataclass(frozen=True)
+class Extent:
+    """How far a file is whole: the octets of its whole records, the number of the next one, and the SINCE of the
+    last."""
+
+    size: int = 0
+    number: int = 1
+    since: int = 1
 
 
-def records(lines: list[bytes], before: int) -> tuple[bytes, int]:
-    """The records of several lines, one after the other, and the CRC-32 with them."""
-    made = []
-    for line in lines:
-        octets, before = record(line, before)
-        made.append(octets)
-    return b"".join(made), before
+class Unknown(Exception):
+    """A whole record whose line no end knows: where it stands, its number, and the line."""
+
+    def __init__(self, at: int, number: int, line: bytes) -> None:
+        super().__init__(f"record {number} at octet {at} is {line[:80].decode('latin-1')!r}")
 
 
-def sum_at(text: Octets, end: int) -> int | None:
-    """The sum that is written before `end`; None where no eight small digits and a newline stand there."""
-    tail = text[max(0, end - TAIL) : end]
-    digits = tail[:-1]
-    if len(tail) != TAIL or tail[-1:] != b"\n" or digits.strip(b"0123456789abcdef"):
+def record(line: bytes, number: int, since: int) -> bytes:
+    """A line's record: `since` is the number of the first record that may not be on the disk."""
+    summed = b"%b #%d %d " % (line, number, since)
+    return b"%b%08x\n" % (summed, zlib.crc32(summed))
+
+
+def records(lines: list[bytes], number: int = 1, since: int | None = None) -> bytes:
+    """The records of several lines, the first with this number; where no `since` is said each is synced by itself."""
+    return b"".join(record(line, at, since or at) for at, line in enumerate(lines, number))
+
+
+def parts_of(octets: bytes, number: int) -> tuple[bytes, int] | None:
+    """The line and the SINCE of a record without its newline; None where it is no whole record of this number."""
+    if octets[-SUM:] != b"%08x" % zlib.crc32(octets[:-SUM]):
         return None
-    return int(digits, 16)
+    found = octets[: -SUM - 1].rsplit(b" ", 2)
+    if len(found) != 3 or found[1] != b"#%d" % number or octets[-SUM - 1 : -SUM] != b" ":
+        return None
+    digits = found[2]
+    if not digits.isdigit() or digits[:1] == b"0" or len(digits) > len(found[1]) or int(digits) > number:
+        return None
+    return found[0], int(digits)
 
 
-def checksum_at(text: Octets, end: int) -> int:
-    """The CRC-32 of all octets up to the end of a whole record, from what is written there."""
-    written = sum_at(text, end)
-    return 0 if written is None else zlib.crc32(text[end - TAIL : end], written)
+def whole(text: Octets, is_known: Callable[[bytes], bool] | None = None) -> Extent:
+    """How far a file is whole. A whole record with a line that is not known, where it is asked, is Unknown."""
+    found = Extent()
+    while found.size < len(text) and (end := text.rfind(b"\n", found.size, found.size + CHUNK) + 1):
+        found = whole_ones(text[found.size : end - 1].split(b"\n"), found, is_known)
+        if found.size < end:
+            break
+    return found
 
 
-def whole_from(text: Octets, at: int, end: int) -> int:
-    """The end of the last whole record from `at` on, where a record begins, one record after the other."""
-    before = checksum_at(text, at)
-    while True:
-        after = text.find(b"\n", at, end) + 1
-        if not after or sum_at(text, after) != zlib.crc32(text[at : after - TAIL], before):
-            return at
-        at, before = after, checksum_at(text, after)
+def whole_ones(some: list[bytes], before: Extent, is_known: Callable[[bytes], bool] | None) -> Extent:
+    """How far a file is whole that goes on with these records, without their newlines. Most records have the SINCE of
+    the one before, or their own number."""
+    at, number, since = before.size, before.number, before.since
+    last = since
+    seen: set[bytes] = set()
+    for octets in some:
+        total = zlib.crc32(octets[:-SUM])
+        tail = b" #%d %d %08x" % (number, since, total)
+        if not octets.endswith(tail):
+            tail, since = b" #%d %d %08x" % (number, number, total), number
+        if not octets.endswith(tail):
+            parts = parts_of(octets, number)
+            if parts is None:
+                return Extent(at, number, last)
+            since, tail = parts[1], octets[len(parts[0]) :]
+        line = octets[: -len(tail)]
+        if line not in seen:
+            if is_known and number > 1 and not is_known(line):
+                raise Unknown(at, number, line)
+            seen.add(line)
+        last = since
+        at, number = at + len(octets) + 1, number + 1
+    return Extent(at, number, last)
 
 
-def whole(text: Octets) -> int:
-    """The length of the whole records at the beginning of a file: by chunks, since a sum is over all that is before
-    it."""
-    at, before = 0, 0
-    while at < len(text):
-        end = text.rfind(b"\n", at, at + CHUNK) + 1
-        if not end:
-            return at
-        if sum_at(text, end) != zlib.crc32(text[at : end - TAIL], before):
-            return whole_from(text, at, end)
-        at, before = end, checksum_at(text, end)
-    return at
+def look(at: int, number: int, lines: list[bytes], is_known: Callable[[bytes], bool], more: int) -> None:
+    """Raises Unknown for the first of these lines that is not known, but for a file's first record. The record of each
+    has so many octets more."""
+    unknown = {line for line in set(lines) if not is_known(line)}
+    for place, line in enumerate(lines if unknown else []):
+        if line in unknown and number + place > 1:
+            raise Unknown(at + sum(map(len, lines[:place])) + more * place, number + place, line)
 
 
-def is_torn(text: Octets, size: int) -> bool:
-    """Whether what follows the whole records is what a kill or a loss of power leaves: at most one line, or octets that
-    never reached the disk. Anything else was written by another hand."""
-    if len(text) - size > MOST_TORN:
-        return False
-    return text.find(b"\n", size) in (-1, len(text) - 1) or is_hole(text, text.find(b"\0", size))
+def number_at(text: Octets, at: int) -> int:
+    """The number of the whole record that stands at an octet."""
+    return int(text[at : text.find(b"\n", at)].rsplit(b" #", 1)[1].split(b" ")[0])
 
 
-def is_hole(text: Octets, at: int) -> bool:
-    """Whether zeros from there run up to the end of a sector, or of the file."""
-    if at == -1:
-        return False
-    end = at + 1
-    while end % SECTOR and text[end : end + 1] == b"\0":
-        end += 1
-    return end >= len(text) or end % SECTOR == 0
+def line_of(octets: bytes) -> bytes:
+    """The line of a record of form 2, with or without its newline."""
+    return octets.rpartition(b" #")[0]
 
 
 def lines_of(text: Octets, at: int, size: int) -> Iterator[list[bytes]]:
     """The lines that are handed over, of the whole records from `at` up to `size`, many at a time."""
     while at < size:
         end = text.rfind(b"\n", at, min(at + CHUNK, size)) + 1
-        yield [octets[:-SUM] for octets in text[at : end - 1].split(b"\n") if not octets.startswith(OWN)]
+        yield [line_of(octets) for octets in text[at : end - 1].split(b"\n") if not octets.startswith(OWN)]
         at = end
 
 
 @dataclass(frozen=True)
 class Head:
-    """The first record: what the journal is of. `first` is the number that a centre began with."""
+    """The first record: what the journal is of. `first` is the number that a centre began with. Of lines that are kept
+    otherwise than in a file, in a database, the form is 1."""
 
     end: str
     digest: str
     first: int | None = None
-    form: int = FORM
+    form: int = 1
     rules: int = RULES
 
     def line(self) -> bytes:
@@ -134,6 +156,7 @@ class Head:
         if len(words) not in (7, 9) or words[0] != "journal" or words[3] != "rules" or words[5] != "description":
             return None
         numbers = [words[1], words[4], *words[8:]]
-        if not all(word.isascii() and word.isdecimal() for word in numbers) or words[7:8] not in ([], ["first"]):
+        are_numbers = all(word.isascii() and word.isdecimal() and len(word) < MOST_DIGITS for word in numbers)
+        if not are_numbers or words[7:8] not in ([], ["first"]):
             return None
         return Head(words[2], words[6], int(words[8]) if words[8:] else None, int(words[1]), int(words[4]))

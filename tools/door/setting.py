@@ -5,12 +5,13 @@ import argparse
 import dataclasses
 import os
 
-from .files import opened
+from .files import octets_aside, opened
 from .journal import Journal
 from .log import Log
 from .places import SIGNTOOL, in_words_of_command
 from .process import CoProcess
-from .records import SECTOR, SHORTEST, SUM, Head, whole
+from .reading import first_of
+from .records import SECTOR, SHORTEST, Head
 from .refusal import Refusal, say
 
 MOST_NUMBER = 2**31 - 1  # of a request
@@ -27,6 +28,7 @@ def options(about: str | None) -> argparse.ArgumentParser:
         "--journal", metavar="FILE", help="what is handed over is kept here, over the end of the process"
     )
     words.add_argument("--fresh", action="store_true", help="puts the journal's file aside and begins anew")
+    words.add_argument("--need-journal", action="store_true", help="ends where the disk takes nothing at a start")
     words.add_argument("--log", metavar="FILE", help="a line an event is written here; - is standard output")
     words.add_argument("--json", action="store_true", help="the log's lines are JSON")
     return words
@@ -37,8 +39,9 @@ def checked(asked: argparse.Namespace) -> None:
     for name in ("signtool", "sign", "journal", "log", "host"):
         if getattr(asked, name, None) == "":
             raise Refusal(f"--{name} has no name")
-    if asked.fresh and not asked.journal:
-        raise Refusal("--fresh is of a --journal FILE")
+    for option in ("fresh", "accept-damage", "need-journal"):
+        if getattr(asked, option.replace("-", "_"), False) and not asked.journal:
+            raise Refusal(f"--{option} is of a --journal FILE")
     if asked.json and not asked.log:
         raise Refusal("--json is of a --log FILE")
     for what, other in (("journal", asked.journal), ("description", asked.sign)):
@@ -58,12 +61,13 @@ def log_of(asked: argparse.Namespace) -> Log | None:
     return Log(asked.log, asked.json) if asked.log else None
 
 
-def number_above(path: str, file: int, end: str) -> int | None:
+def number_above(path: str, file: int, end: str, aside: int = 0) -> int | None:
     """A number above all that the centre of a journal used: each of its records sent at most one request of a new
-    number, and none is shorter than `tick`. None of a sign's, and of a file whose first record was never finished."""
+    number, and none is shorter than `tick`; the octets that were cut from it and lie aside count too. None of a sign's,
+    and of a file whose first record was never finished."""
     text, size = os.pread(file, SECTOR, 0), os.fstat(file).st_size
-    first = text[: text.find(b"\n") + 1]
-    found = Head.of(first[: -SUM - 1]) if first and whole(first) else None
+    line = first_of(text)
+    found = Head.of(line) if line is not None else None
     if found is None and (size >= SECTOR or text.strip(b"\0")):
         raise Refusal(
             f"{path} is no journal: it is not put aside"
@@ -73,18 +77,19 @@ def number_above(path: str, file: int, end: str) -> int | None:
         raise Refusal(f"{path} is the journal of a {found.end}: it is not put aside")
     if found is None or found.first is None:
         return None
-    above = found.first + size // SHORTEST
+    above = found.first + (size + aside) // SHORTEST
     if above > MOST_NUMBER:
         raise Refusal(f"{path}: no number of a request is left above those that it may have used")
     return above
 
 
 def journal_of(asked: argparse.Namespace, head: Head) -> Journal:
-    """The journal that is asked for, cut to its whole records."""
+    """The journal that is asked for."""
     if not asked.fresh or not os.path.lexists(asked.journal):
-        return Journal.opened(asked.journal, head)
+        accepts = getattr(asked, "accept_damage", False)
+        return Journal.opened(asked.journal, head, accepts, is_patient=not asked.need_journal)
     old = opened(asked.journal)
-    above = number_above(asked.journal, old, head.end)
+    above = number_above(asked.journal, old, head.end, octets_aside(asked.journal))
     if above is not None and head.first is not None:
         head = dataclasses.replace(head, first=max(above, head.first))
     journal = Journal.fresh(asked.journal, head)
@@ -95,7 +100,7 @@ def journal_of(asked: argparse.Namespace, head: Head) -> Journal:
 def begun(asked: argparse.Namespace, end: str, text: bytes | None, journal: Journal | None) -> CoProcess:
     """The co-process of this description, where the lines of the journal left it."""
     process = CoProcess(asked.signtool, [end], text)
-    process.begin(b"state" if end == "sign" else b"status", asked.sign or asked.signtool)
+    process.begin(b"state" if end == "sign" else b"status last", asked.sign or asked.signtool)
     if journal is not None:
         if end == "sign" and process.hand([b"ticks 0"]) != [b"ok"]:
             raise Refusal(f"{asked.signtool} has no line `ticks`, which a journal needs")

@@ -38,6 +38,7 @@ class Trial:
     failed: int = 0
     skipped: int = 0
     doors: list["Door"] = field(default_factory=list)
+    helps: str | None = None  # what the other door says of its options
     ends: float = 0.0  # in the short form, when a kind of trial goes on no more
 
     def holds(self, name: str, is_well: bool, found: object = "") -> bool:
@@ -89,6 +90,13 @@ class Trial:
         at = words.index("--sign") if "--sign" in words else len(words)
         return [self.other, *words[:at], *words[at + 2 :], words[at + 1] if words[at:] else str(self.bench())]
 
+    def has(self, option: str) -> bool:
+        """Whether the sign's door has this option."""
+        if self.other and self.helps is None:
+            found = subprocess.run([self.other, "--help"], capture_output=True, check=False, timeout=PACE.patience())
+            self.helps = (found.stdout + found.stderr).decode("latin-1")
+        return self.helps is None or option in self.helps
+
     def door(
         self, tool: str, *words: str, environment: dict[str, str] | None = None, stdin: int | None = subprocess.DEVNULL
     ) -> "Door":
@@ -100,7 +108,9 @@ class Trial:
     def sign(self, *words: str, environment: dict[str, str] | None = None) -> "Door":
         """A sign at a port of its own, which it tells."""
         begun = time.monotonic()
-        door = self.door("udp_sign.py", "--port", "0", *words, environment=environment)
+        is_free = "--journal" in words and "--most-recorded" not in words and self.has("--most-recorded")
+        more = ["--most-recorded", str(10**6)] if is_free else []  # most trials ask as fast as they can
+        door = self.door("udp_sign.py", "--port", "0", *more, *words, environment=environment)
         if door.wait_for_port():
             PACE.took(time.monotonic() - begun)
         return door

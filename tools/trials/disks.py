@@ -3,14 +3,21 @@
 import os
 import pathlib
 import subprocess
+from typing import Callable
 
+from door import records
+from door.clock import Moment
+from door.records import FORM
 from model import wire
+from model.codes import Activation, MessageId
 
-from .bench import Door, Trial
+from .bench import Door, Trial, eventually
 from .follower import Follower
-from .manager import Manager
+from .manager import DMS, Manager
 from .patience import PACE
 from .requests import Changes
+
+PAGE = 4096  # octets of which a file in memory has a whole number
 
 
 class Mounted:
@@ -57,7 +64,8 @@ def full(trial: Trial, mounted: Mounted) -> None:
     trial.holds(
         "on a full disk SETs are lost", not any(found[found.index(False) :] if False in found else [True]), found
     )
-    trial.holds("and the door says why", b"No space left on device" in door.errors, door.errors.decode())
+    is_told = eventually(lambda: b"No space left on device" in door.errors)
+    trial.holds("and the door says why", is_told, door.errors.decode())
     manager = Manager(door.port)
     trial.holds("and answers Gets", bool(manager.get([Changes.COUNTER])))
     manager.close()
@@ -79,15 +87,100 @@ def fill(filler: pathlib.Path) -> None:
 
 
 def full_at_start(trial: Trial, mounted: Mounted) -> None:
-    """A door that begins a journal on a full disk says why and ends; one that goes on is a trial of faults."""
+    """On a full disk a door that needs its journal says why and ends; another one starts from what is there."""
     filler = mounted.folder / "filler"
     fill(filler)
-    door = trial.sign("--journal", str(mounted.folder / "none"), "--no-ticks")
+    door = trial.sign("--journal", str(mounted.folder / "none"), "--no-ticks", "--need-journal")
     is_well = door.ended() in (1, 2) and b"No space left" in door.errors and b"Traceback" not in door.errors
     trial.holds("a new journal on a full disk: said in words", is_well and not door.output, door.errors.decode())
     filler.unlink()
+    lines = [trial.head(form=FORM).line(), Moment.now().start(), Moment.now().clock()]
+    lines += [b"ticks 1"] * 700
+    while len(records.records(lines)) % PAGE < PAGE - 20:
+        lines.append(b"ticks 1")
+    (mounted.folder / "packed").write_bytes(records.records(lines))
+    for name in ("packed", "none"):
+        fill(filler)
+        goes_on(trial, f"a full disk at the start of {name}", mounted.folder / name, b"No space left", filler.unlink)
     door = trial.sign("--journal", str(mounted.folder / "none"), "--no-ticks")
     trial.holds("and it is begun where there is room", door.port != 0 and door.stop() == 0, door.errors.decode())
+
+
+def goes_on(trial: Trial, name: str, path: pathlib.Path, words: bytes, repair: Callable[[], object]) -> None:
+    """A sign that starts where the disk takes nothing answers Gets and no SET, and says so by its exit status; after a
+    repair it answers SETs, and the next start has them."""
+    changes = Changes(trial.chance)
+    door = trial.sign("--journal", str(path), "--no-ticks")
+    if trial.holds(f"{name}: a sign starts", door.port != 0 and words in door.errors, door.errors.decode()):
+        manager = Manager(door.port)
+        octets = manager.request(wire.SET, changes.counter())
+        found = manager.surely(octets, lambda: door.process.poll() is not None)
+        trial.holds(f"{name}: it answers Gets, and no SET", found is None and bool(manager.get([Changes.COUNTER])))
+        manager.close()
+    status = door.stop()
+    trial.holds(f"{name}: its exit status is 1", status == 1 and b"lost at the next start" in door.errors, door.errors)
+    door = trial.sign("--journal", str(path), "--no-ticks")
+    repair()
+    follower = Follower(path)
+    trial.holds(f"{name}: then SETs are answered", all(answered(follower, door, changes, 3)), door.errors.decode())
+    trial.holds(f"{name}: and it ends well", door.stop() == 0, door.errors.decode())
+    after = trial.sign("--journal", str(path), "--no-ticks")
+    if trial.holds(f"{name}: and starts again", after.port != 0, after.errors.decode()):
+        manager = Manager(after.port)
+        value = manager.get([Changes.COUNTER])
+        trial.holds(f"{name}: with what was answered", bool(value) and value[0][1][1] == changes.count % 65_536, value)
+        manager.close()
+    trial.holds(f"{name}: and ends", after.stop() == 0, after.errors.decode())
+
+
+def seconds_on_full(trial: Trial, mounted: Mounted) -> None:
+    """On a disk that is full at a start seconds pass and a duration ends; it is said each minute, and written after."""
+    path, filler = mounted.folder / "seconds", mounted.folder / "filler"
+    door, changes, follower = trial.sign("--journal", str(path)), Changes(trial.chance), Follower(path)
+    manager = Manager(door.port)
+    code = Activation(1, 255, MessageId(7, 9, 0), b"\x7f\0\0\1")
+    octets = manager.request(wire.SET, [(DMS + (6, 3, 0), (wire.OCTETS, code.octets(False)))])
+    trial.holds("a message of a minute is shown", follower.surely(manager, octets, lambda: False))
+    manager.close()
+    door.stop()
+    with open(path, "ab") as file:
+        number = path.read_bytes().count(b"\n") + 1
+        while (path.stat().st_size + 60) % PAGE > 60:  # a full page has no room for another record
+            file.write(records.record(b"heard", number, number))
+            file.flush()
+            number += 1
+    fill(filler)
+    door = trial.sign("--journal", str(path))
+    manager = Manager(door.port)
+    is_told = eventually(lambda: b"lost at the next start" in door.errors, 70.0)
+    trial.holds("on a full disk it is said each minute", is_told, door.errors.decode())
+    mode = manager.get([DMS + (6, 7, 0)])
+    trial.holds("and a duration ends", bool(mode) and mode[0][1] == (wire.INTEGER, 14), mode)
+    filler.unlink()
+    trial.holds("with room again a SET is answered", all(answered(follower, door, changes, 2)), door.errors.decode())
+    manager.close()
+    trial.holds("and nothing is lost", door.stop() == 0, door.errors.decode())
+    look_again(trial, "after seconds on a full disk", path, follower)
+
+
+def centre_on_full(trial: Trial, mounted: Mounted) -> None:
+    """A centre whose disk is full at its start takes no command, and says why."""
+    filler = mounted.folder / "filler"
+    fill(filler)
+    words = ["--to", "127.0.0.1:9", "--journal", str(mounted.folder / "centre"), "--tick", "900", "--wait", "0.1"]
+    rows: list[tuple[list[str], bytes]] = [([], b"not begun: it cannot be recorded: "), (["--need-journal"], b"")]
+    for more, told in rows:
+        door = trial.door("udp_centre.py", *words, *more, stdin=subprocess.PIPE)
+        assert door.process.stdin is not None
+        try:
+            door.process.stdin.write(b"status\nblank 5 65535 255 127.0.0.1\n")
+            door.process.stdin.close()
+        except BrokenPipeError:
+            pass
+        status = door.ended()
+        is_well = status in (1, 2) and told in door.output and b"No space left" in door.errors
+        trial.holds(f"a centre on a full disk {more}", is_well, (status, door.output, door.errors))
+    filler.unlink()
 
 
 def log_on_full(trial: Trial, mounted: Mounted) -> None:
@@ -100,7 +193,8 @@ def log_on_full(trial: Trial, mounted: Mounted) -> None:
     trial.holds(
         "with a log on a full disk SETs are answered", all(answered(follower, door, changes, 30)), door.errors.decode()
     )
-    trial.holds("and the door says so", b"the log" in door.errors and b"No space left" in door.errors, door.errors)
+    is_told = eventually(lambda: b"the log" in door.errors and b"No space left" in door.errors)
+    trial.holds("and the door says so", is_told, door.errors)
     filler.unlink()
     trial.holds("with room again SETs are answered", all(answered(follower, door, changes, 3)), door.errors.decode())
     trial.holds("and the log is written again", b"written again" in door.errors, door.errors.decode())
@@ -126,8 +220,12 @@ def read_only(trial: Trial, mounted: Mounted) -> None:
     if not mounted.remount("ro"):
         trial.skip("a folder that can only be read", "it cannot be mounted so")
         return
-    refused(trial, "a journal that can only be read", str(path), b"Read-only file system")
-    refused(trial, "a folder that can only be read", str(mounted.folder / "other"), b"Read-only file system")
+    for name, one in (("a journal", path), ("a folder", mounted.folder / "other")):
+        refused(trial, f"{name} that can only be read", str(one), b"Read-only file system", "--need-journal")
+    for name in ("journal", "other"):
+        mounted.remount("ro")
+        how = lambda: mounted.remount("rw")  # noqa: E731
+        goes_on(trial, f"a disk that can only be read at the start of {name}", mounted.folder / name, b"Read-only", how)
     mounted.remount("rw")
     door = trial.sign("--journal", str(path), "--no-ticks")
     trial.holds(
@@ -135,10 +233,11 @@ def read_only(trial: Trial, mounted: Mounted) -> None:
     )
 
 
-def refused(trial: Trial, name: str, path: str, words: bytes) -> None:
-    """No door begins on this file, and it says why."""
-    door = trial.sign("--journal", path)
-    is_well = door.ended() == 2 and words in door.errors and b"Traceback" not in door.errors and not door.output
+def refused(trial: Trial, name: str, path: str, words: bytes, *more: str) -> None:
+    """No door begins on this file, and it says why. One that needs its journal may have failed at writing it."""
+    door = trial.sign("--journal", path, *more)
+    is_status = door.ended() in ((1, 2) if more else (2,))
+    is_well = is_status and words in door.errors and b"Traceback" not in door.errors and not door.output
     trial.holds(f"{name}: refused in words", is_well, (door.process.returncode, door.errors.decode()))
 
 
@@ -155,8 +254,10 @@ def run(trial: Trial) -> None:
     mounted = Mounted(trial)
     try:
         if mounted.is_there:
-            for part in (full, full_at_start, log_on_full, read_only):
-                if not trial.is_late() and (part is not log_on_full or trial.is_ours("a log on a full disk")):
+            parts = [full, full_at_start, log_on_full, centre_on_full, read_only]
+            for part in parts + ([] if trial.is_short else [seconds_on_full]):
+                is_any = part not in (log_on_full, centre_on_full)
+                if not trial.is_late() and (is_any or trial.is_ours(f"{part.__name__} of a full disk")):
                     part(trial, mounted)
         else:
             trial.skip("a full disk, a folder that can only be read", "no file system can be mounted")

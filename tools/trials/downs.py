@@ -41,7 +41,7 @@ def life(trial: Trial, name: str, last: Moment, wanted: list[bytes], *words: str
     """A start over such a journal: the lines that it records, the last number with the seconds that the start took, and
     the walk after it."""
     path, begun = trial.new_folder() / "journal", time.monotonic()
-    path.write_bytes(records.records(lines(trial.head(), last), 0)[0])
+    path.write_bytes(records.records(lines(trial.head(form=records.FORM), last)))
     before = len(lines_of(path.read_bytes()))
     door = trial.sign("--journal", str(path), "--no-ticks", *words)
     took = int(time.monotonic() - begun) + 2
@@ -64,7 +64,7 @@ def life(trial: Trial, name: str, last: Moment, wanted: list[bytes], *words: str
 def of_a_centre(trial: Trial) -> None:
     """A centre is told nothing of the time without a process: what waits for a reply waits as it did."""
     path = trial.new_folder() / "journal"
-    octets = records.records([Head("centre", "bench", 1).line(), b"blank 5 65535 255 127.0.0.1", b"tick"], 0)[0]
+    octets = records.records([Head("centre", "bench", 1, 2).line(), b"blank 5 65535 255 127.0.0.1", b"tick"])
     path.write_bytes(octets)
     os.utime(path, (time.time() - 3600, time.time() - 3600))
     door = trial.door("udp_centre.py", "--to", "127.0.0.1:9", "--journal", str(path), "--tick", "900", "--wait", "0.1")
@@ -89,7 +89,7 @@ def run(trial: Trial) -> None:
         ("the process died for a week", True, 7 * 86_400, [b"ticks 86400"], []),
         ("the power was lost for 10 seconds", False, 10, [b"power-lost", b"power-back 10"], []),
         ("the power was lost for an hour", False, 3600, [b"power-lost", b"power-back 3600"], []),
-        ("the power was lost, and the clock went back", False, -(10**6), [b"power-lost", b"power-back 0"], []),
+        ("the power was lost, and the clock went back", False, -(10**6), [b"power-lost", b"power-back 4294967295"], []),
         ("--down process", False, 40, [b"ticks 40"], ["--down", "process"]),
         ("--down power", True, 40, [b"power-lost", b"power-back 40"], ["--down", "power"]),
     ]
@@ -99,5 +99,5 @@ def run(trial: Trial) -> None:
         if trial.is_late():
             break
         now = Moment.now()
-        last = now if is_same_boot else Moment("another", now.wall, 77)
+        last = now if is_same_boot else Moment("another", now.wall, 10**6)
         life(trial, name, last.later(-seconds), wanted, *words)

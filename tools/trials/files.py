@@ -48,7 +48,13 @@ class Files:
             return str(refused)
         lines = [line for some in journal.lines() for line in some]
         journal.close()
+        self.tidy()
         return lines
+
+    def tidy(self) -> None:
+        """What was cut away is not kept."""
+        for path in self.path.parent.glob("*.cut-*"):
+            path.unlink()
 
     def lines(self, octets: bytes) -> list[bytes]:
         """The lines of whole records, without the door's own."""
@@ -66,6 +72,7 @@ class Files:
             follower.compare(self.trial, name, manager)
             manager.close()
         self.trial.holds(f"{name}: and ends", door.stop() == 0, door.errors.decode())
+        self.tidy()
 
     def prefixes(self) -> None:
         """Each prefix gives the lines that are whole, and some are started."""
@@ -87,28 +94,27 @@ class Files:
             self.started(f"the first {size} octets", self.written[:size])
 
     def changed(self) -> None:
-        """Each octet of the last record changed: it is cut away. An octet before it: a refusal that leaves the file as
-        it is."""
-        last = self.ends[-2]
-        for at in range(last, len(self.written), 7 if self.trial.is_short else 1):
+        """Each octet changed, and each two records exchanged: a refusal that leaves the file as it is."""
+        for at in range(0, len(self.written), 29 if self.trial.is_short else 1):
+            begin = max(end for end in self.ends if end <= at)
             octets = (
                 self.written[:at]
                 + bytes([self.written[at] ^ self.trial.chance.randint(1, 255)])
                 + self.written[at + 1 :]
             )
-            found = self.opened(octets)
-            if found != self.lines(self.written[:last]):
-                self.trial.holds(
-                    f"octet {at} changed", b"\n" in octets[last:-1] and isinstance(found, str), (octets[last:], found)
-                )
-        self.trial.holds("each octet of the last record changed", True)
-        self.started("a changed last record", self.written[:-3] + b"!" + self.written[-2:])
+            found, words = self.opened(octets), f"damaged at octet {begin}:" if begin else "is no journal"
+            if not isinstance(found, str) or words not in found or self.path.read_bytes() != octets:
+                self.trial.holds(f"octet {at} changed", False, (octets[begin:], found))
+        self.trial.holds("each octet changed is refused", True)
+        last = self.written[:-3] + b"!" + self.written[-2:]
+        self.says("a changed last record", last, f"octet {self.ends[-2]}")
+        self.says("and how it goes on", last, "--accept-damage")
         for first, second, third in zip(self.ends, self.ends[1:], self.ends[2:]):
             octets = (
                 self.written[:first] + self.written[second:third] + self.written[first:second] + self.written[third:]
             )
             self.refused(
-                f"records at {first} exchanged", octets, "is no journal" if first == 0 else "was not written by a door"
+                f"records at {first} exchanged", octets, f"damaged at octet {first}:" if first else "is no journal"
             )
 
     def refused(self, name: str, octets: bytes, words: str) -> None:
@@ -120,12 +126,12 @@ class Files:
     def others(self) -> None:
         """Journals of something else, and doors beside one another."""
         for head, words in (
-            (self.trial.head(rules=2), "its rules is 2"),
-            (self.trial.head(form=2), "its form is 2"),
-            (Head("centre", "bench", 1), "its end is centre"),
-            (Head("sign", "0" * 64), "another description"),
+            (self.trial.head(rules=2, form=2), "its rules is 2"),
+            (self.trial.head(form=3), "its form is 3"),
+            (Head("centre", "bench", 1, 2), "its end is centre"),
+            (Head("sign", "0" * 64, form=2), "another description"),
         ):
-            octets, _ = records.records([head.line(), b"ticks 5"], 0)
+            octets = records.records([head.line(), b"ticks 5"])
             self.refused(words, octets, words)
             if not self.trial.is_late():
                 self.says(words, octets, words)

@@ -1,6 +1,7 @@
 """The model beside a journal: what the file says, read anew here, and the sign that its lines leave."""
 
 import pathlib
+import re
 import zlib
 from typing import Callable
 
@@ -10,25 +11,27 @@ from model.sign import Sign
 from .bench import Trial
 from .manager import Manager, Name
 
+RECORD = re.compile(rb"(.*) #([1-9][0-9]*) ([1-9][0-9]*) ([0-9a-f]{8})", re.DOTALL)
 
-def records_of(octets: bytes, begin: int, before: int) -> tuple[list[bytes], int, int]:
-    """The lines of the whole records of a journal from an octet on, by docs/JOURNAL.md, with the octet after them; the
-    sum of what is before is the third."""
+
+def records_of(octets: bytes, begin: int, number: int) -> tuple[list[bytes], int, int]:
+    """The lines of the whole records of a journal from an octet on, the first with this number, by docs/JOURNAL.md,
+    with the octet after them and the number of the next."""
     found: list[bytes] = []
     while (end := octets.find(b"\n", begin)) != -1:
-        summed = octets[begin : end - 8]
-        total = zlib.crc32(summed, before)
-        if not summed.endswith(b" #") or octets[end - 8 : end] != b"%08x" % total:
+        shape = RECORD.fullmatch(octets[begin:end])
+        if shape is None or int(shape[2]) != number or not 1 <= int(shape[3]) <= number:
             break
-        found.append(summed[:-2])
-        before = zlib.crc32(octets[end - 8 : end + 1], total)
-        begin = end + 1
-    return found, begin, before
+        if int(shape[4], 16) != zlib.crc32(octets[begin : end - 8]):
+            break
+        found.append(shape[1])
+        begin, number = end + 1, number + 1
+    return found, begin, number
 
 
 def lines_of(octets: bytes) -> list[bytes]:
     """The lines of all whole records of a journal."""
-    return records_of(octets, 0, 0)[0]
+    return records_of(octets, 0, 1)[0]
 
 
 class Follower:
@@ -39,7 +42,7 @@ class Follower:
         self.path = path
         self.sign = Sign(text.bench() if description is None else text.described(description))
         self.names: list[Name] = self.sign.instances()
-        self.seen, self.sum = b"", 0  # the whole records that were looked at, and their sum
+        self.seen, self.number = b"", 1  # the whole records that were looked at, and the number of the next
         self.asked: list[tuple[bytes, bool]] = []  # datagrams that are no Gets, and whether each was answered
         self.at = 0  # of these, how many the journal has or will never have
 
@@ -60,7 +63,7 @@ class Follower:
         asked. The model is handed what is new."""
         octets = self.path.read_bytes()
         trial.holds(f"{name}: the journal begins as it did", octets.startswith(self.seen), self.path)
-        new, end, self.sum = records_of(octets, len(self.seen), self.sum)
+        new, end, self.number = records_of(octets, len(self.seen), self.number)
         self.seen = octets[:end]
         wanted = [bytes.fromhex(line[9:].decode()) for line in new if line.startswith(b"datagram ")]
         for octets in wanted:

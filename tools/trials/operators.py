@@ -1,10 +1,13 @@
 """What an operator's commands end as, and what a centre takes for a reply."""
 
+import re
 import socket
 import subprocess
 import time
 
-from .bench import Trial, eventually
+from model import wire
+
+from .bench import Door, Trial, eventually
 from .follower import lines_of
 from .patience import PACE
 
@@ -18,6 +21,12 @@ def tick() -> float:
 
 def commanded(trial: Trial, port: int, lines: str, *words: str) -> tuple[int, list[str]]:
     """The status of a centre's door that is given lines, and what it printed."""
+    door, status = given(trial, port, lines, *words)
+    return status, door.output.decode().splitlines()
+
+
+def given(trial: Trial, port: int, lines: str, *words: str) -> tuple[Door, int]:
+    """A centre's door that is given lines, and its status."""
     call = ["--to", f"127.0.0.1:{port}", "--tick", f"{tick():.2f}", *words]
     door = trial.door("udp_centre.py", *call, stdin=subprocess.PIPE)
     assert door.process.stdin is not None
@@ -25,7 +34,7 @@ def commanded(trial: Trial, port: int, lines: str, *words: str) -> tuple[int, li
     door.process.stdin.close()
     status = door.ended()
     trial.holds("a centre's door prints no traceback", b"Traceback" not in door.errors, door.errors.decode())
-    return status, door.output.decode().splitlines()
+    return door, status
 
 
 COMMANDS = [  # what is commanded, the exit status, and what is told
@@ -38,13 +47,12 @@ COMMANDS = [  # what is commanded, the exit status, and what is told
     ("blank x", 1, "bad line"),
     ('publish-text 3 1 "\u20ac" - 0 0 9 65535 255 127.0.0.1', 1, "bad line: TEXT: character 1, U+20AC"),
     ('publish-text 3 1 "AB" "me" 0 0 9 65535 255 127.0.0.1', 0, "last accepted"),
-    (
-        'publish-text 3 2 "ABABABABAB" - 0 0 9 65535 255 127.0.0.1',
-        1,
-        "last failed at step 5: the row has status 5, error",
-    ),
     ("blank 5 65535 8 127.0.0.1", 1, "last failed at step 7: the sign refused the activation for cause 3, priority"),
 ]
+SOME = 5  # commands of which the sign answers one question at least within a second
+WIDE = 'publish-text 3 2 "ABABABABAB" - 0 0 9 65535 255 127.0.0.1\n'
+IN_ERROR = "last failed at step 5: the row has status 5, error"
+AT_FAULT = r"step 5 \(is the message valid\): the sign found fault 5 at octet 4: (wider than the matrix by|textTooBig)"
 GIVEN_UP = [  # what is said of two commands to a silent sign
     "given up after 0.3 seconds: the job is not done",
     "busy",
@@ -60,9 +68,27 @@ GIVEN_UP = [  # what is said of two commands to a silent sign
 ]
 
 
+def in_error(trial: Trial, port: int) -> None:
+    """A text that does not fit: standard error says what the sign found, and standard output only how it ended. The
+    question is no record."""
+    path, is_told = trial.new_folder() / "centre", False
+    for _ in range(SOME):
+        door, status = given(trial, port, WIDE, "--journal", str(path))
+        lines = door.output.decode().splitlines()
+        trial.holds("a text that does not fit", status == 1 and lines == ["idle", IN_ERROR], (status, lines))
+        is_told = re.search(AT_FAULT, door.errors.decode()) is not None
+        if is_told:
+            break
+    trial.holds("what the sign found", is_told, door.errors.decode())
+    records = [line.split(b" ")[1] for line in lines_of(path.read_bytes()) if line.startswith(b"datagram ")]
+    is_below = any(wire.read(bytes.fromhex(record.decode())).number < 0 for record in records)
+    trial.holds("the question is no record", bool(records) and not is_below, records)
+
+
 def operated(trial: Trial) -> None:
     """Commands, what they end as, and the exit status."""
-    sign = trial.sign()
+    sign = trial.sign("--log", "-")
+    in_error(trial, sign.port)
     for line, status, told in COMMANDS:
         if trial.is_late():
             break
@@ -78,6 +104,8 @@ def operated(trial: Trial) -> None:
         ]
         trial.holds("a ledger's status in words", bool(last) and last[0].endswith(" refused 5, genErr"), last)
     trial.holds("a sign ends at a SIGTERM", sign.stop() == 0, sign.errors.decode())
+    asked = re.findall(rb" in Get community (\w+) request-id -\d+", sign.output)
+    trial.holds("the reading community asks below 0", set(asked) == {b"public"}, sign.output)
 
 
 def unanswered(trial: Trial) -> None:
@@ -95,8 +123,9 @@ def unanswered(trial: Trial) -> None:
         status == 1 and lines == GIVEN_UP,
         (status, lines),
     )
-    status, lines = commanded(trial, silent_port(), "blank 5 65535 255 127.0.0.1\n", "--tick", SHORT)
-    trial.holds("no sign there", status == 1 and "last failed at step 7: no reply" in lines, (status, lines))
+    door, status = given(trial, silent_port(), "blank 5 65535 255 127.0.0.1\n", "--tick", SHORT)
+    is_said = b"\nlast failed at step 7: no reply\n" in door.output and b"nothing listens there" in door.errors
+    trial.holds("no sign there", status == 1 and is_said, (status, door.output, door.errors))
 
 
 def outsiders(trial: Trial) -> None:

@@ -8,6 +8,7 @@ import signal
 import time
 from typing import Any, Iterator
 
+from door import description
 from door.clock import Moment
 from door.journal import Journal
 from door.keeper import Keeper
@@ -22,6 +23,7 @@ from .gets import forms, requests, respelled
 from .manager import Name
 
 NOW = Moment("boot", 1_000_000, 1000)  # of all starts: no second passes
+WHO = description.communities_of(None)  # of the bench sign
 AT_ONCE = 20  # names of a Get
 LONG = 100_000  # octets of a journal that is not begun anew yet
 
@@ -85,7 +87,8 @@ class Spelled:
         process, keeper = self.started()
         self.look(process)
         wires: Any = Wire()
-        SignDoor(process, wires, keeper, None, 1000.0, is_quiet=True).answer([(made, ("127.0.0.1", 1))])
+        door = SignDoor(process, wires, keeper, None, 1000.0, is_quiet=True, communities=WHO)
+        door.answer([(made, ("127.0.0.1", 1))])
         wanted, _ = self.sign.receive(made)
         name = f"{made.hex()}, {name}"
         if wires.sent != ([] if wanted is None else [wanted]):
@@ -125,7 +128,7 @@ def run(trial: Trial) -> None:
     begun, before, spelled = time.monotonic(), trial.failed, Spelled(trial)
     every = list(spellings())
     for name, made in trial.chance.sample(every, 100) if trial.is_short else every:
-        if trial.is_late():
+        if spelled.count and trial.is_late():
             break
         spelled.life(name, made)
         if spelled.count % 1000 == 0:

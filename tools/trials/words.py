@@ -91,6 +91,10 @@ def of_options(folder: pathlib.Path) -> list[Row]:
         ("a log without a name", ["--log", ""], "--log has no name"),
         ("a host without a name", ["--host", ""], "--host has no name"),
         ("datagrams below none", ["--lose", "-1"], "--lose -1"),
+        ("no datagram in a second", ["--journal", f"{folder}/none", "--most-recorded", "0"], "--most-recorded 0"),
+        ("--accept-damage without a journal", ["--accept-damage"], "--accept-damage is of a --journal"),
+        ("--need-journal without a journal", ["--need-journal"], "--need-journal is of a --journal"),
+        ("a --listen without a port", ["--listen", "::1"], "no HOST:PORT"),
         ("a port in words", ["--port", "http"], "--port"),
         ("another word", ["more"], "unrecognized"),
     ]

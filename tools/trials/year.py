@@ -5,6 +5,7 @@ import os
 import pathlib
 import resource
 import time
+from dataclasses import replace
 from typing import Iterator
 
 from door import records
@@ -54,13 +55,14 @@ def ticks(now: Moment, count: int) -> Iterator[bytes]:
 
 def write(head: Head, path: pathlib.Path, lines: Iterator[bytes]) -> int:
     """Writes a journal of a sign: how many lines."""
-    count, checksum = 0, 0
+    count, synced = 0, 1
     with open(path, "wb") as file:
-        some = [head.line()]
+        some = [replace(head, form=records.FORM).line()]
         while some:
-            octets, checksum = records.records(some, checksum)
-            file.write(octets)
-            count += len(some)
+            for line in some:
+                count += 1
+                file.write(records.record(line, count, synced))
+                synced = count + 1 if line.startswith(b"datagram") else synced
             some = list(itertools.islice(lines, BATCH))
     os.chmod(path, 0o600)
     return count

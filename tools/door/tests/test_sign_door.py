@@ -9,17 +9,21 @@ from unittest import mock
 from door.clock import Moment
 from door.journal import Journal
 from door.keeper import Keeper
+from door.limit import Limit
 from door.records import Head
-from door.sign_door import AT_ONCE, SignDoor, line_of
+from door.refusal import Refusal
+from door.sign_door import AT_ONCE, Heard, SignDoor, line_of
+from door.sorts import Sort, sort_of
 from model import wire
 
 NOW = Moment("one", 1000, 10)
+WHO = (b"public", b"admin")
 COUNTER = (1, 3, 6, 1, 4, 1, 1206, 4, 2, 3, 6, 10, 0)
 
 
-def request(kind: int, number: int) -> bytes:
+def request(kind: int, number: int, community: bytes = b"admin") -> bytes:
     value = (wire.NULL, b"") if kind == wire.GET else (wire.INTEGER, 7)
-    return bytes(wire.written(wire.Message(kind, b"admin", number, 0, 0, [(COUNTER, value)])))
+    return bytes(wire.written(wire.Message(kind, community, number, 0, 0, [(COUNTER, value)])))
 
 
 class Ends:
@@ -28,6 +32,7 @@ class Ends:
 
     def __init__(self, waiting: list[bytes]) -> None:
         self.waiting = waiting
+        self.unanswered = [line_of(octets) for octets in waiting if sort_of(octets, *WHO) is Sort.UNANSWERED]
         self.done: list[Any] = []
 
     def recvfrom(self, *_: Any) -> tuple[bytes, tuple[str, int]]:
@@ -42,7 +47,7 @@ class Ends:
 
     def hand(self, lines: list[bytes]) -> list[bytes]:
         self.done.append(lines)
-        return [b"dropped" if line == b"datagram -" else b"reply " + line.partition(b" ")[2] for line in lines]
+        return [b"dropped" if line in self.unanswered else b"reply " + line.partition(b" ")[2] for line in lines]
 
     def write(self, _: int, octets: bytes) -> int:
         self.done.append("write")
@@ -52,7 +57,7 @@ class Ends:
         self.done.append("fdatasync")
 
 
-def served(waiting: list[bytes], is_kept: bool) -> tuple[list[Any], list[bytes]]:
+def served(waiting: list[bytes], is_kept: bool, most: int = 1000) -> tuple[list[Any], list[bytes]]:
     """What a door does with what waits, and the lines that it records."""
     ends: Any = Ends(waiting)
     with tempfile.TemporaryDirectory() as folder:
@@ -61,7 +66,8 @@ def served(waiting: list[bytes], is_kept: bool) -> tuple[list[Any], list[bytes]]
         keeper = Keeper(journal)
         keeper.start(NOW, None)
         written, synced = os.write, os.fdatasync
-        door = SignDoor(ends, ends, keeper if is_kept else None, None, 10.0, is_quiet=True)
+        limit = Limit[Heard](most)
+        door = SignDoor(ends, ends, keeper if is_kept else None, None, 10.0, 0, True, WHO, limit)
         with mock.patch("os.write", lambda *words: ends.write(*words) and written(*words)):
             with mock.patch("os.fdatasync", lambda file: ends.fdatasync(file) or synced(file)):
                 while found := door.waiting_datagrams():
@@ -93,8 +99,34 @@ def test_gets_and_sets_that_wait_together_are_answered_in_order() -> None:
     assert served(list(some), True) == (["write", "fdatasync", lines, *some], [lines[1], lines[3]])
 
 
-def test_a_get_beside_a_datagram_that_is_not_answered_ends_the_silence() -> None:
+def test_what_no_sign_answers_is_handed_over_and_not_recorded() -> None:
     get = request(wire.GET, 1)
     done, kept = served([b"", get], True)
-    assert done == ["write", "fdatasync", [b"datagram -", line_of(get)], get, "write"]
-    assert kept == [b"datagram -", b"heard"]
+    assert done == [[b"datagram -", line_of(get)], get, "write"]
+    assert kept == [b"heard"]
+    for octets in (request(wire.RESPONSE, 1), request(wire.SET, 1, b"none"), request(wire.SET, 1)[:-1]):
+        done, kept = served([octets], True)
+        assert done[0] == [line_of(octets)] and kept == []
+
+
+def test_a_set_of_the_reader_is_heard() -> None:
+    octets = request(wire.SET, 1, b"public")
+    assert served([octets], True) == ([[line_of(octets)], octets, "write"], [b"heard"])
+
+
+def test_an_answer_to_what_no_sign_answers_ends_the_door() -> None:
+    for octets, answer in ((b"", b"reply 30"), (request(wire.GET, 1), b"accepted 00 30")):
+        with mock.patch.object(Ends, "hand", lambda *_: [answer]):
+            try:
+                served([octets], True)
+                found = ""
+            except Refusal as refused:
+                found = str(refused)
+        assert found == "the program answered what no sign answers: it is not recorded"
+
+
+def test_so_many_of_the_writer_are_recorded_and_others_wait() -> None:
+    sets = [request(wire.SET, number) for number in range(100)]
+    lines = [line_of(octets) for octets in sets]
+    done, kept = served([*sets, request(wire.GET, 1)], True, 20)
+    assert kept == lines[:20] and done[-1] == request(wire.GET, 1)

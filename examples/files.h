@@ -1,0 +1,42 @@
+/* The files of a journal: one door a file, mode 0600, and names that outlive a crash. What fails is in errno. */
+#ifndef FILES_H
+#define FILES_H
+
+#include <stddef.h>
+#include <sys/types.h>
+
+/* Ends the process: what it was given is not in order; or what is on the disk is not known. */
+_Noreturn void refuse(const char *path, const char *why);
+_Noreturn void lose(const char *path, const char *why);
+
+/* Whether an error is of a disk that is full or can only be read. */
+int is_refusal(int error);
+
+/*
+ * The file of this name, made where there is none, and locked; where the disk can only be read, the file that is there,
+ * for reading. -1 where there is none; *refused is the disk's error, or 0. What is no file for a journal is refused.
+ */
+int file_opened(const char *path, int *refused);
+
+/* The same file again, for writing too, in the place of one that is for reading alone: -1 where the disk refuses. */
+int file_again(int file, const char *path);
+
+/* Whether the name stands for the open file, which has so many octets. */
+int file_stands(int file, const char *path, off_t size);
+
+/* Shortens the file, on the disk too: 0, or the disk's error. */
+int file_cut(int file, const char *path, off_t size);
+
+/* The names in the file's folder are on the disk: 0, or the disk's error where it was not asked to write them. */
+int folder_synced(const char *path);
+
+/* Writes all octets: 0, or the disk's error. */
+int all_written(int file, const char *octets, size_t size);
+
+/*
+ * Octets of a journal are on the disk in a file of their own beside it, whose name is that of the journal with `word`
+ * and the time, and is told: 0, or the disk's error.
+ */
+int put_aside(const char *path, const char *word, const char *octets, size_t size);
+
+#endif

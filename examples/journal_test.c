@@ -1,0 +1,498 @@
+/*
+ * A journal over many lives: journal_test FOLDER, an empty one. Files that are whole, torn, damaged or of form 1, disks
+ * that refuse, and lines that no sign knows; each life is a process of its own. It prints `ok`, or what does not hold.
+ */
+#define _GNU_SOURCE
+#include <fcntl.h>
+#include <glob.h>
+#include <inttypes.h>
+#include <signal.h>
+#include <stdio.h>
+#include <stdlib.h>
+#include <string.h>
+#include <sys/resource.h>
+#include <sys/stat.h>
+#include <sys/wait.h>
+#include <unistd.h>
+
+#include "digests.h"
+#include "journal.h"
+#include "older.h"
+#include "records.h"
+
+enum { ROOM = 1 << 20, UNRECORDED = 7 };
+
+static char path[512], octets[ROOM], lines[ROOM], handed[ROOM], said[ROOM];
+static size_t size;
+static int failed;
+
+static void check(const char *what, int is_so)
+{
+    if (!is_so) {
+        printf("%s\n--- lines:\n%.600s\n--- handed:\n%.600s\n--- said:\n%.600s\n", what, lines, handed, said);
+        failed = 1;
+    }
+}
+
+/* ---- files */
+
+static size_t read_file(const char *name, char *to)
+{
+    FILE *file = fopen(name, "rb");
+    size_t found = file != NULL ? fread(to, 1, ROOM - 1, file) : 0;
+    if (file != NULL) {
+        fclose(file);
+    }
+    to[found] = '\0';
+    return found;
+}
+
+static void write_file(const char *name, const char *from, size_t length)
+{
+    FILE *file = fopen(name, "wb");
+    if (file == NULL || fwrite(from, 1, length, file) != length || fclose(file) != 0) {
+        perror(name);
+        exit(1);
+    }
+}
+
+static const char *beside(const char *end)
+{
+    static char name[600];
+    snprintf(name, sizeof name, "%s%s", path, end);
+    return name;
+}
+
+/* The octets of the files beside the journal with such a name, one after the other: how many files there are. */
+static size_t found_beside(const char *end, char *to)
+{
+    glob_t found;
+    size_t count = 0;
+    to[0] = '\0';
+    if (glob(beside(end), 0, NULL, &found) == 0) {
+        size_t at = 0;
+        for (count = 0; count < found.gl_pathc; count++) {
+            struct stat told;
+            check("a file beside is its owner's alone",
+                  stat(found.gl_pathv[count], &told) == 0 && (told.st_mode & 0777) == 0600);
+            at += read_file(found.gl_pathv[count], to + at);
+        }
+    }
+    globfree(&found);
+    return count;
+}
+
+static void clear(void)
+{
+    static const char *const ends[] = {"", ".*"};
+    for (size_t at = 0; at < 2; at++) {
+        glob_t found;
+        if (glob(beside(ends[at]), 0, NULL, &found) == 0) {
+            for (size_t one = 0; one < found.gl_pathc; one++) {
+                unlink(found.gl_pathv[one]);
+            }
+        }
+        globfree(&found);
+    }
+}
+
+/* The lines of the journal's records, which all have to be whole. */
+static void read_lines(void)
+{
+    uint64_t count = 0;
+    size_t to = 0;
+    size = read_file(path, octets);
+    check("all records are whole", records_whole(octets, size, &count) == size);
+    for (size_t at = 0, end; at < size && (end = line_end(octets, size, at)) > at; at = end) {
+        size_t length = record_line(octets, at, end);
+        memcpy(lines + to, octets + at, length);
+        lines[to + length] = '\n';
+        to += length + 1;
+    }
+    lines[to] = '\0';
+}
+
+/* Writes a journal of these lines, each with a newline at its end, all of them synced. */
+static void make(const char *from)
+{
+    uint64_t number = 0;
+    size = 0;
+    for (const char *at = from, *end; *at != '\0'; at = end + 1) {
+        end = strchr(at, '\n');
+        number++;
+        size += record_made(octets + size, at, (size_t)(end - at), number, number);
+    }
+    write_file(path, octets, size);
+}
+
+static void make_older(const char *from)
+{
+    uint32_t sum = 0;
+    size = 0;
+    for (const char *at = from, *end; *at != '\0'; at = end + 1) {
+        end = strchr(at, '\n');
+        int written = sprintf(octets + size, "%.*s #", (int)(end - at), at);
+        sum = crc32_after(sum, octets + size, (size_t)written);
+        int tail = sprintf(octets + size + written, "%08x\n", (unsigned)sum);
+        sum = crc32_after(sum, octets + size + written, (size_t)tail);
+        size += (size_t)(written + tail);
+    }
+    write_file(path, octets, size);
+}
+
+/* ---- lives */
+
+static void hand(void *to, const struct line *line)
+{
+    static const char *const words[] = {"?", "?", "?", "d", "t", "h", "l", "b"};
+    int has_seconds = line->kind == LINE_TICKS || line->kind == LINE_POWER_BACK;
+    if (has_seconds) {
+        dprintf(*(int *)to, "%s%" PRIu64 " ", words[line->kind], line->seconds);
+    } else {
+        dprintf(*(int *)to, "%s ", words[line->kind]);
+    }
+}
+
+static void limit(rlim_t most)
+{
+    struct rlimit asked = {most, RLIM_INFINITY};
+    setrlimit(RLIMIT_FSIZE, &asked);
+}
+
+static void step(struct journal *journal, char what, int to, double *up)
+{
+    if (what == 'k') {
+        int is_kept = journal_keep(journal, "datagram 3000\n", 14);
+        dprintf(to, is_kept ? "+ " : "- ");
+        if (is_kept) {
+            journal_heard(journal, 1, 0);
+        }
+    } else if (what == 't' || what == 'm') {
+        uint64_t seconds = what == 't' ? 1 : 60;
+        *up += (double)seconds;
+        journal_tick(journal, seconds, *up);
+    } else if (what == 'h') {
+        journal_heard(journal, 0, 0);
+    } else if (what == 'f' || what == 'r') {
+        limit(what == 'f' ? (rlim_t)journal->size : RLIM_INFINITY);
+    } else if (what == 'x') {
+        _exit(0);
+    } else if (what == 'p') {
+        for (int times = 0; times < 5000; times++) {
+            step(journal, 't', to, up);
+            step(journal, 'h', to, up);
+        }
+    }
+}
+
+/* A life in a process of its own. Where the steps begin with `f` its disk is full from the start on; with `F` no file
+ * may have any octets. */
+static void live(struct journal_asked asked, const char *steps, int to, int faults)
+{
+    static struct journal journal;
+    struct power power;
+    double up = running();
+    dup2(faults, STDERR_FILENO);
+    signal(SIGXFSZ, SIG_IGN);
+    if (*steps == 'f' || *steps == 'F') {
+        struct stat found;
+        limit(*steps == 'f' && stat(path, &found) == 0 ? (rlim_t)found.st_size : 0);
+    }
+    asked.path = path;
+    asked.digest = "bench";
+    journal_open(&journal, asked, up, (struct handing){hand, &to}, &power);
+    dprintf(to, "%s", power.is_off ? "off " : "");
+    for (const char *what = steps + (*steps == 'f' || *steps == 'F'); *what != '\0'; what++) {
+        step(&journal, *what, to, &up);
+    }
+    int is_kept = journal_end(&journal, up);
+    _exit(is_kept ? 0 : UNRECORDED);
+}
+
+/* All that a pipe gives up to its end. */
+static void drain(int from, char *to)
+{
+    ssize_t count;
+    while ((count = read(from, to, 4096)) > 0) {
+        to += count;
+    }
+    *to = '\0';
+    close(from);
+}
+
+/* The exit status of a life; what was handed over, and what was said, stands in `handed` and `said`. Each of these is
+ * less than a pipe holds. */
+static int lived(struct journal_asked asked, const char *steps)
+{
+    int told[2], faults[2], status = 0;
+    if (pipe(told) != 0 || pipe(faults) != 0) {
+        perror("pipe");
+        exit(1);
+    }
+    fflush(stdout);
+    pid_t child = fork();
+    if (child == 0) {
+        live(asked, steps, told[1], faults[1]);
+    }
+    close(told[1]);
+    close(faults[1]);
+    waitpid(child, &status, 0);
+    drain(told[0], handed);
+    drain(faults[0], said);
+    return WIFEXITED(status) ? WEXITSTATUS(status) : -1;
+}
+
+static int lives(const char *steps) { return lived((struct journal_asked){0}, steps); }
+
+static int is_in(const char *what, const char *text) { return strstr(text, what) != NULL; }
+
+/* ---- what holds */
+
+static const char head[] = "journal 2 sign rules 1 description bench\nstart - 1795543676 1\nclock 1795543676 1\n";
+static const char older_head[] = "journal 1 sign rules 1 description bench\nstart - 1795543676 1\nclock 1795543676 1\n";
+
+static const char *with(const char *first, const char *more)
+{
+    static char made[4096];
+    snprintf(made, sizeof made, "%s%s", first, more);
+    return made;
+}
+
+/* What is recorded is handed over by the next life, in its order. */
+static void whole(void)
+{
+    clear();
+    check("a new journal", lives("ttkhtkthth") == 0 && is_in("+ + ", handed));
+    read_lines();
+    check("its lines", is_in("\nticks 2\ndatagram 3000\nticks 1\ndatagram 3000\n", lines));
+    check("and those after them", is_in("\nticks 1\nheard\nticks 1\nheard\nclock ", lines));
+    check("another life", lives("tx") == 0 && is_in("t2 d t1 d t1 h t1 h ", handed) && said[0] == '\0');
+    check("and another", lives("m") == 0 && is_in("t2 d t1 d t1 h t1 h ", handed));
+    read_lines();
+    check("no file beside", found_beside(".*", handed) == 0);
+}
+
+/* A front of a record is put aside, and the journal goes on. */
+static void torn(void)
+{
+    clear();
+    make(with(head, "ticks 4\ndatagram 3001\n"));
+    size_t kept = size;
+    write_file(path, octets, size - 5);
+    check("a torn end", lives("k") == 0 && is_in("t4 ", handed) && !is_in("d ", handed));
+    check("is told", is_in("cut away, and kept as", said));
+    check("is put aside", found_beside(".cut-*", handed) == 1 && strncmp(handed, "datagram 3001 #5 5 ", 19) == 0);
+    read_lines();
+    check("and others follow", is_in("\nticks 4\nstart ", lines) && is_in("\ndatagram 3000\n", lines) && size > kept);
+    make(with(head, "start - 1795543700 1\n"));
+    check("a start without a clock", lives("k") == 0 && is_in("cut away, and kept as", said));
+    read_lines();
+    check("is put aside too", !is_in("1795543700", lines) && found_beside(".cut-*", handed) == 2);
+}
+
+/* What is damaged is refused by its octet, and stays as it is, until that is accepted. */
+static void damaged(void)
+{
+    for (int is_last = 0; is_last < 2; is_last++) {
+        clear();
+        make(with(head, "ticks 4\ndatagram 3001\nticks 7\n"));
+        char octet[32], *at = strstr(octets, is_last ? "ticks 7" : "datagram");
+        size_t place = (size_t)(at - octets), length = size;
+        snprintf(octet, sizeof octet, "octet %zu,", place);
+        octets[place + 2] ^= 4;
+        write_file(path, octets, size);
+        check("damage", lives("k") == 2 && is_in(octet, said) && is_in("--accept-damage", said) && handed[0] == '\0');
+        check("stays", read_file(path, lines) == length && memcmp(lines, octets, length) == 0);
+        memcpy(lines, octets + place, length - place);
+        lines[length - place] = '\0';
+        check("accepted", lived((struct journal_asked){.accepts_damage = 1}, "k") == 0 && is_in("t4 ", handed));
+        check("is put aside", found_beside(".cut-*", handed) == 1 && strcmp(handed, lines) == 0);
+        check("it goes on", lives("k") == 0 && is_in("t4 ", handed) && is_in("d ", handed));
+    }
+}
+
+/* A damaged first record; a file of something else. */
+static void strangers(void)
+{
+    clear();
+    make(head);
+    octets[9] ^= 1;
+    write_file(path, octets, size);
+    check("a damaged first record", lives("k") == 2 && is_in("octet 0,", said));
+    check("accepted", lived((struct journal_asked){.accepts_damage = 1}, "k") == 0 && is_in("+ ", handed));
+    static const char *const others[][2] = {
+        {"hello world\nhello\n", " is no journal"},
+        {"journal 2 centre rules 1 description bench\n", "its end is centre"},
+        {"journal 3 sign rules 1 description bench\n", "its form is 3"},
+        {"journal 2 sign rules 2 description bench\n", "its rules is 2"},
+        {"journal 2 sign rules 1 description other\n", "another description"},
+    };
+    for (size_t at = 0; at < sizeof others / sizeof *others; at++) {
+        clear();
+        make(others[at][0]);
+        check(others[at][1], lives("k") == 2 && is_in(others[at][1], said));
+    }
+    write_file(path, "hello\n# more\n", 13);
+    check("no journal", lived((struct journal_asked){.accepts_damage = 1}, "k") == 2 && is_in("is no journal", said));
+}
+
+/* Whole records whose lines no sign knows are refused by name. */
+static void unknown(void)
+{
+    static const char *const wrong[] = {
+        "hello world",  "ticks 12x",   "ticks 4294967296", "ticks ",         "power-back -1", "power-back 99999999999",
+        "datagram 300", "datagram 3g", "start x 1",        "journal 2 sign", "tick 1",        "heard ",
+        "clock 1",      "clock -1 1",
+    };
+    for (size_t at = 0; at < sizeof wrong / sizeof *wrong; at++) {
+        char line[64];
+        snprintf(line, sizeof line, "ticks 3\n%s\nticks 4\n", wrong[at]);
+        clear();
+        make(with(head, line));
+        check(wrong[at], lived((struct journal_asked){.accepts_damage = 1}, "k") == 2 && is_in(wrong[at], said)
+                             && is_in("record 5, at octet", said) && handed[0] == '\0');
+    }
+    clear();
+    make(with(head, "ticks 4294967295\ntick\ndatagram -\ndatagram 30AF\nheard\npower-lost\npower-back 0\n"
+                    "clock 1795543677 -5\n"));
+    check("known lines", lives("k") == 0 && is_in("t4294967295 t1 d d h l b0 ", handed));
+}
+
+/* A journal of form 1 is written anew, and kept under another name. */
+static void older(void)
+{
+    clear();
+    write_file(beside(".form1"), "a file", 6);
+    (void)chmod(beside(".form1"), 0600);
+    make_older(with(older_head, "ticks 4\ndatagram 3001\n"));
+    memcpy(lines, octets, size + 1);
+    lines[size] = '\0';
+    write_file(beside(".new"), "a part", 6);
+    check("a journal of form 1", lives("k") == 0 && is_in("t4 d ", handed) && is_in(".form1-2", said));
+    check("is kept", found_beside(".form1*", handed) == 2 && is_in("a file", handed) && is_in(lines, handed));
+    read_lines();
+    check("is written anew", is_in(with(older_head + 10, "ticks 4\ndatagram 3001\nstart"), lines));
+    check("its first line", strncmp(lines, "journal 2 ", 10) == 0);
+    check("goes on", lives("k") == 0 && is_in("t4 d ", handed) && said[0] == '\0');
+    clear();
+    make_older(with(older_head, "ticks 4\n"));
+    (void)!link(path, beside(".form1"));
+    check("killed before the renaming", lives("k") == 0 && is_in("t4 ", handed));
+    check("one old file", found_beside(".form1*", handed) == 1);
+}
+
+/* Of form 1: a torn end is put aside with the old file; what has a record's shape behind a hole is damage. */
+static void older_ends(void)
+{
+    for (int is_shaped = 0; is_shaped < 5; is_shaped++) {
+        clear();
+        make_older(with(older_head, "ticks 4\ndatagram 3001\nticks 5\n"));
+        char *at = strstr(octets, "datagram");
+        if (is_shaped == 0) {
+            size = (size_t)(at - octets) + 8;
+        } else if (is_shaped == 1) {
+            at[3] = '\0';
+        } else if (is_shaped == 2) {
+            octets[size - 1] ^= 2;
+        } else if (is_shaped == 3) {
+            octets[size - 14] ^= 1;
+        } else {
+            octets[size - 1] = '\0';
+        }
+        write_file(path, octets, size);
+        check("form 1, its end", lives("k") == (is_shaped == 0 ? 0 : 2));
+        check("is told", is_shaped == 0 ? is_in(".form1", said) : is_in("--accept-damage", said));
+        check("accepted", lived((struct journal_asked){.accepts_damage = 1}, "k") == 0 && is_in("t4 ", handed));
+        check("the old file stays", found_beside(".form1*", handed) == 1 && memcmp(handed, octets, size) == 0);
+    }
+}
+
+/* A disk that is full: nothing is kept, nothing is lost while the process lives, and nothing grows. */
+static void full(void)
+{
+    clear();
+    check("a new journal on a full disk", lives("fkthtk") == UNRECORDED && is_in("- - ", handed));
+    check("is told", is_in("File too large: what is not recorded", said) && is_in("2 seconds are not recorded", said));
+    check("room later", lives("fkthtkrkt") == 0 && is_in("- - + ", handed) && is_in("written again", said));
+    read_lines();
+    check("all is there", is_in("\nticks 1\nheard\nticks 1\ndatagram 3000\nticks 1\nclock ", lines));
+    check("in the middle", lives("tkftkthk") == UNRECORDED && is_in("+ - - ", handed));
+    read_lines();
+    check("what is lost is told", is_in(" seconds are not recorded, and will be lost at the next start", said));
+    check("each minute", lives("fmmm") == UNRECORDED && is_in("60 seconds", said) && is_in("180 seconds", said));
+    check("needed", lived((struct journal_asked){.is_needed = 1}, "ft") == 1 && is_in("it is needed", said));
+    size_t before = size;
+    check("polled for long", lives("kftpkrk") == 0 && is_in("+ - + ", handed));
+    read_lines();
+    check("nothing grows", size < before + 10000);
+    uint64_t seconds = 0;
+    for (const char *at = strstr(lines, "\nticks "); at != NULL; at = strstr(at + 1, "\nticks ")) {
+        seconds += strtoull(at + 7, NULL, 10);
+    }
+    check("no second is lost", seconds >= 5001 && seconds < 5100);
+}
+
+/* A torn end on a full disk waits until it can be put aside. */
+static void full_and_torn(void)
+{
+    clear();
+    make(with(head, "ticks 4\ndatagram 3001\n"));
+    write_file(path, octets, size - 5);
+    check("torn on a full disk", lives("Fk") == UNRECORDED && is_in("t4 ", handed) && is_in("- ", handed));
+    check("it stays", read_file(path, lines) == size - 5);
+    check("until there is room", lives("k") == 0 && found_beside(".cut-*", handed) == 1);
+}
+
+/* What the time without a process was. */
+static void downs(void)
+{
+    static const struct {
+        const char *more;
+        enum down down;
+        const char *wanted;
+    } rows[] = {
+        {"clock 9999999999 1\n", DOWN_POWER, "l b4294967295 "},
+        {"clock 5 1\n", DOWN_POWER, "l b4294967295 "},
+        {"clock 1577836799 1\n", DOWN_POWER, "l b4294967295 "},
+        {"clock 9999999999 999999999\n", DOWN_BY_BOOT, "l b4294967295 "},
+        {"clock 9999999999 999999999\n", DOWN_PROCESS, "t86400 "},
+        {"power-lost\nticks 9\nclock 1795543690 1\n", DOWN_PROCESS, "off "},
+    };
+    for (size_t at = 0; at < sizeof rows / sizeof *rows; at++) {
+        clear();
+        make(with(head, rows[at].more));
+        int status = lived((struct journal_asked){.down = rows[at].down}, "k");
+        check(rows[at].more, status == 0 && is_in(rows[at].wanted, handed));
+    }
+    clear();
+    make(with(head, "power-lost\nticks 100\nclock 1795543776 1\n"));
+    check("a loss that lasted", lived((struct journal_asked){.down = DOWN_POWER}, "k") == 0);
+    read_lines();
+    const char *back = strstr(lines, "power-back "), *begun = strstr(lines, "power-lost\npower-back");
+    int64_t wall = moment_at(running()).wall, since = back != NULL ? strtoll(back + 11, NULL, 10) : 0;
+    check("counts from its beginning",
+          begun != NULL && (wall - 1795543676 < 0 ? since == UINT32_MAX : llabs(wall - 1795543676 - since) < 60));
+}
+
+int main(int count, char **words)
+{
+    if (count != 2) {
+        fputs("usage: journal_test FOLDER\n", stderr);
+        return 2;
+    }
+    snprintf(path, sizeof path, "%s/journal", words[1]);
+    whole();
+    torn();
+    damaged();
+    strangers();
+    unknown();
+    older();
+    older_ends();
+    full();
+    full_and_torn();
+    downs();
+    if (!failed) {
+        puts("ok");
+    }
+    return failed;
+}

@@ -1,0 +1,167 @@
+"""Disks of examples/signd.c that are full, or can only be read, and are written again."""
+
+from __future__ import annotations
+
+import pathlib
+import signal
+import subprocess
+import time
+
+from model import wire
+from model.text import BENCH
+
+from . import records
+from .doors import MOST_REPLY, Door
+from .journals import MOMENT, head
+from .strangers import SIGN, WAIT, request
+from .trial import Trial
+
+PAGE = 4096  # octets
+LEAST_START = 100  # of the records of a start
+MINUTE = 66  # seconds, and some
+CONTROL = (1, 3, 6, 1, 4, 1, 1206, 4, 2, 3, 6)
+TIME_COMM_LOSS = (*CONTROL, 13, 0)
+NAMES = [(*CONTROL, number, 0) for number in (7, 5, 13, 17)]
+
+
+class Mounted:
+    """A small file system in memory, where one may be mounted."""
+
+    def __init__(self, folder: pathlib.Path) -> None:
+        self.folder = folder
+        folder.mkdir()
+        self.is_there = self.call("mount", "-t", "tmpfs", "-o", "size=64k", "tmpfs", str(folder))
+
+    def call(self, *words: str) -> bool:
+        try:
+            return subprocess.run(words, capture_output=True, check=False, timeout=60).returncode == 0
+        except (OSError, subprocess.TimeoutExpired):
+            return False
+
+    def remount(self, how: str) -> bool:
+        return self.call("mount", "-o", f"remount,{how}", str(self.folder))
+
+    def fill(self) -> pathlib.Path:
+        """No octet is left on the disk: the file that has them."""
+        filler = self.folder / "filler"
+        with open(filler, "wb", buffering=0) as file:
+            for size in (512, 1):
+                try:
+                    while file.write(b"\0" * size):
+                        pass
+                except OSError:
+                    pass
+        return filler
+
+    def end(self) -> None:
+        if self.is_there:
+            self.call("umount", "-l", str(self.folder))
+
+
+def sets(trial: Trial, name: str, door: Door, is_answered: bool) -> None:
+    """A Get is answered, and a SET only where the disk takes it."""
+    door.socket.settimeout(MOST_REPLY)
+    trial.check(f"{name}: a Get is answered", bool(door.ask(request(wire.GET, SIGN.reader, 1).hex())))
+    door.socket.settimeout(MOST_REPLY if is_answered else WAIT)
+    found = [bool(door.ask(request(wire.SET, SIGN.writer, number).hex())) for number in range(2, 5)]
+    trial.same(f"{name}: SETs are answered", found, [is_answered] * 3)
+
+
+def refusing(trial: Trial, name: str, door: Door, why: str, is_kept: bool) -> None:
+    """The disk refuses: Gets alone are answered, and what is lost is said."""
+    if not trial.check(f"{name}: it starts", bool(door.said), door.end()[1] if not door.said else ""):
+        return
+    sets(trial, name, door, False)
+    if not is_kept:
+        time.sleep(1.2)
+        status, faults = door.end()
+        trial.check(f"{name}: its status", status == 1, f"exit {status}: {faults}")
+        trial.check(f"{name}: why is said", why in faults and "will be lost at the next start" in faults, faults)
+
+
+def again(trial: Trial, name: str, door: Door, path: pathlib.Path) -> None:
+    """The disk takes records again."""
+    sets(trial, name, door, True)
+    status, faults = door.end()
+    trial.check(f"{name}: it ends", status == 0 and "written again" in faults, f"exit {status}: {faults}")
+    lines = records.lines_of(path.read_bytes())
+    trial.check(f"{name}: it is recorded", sum(line.startswith(b"datagram ") for line in lines) >= 3, lines)
+
+
+def padded() -> bytes:
+    """A journal whose last page has no room for a start."""
+    lines = [head(), *MOMENT]
+    while -len(octets := records.journal(lines)) % PAGE > LEAST_START:
+        lines.append(b"ticks 1")
+    return octets
+
+
+def full(trial: Trial, mounted: Mounted, path: pathlib.Path) -> None:
+    """A disk that is full at a start, of a new journal and of one that is there."""
+    for name, octets in (("a new journal on a full disk", b""), ("a journal on a full disk", padded())):
+        path.write_bytes(octets)
+        filler = mounted.fill()
+        refusing(trial, name, Door(trial, "signd", path), "No space left on device", False)
+        status, faults = Door(trial, "signd", path, "--need-journal").end()
+        trial.check(f"{name}: needed", status == 1 and "No space left" in faults, f"exit {status}: {faults}")
+        door = Door(trial, "signd", path)
+        refusing(trial, f"{name}, for a while", door, "", True)
+        filler.unlink()
+        again(trial, f"{name}, with room again", door, path)
+
+
+def read_only(trial: Trial, mounted: Mounted, path: pathlib.Path) -> None:
+    """A disk that can only be read at a start."""
+    for place, name in ((path, "a disk to read"), (path.with_name("other"), "a disk to read, without a journal")):
+        if not mounted.remount("ro"):
+            trial.skip(name, "it cannot be mounted so")
+            return
+        refusing(trial, name, Door(trial, "signd", place), "Read-only file system", False)
+        door = Door(trial, "signd", place)
+        refusing(trial, f"{name}, for a while", door, "", True)
+        mounted.remount("rw")
+        again(trial, f"{name}, and written again", door, place)
+
+
+def silent(trial: Trial, mounted: Mounted, path: pathlib.Path) -> None:
+    """A silence on which the sign acts, and polls after it, while the disk takes no record: the next start has them."""
+    if trial.is_short():
+        trial.skip("a silence on a full disk", "it takes longer than a minute")
+        return
+    door = Door(trial, "signd", path)
+    minute = wire.Message(wire.SET, SIGN.writer, 1, 0, 0, [(TIME_COMM_LOSS, (wire.INTEGER, 1))])
+    trial.check("a silence: its time is set", bool(door.ask(wire.written(minute).hex())))
+    filler = mounted.fill()
+    door.socket.settimeout(WAIT)
+    while door.ask(request(wire.SET, SIGN.writer, 2).hex()):
+        pass
+    time.sleep(MINUTE)
+    for number in range(5):
+        time.sleep(1)
+        door.ask(request(wire.GET, SIGN.reader, number).hex())
+    filler.unlink()
+    sets(trial, "a silence on a full disk", door, True)
+    gets = [wire.written(wire.Message(wire.GET, SIGN.reader, 1, 0, 0, [(name, (wire.NULL, b""))])) for name in NAMES]
+    before = [door.ask(octets.hex()) for octets in gets]
+    trial.check("a silence on a full disk: the sign acted", before[0].endswith("02010c"), before)
+    door.end(signal.SIGKILL)
+    lines = records.lines_of(path.read_bytes())
+    long = [line for line in lines if line.startswith(b"ticks ") and int(line[6:]) >= 60]
+    trial.check("a silence is recorded", len(long) == 1, lines)
+    door = Door(trial, "signd", path)
+    trial.same("a silence on a full disk: what is read", [door.ask(octets.hex()) for octets in gets], before)
+    door.end()
+
+
+def run(trial: Trial) -> None:
+    (trial.folder / "bench.sign").write_bytes(BENCH)
+    mounted = Mounted(trial.folder / "mounted")
+    try:
+        if not mounted.is_there:
+            trial.skip("disks that refuse", "no file system can be mounted")
+            return
+        full(trial, mounted, mounted.folder / "journal")
+        read_only(trial, mounted, mounted.folder / "journal")
+        silent(trial, mounted, mounted.folder / "silent")
+    finally:
+        mounted.end()

@@ -1,0 +1,32 @@
+"""The lines that an end of a journal knows: a whole record with another one was written by another hand, or by a door
+of a later form."""
+
+import re
+from typing import Callable
+
+MOST_NUMBER = 2**32 - 1
+MOST_LINE = 65_536
+DATAGRAM = rb"datagram (?:-|(?:[0-9a-fA-F]{2})+)"
+LARGE = rb"([0-9]{1,10})"
+SIGN = re.compile(
+    rb"%b|tick|heard|power-lost|ticks %b|power-back %b|start [!-~]+ [0-9]+ -?[0-9]+|clock [0-9]+ -?[0-9]+"
+    % (DATAGRAM, LARGE, LARGE)
+)
+CENTRE = re.compile(rb"%b|tick|restart|(?:publish|blank|activate)(?: .*)?" % DATAGRAM, re.DOTALL)
+
+
+def of_sign(line: bytes) -> bool:
+    """Whether a sign's journal may have this line behind its first."""
+    found = SIGN.fullmatch(line)
+    number = found[1] or found[2] if found else None
+    return found is not None and len(line) <= MOST_LINE and (number is None or int(number) <= MOST_NUMBER)
+
+
+def of_centre(line: bytes) -> bool:
+    """Whether a centre's may. A command is whatever an operator gave, and the program says what is wrong with it."""
+    return CENTRE.fullmatch(line) is not None and len(line) <= MOST_LINE
+
+
+def of(end: str) -> Callable[[bytes], bool]:
+    """Which lines an end's journal may have."""
+    return of_centre if end == "centre" else of_sign
