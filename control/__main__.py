@@ -1,10 +1,10 @@
 """The control room: pages and a worker in one process: python3 -m control --fleet FLEET.toml
 
-    [--database room.sqlite | postgresql://USER@HOST/NAME] [--listen 127.0.0.1:8080] [--behind-tls] [--zone NAME]
-    [--no-worker]
+    [--database room.sqlite | postgresql://USER@HOST/NAME] [--create] [--listen 127.0.0.1:8080] [--behind-tls]
+    [--zone NAME] [--no-worker]
 
-It ends at an interrupt or a SIGTERM. The first user is made by `python3 -m control.users --database .. add NAME
-administrator`. Further workers may stand beside it: python3 -m control.worker.
+It ends at an interrupt or a SIGTERM. The first user is made by `python3 -m control.users --database .. --create add NAME
+administrator`, and the database with it. Further workers may stand beside it: python3 -m control.worker.
 """
 
 import argparse
@@ -15,6 +15,7 @@ from door.refusal import status_of, tell
 from door.sockets import Waiting, host_and_port
 
 from . import SIGNTOOL, database, fleet, start
+from .waits import waited
 
 LISTEN = "127.0.0.1:8080"
 
@@ -24,6 +25,7 @@ def arguments() -> argparse.ArgumentParser:
                                     formatter_class=argparse.RawDescriptionHelpFormatter)
     words.add_argument("--fleet", required=True, metavar="FILE", help="the signs, as in signs/fleet.toml")
     words.add_argument("--database", default="room.sqlite", metavar="WHERE", help=database.WHERE)
+    words.add_argument("--create", action="store_true", help=database.CREATE)
     words.add_argument("--listen", default=LISTEN, metavar="HOST:PORT", help=f"where the pages are; else {LISTEN}")
     words.add_argument("--behind-tls", action="store_true",
                        help="a proxy on this machine ends TLS: cookies are Secure, and its X-Forwarded-For is believed")
@@ -42,14 +44,22 @@ def main() -> int:
 
     host, port = host_and_port(asked.listen)
     settings = Settings(asked.database, asked.signtool, asked.behind_tls, zone_of(asked.zone))
-    signs = fleet.read(asked.fleet)
-    held = database.opened(asked.database)
-    if not users(held):
-        tell(f"there is no user yet: {called('control.users')} --database .. add NAME administrator")
-    held.close()
-    waiting = Waiting()
+    signs, waiting = fleet.read(asked.fleet), Waiting()
+    fleet.tell_open(signs)
     pages = Pages(settings, signs, host, port)
-    pages.start()
+
+    def begun() -> bool:
+        held = database.opened(asked.database, asked.create)
+        has_users = bool(users(held))
+        held.close()
+        pages.start()
+        return has_users
+
+    has_users = waited(waiting, begun)
+    if has_users is None:
+        return 0
+    if not has_users:
+        tell(f"there is no user yet: {called('control.users')} --database .. add NAME administrator")
     tell(f"the control room of {len(signs)} signs is at {pages.address}")
     try:
         if asked.no_worker:

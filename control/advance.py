@@ -8,12 +8,11 @@ how many numbers were used since. Where that is too many, or no clock can be bel
 import datetime
 from dataclasses import dataclass
 
-from door.records import Head
 from door.refusal import Refusal
 
 from .fleet import LAST_NUMBER
 from .reading_store import CLOCK, LEAST_NUMBER
-from .session import PACE, RESTORED, above
+from .session import PACE, RESTORED
 from .store import Store, whole
 
 LINES_A_SECOND = round(1 / PACE)
@@ -53,13 +52,6 @@ def newest(store: Store) -> float:
     return max((float(time) for time in times if time is not None), default=0.0)
 
 
-def used(store: Store, sign: int) -> int:
-    """A number above all that the sign's centres are known to have used."""
-    _, least, lines = store.lines(sign)
-    head = Head.of(lines[0]) if lines else None
-    return least if head is None else max(least, above(head, len(lines) - 1))
-
-
 def left_out(store: Store, since: float) -> tuple[float, int]:
     """The seconds since then, and how many numbers a sign may have used in them."""
     seconds = float(store.run(f"SELECT {CLOCK}")[0][0] or 0) - since
@@ -73,7 +65,7 @@ def advance(store: Store, who: str, first: int | None) -> Step:
     ended."""
     with store.database.transaction(is_alone=True):
         since = newest(store)
-        known = {whole(row[0]): used(store, whole(row[0])) for row in store.run("SELECT id FROM signs")}
+        known = {whole(row[0]): store.used(whole(row[0])) for row in store.run("SELECT id FROM signs")}
         seconds, step = left_out(store, since) if first is None else (0.0, LEAST_STEP)
         begins = {sign: number + step if first is None else first for sign, number in known.items()}
         check(known, begins)

@@ -28,6 +28,7 @@ from . import database, start
 from .advance import advance
 from .cluster import program
 from .database import Failed
+from .sqlite import address_of
 from .store import Store
 
 
@@ -50,7 +51,7 @@ def copied(source: str, target: pathlib.Path) -> None:
     with faults_told():
         os.close(os.open(target, os.O_RDWR | os.O_CREAT | os.O_EXCL, MODE))
         try:
-            with contextlib.closing(sqlite3.connect(f"file:{source}?mode=ro", uri=True)) as old, \
+            with contextlib.closing(sqlite3.connect(address_of(source, "ro"), uri=True)) as old, \
                     contextlib.closing(sqlite3.connect(target)) as new:
                 old.backup(new)
                 new.execute("PRAGMA journal_mode = DELETE")  # the file is all there is of it
@@ -147,7 +148,7 @@ def restored_server(url: str, source: pathlib.Path, who: str, first: int | None)
 
 def advanced(where: str, who: str, first: int | None) -> str:
     """Numbers above all that may have been used: in words, what was done."""
-    held = database.opened(where)
+    held = database.opened(where, may_create=False)
     try:
         return advance(Store(held), who, first).told()
     finally:

@@ -1,13 +1,15 @@
 """A fleet in trouble: python3 -m control.chaos [--signs N] [--commands N] [--workers N] [--database KIND] [--seed N] ..
 
 Signs on loopback, where one datagram in ten is lost, late or doubled; commands to them; workers, each a process, of
-which some are killed, or stopped for longer than their lease while others go on; and a server of PostgreSQL of its own,
-which crashes and is started again. At the end every command has ended, and all datagrams that came to a sign, what it
+which some are killed, or stopped for longer than their lease while others go on; a service whose pages are asked for,
+many at a time, and which is killed now and then, with programs over the database that end beside it; and a server of
+PostgreSQL of its own, which crashes and is started again. At the end every command has ended, and all datagrams that came to a sign, what it
 accepted, its lines and its ledger are looked at. The seed decides the commands, the fate of each datagram, and after
 how many lines who is killed or stopped and the server crashes; not how fast the machine is.
 """
 
 import argparse
+import contextlib
 import os
 import pathlib
 import random
@@ -16,11 +18,14 @@ import sys
 import tempfile
 import time
 from dataclasses import dataclass
+from typing import Iterator
 
 from door.places import called, in_words_of_command
-from door.refusal import status_of, tell
+from door.refusal import Refusal, status_of, tell
 
 from . import SIGNTOOL, TOP, database, fleet, start
+from .beside import enter
+from .chaos_beside import Beside
 from .chaos_checks import Outcome, look_at
 from .chaos_place import KINDS, Place, placed
 from .chaos_workers import Workers
@@ -63,11 +68,21 @@ def count(store: Store, rows: str) -> int:
     return whole(store.run(f"SELECT count(*) FROM {rows}")[0][0])
 
 
+@contextlib.contextmanager
+def opened(where: str) -> Iterator[Store]:
+    """A connection, as long as the block."""
+    store = Store(database.opened(where))
+    try:
+        yield store
+    finally:
+        store.database.close()
+
+
 class Run:
     """The commands, and the trouble meanwhile."""
 
-    def __init__(self, asked: Asked, store: Store, rows: dict[int, fleet.Sign], workers: Workers, place: Place) -> None:
-        self.asked, self.store, self.workers, self.place = asked, store, workers, place
+    def __init__(self, asked: Asked, rows: dict[int, fleet.Sign], workers: Workers, place: Place) -> None:
+        self.asked, self.workers, self.place = asked, workers, place
         self.chance = random.Random(asked.seed)
         self.to_ask = [(self.chance.choice(sorted(rows)), command(self.chance)) for _ in range(asked.commands)]
         self.every = max(5, asked.commands // 8)  # lines from one trouble to the next at least
@@ -76,14 +91,14 @@ class Run:
         self.lines = 0
 
     def carried(self) -> None:
-        """Until all commands have ended, or the time is over."""
+        """Until all commands have ended, or the time is over. Each look has a connection of its own, since one that
+        stood would keep SQLite's log where it is, whatever the others do."""
         ends = time.monotonic() + self.asked.seconds
         while time.monotonic() < ends:
-            try:
-                if not self.step():
-                    return
-            except Failed:
-                pass  # the server is starting: what was asked is asked again
+            with contextlib.suppress(Failed, Refusal):  # the server is starting: what was asked is asked again
+                with opened(self.place.where) as self.store:
+                    if not self.step():
+                        return
             time.sleep(LOOK)
 
     def step(self) -> bool:
@@ -95,7 +110,7 @@ class Run:
         self.workers.wake()
         self.lines = count(self.store, "lines")
         troubles = self.workers.killed + self.workers.paused
-        if self.lines >= self.due and troubles < (self.asked.troubles or self.lines):
+        if self.lines >= self.due and self.asked.workers and troubles < (self.asked.troubles or self.lines):
             self.workers.trouble(self.chance)
             self.due = self.lines + self.chance.randint(self.every, 4 * self.every)
         if self.lines >= self.crash_at and not self.place.restarts:
@@ -113,26 +128,40 @@ def run(asked: Asked, folder: pathlib.Path, place: Place) -> Outcome:
         f'[[sign]]\nname = "{live.name}"\naddress = "127.0.0.1:{live.port}"\ndescription = "{DESCRIPTION}"\n'
         f"poll = {max(2, asked.signs // 20)}\n"
         for live in loopback.signs))
-    store = Store(database.opened(place.where))
-    rows = store.enter(fleet.read(folder / "fleet.toml"))
+    with opened(place.where) as store:
+        rows = store.enter(fleet.read(folder / "fleet.toml"))
+    enter(place.where)
     workers = Workers(asked.workers, folder, place.where, asked.signtool, asked.tick, asked.lease)
+    beside = Beside(folder / "fleet.toml", place.where, asked.signtool, names[0])
     found = Outcome()
     loopback.start()
     begun = time.monotonic()
     try:
-        workers.fill()
-        Run(asked, store, rows, workers, place).carried()
-        found.holds("every command ended", not count(store, "commands WHERE how IS NULL"))
+        going(Run(asked, rows, workers, place), beside)
     finally:
         seconds = time.monotonic() - begun
+        beside.end()
         found.holds("every worker that was not killed ended well", {0, -signal.SIGTERM}.issuperset(workers.end()))
         loopback.end()
     found.holds("the server crashed once", place.server is None or place.restarts == 1)
+    found.holds(f"what stood beside the workers: {beside.faults[:3]}", not beside.faults)
     lives = {live.name: live for live in loopback.signs}
-    for row, sign in rows.items():
-        look_at(found, store, row, sign, lives[sign.name])
-    told(store, loopback, workers, place, seconds)
+    with opened(place.where) as store:
+        found.holds("every command ended", not count(store, "commands WHERE how IS NULL"))
+        for row, sign in rows.items():
+            look_at(found, store, row, sign, lives[sign.name])
+        told(store, loopback, workers, place, seconds)
+    tell(beside.told())
     return found
+
+
+def going(run: Run, beside: Beside) -> None:
+    """The commands of the run, and then those that a program beside it asked for."""
+    run.workers.fill()
+    beside.start()
+    run.carried()
+    beside.end()
+    run.carried()
 
 
 def told(store: Store, loopback: Loopback, workers: Workers, place: Place, seconds: float) -> None:
@@ -153,7 +182,7 @@ def arguments() -> argparse.ArgumentParser:
                                     formatter_class=argparse.RawDescriptionHelpFormatter)
     words.add_argument("--signs", type=int, default=10, metavar="N")
     words.add_argument("--commands", type=int, default=40, metavar="N")
-    words.add_argument("--workers", type=int, default=1, metavar="N", help="that go at a time")
+    words.add_argument("--workers", type=int, default=1, metavar="N", help="that go at a time, beside the service")
     words.add_argument("--seconds", type=float, default=300, metavar="N", help="that the commands have to end")
     words.add_argument("--seed", type=int, default=1, metavar="N")
     words.add_argument("--tick", type=float, default=0.2, metavar="SECONDS", help="from tick to tick, of all")
@@ -167,15 +196,15 @@ def arguments() -> argparse.ArgumentParser:
 def main() -> int:
     words = arguments()
     asked = Asked(**vars(words.parse_args()))
-    if min(asked.signs, asked.commands, asked.workers) < 1:
-        words.error("signs, commands and workers are 1 or more")
-    if asked.database == "postgresql":
-        start.needed("control.chaos", "psycopg")
+    if min(asked.signs, asked.commands, asked.workers + 1) < 1:
+        words.error("signs and commands are 1 or more, workers 0 or more")
+    start.needed("control.chaos", "aiohttp", "jinja2", *(["psycopg"] if asked.database == "postgresql" else []))
     signal.signal(signal.SIGTERM, lambda *_: sys.exit(143))  # so that nothing is left of it
     with tempfile.TemporaryDirectory(prefix="chaos-") as folder, placed(asked.database, pathlib.Path(folder)) as place:
         found = run(asked, pathlib.Path(folder), place)
         if found.failed:
-            tell((pathlib.Path(folder) / "workers").read_text(errors="replace")[-4000:])
+            for path in (pathlib.Path(folder) / name for name in ("workers", "service")):
+                tell(path.read_text(errors="replace")[-4000:] if path.exists() else "")
     for name in found.failed[:50]:
         tell(f"does not hold: {name}")
     tell(f"{found.passed} passed, {len(found.failed)} failed")

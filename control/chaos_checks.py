@@ -7,7 +7,7 @@ from model.centre import Centre
 
 from . import fleet
 from .loopback import LoopbackSign
-from .store import Store
+from .store import Store, whole
 
 
 class Outcome:
@@ -75,6 +75,10 @@ def look_at(found: Outcome, store: Store, row: int, sign: fleet.Sign, live: Loop
     accepted = store.run("SELECT count(*) FROM commands WHERE sign = ? AND how = 'accepted'", row)[0][0]
     found.holds(f"{live.name}: each command that ended accepted has its activation",
                 accepted == sum(how == "accepted" for _, how in ledger.values()))
+    asked = whole(store.run("SELECT count(*) FROM commands WHERE sign = ?", row)[0][0])
+    audit = [str(what[0]) for what in store.run("SELECT what FROM audit")]
+    found.holds(f"{live.name}: each command stands in the audit",
+                asked == sum(what.startswith(f"{live.name}: ") for what in audit))
     is_foretold = store.ledger(row) == foretold(store, row, sign)
     found.holds(f"{live.name}: the ledger is the model's, handed the lines", is_foretold)
     numbers = [line[0] for line in store.run("SELECT number FROM lines WHERE sign = ? ORDER BY number", row)]

@@ -12,8 +12,9 @@ import getpass
 import sys
 import time
 
+from door.endings import explained, is_in_error
 from door.places import called, in_words_of_command
-from door.refusal import Refusal, status_of, tell
+from door.refusal import Refusal, say, status_of, tell
 from door.texts import published
 
 from . import database, start
@@ -23,6 +24,7 @@ from .store import Store, whole
 from .worker import seconds
 
 LOOK = 0.1  # seconds from one look for the end to the next
+PATIENCE = 3.0  # seconds that are waited for what a sign says of its row
 
 
 def line_of(words: str) -> str:
@@ -53,6 +55,17 @@ def waited(store: Store, command: int, wait: float) -> str | None:
         time.sleep(LOOK)
 
 
+def explain(store: Store, command: int, how: str) -> None:
+    """Says of a command that failed at which step that was, and what the sign said of it or what may be the cause."""
+    said, ends = "", time.monotonic() + PATIENCE
+    with contextlib.suppress(Failed):
+        while is_in_error(how) and not (said := store.why(command)) and time.monotonic() < ends:
+            time.sleep(LOOK)
+        address = store.run("SELECT address FROM signs WHERE id = (SELECT sign FROM commands WHERE id = ?)", command)
+        if words := explained(how, str(address[0][0]), said):
+            say(words)
+
+
 def main() -> int:
     words = argparse.ArgumentParser(prog=called("control.command"), description=in_words_of_command(__doc__),
                                     formatter_class=argparse.RawDescriptionHelpFormatter)
@@ -65,13 +78,15 @@ def main() -> int:
     if database.is_url(asked.database):
         start.needed("control.command", "psycopg")
     line = line_of(asked.line)
-    store = Store(database.opened(asked.database))
+    store = Store(database.opened(asked.database, may_create=False))
     try:
         command = store.ask(row_of(store, asked.sign), asked.who, line)
     except Failed as fault:
         raise Refusal(f"the database: {fault}: whether it was asked for is not known", 1) from fault
     how = waited(store, command, asked.wait)
     tell(how if how is not None else f"command {command} has not ended after {asked.wait:g} seconds; it goes on")
+    if how is not None:
+        explain(store, command, how)
     return 0 if how == "accepted" else 1
 
 

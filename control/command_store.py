@@ -1,6 +1,7 @@
 """What the control room keeps of commands and of the ledger."""
 
 from dataclasses import dataclass
+from typing import Sequence
 
 from .database import Value
 from .reading_store import CLOCK, ReadingStore, whole
@@ -56,6 +57,17 @@ class CommandStore(ReadingStore):
         """How a command ended; None where it has not."""
         held = self.run("SELECT how FROM commands WHERE id = ?", command)[0][0]
         return None if held is None else str(held)
+
+    def because(self, said: Sequence[tuple[int, str]]) -> None:
+        """What signs said of commands that ended with a row in error."""
+        if said:
+            with self.database.transaction():
+                self.database.run_all("UPDATE commands SET why = ? WHERE id = ?",
+                                      [(words, command) for command, words in sorted(said)])
+
+    def why(self, command: int) -> str:
+        """What the sign said of it."""
+        return str(self.run("SELECT why FROM commands WHERE id = ?", command)[0][0] or "")
 
     def ledger(self, sign: int) -> list[str]:
         """The rows, as lines of a status."""

@@ -22,6 +22,8 @@ import contextlib
 import threading
 from typing import Iterator, Sequence
 
+from door.refusal import Refusal
+
 PATIENCE = 10.0  # seconds that a transaction waits for another one's end
 Value = str | int | float | None
 Row = tuple[Value, ...]
@@ -33,6 +35,14 @@ class Taken(Exception):
 
 class Failed(Exception):
     """The database did not do it, or it is not known whether it did."""
+
+
+class Away(Failed):
+    """The database cannot be had now, and may be later; it is not known whether it did what was under way."""
+
+
+class NotYet(Refusal):
+    """A database that cannot be had as a program begins, and may be later: who does not wait ends with these words."""
 
 
 class Database:

@@ -1,18 +1,20 @@
 """A database by its name, SQLite's or PostgreSQL's, with numbered migrations that make its tables those of today."""
 
+import os
 import pathlib
 
 from door.refusal import Refusal
 
-from .connection import Database, Failed, Row, Taken, Value
+from .connection import Away, Database, Failed, NotYet, Row, Taken, Value
 from .sqlite import Sqlite
 
-__all__ = ["Database", "Failed", "Row", "Taken", "Value", "connected", "is_url", "migrate", "migrations", "named",
-           "opened"]
+__all__ = ["Away", "Database", "Failed", "NotYet", "Row", "Taken", "Value", "connected", "is_url", "migrate",
+           "migrations", "named", "opened"]
 MIGRATIONS = pathlib.Path(__file__).resolve().parent / "migrations"
 RESTORING = "restoring"  # a table of this name keeps all out of a database that control/backup.py restores
 URLS = ("postgresql://", "postgres://")
-WHERE = "a file of SQLite, made where there is none, or postgresql://USER@HOST/NAME"  # for the help of a program
+WHERE = "a file of SQLite, or postgresql://USER@HOST/NAME"  # for the help of a program
+CREATE = "make the database, where there is none: without it another name is no new database"
 
 
 def migrations(folder: pathlib.Path = MIGRATIONS) -> list[tuple[int, str]]:
@@ -66,13 +68,19 @@ def connected(where: str) -> Database:
     return Sqlite(where)
 
 
-def opened(where: str) -> Database:
-    """The database of a file's path, made where there is none, or of postgresql://.., with today's tables."""
+def opened(where: str, may_create: bool = True) -> Database:
+    """The database of a file's path or of postgresql://.., with today's tables; made where there is none, or refused."""
+    if not may_create and not is_url(where) and not os.path.exists(where):
+        raise Refusal(f"{where}: there is no database: --create makes one")
     database = connected(where)
     try:
+        if not may_create and not any(map(database.has_table, ("migrations", RESTORING))):
+            raise Refusal(f"{named(where)} is empty, or no control room's: --create makes its tables")
         if database.has_table(RESTORING):
             raise Refusal("the database is being restored, or its restore failed: it wants an empty one")
         migrate(database, migrations())
+    except Away as away:
+        raise NotYet(f"{named(where)}: {away}", 1) from away
     except Failed as fault:
         raise Refusal(f"{named(where)}: {fault}") from fault
     return database

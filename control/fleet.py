@@ -2,13 +2,16 @@
 
 import pathlib
 import re
+import stat
 import tomllib
-from dataclasses import dataclass
+from dataclasses import dataclass, replace
 from typing import NoReturn
 
 from door import description
-from door.refusal import Refusal, reason
+from door.refusal import Refusal, reason, say
 from door.sockets import host_and_port
+
+from .addresses import of_places
 
 TYPES: dict[str, tuple[type, ...]] = {
     "name": (str,),
@@ -21,6 +24,8 @@ TYPES: dict[str, tuple[type, ...]] = {
 }
 NEEDED = ("name", "address", "description")
 MOST_NAME = 64
+MOST_NAMED = 5  # files in one line
+NAMES = f"a name has 1 to {MOST_NAME} printable characters"
 LAST_NUMBER = 2**31 - 1
 EVERY = 10.0  # seconds between polls where the fleet does not say it
 ORDER = re.compile(rb"^order (?:high|swapped)(?=\r?$)", re.MULTILINE)
@@ -31,7 +36,8 @@ PLACE = re.compile(r" \(at (?:line (\d+), column \d+|end of document)\)$")
 @dataclass(frozen=True)
 class Sign:
     """A sign of the fleet. `text` is its description in the fleet's order of checksums, `reader` its reading community,
-    `poll` the seconds between two readings, `first` the number of the first request that a centre ever sends it."""
+    `poll` the seconds between two readings, `first` the number of the first request that a centre ever sends it, `every`
+    all that its address resolved to as the fleet was read, `path` the file of its description."""
 
     name: str
     place: str
@@ -41,10 +47,21 @@ class Sign:
     reader: bytes
     poll: float
     first: int
+    every: frozenset[str] = frozenset()
+    path: str = ""
+
+    @property
+    def address(self) -> str:
+        return f"{self.host}:{self.port}"
 
     @property
     def digest(self) -> str:
         return description.digest(self.text)
+
+
+def is_name(word: str) -> bool:
+    """Whether a sign may have this name."""
+    return 1 <= len(word) <= MOST_NAME and word.isprintable()
 
 
 class Source:
@@ -110,8 +127,8 @@ class Entry:
 
     def name(self) -> str:
         name = self.word("name")
-        if not 1 <= len(name) <= MOST_NAME or not name.isprintable():
-            self.refuse("name", f"a name has 1 to {MOST_NAME} printable characters")
+        if not is_name(name):
+            self.refuse("name", NAMES)
         return name
 
     def address(self) -> tuple[str, int]:
@@ -153,7 +170,26 @@ class Entry:
         found = COMMUNITIES.search(text)
         if found is None:
             self.refuse("description", "the description has no line `communities READER WRITER`")
-        return Sign(self.name(), self.word("place"), host, port, text, found[1], self.poll(), self.first(text))
+        return Sign(self.name(), self.word("place"), host, port, text, found[1], self.poll(), self.first(text),
+                    path=str(self.source.path.parent / self.word("description")))
+
+
+def is_open(path: str) -> bool:
+    """Whether others than its owner and its group can read a file: the file and each folder above it let them."""
+    place = pathlib.Path(path).resolve()
+    try:
+        return bool(place.stat().st_mode & stat.S_IROTH) and all(
+            folder.stat().st_mode & stat.S_IXOTH for folder in place.parents)
+    except OSError:
+        return False
+
+
+def tell_open(signs: list[Sign]) -> None:
+    """Names descriptions that others can read, since communities stand in them."""
+    found = [path for path in sorted({sign.path for sign in signs}) if is_open(path)]
+    if found:
+        more = f" and {len(found) - MOST_NAMED} more" if len(found) > MOST_NAMED else ""
+        say(f"others on this machine can read {', '.join(found[:MOST_NAMED])}{more}, where communities stand: chmod o-r")
 
 
 def entries(source: Source) -> list[Entry]:
@@ -169,15 +205,20 @@ def entries(source: Source) -> list[Entry]:
 
 
 def read(path: str | pathlib.Path) -> list[Sign]:
-    """The signs of a file. No two have one name, and no two one address: two centres would send one sign the same
-    numbers."""
+    """The signs of a file. No two have one name, and no two one address, however it is spelled: two centres would send
+    one sign the same numbers."""
+    found = [(entry, entry.sign()) for entry in entries(Source(pathlib.Path(path)))]
+    known = of_places((sign.host, sign.port) for _, sign in found)
+    names: set[str] = set()
+    owners: dict[str, str] = {}
     signs: list[Sign] = []
-    for entry in entries(Source(pathlib.Path(path))):
-        sign = entry.sign()
-        for other in signs:
-            if other.name == sign.name:
-                entry.refuse("name", f"{sign.name!r} is the name of an earlier sign")
-            if (other.host, other.port) == (sign.host, sign.port):
-                entry.refuse("address", f"{entry.word('address')} is the address of {other.name!r}")
+    for entry, sign in found:
+        sign = replace(sign, every=known[sign.host, sign.port].every)
+        if sign.name in names:
+            entry.refuse("name", f"{sign.name!r} is the name of an earlier sign")
+        for address in sorted({sign.address, *sign.every} & owners.keys()):
+            entry.refuse("address", f"{entry.word('address')} is the address of {owners[address]!r}")
+        names.add(sign.name)
+        owners.update({address: sign.name for address in (sign.address, *sign.every)})
         signs.append(sign)
     return signs

@@ -4,31 +4,14 @@ import socket
 import time
 from typing import Callable
 
-from door.datagrams import status_word
+from door import encoder
+from door.asking import Name, Values, said
 from door.refusal import Refusal, reason
 from door.sockets import connected, received, sent
-from model import wire
 
-from . import encoder
 from .fleet import Sign
 
 SENDS, PATIENCE = 3, 1.0  # how often a Get goes out, and the seconds from one time to the next
-Name = tuple[int, ...]
-Values = list[int | str]  # an integer, or octets as digits, for each name that was asked for
-
-
-def answer(octets: bytes, community: bytes, number: int) -> wire.Message | None:
-    """The Response to a Get; None where the octets are none."""
-    message: wire.Message | None = wire.spelled(octets)
-    if message is None or message.kind != wire.RESPONSE or message.community != community or message.number != number:
-        return None
-    return message
-
-
-def worded(value: tuple[int, object]) -> int | str:
-    """An integer, or octets as digits."""
-    held = value[1]
-    return held if isinstance(held, int) else bytes(held).hex() if isinstance(held, bytes) else str(held)
 
 
 class Get:
@@ -48,14 +31,9 @@ class Get:
     def heard(self) -> Values | str | None:
         """What the Response says, where one waits."""
         while (heard := received(self.door)) is not None:
-            message = answer(heard[0], self.sign.reader, self.number)
-            if message is None:
-                continue
-            if message.status:
-                return f"error-status {message.status}, {status_word(message.status)}"
-            if [name for name, _ in message.bindings] != self.asked:
-                return "the reply does not answer what was asked"
-            return [worded(value) for _, value in message.bindings]
+            found = said(heard[0], self.sign.reader, self.number, self.asked)
+            if found is not None:
+                return found
         return None
 
 
@@ -77,9 +55,9 @@ class Gets:
 
     def heard(self, file: int) -> None:
         """Takes the Response, where what waits is one."""
-        said = self.waiting[file].heard()
-        if said is not None:
-            self.end(file, said)
+        found = self.waiting[file].heard()
+        if found is not None:
+            self.end(file, found)
 
     def again(self) -> None:
         """Sends again what had no reply in time, or gives it up."""
@@ -92,11 +70,11 @@ class Gets:
             else:
                 self.end(file, "no reply")
 
-    def end(self, file: int, said: Values | str) -> None:
+    def end(self, file: int, found: Values | str) -> None:
         """Lets a Get go, and tells what came of it."""
         get = self.waiting.pop(file)
         get.door.close()
-        get.end(said)
+        get.end(found)
 
     def close(self) -> None:
         """Lets all go."""

@@ -125,7 +125,7 @@ def beginning(asked: Asked) -> float:
     for _ in range(BEGINNINGS):
         begun = time.perf_counter()
         process = CoProcess(asked.signtool, ["centre"], DESCRIPTION.read_bytes())
-        process.begin(b"status", "a measure")
+        process.begin(b"status last", "a measure")
         took.append(1000 * (time.perf_counter() - begun))
         process.end()
     return statistics.median(took)

@@ -4,6 +4,7 @@ import contextlib
 import random
 import socket
 import time
+from typing import Callable
 
 from door.refusal import Refusal
 
@@ -22,10 +23,10 @@ def free_port(kind: socket.SocketKind = socket.SOCK_STREAM) -> int:
     raise Refusal(f"no port from {FIRST} to {LAST} is free")
 
 
-def until_answers(port: int) -> None:
-    """Waits until somebody listens there."""
+def until_answers(port: int, is_standing: Callable[[], bool] = lambda: True) -> None:
+    """Waits until somebody listens there, as long as who is to listen stands."""
     ends = time.monotonic() + PATIENCE
-    while time.monotonic() < ends:
+    while time.monotonic() < ends and is_standing():
         with contextlib.suppress(OSError), socket.create_connection(("127.0.0.1", port), 1):
             return
         time.sleep(0.1)

@@ -11,7 +11,7 @@ import psycopg  # noqa: E402
 
 from door.refusal import Refusal
 
-from .connection import PATIENCE, Database, Failed, Row, Taken
+from .connection import PATIENCE, Away, Database, Failed, NotYet, Row, Taken
 
 SETTINGS = {
     "default_transaction_isolation": "read committed",
@@ -19,7 +19,15 @@ SETTINGS = {
     "lock_timeout": f"{PATIENCE:g}s",
     "idle_in_transaction_session_timeout": "5s",  # a process that is stopped within one keeps nobody waiting for ever
 }
-NEEDED = ("fsync", "full_page_writes")  # of the server: without them a committed line can be lost
+NEEDED = {  # as the server says it, once connected: a pooler may drop what was asked for
+    **{name: (value,) for name, value in SETTINGS.items()},
+    "synchronous_commit": ("on", "remote_apply"),
+    "fsync": ("on",),  # without these two a committed line can be lost
+    "full_page_writes": ("on",),
+    "transaction_read_only": ("off",),  # a standby takes no lines
+}
+LASTING = ("authentication failed", "does not exist", "pg_hba.conf", "no password supplied", "certificate",
+           "not support SSL")  # what a server says that does so again
 ALONE = 0x5163_6E73  # the advisory lock of those transactions of which one is under way at a time
 SILENCE: dict[str, Any] = {  # after which a server that does not answer is given up
     "connect_timeout": 10, "tcp_user_timeout": 10_000, "keepalives_idle": 5, "keepalives_interval": 2,
@@ -41,24 +49,23 @@ class Postgresql(Database):
         self.connection: psycopg.Connection[Row] | None = None
         try:
             self.connect()
-            self.check()
         except (psycopg.Error, Failed) as fault:
-            raise Refusal(f"the database: {worded(fault)}") from fault
+            words = f"the database: {worded(fault)}"
+            raise (NotYet(words, 1) if may_pass(fault) else Refusal(words)) from fault
 
     def connect(self) -> psycopg.Connection[Row]:
         """The connection that stands, or a new one."""
         if self.connection is None:
             options = " ".join(f"-c {name}={value}".replace(" ", "\\ ").replace("-c\\ ", "-c ")
                                for name, value in SETTINGS.items())
-            self.connection = psycopg.connect(self.url, autocommit=True, options=options,
-                                              application_name="control", **SILENCE)
+            made = psycopg.connect(self.url, autocommit=True, options=options, application_name="control", **SILENCE)
+            try:
+                check(made)
+            except BaseException:
+                made.close()
+                raise
+            self.connection = made
         return self.connection
-
-    def check(self) -> None:
-        """Refuses a server that may lose what it said was written."""
-        for name in NEEDED:
-            if self.rows(f"SHOW {name}", ()) != [("on",)]:
-                raise Refusal(f"the database's server has {name} off: what it commits may be lost")
 
     @contextlib.contextmanager
     def told(self) -> Iterator[psycopg.Connection[Row]]:
@@ -71,7 +78,7 @@ class Postgresql(Database):
             raise Taken(worded(fault)) from fault
         except psycopg.Error as fault:
             self.let_go()
-            raise Failed(worded(fault)) from fault
+            raise (Away if self.connection is None else Failed)(worded(fault)) from fault
 
     def rows(self, sql: str, values: Row) -> list[Row]:
         with self.told() as connection:
@@ -120,6 +127,21 @@ class Postgresql(Database):
         if self.connection is not None:
             self.connection.close()
             self.connection = None
+
+
+def check(connection: "psycopg.Connection[Row]") -> None:
+    """Refuses a connection, new or made anew, over which a line that was committed may be lost."""
+    asked = ", ".join(f"current_setting('{name}')" for name in NEEDED)
+    found = connection.execute(f"SELECT {asked}").fetchone()
+    for (name, wanted), value in zip(NEEDED.items(), found or ()):
+        if value not in wanted:
+            raise Failed(f"the server has {name} {value} for this connection, and not {wanted[0]}: what it commits may be"
+                         " lost. A pooler between may drop what was asked for as the connection began")
+
+
+def may_pass(fault: Exception) -> bool:
+    """Whether a server that took no connection may take one later: it starts, or is away."""
+    return isinstance(fault, psycopg.OperationalError) and not any(words in str(fault) for words in LASTING)
 
 
 def spelled(sql: str) -> str:

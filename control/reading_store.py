@@ -6,7 +6,9 @@ from typing import Sequence
 from .database import Database, Value
 
 CLOCK = "{clock}"
+SLACK = 1.0  # seconds by which a time may be ahead where no clock jumped: it was written as another one was read
 LEAST_NUMBER = -2**31  # of a request
+DUE = f"(polled + poll <= {CLOCK} OR polled > {CLOCK})"  # one that was asked at a time to come is due: the clock jumped
 
 
 @dataclass(frozen=True)
@@ -56,7 +58,7 @@ class ReadingStore:
         if not signs:
             return []
         rows = self.run(f"WITH due AS MATERIALIZED (SELECT id FROM signs WHERE id IN ({places(signs)})"
-                        f" AND polled + poll <= {CLOCK} AND reading_number > ? {{skip}})"
+                        f" AND {DUE} AND reading_number > ? {{skip}})"
                         f" UPDATE signs SET polled = {CLOCK}, reading_number = reading_number - 1"
                         " WHERE id IN (SELECT id FROM due) RETURNING id, reading_number", *signs, LEAST_NUMBER)
         return [(whole(row[0]), whole(row[1])) for row in rows]
@@ -64,7 +66,7 @@ class ReadingStore:
     def to_read(self) -> list[int]:
         """The signs whose next reading is due: the one that was read longest ago first."""
         return [whole(row[0]) for row in
-                self.run(f"SELECT id FROM signs WHERE polled + poll <= {CLOCK} ORDER BY polled")]
+                self.run(f"SELECT id FROM signs WHERE {DUE} ORDER BY polled")]
 
     def numbers(self, signs: Sequence[int]) -> dict[int, int]:
         """A request's number for each of the signs, below all that its readings had; none where they are used up."""
@@ -109,7 +111,7 @@ class ReadingStore:
         if not signs or most < 1:
             return []
         rows = self.run(f"WITH due AS MATERIALIZED (SELECT id FROM signs WHERE id IN ({places(signs)})"
-                        f" AND (wanted = 1 OR tabled + ? <= {CLOCK}) ORDER BY wanted DESC, tabled LIMIT ? {{skip}})"
+                        f" AND (wanted = 1 OR tabled + ? <= {CLOCK} OR tabled > {CLOCK}) ORDER BY wanted DESC, tabled LIMIT ? {{skip}})"
                         f" UPDATE signs SET tabled = {CLOCK}, wanted = 0 WHERE id IN (SELECT id FROM due) RETURNING id",
                         *signs, seconds, most)
         return [whole(row[0]) for row in rows]

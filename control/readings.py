@@ -3,10 +3,11 @@
 import json
 from functools import partial
 
+from door.asking import Name, Values
 from door.mib import Mib
 
 from .fleet import Sign
-from .gets import Gets, Name, Values
+from .gets import Gets
 from .reading_store import Said
 from .store import Store
 

@@ -10,6 +10,7 @@ from door.mib import Mib
 from door.refusal import Refusal, say
 from door.sockets import Waiting
 
+from .addresses import AGAIN
 from .carry import Offer, carry
 from .database import Failed, Taken
 from .fleet import Sign
@@ -18,33 +19,42 @@ from .readings import Readings
 from .session import Lost, Session
 from .store import Store
 from .tables import Tables
+from .verdicts import Verdicts
+from .where import Where
 
 BEGUN_AT_ONCE = 16  # sessions that are begun in one round, so that those that stand are not kept waiting
 
 
 @dataclass(frozen=True)
 class Pace:
-    """Seconds from tick to tick, of a lease, from one look for work to the next; signs driven at once, and readings."""
+    """Seconds from tick to tick, of a lease, from one look for work to the next; signs driven at once, and readings;
+    seconds from one lookup of a name to the next."""
 
     tick: float = 1.0
     lease: float = 10.0
     look: float = 0.2
     most: int = 200
+    again: float = AGAIN
 
 
 class Worker:
     """Sessions by the rows of their signs, and when each one's next tick is due."""
 
     def __init__(self, store: Store, signs: dict[int, Sign], program: str, pace: Pace, waiting: Waiting) -> None:
-        self.store, self.signs, self.program, self.pace, self.waiting = store, signs, program, pace, waiting
+        self.store, self.program, self.pace, self.waiting = store, program, pace, waiting
+        self.where = Where(store, signs, pace.again)
+        self.where.look()
+        self.signs = self.where.signs  # that do not stand still
         self.name = f"{socket.gethostname()}:{os.getpid()}:{secrets.token_hex(4)}"
         self.mib = Mib.read()
         self.gets = Gets()
-        self.readings = Readings(store, signs, self.gets, self.mib, pace.most)
-        self.tables = Tables(store, signs, self.gets, self.mib)
+        self.readings = Readings(store, self.signs, self.gets, self.mib, pace.most)
+        self.tables = Tables(store, self.signs, self.gets, self.mib)
+        self.verdicts = Verdicts(store, self.signs, self.gets, self.mib, program)
         self.sessions: dict[int, Session] = {}
         self.ticks: dict[int, float] = {}
         self.to_release: set[int] = set()
+        self.fault = ""  # what the database said last, which is said once
         self.next_look = self.next_renewal = 0.0
 
     def run(self) -> None:
@@ -58,13 +68,19 @@ class Worker:
         except (Failed, Taken) as fault:
             say(f"the database: {fault}")
         self.gets.close()
+        self.where.close()
 
     def guarded_round(self) -> None:
         """A round; a database that does not answer is asked again later."""
         try:
             self.round()
+            if self.fault:
+                say("the database answers again")
+            self.fault = ""
         except (Failed, Taken) as fault:
-            say(f"the database: {fault}")
+            if str(fault) != self.fault:
+                say(f"the database: {fault}")
+            self.fault = str(fault)
             self.waiting.until([], self.pace.look)
 
     def round(self) -> None:
@@ -80,11 +96,14 @@ class Worker:
         self.carry()
 
     def look(self) -> None:
-        """Readings and tables, and signs that have work."""
+        """Readings, tables and verdicts, and signs that have work."""
         self.readings.keep()
         self.tables.keep()
+        self.verdicts.keep()
+        self.move()
         self.readings.begin()
         self.tables.begin()
+        self.verdicts.begin()
         self.gets.again()
         self.lease()
 
@@ -134,6 +153,8 @@ class Worker:
         on."""
         try:
             carry(self.store, self.name, offers, self.dropped)
+            for session, _ in offers:
+                self.verdicts.want(session.row, session.taken_in_error())
         except (Failed, Taken):
             for session, _ in offers:
                 self.drop(session.row)
@@ -146,6 +167,11 @@ class Worker:
         self.drop(session.row, is_released=fault is None)
 
     # ---- leases
+
+    def move(self) -> None:
+        """Lets signs go that stand still from now on, or are at another address: they begin again where they are."""
+        for row in self.where.look():
+            self.drop(row)
 
     def lease(self) -> None:
         """Takes signs that have work and that nobody drives; looks again soon where there are more of them."""
@@ -163,6 +189,7 @@ class Worker:
         try:
             session = Session(self.store, row, self.signs[row], self.name, self.program, self.mib)
             self.sessions[row], self.ticks[row] = session, time.monotonic() + self.pace.tick
+            self.verdicts.want(row, session.taken_in_error())
         except Lost:
             self.to_release.add(row)
         except (Refusal, Failed, Taken, OSError) as fault:

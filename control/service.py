@@ -13,6 +13,7 @@ from . import database
 from .fleet import Sign
 from .rounds import Pace, Worker
 from .store import Store
+from .waits import waited
 from .web.app import application
 from .web.room import Room
 from .web.settings import Settings
@@ -86,6 +87,12 @@ class Pages:
 
 def work(settings: Settings, signs: list[Sign], pace: Pace, waiting: Waiting) -> None:
     """The worker, until it is stopped."""
-    store = Store(database.opened(settings.database))
-    Worker(store, store.enter(signs), settings.program, pace, waiting).run()
-    store.database.close()
+
+    def begun() -> Worker:
+        store = Store(database.opened(settings.database, may_create=False))
+        return Worker(store, store.enter(signs), settings.program, pace, waiting)
+
+    worker = waited(waiting, begun)
+    if worker is not None:
+        worker.run()
+        worker.store.database.close()

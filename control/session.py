@@ -7,6 +7,7 @@ import time
 from door import description
 from door.centre_door import COMMANDS
 from door.commands import MOST_LINE
+from door.endings import is_in_error
 from door.mib import Mib
 from door.process import CoProcess
 from door.records import Head
@@ -14,6 +15,7 @@ from door.refusal import Refusal, reason, say
 from door.sockets import connected, received, sent
 from door.texts import ended
 
+from .address_store import above
 from .fleet import Sign
 from .steps import Steps
 from .store import Command, Line, News, Store
@@ -22,7 +24,8 @@ MOST_LINES = 1000  # of a centre; one that is idle after more gives way to a new
 MOST_LATE = 1000  # datagrams that came while no job was under way and are let go at once
 PACE = 0.01  # seconds from one line of a sign to the next at least: control/backup.py counts on it
 CHANGED = "failed: the sign's description changed while it was under way"
-RESTORED = "unknown: the database was restored from a copy while it was under way"
+RESTORED = ("unknown: the sign's numbers began anew, since the database was restored from a copy or the sign has an"
+            " address that another one had, while it was under way")
 
 
 class Lost(Exception):
@@ -35,12 +38,6 @@ def is_command(line: str) -> bool:
     return is_plain and line.split(" ")[0] in COMMANDS and len(line) <= MOST_LINE
 
 
-def above(head: Head, count: int) -> int:
-    """A number above all that a centre used: each of its lines sent at most one request of a new number."""
-    assert head.first is not None
-    return head.first + count
-
-
 class Session:
     """From a lease on until there is nothing to do. A line is offered, inserted under its number by whoever has the
     session, handed over, and answered: control/carry.py has the order."""
@@ -48,6 +45,7 @@ class Session:
     command: Command | None = None
     out: bytes | None = None
     is_busy = is_ticked = False
+    in_error: Command | None = None  # that ended since the sign found its row in error
 
     def __init__(self, store: Store, row: int, sign: Sign, worker: str, program: str, mib: Mib) -> None:
         self.store, self.row, self.sign, self.worker, self.program, self.mib = store, row, sign, worker, program, mib
@@ -94,7 +92,7 @@ class Session:
         assert self.head.first is not None
         process = CoProcess(self.program, ["centre"], description.with_first(self.sign.text, self.head.first))
         try:
-            process.begin(b"status", self.sign.name)
+            process.begin(b"status last", self.sign.name)
         except BaseException:
             process.end()
             raise
@@ -178,6 +176,7 @@ class Session:
             is_refused = answer.split(" ")[0] in ("refused", "bad")
             news.command = self.command.id
             news.how = answer if is_refused else ended(self.mib, last).removeprefix("last ")
+            self.in_error = self.command if is_in_error(news.how) else self.in_error
             self.command = None
         return news
 
@@ -185,6 +184,11 @@ class Session:
         """The step that the command has come to, and the command, where it is another than before."""
         step = self.steps.taken()
         return None if step is None or self.command is None else (step, self.command.id)
+
+    def taken_in_error(self) -> Command | None:
+        """The command of whose row the sign can say what is wrong, once."""
+        command, self.in_error = self.in_error, None
+        return command
 
     def send(self) -> None:
         """What goes out for the last line, to the sign."""

@@ -1,6 +1,6 @@
-"""The tests of the control room that fit into the gate, and a short chaos: python3 -m control.short [--signtool PATH]
+"""The tests of the control room that fit into the gate, and two short chaos: python3 -m control.short [--signtool PATH]
 
-Both run side by side with a python3 that sees Debian's packages. What is skipped is said in lines `skipped NAME: why`;
+All run side by side with a python3 that sees Debian's packages. What is skipped is said in lines `skipped NAME: why`;
 the last line counts, `N passed, M failed`.
 """
 
@@ -19,8 +19,11 @@ from . import SIGNTOOL, TOP, start
 MODULES = ("pytest", "aiohttp", "jinja2", "psycopg")
 CHAOS = ("--signs", "6", "--commands", "16", "--workers", "2", "--troubles", "6", "--tick", "0.5", "--lease", "5",
          "--seconds", "400")
+ALONE = ("--signs", "3", "--commands", "6", "--workers", "0", "--tick", "0.5", "--lease", "5", "--seconds", "200",
+         "--database", "sqlite")  # a service over SQLite whose connections alone keep the log from who ends beside it
 BROWSER = "control/tests/test_browser*.py"  # some minutes by themselves: run by hand
-TESTS = ("-q", "-rs", "-p", "no:cacheprovider", "control/tests", "--ignore-glob", BROWSER)
+PYTEST = ("-q", "-rs", "-p", "no:cacheprovider")
+PARTS = 2  # in which the tests run, side by side
 WORDS = re.compile(r"(\d+) (passed|failed|error|errors)\b")
 SKIPPED = re.compile(r"^SKIPPED \[\d+\] (\S+?)(?::\d+)?: (.*)$", re.MULTILINE)
 LIMIT = 560  # seconds, on a machine that is busy
@@ -81,13 +84,20 @@ def kind_of_database(python: str, environment: dict[str, str]) -> tuple[str, lis
     return "sqlite", [f"chaos over PostgreSQL: {(done.stderr.strip().splitlines() or ['no server'])[-1]}"]
 
 
+def parts() -> list[list[str]]:
+    """The files of tests but the browser's, in as many parts as run side by side."""
+    files = sorted(set(TOP.glob("control/tests/test_*.py")) - set(TOP.glob(BROWSER)))
+    return [[str(path.relative_to(TOP)) for path in files[at::PARTS]] for at in range(PARTS)]
+
+
 def short(python: str, program: str) -> int:
     """Tests and chaos, side by side."""
     environment = {**os.environ, "SIGNTOOL": program}
-    tests = Program(python, environment, "pytest", *TESTS)
+    tests = [Program(python, environment, "pytest", *PYTEST, *files) for files in parts()]
     kind, skipped = kind_of_database(python, environment)
     chaos = Program(python, environment, "control.chaos", *CHAOS, "--database", kind, "--signtool", program)
-    found = [judged(chaos), judged(tests)]
+    alone = Program(python, environment, "control.chaos", *ALONE, "--signtool", program)
+    found = [judged(alone), judged(chaos), *map(judged, tests)]
     for words in [*skipped, *(words for outcome in found for words in outcome.skipped)]:
         tell(f"skipped {words}")
     failed = sum(outcome.failed for outcome in found)

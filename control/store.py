@@ -3,12 +3,18 @@
 from dataclasses import dataclass, field
 from typing import Sequence
 
-from .command_store import Command, CommandStore, texts
+from .address_store import AddressStore, refusal_of
+from .addresses import of_places
+from .command_store import Command, texts
 from .database import Taken, Value
 from .fleet import Sign
-from .reading_store import CLOCK, places, whole
+from .reading_store import CLOCK, SLACK, places, whole
 
 __all__ = ["Command", "Line", "News", "Store", "texts", "whole"]
+
+
+# nobody drives the sign: a lease that was taken at a time to come is over, since the clock jumped
+OVER = f"(holder IS NULL OR until < {CLOCK} OR leased > {CLOCK} + {SLACK})"
 
 
 @dataclass(frozen=True)
@@ -37,28 +43,43 @@ class News:
         return bool(self.ledger) or self.how is not None
 
 
-class Store(CommandStore):
+class Store(AddressStore):
     """The tables in words. A worker is told by its name."""
 
     # ---- signs and their leases
 
     def enter(self, signs: list[Sign]) -> dict[int, Sign]:
-        """The fleet as rows: each sign by the number of its row."""
-        said = {sign.name: (sign.place, f"{sign.host}:{sign.port}", sign.poll) for sign in signs}
-        held = {str(row[0]): row[1:] for row in self.run("SELECT name, place, address, poll FROM signs")}
-        new = [(name, *said[name]) for name in sorted(said) if held.get(name) != said[name]]
+        """The fleet as rows: each sign by the number of its row. Refused where a sign is to have an address that another
+        one has."""
+        self.part()
+        said = {sign.name: (sign.place, sign.address, sign.poll) for sign in signs}
+        held = {str(row[0]): row[1:] for row in self.run("SELECT name, place, address, poll, id FROM signs")}
+        new = [(name, *said[name]) for name in sorted(said) if name not in held or held[name][:3] != said[name]]
         if new:
-            with self.database.transaction():
+            every = {sign.name: sign.every | {sign.address} for sign in signs}
+            moved = {name for name, _, address, _ in new if name not in held or held[name][1] != address}
+            known = others({name: str(row[1]) for name, row in held.items() if name not in said} if moved else {}) | every
+            with self.database.transaction(is_alone=True):
                 self.database.run_all("INSERT INTO signs (name, place, address, poll) VALUES (?, ?, ?, ?)"
                                       " ON CONFLICT (name) DO UPDATE SET place = excluded.place,"
                                       " address = excluded.address, poll = excluded.poll", new)
+                if moved:
+                    self.know({whole(row[3]): known[name] for name, row in held.items() if name not in moved})
+                for name in sorted(moved):
+                    self.move(name, said[name][1], every[name], name not in held)
         rows = {str(name): whole(row) for name, row in self.run("SELECT name, id FROM signs")}
         return {rows[sign.name]: sign for sign in signs}
+
+    def move(self, name: str, address: str, every: frozenset[str], is_new: bool) -> None:
+        """The sign has this address, in all its spellings, or all comes to nothing."""
+        row = whole(self.run("SELECT id FROM signs WHERE name = ?", name)[0][0])
+        if (other := self.take(row, set(every))) is not None:
+            raise refusal_of(name, address, other, is_new)
 
     def with_work(self) -> list[int]:
         """Signs that have a command which has not ended, and that nobody drives: the longest waiting first."""
         rows = self.run(f"SELECT commands.sign FROM commands JOIN signs ON signs.id = commands.sign"
-                        f" WHERE commands.how IS NULL AND (signs.holder IS NULL OR signs.until < {CLOCK})"
+                        f" WHERE commands.how IS NULL AND {OVER}"
                         " GROUP BY commands.sign ORDER BY min(commands.id)")
         return [whole(row[0]) for row in rows]
 
@@ -67,8 +88,9 @@ class Store(CommandStore):
         if not signs:
             return set()
         rows = self.run(f"WITH free AS MATERIALIZED (SELECT id FROM signs WHERE id IN ({places(signs)})"
-                        f" AND (holder IS NULL OR until < {CLOCK}) {{skip}})"
-                        f" UPDATE signs SET holder = ?, until = {CLOCK} + ? WHERE id IN (SELECT id FROM free)"
+                        f" AND {OVER} {{skip}})"
+                        f" UPDATE signs SET holder = ?, leased = {CLOCK}, until = {CLOCK} + ?"
+                        " WHERE id IN (SELECT id FROM free)"
                         " RETURNING id", *signs, worker, seconds)
         return {whole(row[0]) for row in rows}
 
@@ -78,7 +100,8 @@ class Store(CommandStore):
             return set()
         rows = self.run(f"WITH held AS MATERIALIZED (SELECT id FROM signs WHERE holder = ? AND until >= {CLOCK}"
                         f" AND id IN ({places(signs)}) ORDER BY id {{lock}})"
-                        f" UPDATE signs SET until = {CLOCK} + ? WHERE id IN (SELECT id FROM held) RETURNING id",
+                        f" UPDATE signs SET leased = {CLOCK}, until = {CLOCK} + ? WHERE id IN (SELECT id FROM held)"
+                        " RETURNING id",
                         worker, *signs, seconds)
         return {whole(row[0]) for row in rows}
 
@@ -90,14 +113,6 @@ class Store(CommandStore):
                      worker, *signs)
 
     # ---- lines
-
-    def lines(self, sign: int) -> tuple[int, int, list[bytes]]:
-        """The lines of the sign's last centre, first the one that says which centre it is; that one's number; and the
-        least number that a centre of this sign may begin with."""
-        rows = self.run("SELECT number, line FROM lines WHERE sign = ? AND number >="
-                        " (SELECT centre FROM signs WHERE id = ?) ORDER BY number", sign, sign)
-        least = whole(self.run("SELECT least FROM signs WHERE id = ?", sign)[0][0])
-        return (whole(rows[0][0]) if rows else 1), least, [str(row[1]).encode() for row in rows]
 
     def insert(self, lines: Sequence[Line], worker: str, steps: Sequence[tuple[int, int]] = ()) -> set[int]:
         """Lines of several signs, and with each the beginning of its command or of a centre: the signs of those that
@@ -157,6 +172,14 @@ class Store(CommandStore):
                                   [(one.how, one.command) for one in ended])
             self.database.run_all("UPDATE signs SET polled = 0, wanted = 1 WHERE id = ?",
                                   [(one.sign,) for one in ended])
+
+
+def others(addresses: dict[str, str]) -> dict[str, frozenset[str]]:
+    """All spellings of the addresses of signs of no fleet, by their names."""
+    place = {name: (host, int(port)) for name, (host, _, port) in
+             ((name, address.rpartition(":")) for name, address in addresses.items())}
+    found = of_places(place.values())
+    return {name: found[place[name]].every | {address} for name, address in addresses.items()}
 
 
 def entry(line: str) -> tuple[int, str, str]:

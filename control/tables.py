@@ -5,10 +5,11 @@ import re
 import time
 from functools import partial
 
+from door.asking import Name, Values
 from door.mib import Mib
 
 from .fleet import Sign
-from .gets import Gets, Name, Values
+from .gets import Gets
 from .reading_store import RowSaid
 from .store import Store
 
@@ -113,7 +114,7 @@ class Tables:
         ready, self.ready = self.ready, []
         for one in ready:
             self.going.discard(one.row)
-        more = [one for one in ready if not one.is_done]
+        more = [one for one in ready if not one.is_done and self.signs.get(one.row) is one.sign]
         numbers = self.store.numbers([one.row for one in more])
         for one in more:
             if one.row in numbers:

@@ -126,6 +126,7 @@ def arguments() -> argparse.ArgumentParser:
     words = argparse.ArgumentParser(prog=called("control.users"), description=in_words_of_command(__doc__),
                                     formatter_class=argparse.RawDescriptionHelpFormatter)
     words.add_argument("--database", required=True, metavar="WHERE", help=database.WHERE)
+    words.add_argument("--create", action="store_true", help=database.CREATE)
     calls = words.add_subparsers(dest="call", required=True, metavar="CALL")
     for name, wanted in (("add", 2), ("password", 1), ("role", 2), ("disable", 1), ("enable", 1), ("list", 0)):
         call = calls.add_parser(name)
@@ -156,7 +157,7 @@ def main() -> int:
     asked = arguments().parse_args()
     if database.is_url(asked.database):
         start.needed("control.users", "psycopg")
-    held = database.opened(asked.database)
+    held = database.opened(asked.database, asked.create)
     try:
         done(asked, held)
     except Failed as fault:

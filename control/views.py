@@ -5,10 +5,11 @@ import json
 from dataclasses import dataclass
 
 from .database import Database, Row, Value
+from .reading_store import SLACK
 
 SIGNS = """
 SELECT signs.id, signs.name, signs.place, signs.address, signs.poll,
-       last.at, last.heard, last.fault, said.shown, said.minutes, said.at, said.heard
+       last.at, last.heard, last.fault, said.shown, said.minutes, said.at, said.heard, signs.still
 FROM signs
 LEFT JOIN readings AS last ON last.sign = signs.id
      AND last.number = (SELECT MIN(number) FROM readings WHERE sign = signs.id)
@@ -16,7 +17,7 @@ LEFT JOIN readings AS said ON said.sign = signs.id
      AND said.number = (SELECT MIN(number) FROM readings WHERE sign = signs.id AND shown IS NOT NULL)
 """
 COMMANDS = ("SELECT commands.id, commands.sign, signs.name, commands.who, commands.at, commands.line, commands.number,"
-            " commands.ended, commands.how, commands.step FROM commands JOIN signs ON signs.id = commands.sign")
+            " commands.ended, commands.how, commands.step, commands.why, signs.address FROM commands JOIN signs ON signs.id = commands.sign")
 
 
 def whole(value: Value) -> int:
@@ -76,7 +77,8 @@ class Shown:
 
 @dataclass(frozen=True)
 class SignView:
-    """A sign, what it said last and when: `fault` is why it says nothing now, since `fault_at`."""
+    """A sign, what it said last and when: `fault` is why it says nothing now, since `fault_at`; `still` why it is neither
+    driven nor read."""
 
     id: int
     name: str
@@ -89,10 +91,12 @@ class SignView:
     minutes: int | None = None
     since: float | None = None
     heard: float | None = None
+    still: str | None = None
 
     def is_stale(self, now: float) -> bool:
-        """Whether what it said last is older than three readings would be."""
-        return self.heard is None or now - self.heard > max(15.0, 3 * self.poll + 5)
+        """Whether what it said last is older than three readings would be, or was heard at a time to come: then the
+        clock jumped, and how old it is is not known."""
+        return self.heard is None or now - self.heard > max(15.0, 3 * self.poll + 5) or self.heard > now + SLACK
 
 
 def sign_view(row: Row) -> SignView:
@@ -100,7 +104,7 @@ def sign_view(row: Row) -> SignView:
     return SignView(whole(row[0]), str(row[1]), str(row[2]), str(row[3]), time_of(row[4]), fault,
                     time_or_none(row[5]) if fault is not None else None,
                     None if row[8] is None else Shown.of(str(row[8])), None if row[9] is None else whole(row[9]),
-                    time_or_none(row[10]), time_or_none(row[11]))
+                    time_or_none(row[10]), time_or_none(row[11]), text_or_none(row[12]))
 
 
 def signs(held: Database) -> list[SignView]:
@@ -115,7 +119,8 @@ def sign(held: Database, number: int) -> SignView | None:
 
 @dataclass(frozen=True)
 class CommandView:
-    """A command: `number` is that of its line once it was begun, `step` where it is, `how` how it ended."""
+    """A command: `number` is that of its line once it was begun, `step` where it is, `how` how it ended, and `why` what
+    the sign said of that."""
 
     id: int
     sign: int
@@ -127,12 +132,14 @@ class CommandView:
     ended: float | None
     how: str | None
     step: int | None = None
+    why: str | None = None
+    address: str = ""
 
 
 def command_view(row: Row) -> CommandView:
     return CommandView(whole(row[0]), whole(row[1]), str(row[2]), str(row[3]), time_of(row[4]), str(row[5]),
                        None if row[6] is None else whole(row[6]), time_or_none(row[7]), text_or_none(row[8]),
-                       None if row[9] is None else whole(row[9]))
+                       None if row[9] is None else whole(row[9]), text_or_none(row[10]), str(row[11]))
 
 
 @dataclass(frozen=True)

@@ -20,7 +20,7 @@ ROWS: dict[int, Any] = {row: None for row in range(200)}
 def run_of(seed: int) -> Run:
     """What a seed decides before anything has begun."""
     asked = Asked(200, 500, 4, 300.0, seed, 1.0, 8.0, None, "sqlite", "")
-    return Run(asked, NOTHING, ROWS, NOTHING, NOTHING)
+    return Run(asked, ROWS, NOTHING, NOTHING)
 
 
 def test_a_seed_repeats_what_is_asked_for_and_when_trouble_is_due() -> None:
@@ -67,6 +67,7 @@ BREAKS: dict[str, Callable[[Bench], object]] = {
     "each command that ended accepted has its activation": lambda at: at.ended(at.worker(), at.store.ask(
         at.row, "me", "restart")) and at.store.run("UPDATE commands SET how = 'accepted'"),
     "the ledger is the model's, handed the lines": lambda at: at.store.run("UPDATE ledger SET outcome = 'noreply'"),
+    "each command stands in the audit": lambda at: at.store.run("DELETE FROM audit"),
     "no line is missing": lambda at: at.store.run("DELETE FROM lines WHERE number = 3"),
 }
 

@@ -14,7 +14,8 @@ from control.tests.visits import Bench, Visitor, Visitors, run
 from control.web.compose import marked
 from control.web.draft import Draft, joined
 from control.web.faces import face_of
-from control.web.pictures import drawn, spelled
+from control.web.pictures import drawn
+from door.lack import spelled
 from control.web.words import asked
 from model import layout, text
 

@@ -1,14 +1,16 @@
 """The database: migrations, transactions, and the key that gives a line's number once."""
 
 import contextlib
+import importlib
 import pathlib
 import stat
+import sys
 import threading
 import time
 
 import pytest
 
-from control import database
+from control import TOP, database, users
 from control.database import Database, Failed, Taken
 from control.fleet import Sign
 from control.reading_store import RowSaid, Said
@@ -56,6 +58,22 @@ def test_a_migration_that_fails_leaves_nothing(where: str) -> None:
     assert numbers(made) == [number for number, _ in database.migrations()]
     with pytest.raises(Failed):
         made.run("SELECT a FROM more")
+
+
+def test_a_name_that_is_no_database_s_makes_none(where: str, tmp_path: pathlib.Path,
+                                                 monkeypatch: pytest.MonkeyPatch) -> None:
+    of = ["--database", where]
+    programs = {"worker": [*of, "--fleet", str(TOP / "signs/fleet.toml")], "users": [*of, "list"],
+                "signs": [*of, "list"], "command": [*of, "one", BLANK], "backup": ["advance", *of]}
+    for name, words in programs.items():
+        monkeypatch.setattr(sys, "argv", [name, *words])
+        with pytest.raises(Refusal, match="--create makes"):
+            importlib.import_module(f"control.{name}").main()
+        assert database.is_url(where) or not list(tmp_path.iterdir()), name
+    if database.is_url(where):
+        assert not database.connected(where).has_table("migrations")
+    monkeypatch.setattr(sys, "argv", ["users", "--database", where, "--create", "list"])
+    assert users.main() == 0 and database.opened(where, may_create=False).has_table("signs")
 
 
 def test_what_is_no_database_is_refused(tmp_path: pathlib.Path) -> None:

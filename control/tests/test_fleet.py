@@ -1,6 +1,8 @@
 """A fleet's file: what it says, and each fault with its line."""
 
+import dataclasses
 import pathlib
+import tempfile
 
 import pytest
 
@@ -33,6 +35,11 @@ FAULTS = [
     ("a name twice", 'name = "two"', 'name = "one"', 8, "'one' is the name of an earlier sign"),
     ("no port", '"[::1]:1161"', '"[::1]"', 10, "is no HOST:PORT"),
     ("an address twice", '"[::1]:1161"', '"127.0.0.1:1161"', 10, "127.0.0.1:1161 is the address of 'one'"),
+    ("an address by its short form", '"[::1]:1161"', '"127.1:1161"', 10, "127.1:1161 is the address of 'one'"),
+    ("an address by its name", '"[::1]:1161"', '"localhost:1161"', 10, "localhost:1161 is the address of 'one'"),
+    ("an address within one of IPv6", '"[::1]:1161"', '"[::ffff:127.0.0.1]:1161"', 10, "is the address of 'one'"),
+    ("the address of no machine", '"[::1]:1161"', '"0.0.0.0:1161"', 10, "0.0.0.0:1161 is the address of 'one'"),
+    ("an address of IPv6 spelled out", '"127.0.0.1:1161"', '"[0:0::1]:1161"', 10, "is the address of 'one'"),
     ("no such description", 'description = "a.sign"\norder', 'description = "b.sign"\norder', 11, "No such file"),
     ("another order", '"swapped"', '"low"', 12, "'low' is no order of checksums"),
     ("no time between polls", "poll = 2.5", "poll = 0", 13, "0 is no time between polls"),
@@ -70,6 +77,29 @@ def test_no_signs_are_no_fleet(tmp_path: pathlib.Path) -> None:
         fleet.read(written(tmp_path, "# nothing\n"))
     with pytest.raises(Refusal, match="No such file"):
         fleet.read(tmp_path / "none.toml")
+
+
+def test_descriptions_that_others_can_read_are_named(capfd: pytest.CaptureFixture[str]) -> None:
+    above = pathlib.Path(tempfile.gettempdir()).resolve()
+    if not all(one.stat().st_mode & 0o001 for one in (above, *above.parents)):
+        pytest.skip("no other one reaches the folder of temporary files")
+    with tempfile.TemporaryDirectory() as folder:
+        place = pathlib.Path(folder)
+        path = written(place, GOOD)
+        for mode, of_folder, is_named in ((0o644, 0o755, True), (0o640, 0o755, False), (0o644, 0o750, False)):
+            (place / "a.sign").chmod(mode)
+            place.chmod(of_folder)
+            fleet.tell_open(fleet.read(path))
+            said = capfd.readouterr().err
+            assert said == (f"others on this machine can read {place}/a.sign, where communities stand: chmod o-r\n"
+                            if is_named else ""), (mode, of_folder)
+        for at in range(7):
+            (place / f"{at}.sign").write_text(SIGN)
+            (place / f"{at}.sign").chmod(0o604)
+        place.chmod(0o711)
+        signs = [dataclasses.replace(fleet.read(path)[0], path=f"{place}/{at}.sign") for at in range(7)]
+        fleet.tell_open(signs)
+        assert f"{place}/4.sign and 2 more, where" in capfd.readouterr().err
 
 
 def test_the_fleet_of_signs() -> None:

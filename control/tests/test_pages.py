@@ -147,6 +147,20 @@ def test_headers_of_every_answer(tmp_path: pathlib.Path) -> None:
     run(tmp_path, str(tmp_path / "database"), act)
 
 
+def test_a_sign_that_stands_still_is_an_alarm(tmp_path: pathlib.Path) -> None:
+    async def act(bench: Bench, visitor: Visitors) -> None:
+        bench.read(bench.one)
+        bench.store.run("UPDATE signs SET still = 'its address is that of <b>two</b>' WHERE id = ?", bench.one)
+        one = await bench.logged_in(visitor, "operator")
+        words = "stands still: its address is that of &lt;b&gt;two&lt;/b&gt;"
+        wall = (await one.get("/"))[1]
+        assert words in wall and "3 signs, 0 lit, 3 silent" in wall
+        assert words in (await one.get(f"/signs/{bench.one}"))[1]
+        assert "It stands still: its address is that of" in (await one.get(f"/blank?sign={bench.one}"))[1]
+
+    run(tmp_path, str(tmp_path / "database"), act)
+
+
 def test_what_the_wall_says(tmp_path: pathlib.Path) -> None:
     async def act(bench: Bench, visitor: Visitors) -> None:
         one = await bench.logged_in(visitor, "reader")

@@ -11,7 +11,8 @@ needs.modules("aiohttp", "jinja2")
 from control.tests.test_pages import filled
 from control.tests.visits import Bench, Visitors, run
 from control.views import CommandView
-from control.web.progress import STEPS, states
+from control.web.progress import states
+from door.endings import STEPS
 
 PUBLISH = f"publish 3 1 {b'FOG'.hex()} - 0 0 100 65535 255 192.0.2.1"
 BLANK = "blank 1 65535 255 192.0.2.1"
@@ -53,5 +54,29 @@ def test_the_page_of_what_was_asked_follows_the_steps(tmp_path: pathlib.Path) ->
         bench.store.run("UPDATE commands SET how = 'failed at step 5: the row has status 5, error'")
         page = (await one.get("/batches/1"))[1]
         assert "Failed at step 5: is the message valid" in page and "the row has status 5, error" in page
+
+    run(tmp_path, str(tmp_path / "database"), act)
+
+
+def test_a_command_that_failed_says_what_the_sign_found(tmp_path: pathlib.Path) -> None:
+    async def act(bench: Bench, visitor: Visitors) -> None:
+        filled(bench)
+        one = await bench.logged_in(visitor, "reader")
+        found = "the sign found fault 5 at octet 12: wider than the matrix by 1 column"
+        address = bench.room.signs[bench.one].address
+        another = "the row may be another system&#39;s"
+        for how, why, named, words in (
+                ("failed at step 5: the row has status 5, error", found, "failed at step 5 (is the message valid): the row",
+                 found),
+                ("failed at step 5: the row has status 5, error", "<u>", "failed at step 5 (is the", "&lt;u&gt;"),
+                ("failed at step 3: error-status 5, genErr", None, "failed at step 3 (write the message): error", another),
+                ("failed at step 7: no reply", None, "failed at step 7 (activate): no reply",
+                 f"three times to {address}, and no reply came: it may be that nothing listens there")):
+            bench.store.run("UPDATE commands SET number = 1, how = ?, why = ?", how, why)
+            for path in ("/batches/1", f"/signs/{bench.one}", "/history"):
+                page = (await one.get(path))[1]
+                assert named in page and words in page and "<u>" not in page, (path, how)
+        bench.store.run("UPDATE commands SET how = 'accepted', why = NULL")
+        assert "it may be" not in (await one.get("/history"))[1]
 
     run(tmp_path, str(tmp_path / "database"), act)

@@ -3,7 +3,8 @@
 import json
 import random
 
-from control import TOP, encoder, gets, readings
+from control import TOP, readings
+from door import asking, encoder
 from door.mib import Mib
 from model import wire
 
@@ -50,7 +51,7 @@ def test_a_get_asks_below_zero_and_is_answered_by_its_response_alone() -> None:
     assert message is not None and message.number == -2**31 and [name for name, _ in message.bindings] == asked
     message.kind = wire.RESPONSE
     reply = wire.written(message)
-    assert gets.answer(reply, b"public", -2**31) == message
+    assert asking.answer(reply, b"public", -2**31) == message
     for others in (octets, reply[:-1], b""):
-        assert gets.answer(others, b"public", -2**31) is None
-    assert gets.answer(reply, b"public", 5) is None and gets.answer(reply, b"admin", -2**31) is None
+        assert asking.answer(others, b"public", -2**31) is None
+    assert asking.answer(reply, b"public", 5) is None and asking.answer(reply, b"admin", -2**31) is None

@@ -150,7 +150,7 @@ def test_users_from_the_command_line(tmp_path: pathlib.Path, monkeypatch: pytest
         monkeypatch.setattr("sys.argv", ["users", "--database", str(tmp_path / "database"), *words])
         return users.main()
 
-    assert call("add", "ann", "administrator") == 0 and call("add", "bob", "reader") == 0
+    assert call("--create", "add", "ann", "administrator") == 0 and call("add", "bob", "reader") == 0
     assert call("role", "bob", "operator") == 0 and call("disable", "bob") == 0 and call("list") == 0
     assert capsys.readouterr().out == "ann administrator\nbob operator disabled\n"
     for words, why in ((("add", "ann", "reader"), "already"), (("add", "Ann", "reader"), "small letters"),

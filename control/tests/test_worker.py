@@ -13,6 +13,7 @@ from control.loopback import Fates
 from control.session import Lost, Session, is_command
 from control.tests.bench import ADDRESS, HELLO, PACE, TEXT, Bench, bench, carried
 from control.usage import children
+from door.process import CoProcess
 from model import wire
 
 ROWS = [
@@ -53,6 +54,26 @@ def test_commands_end_in_words(tmp_path: pathlib.Path, where: str) -> None:
         assert [line.split()[3] for line in at.store.ledger(at.row)] == ["accepted", "accepted", "refused"]
         accepted = [code for _, code in dict.fromkeys(at.live.accepted)]
         assert accepted == [line.split()[2] for line in at.store.ledger(at.row)[:2]]
+
+
+def test_a_co_process_is_asked_for_its_ledger_where_the_news_of_it_are_wanted(
+        tmp_path: pathlib.Path, monkeypatch: pytest.MonkeyPatch) -> None:
+    asked: list[bytes] = []
+    plain = CoProcess.write
+
+    def write(process: CoProcess, octets: bytes) -> None:
+        asked.extend(line for line in octets.split(b"\n") if line.startswith(b"status"))
+        plain(process, octets)
+
+    with bench(tmp_path, str(tmp_path / "database")) as at:
+        monkeypatch.setattr(CoProcess, "write", write)
+        found = at.session("first")
+        asked_first = list(asked)
+        at.ask(f"blank 1 65535 255 {ADDRESS}")
+        carried(found, found.offer(False))
+        assert len(found.ledger) == 1
+        found.close()
+        assert asked_first == [b"status last", b"status"] and asked[2:] == [b"status"]
 
 
 def test_a_co_process_stands_while_its_sign_has_work(tmp_path: pathlib.Path, where: str) -> None:

@@ -84,6 +84,7 @@ class Bench:
     """A room with a user of each role; the names of the users are those of their roles."""
 
     def __init__(self, folder: pathlib.Path, where: str, is_behind_tls: bool = False) -> None:
+        database.opened(where).close()
         self.settings = Settings(where, PROGRAM, is_behind_tls, zone_of("Europe/Berlin"), look=0.05)
         self.room = Room(self.settings, fleet.read(entered(folder)))
         self.store = Store(database.opened(where))

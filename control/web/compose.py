@@ -122,6 +122,8 @@ class Line:
 
 def warning(sign: SignView, draft: Draft, now: float) -> str:
     """Why a sign may not do it."""
+    if sign.still:
+        return f"It stands still: {sign.still}."
     if sign.fault or sign.is_stale(now):
         return "It does not answer at present."
     shown = sign.shown.priority if sign.shown else None
@@ -131,8 +133,8 @@ def warning(sign: SignView, draft: Draft, now: float) -> str:
 
 
 def lines(room: Room, held: Database, draft: Draft, text: bytes) -> tuple[list[Line], float]:
-    now = views.now(held)
     found = [views.sign(held, row) for row in draft.signs]
+    now = views.now(held)
     return [Line(sign, room.picture(sign.id, text), room.picture(sign.id, sign.shown.text) if sign.shown else None,
                  warning(sign, draft, now)) for sign in found if sign is not None], now
 

@@ -9,7 +9,7 @@ from typing import Callable, TypeVar
 from door.refusal import Refusal
 
 from .. import database
-from ..database import Database, Failed
+from ..database import Away, Database, Failed, NotYet
 
 Answer = TypeVar("Answer")
 
@@ -28,7 +28,9 @@ class Connections:
         found: Database | None = getattr(self.local, "held", None)
         if found is None:
             try:
-                found = database.opened(self.where)
+                found = database.opened(self.where, may_create=False)
+            except NotYet as refused:
+                raise Away(str(refused)) from refused
             except Refusal as refused:
                 raise Failed(str(refused)) from refused
             self.local.held = found

@@ -8,6 +8,7 @@ from typing import Callable
 
 from aiohttp import web
 
+from .. import views
 from ..database import Database, Failed, Taken
 from . import logins, send, sign_pages, wall
 from .connections import Connections
@@ -17,6 +18,7 @@ VIEW = re.compile(r"wall|(sign|table|batch)/(\d{1,9})")
 MOST_STREAMS, MOST_OF_ONE = 400, 12
 SILENCE = 15.0  # seconds after which a line says that the stream is there, and the log-in is looked at
 AGES = 5.0  # seconds after which what was said may be too old, though nothing was written
+JUMP = 2.0  # seconds by which the database's clock has to be elsewhere
 MOST_WAITING = 20  # events that a browser has not taken; then it has to begin anew
 Parts = dict[str, str]
 OF = {"sign": sign_pages.parts, "table": sign_pages.table_parts, "batch": send.parts}
@@ -53,6 +55,7 @@ class Hub:
         self.connections = Connections(room.settings.database, 1)  # a mark is of one connection
         self.last: dict[str, Parts] = {}
         self.mark, self.looked = "", 0.0
+        self.clock: float | None = None  # the database's time, less this machine's since it was started
 
     def made(self, view: str) -> Callable[[Database], Parts]:
         """How the parts of a view are made."""
@@ -73,8 +76,18 @@ class Hub:
                 except (Failed, Taken):
                     self.mark = ""
 
+    async def tell_time(self) -> None:
+        """Tells all pages the database's time where its clock has jumped: ages are by it."""
+        now = await self.connections.run(views.now)
+        clock, before = now - time.monotonic(), self.clock
+        if before is None or abs(clock - before) > JUMP:
+            self.clock = clock
+            for stream in self.streams if before is not None else ():
+                stream.put({"now": str(now)})
+
     async def look(self) -> None:
         """What has changed goes to those who listen to it."""
+        await self.tell_time()
         mark, now = await self.connections.run(lambda held: held.mark()), time.monotonic()
         views = {stream.view for stream in self.streams}
         is_new = mark != self.mark or now - self.looked > AGES

@@ -5,6 +5,7 @@ import secrets
 from dataclasses import dataclass
 
 from ..database import Database
+from ..reading_store import SLACK
 from ..users import Role, note
 
 LASTS = 12 * 3600  # seconds of a log-in: a shift
@@ -42,7 +43,7 @@ def attempt(held: Database, name: str, address: str) -> int | None:
     counts = (("name = ? AND address = ?", (hidden(name), address), MOST_OF_BOTH),
               ("address = ?", (address,), MOST_OF_ADDRESS), ("name = ?", (hidden(name),), MOST_OF_NAME))
     with held.transaction(is_alone=True):
-        held.run("DELETE FROM failed_logins WHERE at < {clock} - ?", KEPT)
+        held.run("DELETE FROM failed_logins WHERE at < {clock} - ? OR at > {clock} + ?", KEPT, SLACK)  # the clock jumped
         for where, values, most in counts:
             found = held.run(f"SELECT count(*) FROM failed_logins WHERE {where} AND {since}", *values, WINDOW)
             if int(found[0][0] or 0) >= most:
@@ -69,10 +70,10 @@ def begin(held: Database, name: str, address: str) -> str:
 
 
 def find(held: Database, cookie: str) -> Visitor | None:
-    """Who a cookie is of, where its log-in has not ended."""
+    """Who a cookie is of, where its log-in has not ended. One that begins at a time to come has: the clock jumped."""
     rows = held.run("SELECT users.name, users.role FROM logins JOIN users ON users.name = logins.name"
                     " WHERE logins.id = ? AND logins.ended IS NULL AND logins.begun > {clock} - ?"
-                    " AND users.disabled = 0", hidden(cookie), LASTS)
+                    " AND logins.begun <= {clock} + ? AND users.disabled = 0", hidden(cookie), LASTS, SLACK)
     return Visitor(str(rows[0][0]), Role.of(str(rows[0][1])), cookie) if rows else None
 
 

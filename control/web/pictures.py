@@ -3,11 +3,10 @@
 import asyncio
 import collections
 import gzip
-import re
 import subprocess
 from dataclasses import dataclass
 
-from model import multi
+from door.lack import FAULT, spelled
 
 from .faces import Face
 
@@ -16,7 +15,6 @@ MOST_TEXT = 512
 TOO_BIG = 5
 SIDE_BY_SIDE = 2
 WAIT = 20  # seconds for a picture
-FAULT = re.compile(r"^fault (\d+) at (\d+)$", re.MULTILINE)
 WORDS = {
     3: "this is no tag of MULTI, or a bracket that nothing closes",
     4: "the value of this tag is not supported",
@@ -44,28 +42,6 @@ class Picture:
 
     def plain(self) -> bytes:
         return gzip.decompress(self.svg or b"")
-
-
-def is_plain(octet: int) -> bool:
-    """Whether an octet can stand in a word of a command line."""
-    return 0 < octet < 128
-
-
-def spelled(text: bytes) -> tuple[bytes, list[int]]:
-    """The text for a command line, which takes no octet above 127 and no 0, and for each of its octets where it stood.
-    A character by its number is the same to a sign; within a tag such an octet is a fault, whatever it is."""
-    if all(map(is_plain, text)):
-        return text, list(range(len(text) + 1))
-    items, fault = multi.items(text)
-    ends = [at for _, at in items[1:]] + [len(text) if fault is None else fault[1]]
-    made, places = b"", list[int]()
-    for (item, at), end in zip(items, ends):
-        is_named = item[0] == "character" and not is_plain(item[1])
-        piece = b"[hc%X]" % item[1] if is_named else text[at:end]
-        made, places = made + piece, places + [at] * len(piece)
-    rest = text[ends[-1] if items else 0:]
-    made += bytes(octet if is_plain(octet) else ord("?") for octet in rest)
-    return made, places + list(range(len(text) - len(rest), len(text) + 1))
 
 
 def drawn(program: str, face: Face, text: bytes, page: int | None) -> Picture:

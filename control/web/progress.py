@@ -1,15 +1,13 @@
 """Where a command is: the eight steps of a publication."""
 
-import re
 from dataclasses import dataclass
+
+from door.endings import STEPS, cause, failed
 
 from ..views import CommandView
 from .words import asked
 
-STEPS = ("open the row", "is the row open", "write the message", "ask for validation", "is the message valid",
-         "compare the checksum", "activate", "ask why it was refused")
 ACTIVATION, WHY = 7, 8
-FAILED = re.compile(r"^failed at step (\d): (.*)$", re.DOTALL)
 
 
 @dataclass(frozen=True)
@@ -24,8 +22,8 @@ class Step:
 def states(command: CommandView) -> list[Step]:
     """The eight steps of a command."""
     first = 1 if asked(command.line).kind == "publish" else ACTIVATION
-    found = FAILED.match(command.how or "")
-    at = int(found[1]) if found else command.step if command.number is not None and command.how is None else None
+    found = failed(command.how or "")
+    at = found[0] if found else command.step if command.number is not None and command.how is None else None
     made = []
     for number, word in enumerate(STEPS, 1):
         if number < first:
@@ -35,11 +33,16 @@ def states(command: CommandView) -> list[Step]:
         elif at is None:
             state = "left" if number < WHY else "none"
         elif found:
-            state = failed_state(number, at, found[2])
+            state = failed_state(number, at, found[1])
         else:
             state = "done" if number < at else "now" if number == at else "left" if number < WHY else "none"
         made.append(Step(number, word, "failed" if state == "done" and at == WHY and number == ACTIVATION else state))
     return made
+
+
+def because(command: CommandView) -> str:
+    """What the sign said of a command that failed, or what may be the cause."""
+    return command.why or cause(command.how or "", command.address)
 
 
 def failed_state(number: int, at: int, why: str) -> str:

@@ -8,6 +8,7 @@ import jinja2
 from aiohttp import web
 from markupsafe import Markup
 
+from door.endings import with_step
 from door.mib import Mib
 from model import multi
 
@@ -18,7 +19,7 @@ from .connections import Connections
 from .faces import Face, face_of
 from .logins import Visitor
 from .pictures import Pictures
-from .progress import states
+from .progress import because, states
 from .security import Seal, key_of
 from .settings import Settings
 
@@ -58,7 +59,7 @@ class Room:
         made = jinja2.Environment(loader=jinja2.FileSystemLoader(HERE / "templates"), autoescape=True,
                                   undefined=jinja2.StrictUndefined, trim_blocks=True, lstrip_blocks=True)
         made.globals.update(room=self, clock=self.clock, words=words, plain_of=plain_of, text_of=words.text_of,
-                            asked=words.asked, states=states)
+                            asked=words.asked, states=states, because=because, with_step=with_step)
         return made
 
     # ---- pages

@@ -34,7 +34,7 @@ class Card:
     @property
     def state(self) -> str:
         """In a word, for the filter."""
-        if self.sign.fault or self.is_stale:
+        if self.sign.still or self.sign.fault or self.is_stale:
             return "silent"
         return "busy" if self.command else "lit" if self.sign.shown and self.sign.shown.text else "blank"
 
@@ -49,11 +49,12 @@ def card(room: Room, sign: SignView, now: float, open_: list[CommandView]) -> Ca
 
 def cards(room: Room, held: Database) -> tuple[list[Card], float]:
     """All signs of the fleet, and the database's time."""
-    now, open_ = views.now(held), views.under_way(held)
+    open_ = views.under_way(held)
     of: dict[int, list[CommandView]] = {}
     for command in open_:
         of.setdefault(command.sign, []).append(command)
     known = {sign.id: sign for sign in views.signs(held)}
+    now = views.now(held)  # after what it is compared with
     found = [known[row] for row in room.signs if row in known]
     return [card(room, sign, now, of.get(sign.id, [])) for sign in found], now
 

@@ -3,6 +3,8 @@
 import datetime
 from dataclasses import dataclass
 
+from ..reading_store import SLACK
+
 NO_END = 65535
 STATUSES = {1: "not used", 2: "modifying", 3: "validating", 4: "valid", 5: "error"}
 MEMORIES = {2: "permanent", 3: "changeable", 4: "volatile", 5: "what was shown before", 7: "blank"}
@@ -122,6 +124,8 @@ def asked(line: str) -> Asked:
 
 def age_word(seconds: float) -> str:
     """How long ago something was; static/room.js says it in the same words."""
+    if seconds < -SLACK:
+        return "by a clock that was ahead"
     whole = max(0, int(seconds))
     for size, word in ((86_400, "d"), (3600, "h"), (60, "min")):
         if whole >= 2 * size or size == 60 and whole >= 60:

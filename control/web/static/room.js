@@ -2,9 +2,10 @@
 "use strict";
 
 const body = document.body;
-const ahead = body.dataset.now ? Number(body.dataset.now) - Date.now() / 1000 : 0;
+let ahead = body.dataset.now ? Number(body.dataset.now) - Date.now() / 1000 : 0;
 
 function ageWord(seconds) {
+  if (seconds < -1) return "by a clock that was ahead";
   const whole = Math.max(0, Math.floor(seconds));
   if (whole >= 2 * 86400) return Math.floor(whole / 86400) + " d ago";
   if (whole >= 2 * 3600) return Math.floor(whole / 3600) + " h ago";
@@ -91,6 +92,7 @@ function listen(view) {
   };
   source.onmessage = (event) => {
     const parts = JSON.parse(event.data);
+    if ("now" in parts) ahead = Number(parts.now) - Date.now() / 1000; // the database's clock jumped
     for (const name of Object.keys(parts)) replace(name, parts[name]);
     tellAges();
     choose();
