@@ -175,10 +175,11 @@ def beside(folder: pathlib.Path, seconds: float, turns: int) -> None:
         return
     ports = free_port(), free_port(), free_port()
     signd = [str(folder / "signd"), "--quiet"]
+    kept = ["--journal", str(folder / "journal"), "--most-recorded", "1000000"]
     sign = str(TOP / "signs" / "gantry.sign")
     with (
         running([*signd, "--port", str(ports[0]), sign], {}),
-        running([*signd, "--port", str(ports[1]), "--journal", str(folder / "journal"), sign], {}),
+        running([*signd, "--port", str(ports[1]), *kept, sign], {}),
     ):
         ours = Agent(ports[0])
         if not ours.is_there(request(wire.SET, column(9), (wire.INTEGER, 6))):

@@ -18,7 +18,7 @@ from door import description
 from door.places import SIGNTOOL, TOP, program
 from door.process import CoProcess
 
-WORDS = ["tick", "ticks", "heard", "state", "show", "status", "restart", "datagram", "power-lost", "power-back",
+WORDS = ["tick", "ticks", "heard", "state", "show", "status", "last", "status last", "restart", "datagram", "power-lost", "power-back",
          "publish", "-", "", "0", "4294967295", "4294967296", "zz", "3", "#", "end", "30"]
 TEXTS = ["41", "-", "41415b6e705d42", "5b6e6c395d", "5b6e6c305d41", "5b66315d41", "30"]
 
@@ -67,7 +67,7 @@ class Lines:
                       "ticks 3", "ticks 0000000060"]
             return self.command() if end == "centre" else self.chance.choice(others)
         if kind < 0.95:
-            return self.chance.choice(["status", "restart", "status"] if end == "centre" else ["state", "show"])
+            return self.chance.choice(["status", "restart", "status last"] if end == "centre" else ["state", "show"])
         return self.other()
 
 

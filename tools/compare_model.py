@@ -1,15 +1,17 @@
 #!/usr/bin/env python3
 """Compares the program with the model of tools/model, over random signs, texts, requests and scripts.
 
-    tools/compare_model.py [--count 300] [--seed 1] [--program crates/signtool/out/signtool]
+    tools/compare_model.py [--count 300 | --seconds N] [--seed 1] [--program crates/signtool/out/signtool]
 
-It prints each case that differs, and last `N passed, M failed`. The same seed makes the same cases.
+It prints each case that differs, and last `N passed, M failed`. The same seed makes the same cases; with --seconds no
+case begins after so many.
 """
 
 import argparse
 import random
 import subprocess
 import sys
+import time
 
 import program_model
 from door.places import SIGNTOOL, program
@@ -197,13 +199,15 @@ class Cases:
 
 
 def main() -> int:
-    words = argparse.ArgumentParser(description="the program beside the model")
-    words.add_argument("--count", type=int, default=300)
+    words = argparse.ArgumentParser(description=__doc__, formatter_class=argparse.RawDescriptionHelpFormatter)
+    most = words.add_mutually_exclusive_group()
+    most.add_argument("--count", type=int, default=300)
+    most.add_argument("--seconds", type=float)
     words.add_argument("--seed", type=int, default=1)
     words.add_argument("--program", type=program, default=str(SIGNTOOL))
     asked = words.parse_args()
-    cases, failed = Cases(asked.seed), 0
-    for number in range(asked.count):
+    cases, number, failed, begun = Cases(asked.seed), 0, 0, time.monotonic()
+    while time.monotonic() < begun + asked.seconds if asked.seconds else number < asked.count:
         call, stdin = cases.case()
         wanted = program_model.answer(call, stdin.encode())
         command = [asked.program, *call]
@@ -212,7 +216,8 @@ def main() -> int:
         if found != wanted:
             failed += 1
             print(f"case {number}: {call} with {stdin!r}\n  model   {wanted}\n  program {found}")
-    print(f"{asked.count - failed} passed, {failed} failed")
+        number += 1
+    print(f"{number - failed} passed, {failed} failed")
     return 1 if failed else 0
 
 

@@ -76,6 +76,9 @@ def centre_answer(world: text.World, words: list[bytes]) -> list[str]:
     if keyword == "datagram":
         sent = centre.receive(text.octets(text.wants(words, b"datagram", 1)[0]))
         return [f"send {sent.hex()}"] if sent else ["ok"]
+    stands = ["busy" if centre.job else "idle", f"last {centre.last or 'none'}"]
+    if words == [b"status", b"last"]:
+        return [*stands, "ok"]
     text.wants(words, words[0], 0)
     if keyword == "tick":
         sent = centre.tick()
@@ -85,7 +88,7 @@ def centre_answer(world: text.World, words: list[bytes]) -> list[str]:
         return ["ok"]
     if keyword == "status":
         ledger = world.report()[3 + len(world.accepted):]
-        return ["busy" if centre.job else "idle", f"last {centre.last or 'none'}", *ledger, "ok"]
+        return [*stands, *ledger, "ok"]
     raise ValueError
 
 

@@ -1,7 +1,8 @@
 #!/usr/bin/env python3
 """Writes what is made of the table of objects: the objects of mibs/DMS-PROFILE-MIB, and the tables of docs/PROFILE.md.
 
-The table is crates/dms_objects/specs/Objects.antt. What is made stands between two marks; all else in a file is kept.
+The table is crates/dms_objects/specs/Objects.antt, whose limits have their numbers in
+crates/dms_codes/specs/Limits.antt. What is made stands between two marks; all else in a file is kept.
 With --check nothing is written, and the status is 1 where a file is not up to date."""
 
 import argparse
@@ -12,11 +13,12 @@ import textwrap
 from dataclasses import dataclass
 
 TOP = pathlib.Path(__file__).resolve().parent.parent
-TABLE = "crates/dms_objects/specs/Objects.antt"
+TABLE, LIMITS = "crates/dms_objects/specs/Objects.antt", "crates/dms_codes/specs/Limits.antt"
 MIB, PROFILE = "mibs/DMS-PROFILE-MIB", "docs/PROFILE.md"
 WIDTH = 120
 ROW = re.compile(r'(?:scalar|column)_row (\w+) = row \(codes "(\w+)"\) (\w+) (\d+) (\w+) (\w+|\(.*\))')
 ORDER = re.compile(r"(One|EachRow) (\w+)")
+LIMIT = re.compile(r"(?m)^(\w+) = (\d+)$")
 WORD = re.compile(r"(\w+) (\d+)")
 GROUP = re.compile(r"(?m)^group_number (\w+) = (\d+)$")
 NODE = re.compile(r"(?m)^node_numbers (\w+) = group_number (\w+) ∷ (.*) ∷ \[\]$")
@@ -117,6 +119,13 @@ def wrapped(text: str, begin: str, spaces: int = 8) -> str:
     return textwrap.fill(text, WIDTH, initial_indent=begin, subsequent_indent=" " * spaces, break_on_hyphens=False)
 
 
+def with_numbers(table: str, limits: str) -> str:
+    """The table with the number of each limit that it names."""
+    for name, number in LIMIT.findall(limits):
+        table = re.sub(rf"\b{name}\)", f"{number})", table)
+    return table
+
+
 def read_table(text: str) -> list[Object]:
     """The objects in the order of the table's last list, each with the comment above its row."""
     nodes = dict(GROUP.findall(text))
@@ -202,7 +211,8 @@ def main() -> int:
     words = argparse.ArgumentParser(description=__doc__, formatter_class=argparse.RawDescriptionHelpFormatter)
     words.add_argument("--check", action="store_true", help="writes nothing, and says what is not up to date")
     only_checks = words.parse_args().check
-    objects = read_table((TOP / TABLE).read_text(encoding="utf-8"))
+    table, limits = ((TOP / name).read_text(encoding="utf-8") for name in (TABLE, LIMITS))
+    objects = read_table(with_numbers(table, limits))
     texts = {name: (TOP / name).read_text(encoding="utf-8") for name in (MIB, PROFILE)}
     new = dict(texts)
     for name, begin, end, make in PARTS:

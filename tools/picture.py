@@ -1,17 +1,23 @@
 #!/usr/bin/env python3
 """Looks at the program's pictures with a browser: `tools/picture.sh [--program PATH] [--keep FOLDER]` prints `N passed, N failed`.
 
+    tools/picture.py --read [--program PATH]      without a browser
+
 Each picture of `signtool pages --svg` is drawn by headless Chromium at some moments. The middle of each lamp must have the colour that
 the text's cell has then: a page is up for its time, a flash begins with its first time where the page comes up (tools/model lays the
-text out). With --keep the pictures stay as PNG files; docs/ has three of them.
+text out). With --keep the pictures stay as PNG files; docs/ has three of them. With --read the document's own paths and animations
+are read, at each tenth of its first twenty seconds.
 """
 
 import argparse
+import functools
 import pathlib
+import re
 import struct
 import subprocess
 import sys
 import tempfile
+import xml.etree.ElementTree
 import zlib
 from collections.abc import Iterator
 
@@ -21,12 +27,16 @@ from model import layout, text
 TOP = pathlib.Path(__file__).resolve().parent.parent
 SHADES = ["#000000", "#ff0000", "#ffff00", "#00ff00", "#00ffff", "#0000ff", "#ff00ff", "#ffffff", "#ff8000", "#ffbf00"]
 LAMP = 8
+READ_TENTHS = 200
 
 # what the file is called, the sign, the text, the page alone or none, and the moments in tenths of a second
 PICTURES = [
     ("lanes", "gantry", "[fo3][cf9]RIGHT LANE[nl][fo2]CLOSED 800 m[nl3][fo1][cf7]MERGE LEFT", None, [0]),
     ("fog", "roadside", "[pt20o5][fo2][flt5o5]FOG[/fl] AHEAD[np][fo1]SLOW DOWN[nl]MAX 60", None, [2, 7, 27]),
     ("alone", "roadside", "[pt20o5][fo2][flt5o5]FOG[/fl] AHEAD[np][fo1]SLOW DOWN[nl]MAX 60", 1, [0, 7]),
+    ("timeless", "roadside", "[pt0o0][fl][cf3]FOG AHEAD[np][cf9]SLOW [flt2o3]DOWN[/fl] [flo1t0]NOW", None, [0, 2, 7]),
+    ("one-timeless", "roadside", "[pt0o0][flt2o3]FOG[/fl] AHEAD [flt0o0]NOW", None, [0, 2, 7]),
+    ("no-lit-time", "roadside", "[pt0o5]FOG[np][pt0o0]SLOW", None, [0, 3]),
     ("colours", "gantry", "[pb5][cf2]A[cf3]B[cf4]C[nl][flo3t7][cf1]D[/fl][cf6]E[cf8]F", None, [1, 5]),
 ]
 
@@ -79,10 +89,12 @@ def wanted(face: layout.Face, pages: list[layout.Page], alone: int | None, tenth
 
 
 def up(pages: list[layout.Page], tenth: int) -> tuple[layout.Page | None, int]:
-    """The page that is up, and for how long it has been; a message of one page without an off time stays."""
-    if len(pages) == 1 and pages[0].off == 0:
-        return pages[0], tenth
-    tenth %= sum(page.on + page.off for page in pages)
+    """The page that is up, and for how long it has been. A message of one page without an off time stays, and so do
+    pages without any time, the last above the others."""
+    total = sum(page.on + page.off for page in pages)
+    if total == 0 or (len(pages) == 1 and pages[0].off == 0):
+        return pages[-1], tenth
+    tenth %= total
     for page in pages:
         if tenth < page.on:
             return page, tenth
@@ -97,8 +109,38 @@ def is_lit(flash: layout.Flash | None, since: int | None) -> bool:
     if flash is None or since is None:
         return True
     first, lit, dark = flash
-    at = since % (lit + dark) if lit + dark else 0
+    if lit + dark == 0:
+        return True
+    at = since % (lit + dark)
     return at < lit if first == "lit" else dark <= at
+
+
+def is_shown(element: xml.etree.ElementTree.Element, tenth: int) -> bool:
+    """Whether an element is to be seen: its animation, if it has one, has a value for each tenth of a second."""
+    animation = element.find("{*}animate")
+    if animation is None:
+        return True
+    values = animation.attrib["values"].split(";")
+    assert animation.attrib["dur"] == f"{len(values) // 10}.{len(values) % 10}s", animation.attrib
+    return values[tenth % len(values)] == "1"
+
+
+@functools.cache
+def lamps(path: str) -> list[tuple[int, int]]:
+    """The lamps that a path draws: dots, or dashed lines over whole rows."""
+    found = re.findall(r"M(\d+) (\d+)h(\d+)", path)
+    return [(column, int(y)) for x, y, more in found for column in range(int(x), int(x) + int(more) + 1)]
+
+
+def read(svg: xml.etree.ElementTree.Element, tenth: int, face: layout.Face) -> list[list[str]]:
+    """The shade of each lamp in a document at a moment."""
+    rows = [[""] * face.width for _ in range(face.height)]
+    for part in svg:
+        for path in (part, *part) if is_shown(part, tenth) else ():
+            if path.tag.endswith("path") and path.get("stroke") != "none" and is_shown(path, tenth):
+                for x, y in lamps(path.attrib["d"]):
+                    rows[y][x] = path.attrib["stroke"]
+    return rows
 
 
 def shot(svg: str, tenth: int, face: layout.Face, folder: pathlib.Path, name: str) -> pathlib.Path:
@@ -125,10 +167,17 @@ def compare(rows: list[list[bytes]], shades: list[list[str]]) -> int:
     return wrong
 
 
+def document(program: str, sign: bytes, shown: str, alone: int | None) -> str:
+    call = ["pages", "--sign", "--svg", *([] if alone is None else ["--page", str(alone)]), "--", shown]
+    ended = subprocess.run([program, *call], input=sign, capture_output=True, timeout=60, check=True)
+    return ended.stdout.decode("ascii")
+
+
 def main() -> int:
-    words = argparse.ArgumentParser(description="the program's pictures in a browser")
+    words = argparse.ArgumentParser(description=__doc__, formatter_class=argparse.RawDescriptionHelpFormatter)
     words.add_argument("--program", type=program, default=str(SIGNTOOL))
     words.add_argument("--keep", help="a folder for the PNG files")
+    words.add_argument("--read", action="store_true", help="without a browser")
     asked = words.parse_args()
     passed = failed = 0
     with tempfile.TemporaryDirectory() as temporary:
@@ -138,14 +187,17 @@ def main() -> int:
             face = text.World(text.described(description)).sign.face
             pages, _ = layout.laid_out(face, face.defaults, shown.encode())
             assert pages is not None
-            call = ["pages", "--sign", "--svg", *([] if alone is None else ["--page", str(alone)]), "--", shown]
-            ended = subprocess.run([asked.program, *call], input=description, capture_output=True, timeout=60, check=True)
-            if len(ended.stdout) >= 400_000:
-                print(f"{name}: the document has {len(ended.stdout)} octets")
+            svg = document(asked.program, description, shown, alone)
+            parts = xml.etree.ElementTree.fromstring(svg)
+            if len(svg) >= 400_000:
+                print(f"{name}: the document has {len(svg)} octets")
                 failed += 1
-            for tenth in moments:
-                png = shot(ended.stdout.decode("ascii"), tenth, face, folder, f"{name}-{tenth}")
-                wrong = compare(list(pixels(png)), wanted(face, pages, alone, tenth))
+            for tenth in range(READ_TENTHS) if asked.read else moments:
+                shades = wanted(face, pages, alone, tenth)
+                if asked.read:
+                    wrong = sum(one != other for rows in zip(read(parts, tenth, face), shades) for one, other in zip(*rows))
+                else:
+                    wrong = compare(list(pixels(shot(svg, tenth, face, folder, f"{name}-{tenth}"))), shades)
                 passed, failed = (passed, failed + 1) if wrong else (passed + 1, failed)
                 if wrong:
                     print(f"{name} at {tenth} tenths: {wrong} lamps have another colour")

@@ -79,7 +79,7 @@ done
 for words in "answer $get --sign" "check A --sign" "pages A --sign" "sign --sign" "centre --sign"; do
     for named in "$words made.sign" "$words=made.sign"; do
         call $named < /dev/null; ended "$named" 2 ""
-        said "$named" "hint: --sign takes no file: the description is read from the standard input, as in --sign < FILE"
+        said "$named" "hint: the description is read from standard input: < FILE"
     done
 done
 printf 'bench\nsign-tick now\n' > "$folder/refused"
@@ -98,6 +98,7 @@ done
 
 # --- words -----------------------------------------------------------------------------------------------------------
 for words in "" "wrong" "answer" "answer --sign" "check" "code 3 1" "code 1 1 A" "code 5 1 A" "code 3 0 A" "code 3 65536 A" "code 3 1 A --duration 65536" \
+    "code +3 1 A" "code 3 +1 A" "code 3 1 A --duration +5" "code 3 1 A --duration=-0" "code 3 1 A --priority=+5" "pages --page +1 A" \
     "code 3 1 A --priority 256" "activation 3 1" "activation 6 1 9a66" "activation 7 0 0000" "pages --json A" "check --sign=made.sign A" "replay now" "pages A B" "answer 30 --sing"; do
     call $words < "$folder/bench"; ended "'$words'" 2 ""
 done

@@ -3,9 +3,11 @@
 
 Each block of `sh` that begins with `./signtool` or `cp` is run at a copy of signs/ and the built program, line by line
 (a here-document is one line). The block of the SNMP tools is run whole, without its `apt-get` and on a port that is
-free, where they are installed, and else skipped, which is said; with --short it is left out. A block without a language
-right after it is what its last command, or the whole block, prints. The two commands that prove, `tools/build.py` and
-the gate, are left to the gate.
+free, where they are installed, and else skipped, which is said; with --short it is left out. With --signtool, another
+program that answers the lines of doors, such as tools/coprocess_model.py, it is the one block that is run. A block
+without a language right after it is what its last command, or the whole block, prints. The two commands that prove,
+`tools/build.py` and the gate, are left to the gate. With --rattle nothing of this is run but the block of `rust`, which
+`rt try` compiles and runs in a crate of a copy, in some minutes; where no kit is here it is skipped.
 """
 
 import argparse
@@ -76,22 +78,71 @@ def runs(block: str, after: str, folder: str) -> Iterator[bool]:
         yield bool(well)
 
 
+PROGRAM = """//! README's block.
+
+{uses}
+use std::process::ExitCode;
+
+fn send(_reply: &[u8]) {{}}
+
+fn light(_is_lit: bool) {{}}
+
+fn main(rt: HostRuntime) -> ExitCode {{
+    let octets = dms_description::BENCH.as_bytes();
+    let datagram: &[u8] = &{datagram};
+{body}    ExitCode::from(if reply.is_empty() {{ 3 }} else {{ 0 }})
+}}
+"""
+
+
+def with_kit(text: str) -> bool:
+    """Whether the block of `rust` compiles in a crate that stands on the crates that README says, and a datagram to the
+    bench sign is replied to."""
+    found = re.search(r"`NAME: ([a-z_ ]+)`.*?```rust\n(.*?)```", text, re.DOTALL)
+    asked = re.search(r"signtool answer ([0-9a-f]+)", text)
+    assert found and asked
+    lines = found[2].splitlines(keepends=True)
+    uses = "".join(line for line in lines if line.startswith("use ")).rstrip()
+    body = "".join(f"    {line}" for line in lines if line.strip() and not line.startswith("use "))
+    source = PROGRAM.format(uses=uses, body=body, datagram=list(bytes.fromhex(asked[1])))
+    with tempfile.TemporaryDirectory() as folder:
+        copy = pathlib.Path(folder)
+        shutil.copytree(TOP / "crates", copy / "crates", ignore=shutil.ignore_patterns("out"))
+        rows = (TOP / "crates.txt").read_text(encoding="utf-8")
+        (copy / "crates.txt").write_text(f"{rows}readme: {found[1]}\n", encoding="utf-8")
+        (copy / "crates/readme/src").mkdir(parents=True)
+        (copy / "crates/readme/src/main.rt").write_text(source, encoding="utf-8")
+        ended = subprocess.run(["rt", "try"], cwd=copy / "crates/readme", capture_output=True, text=True, check=False)
+    if ended.returncode:
+        print(f"{source}exit {ended.returncode}\n{ended.stdout}{ended.stderr}")
+    return ended.returncode == 0
+
+
 def main() -> int:
     words = argparse.ArgumentParser(description=__doc__, formatter_class=argparse.RawDescriptionHelpFormatter)
-    words.add_argument("--program", type=program, default=str(SIGNTOOL))
+    words.add_argument("--program", type=program, default=str(SIGNTOOL) if SIGNTOOL.is_file() else None)
+    words.add_argument("--signtool", type=program, help="the program behind the doors, for the block of the SNMP tools")
     words.add_argument("--short", action="store_true", help="without the block of the SNMP tools")
+    words.add_argument("--rattle", action="store_true", help="the block of Rattle alone")
     asked = words.parse_args()
     text = (TOP / "README.md").read_text(encoding="utf-8")
+    if asked.rattle:
+        results = [with_kit(text)] if shutil.which("rt") else []
+        print(f"{sum(results)} passed, {len(results) - sum(results)} failed" if results else "skipped README's Rattle: no rt")
+        return 0 if all(results) else 1
+    if not asked.program and not asked.signtool:
+        words.error(f"no program at {SIGNTOOL}: tools/build.py builds it")
     results = []
     with tempfile.TemporaryDirectory() as folder:
-        shutil.copy(asked.program, f"{folder}/signtool")
+        if not asked.signtool:
+            shutil.copy(asked.program, f"{folder}/signtool")
         shutil.copytree(TOP / "signs", f"{folder}/signs")
         for block, after in re.findall(r"```sh\n(.*?)```\n(?:\n```\n(.*?)```)?", text, re.DOTALL):
             if block.startswith("apt-get") and not asked.short and not shutil.which("snmpget"):
                 print("skipped the SNMP tools: snmpget is not here")
             elif block.startswith("apt-get") and not asked.short:
-                results.append(with_snmp_tools(block, after, asked.program))
-            elif block.startswith(("./signtool", "cp ")):
+                results.append(with_snmp_tools(block, after, asked.signtool or asked.program))
+            elif not asked.signtool and block.startswith(("./signtool", "cp ")):
                 results += runs(block, after, folder)
     print(f"{sum(results)} passed, {len(results) - sum(results)} failed")
     return 0 if all(results) else 1

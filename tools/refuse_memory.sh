@@ -1,15 +1,16 @@
 #!/usr/bin/env bash
 # Refuses each allocation in turn: `tools/refuse_memory.sh` prints `N passed, N failed`.
 #
-#     tools/refuse_memory.sh [--built] [--short] [CRATE.. | signtool]
+#     tools/refuse_memory.sh [--built] [--short] [CRATE.. | tests | signtool]
 #
 # Every test whose name ends in _or_out_of_memory is run once for each N, with the N-th call of malloc, calloc or
 # realloc refused, until a run makes fewer calls. Each run has to end by the test's own answer. Then the built program
 # carries out the calls of tools/memory_cases.py in the same way: it prints what an undisturbed run prints, or lines of
 # that and then `memory` with exit 1, or, while it reads its command line, it says `out of memory` on standard error and
 # ends with 2. No allocation may be made within a function named receive, neither a sign's nor a centre's.
-# With --built nothing is built anew; with --short each of the first ten allocations of a run is refused, and then one
-# in ever more.
+# The word tests stands for all crates that have such tests. With --built nothing is built anew, and a crate whose tests
+# do not stand built, as `rt ci` leaves them, is skipped. With --short each of the first ten allocations of a run is
+# refused, and then one in ever more.
 set -u
 case " $* " in *" --help "*) sed -n '2,/^[^#]/s/^# \{0,1\}//p' "$0"; exit ;; esac
 top=$(cd "$(dirname "$0")/.." && pwd)
@@ -106,11 +107,12 @@ call_swept() {
 
 asked=" $* "
 crates=("$@")
-[ $# != 0 ] || mapfile -t crates < <(cd "$top/crates" &&
+[ $# != 0 ] && [ "$*" != tests ] || mapfile -t crates < <(cd "$top/crates" &&
     grep -rlE 'fn [a-z_]*_or_out_of_memory' --include=*.rt . | cut -d/ -f2 | sort -u)
 for crate in "${crates[@]}"; do
     [ "$crate" != signtool ] && built_anew "$crate" test || continue
     tests=$top/crates/$crate/out/${crate}_tests
+    [ -x "$tests" ] || { echo "skipped the tests of $crate: $tests is not built"; continue; }
     for test in $("$tests" --list | grep -oE '[A-Za-z_:]*_or_out_of_memory'); do
         test_swept "$tests" "$test"
     done

@@ -127,7 +127,7 @@ is "the tester" as_user timeout 120 wisangub-conform --to "127.0.0.1:$port" \
 printf '[[sign]]\nname = "one"\naddress = "127.0.0.1:%s"\ndescription = "%s"\nfirst = 1000000\n' "$port" \
     /usr/share/wisangub/signs/roadside.sign > "$root/var/lib/signs/fleet.toml"
 is "a user" sh -c "echo a-long-password | chroot --userspec=65534:65534 '$root' /usr/bin/env -C /var/lib/signs \
-    wisangub-control users --database room.sqlite add someone operator"
+    wisangub-control users --database room.sqlite --create add someone operator"
 free='import socket; print("127.0.0.1:%d" % socket.create_server(("127.0.0.1", 0)).getsockname()[1])'
 listen=$(python3 -c "$free")
 begin wisangub-control --fleet fleet.toml --database room.sqlite --listen "$listen" > "$room/worker" 2>&1 &

@@ -11,7 +11,10 @@ import re
 import sys
 
 TOP = pathlib.Path(__file__).resolve().parent.parent
-LINE = re.compile(r'^\s*(?:pub(?:\(crate\))? )?const VERSION: &str = "signtool (\d+\.\d+\.\d+)";', re.MULTILINE)
+LINE = re.compile(
+    r'^\s*(?:pub(?:\(crate\))? )?const VERSION: (?:&str = "|&\[u8\] = b")signtool (\d+\.\d+\.\d+)(?:\\n)?";',
+    re.MULTILINE,
+)
 
 
 def versions(top: pathlib.Path) -> list[str]:

@@ -11,7 +11,8 @@ sys.path.insert(0, str(TOP / "tools"))
 
 from version import version  # noqa: E402
 
-LINE = 'const VERSION: &str = "signtool 2.0.1";\n'
+LINE = 'const VERSION: &[u8] = b"signtool 2.0.1\\n";\n'
+AS_TEXT = 'const VERSION: &str = "signtool 2.0.1";\n'
 
 
 def test_the_newest_changes_are_of_this_version() -> None:
@@ -26,6 +27,6 @@ def test_one_place(tmp_path: pathlib.Path) -> None:
         version(tmp_path)
     (folder / "act.rt").write_text(f"// the name\n{LINE}", encoding="utf-8")
     assert version(tmp_path) == "2.0.1"
-    (folder / "other.rt").write_text(LINE, encoding="utf-8")
+    (folder / "other.rt").write_text(AS_TEXT, encoding="utf-8")
     with pytest.raises(ValueError, match="2 places"):
         version(tmp_path)

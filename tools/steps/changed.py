@@ -1,0 +1,45 @@
+"""Which crates changed, as git tells: by what is checked out, and by what git does not track yet."""
+
+from __future__ import annotations
+
+import pathlib
+import re
+import subprocess
+from collections.abc import Iterable
+
+MAINS = ("origin/main", "main")
+# wrong bodies are tried by tools/try_edits.py, and what a program is run with and prints by the gate
+READ = re.compile(r"crates/(\w+)/(?:src|specs|proofs)/")
+
+
+def told(top: pathlib.Path, *words: str) -> str | None:
+    """What git says, or nothing where there is no git, no repository, or no such name."""
+    try:
+        ended = subprocess.run(["git", "-C", str(top), *words], capture_output=True, text=True, check=False)
+    except OSError:
+        return None
+    return ended.stdout if ended.returncode == 0 else None
+
+
+def base(top: pathlib.Path) -> str | None:
+    """The last commit that main has too: of the remote's main, or of the one here, or the last commit at all."""
+    found = [told(top, "merge-base", "HEAD", name) for name in MAINS]
+    known = [commit.strip() for commit in [*found, told(top, "rev-parse", "HEAD")] if commit]
+    return known[0] if known else None
+
+
+def names_of(paths: Iterable[str]) -> set[str]:
+    return {found[1] for path in paths if (found := READ.match(path))}
+
+
+def changed(top: pathlib.Path) -> list[str] | None:
+    """The crates of which a file that a check reads is not as main has it; nothing where git does not tell."""
+    since = base(top)
+    if since is None:
+        return None
+    tracked = told(top, "diff", "--name-only", "--no-renames", "-z", since, "--", "crates")
+    others = told(top, "ls-files", "--others", "--exclude-standard", "-z", "--", "crates")
+    if tracked is None or others is None:
+        return None
+    names = names_of([*tracked.split("\0"), *others.split("\0")])
+    return sorted(name for name in names if (top / "crates" / name / "src").is_dir())
