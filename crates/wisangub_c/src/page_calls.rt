@@ -1,9 +1,9 @@
 //! Pages of what a sign shows and of any text, from C.
 
-ghost use Rattle.std.specs.Prelude.{◌≡◌, length, is_ok, IsTrue};
+ghost use Rattle.std.specs.Prelude.{◌≡◌, ◌<◌, length, is_ok, IsTrue};
 ghost use Rattle.dms_lines.specs.PageOctets.{layer_of, pages_octets, row_bits};
 ghost use Rattle.dms_pages.specs.Drawn.{drawn_text};
-ghost use Rattle.dms_sign_lines.specs.Answer.{shown_pages};
+ghost use Rattle.dms_sign_lines.specs.Answer.{has_pages};
 ghost use Rattle.wisangub_c.specs.Answers.{no_memory, given_answer, given_buffer, unless_memory};
 ghost use Rattle.wisangub_c.specs.Shown.{fault_after};
 ghost use Rattle.wisangub_c.specs.Pages.{shown_octets, drawn_answer, drawn_size, drawn_buffer};
@@ -29,6 +29,7 @@ fn give_pages(
     ensures size { size.new ≡ unless_memory result size.old (length (pages_octets layer pages.now)) }
     ensures octets { octets.new ≡ unless_memory result octets.old
         (given_buffer (pages_octets layer pages.now) octets.old) }
+    ensures memory { result ≡ no_memory → 0 < length pages.now }
 {
     match pages_octets(alloc, layer, pages) {
         Ok(made) => give(made.as_slice(), octets, size),
@@ -51,6 +52,7 @@ pub extern "C" fn wisangub_sign_pages_at(
     ensures size { size.new ≡ unless_memory result size.old (length (shown_octets (layer_of layer) sign.old.value)) }
     ensures octets { octets.new ≡ unless_memory result octets.old
         (given_buffer (shown_octets (layer_of layer) sign.old.value) octets.old) }
+    ensures memory { result ≡ no_memory → IsTrue (has_pages sign.old.value) }
 {
     match shown_pages(alloc, sign.as_mut()) {
         Ok(pages) => give_pages(alloc, Layer::of(layer), pages.as_slice(), octets, size),
