@@ -21,7 +21,7 @@ ROWS = [
     ("a blank", f"blank 1 65535 255 {ADDRESS}", "accepted"),
     ("an activation of a row that there is not", "activate ffffff0300ff0001c0000201",
      "failed at step 7: the sign refused the activation for cause 6, messageNumber"),
-    ("a value out of its range", f"blank 0 65535 255 {ADDRESS}", "refused a value is out of its range"),
+    ("a value out of its range", f"blank 0 65535 255 {ADDRESS}", "refused a value is out of its range: NUMBER"),
     ("a command that is none", "blank 1", "bad line"),
     ("a line that is no command", "restart", "bad line"),
     ("two lines", f"blank 1 1 1 {ADDRESS}\ntick", "bad line"),
@@ -158,7 +158,8 @@ def test_a_command_that_was_refused_as_its_worker_died(tmp_path: pathlib.Path, w
         assert line is not None and at.store.insert([line], "first") == {at.row}
         found.close()
         at.session("second").close()
-        assert [at.store.how(command) for command in commands] == ["accepted", "refused a value is out of its range"]
+        hows = [at.store.how(command) for command in commands]
+        assert hows == ["accepted", "refused a value is out of its range: NUMBER"]
 
 
 def test_of_two_that_think_they_drive_a_sign_one_goes_on(tmp_path: pathlib.Path, where: str) -> None:

@@ -62,8 +62,10 @@ def walk() -> list[str]:
 
 
 def as_told(answer: str) -> str:
-    """An answer of the program as the library gives it: it does not tell of what is accepted."""
+    """An answer of the program as the library gives it: without what is accepted, and which value is out of range."""
     word, _, rest = answer.partition(" ")
+    if word == "refused":
+        return answer.partition(": ")[0]
     return f"reply {rest.partition(' ')[2]}" if word == "accepted" else answer
 
 

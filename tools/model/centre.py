@@ -7,7 +7,7 @@ from . import wire
 from .codes import BLANK, CHANGEABLE, VOLATILE, Activation, MessageId, checksum
 from .objects import DMS
 
-BUSY, NO_NUMBER, BAD_COMMAND = "a job is not done yet", "no request number is left", "a value is out of its range"
+BUSY, NO_NUMBER, BAD_COMMAND = "a job is not done yet", "no request number is left", "a value is out of its range: "
 ODD, OTHER_CHECKSUM, STILL_VALIDATING, NO_REPLY, RESTARTED = (
     "the reply does not answer what was asked", "the row has another checksum", "the row is still being validated",
     "no reply", "the central system was restarted")
@@ -51,11 +51,10 @@ class Centre:
         self.refusal = BUSY if self.job is not None else NO_NUMBER if self.next > LAST_NUMBER else None
         if self.refusal is not None:
             return None
-        job = asked(kind, held)
-        if job is None:
-            self.refusal = BAD_COMMAND
+        if bad := bad_value(kind, held):
+            self.refusal = BAD_COMMAND + bad
             return None
-        self.job = job
+        self.job = job = asked(kind, held)
         return self.send(job)
 
     def send(self, job: Job) -> bytes | None:
@@ -174,20 +173,24 @@ class Centre:
             self.fail(self.job, RESTARTED)
 
 
-def asked(kind: str, held: Any) -> Job | None:
-    """The job of a command; None where a value is out of its range."""
+def bad_value(kind: str, held: Any) -> str | None:
+    """The first value of a command that is out of its range, by its word in the form of the line."""
+    if kind == "publish":
+        memory, number, text, owner, beacon, pixel, run, *_ = held
+        good = {"MEMORY": memory in (CHANGEABLE, VOLATILE), "NUMBER": number > 0, "TEXT": len(text) <= 512,
+                "OWNER": len(owner) <= 127, "BEACON": beacon <= 1, "PIXEL": pixel <= 1, "RUN": run > 0}
+        return next((name for name, is_good in good.items() if not is_good), None)
+    return "NUMBER" if kind == "blank" and not 1 <= held[0] <= 255 else None
+
+
+def asked(kind: str, held: Any) -> Job:
+    """The job of a command whose values are in their ranges."""
     if kind == "publish":
         memory, number, text, owner, beacon, pixel, run, minutes, priority, address = held
-        if memory not in (CHANGEABLE, VOLATILE) or number == 0 or len(text) > 512 or len(owner) > 127:
-            return None
-        if beacon > 1 or pixel > 1 or run == 0:
-            return None
         code = Activation(minutes, priority, MessageId(memory, number, checksum(text, beacon, pixel)), address)
         return Job(1, code, (memory, number, text, owner, beacon, pixel, run))
     if kind == "blank":
         number, minutes, priority, address = held
-        if not 1 <= number <= 255:
-            return None
         return Job(7, Activation(minutes, priority, MessageId(BLANK, number, 0), address))
     return Job(7, held)
 

@@ -41,7 +41,7 @@ COMMANDS = [  # what is commanded, the exit status, and what is told
     ("blank 5 65535 255 127.0.0.1", 0, "last accepted"),
     ("blank 5 65535 255 127.0.0.1\nnonsense", 1, "bad line"),
     ("# nothing\n\n", 0, ""),
-    ("blank 0 65535 255 127.0.0.1", 1, "refused a value is out of its range"),
+    ("blank 0 65535 255 127.0.0.1", 1, "refused a value is out of its range: NUMBER"),
     ("status", 0, "last none"),
     ("tick", 1, "bad line"),
     ("blank x", 1, "bad line"),

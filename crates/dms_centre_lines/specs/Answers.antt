@@ -3,6 +3,7 @@ use Rattle.std.specs.Prelude.{ℕ, ◌+◌, ◌*◌, Bool, true, false, List, �
 use Rattle.hex.specs.Hex.{encode_lower}
 use Rattle.dms_ber.specs.Limits.{longest_datagram}
 use Rattle.dms_centre.specs.declared.fault.CommandFault.{CommandFault}
+use Rattle.dms_centre.specs.declared.fault.CommandFault.TheVariants as faults
 use Rattle.dms_centre.specs.declared.ended.Ended.{Ended}
 use Rattle.dms_centre.specs.declared.ended.Ended.TheVariants.{Never, Accepted, Failed}
 use Rattle.dms_centre.specs.State.{CentreState, is_busy}
@@ -14,6 +15,7 @@ use Rattle.dms_forms.specs.LineText.{ended}
 use Rattle.dms_commands.specs.LedgerLine.{ledger_line}
 use Rattle.dms_lines.specs.AnswerLines.{ok_line}
 use Rattle.dms_streams.specs.Conversation.{bad_line}
+use Rattle.dms_centre_lines.specs.BadValue.{value_text, bad_value}
 use Rattle.dms_centre_lines.specs.Calls.{CentreCall, command, datagram, tick, restart, status, status_last}
 use Rattle.dms_centre_lines.specs.CallReading.{call_of}
 
@@ -28,13 +30,18 @@ sent_line (Some octets) = ended (codes "send " ++ encode_lower octets)
 abbrev pub longest_sent : ℕ
 longest_sent = 2 * longest_datagram + 6
 
--- a command that is not taken says why
-abbrev pub refused_line : CommandFault → List ℕ
-refused_line fault = ended (codes "refused " ++ command_fault_text fault)
+-- why a command is not taken; where a value is out of its range, which one
+abbrev pub refusal_text : CommandModel → CommandFault → List ℕ
+refusal_text asked faults.BadCommand =
+    command_fault_text faults.BadCommand ++ (codes ": " ++ value_text (bad_value asked))
+refusal_text asked fault = command_fault_text fault
+
+abbrev pub refused_line : CommandModel → CommandFault → List ℕ
+refused_line asked fault = ended (codes "refused " ++ refusal_text asked fault)
 
 abbrev pub command_line : CentreState → CommandModel → Option CommandFault → List ℕ
 command_line state asked None = sent_line (commanded state asked).sent
-command_line state asked (Some fault) = refused_line fault
+command_line state asked (Some fault) = refused_line asked fault
 
 -- whether a job is on
 abbrev pub job_line : Bool → List ℕ

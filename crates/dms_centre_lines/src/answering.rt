@@ -25,7 +25,7 @@ use std::alloc::{AllocError, Global};
 /// line comes without its newline; a carriage return at its end belongs to its last word.
 ///
 /// - `publish ..`, `blank ..` and `activate ..`, as in a script, give it a command: `send OCTETS`, with what goes out
-///   in hexadecimal digits, or `refused` and why.
+///   in hexadecimal digits, or `refused` and why, with the name of a value that is out of its range.
 /// - `datagram OCTETS` hands it a datagram, and `tick` is a tick of its clock: `send OCTETS`, or `ok` where nothing
 ///   goes out.
 /// - `restart` restarts it: `ok`.
@@ -85,7 +85,7 @@ fn give(alloc: Global, centre: &mut Centre, asked: Command<'_>) -> Result<Vec<u8
     ensures unchanged { OnErr result (centre.new.state ≡ centre.old.state) }
 {
     if let Some(fault) = centre.refusal(&asked) {
-        return refused(alloc, fault);
+        return refused(alloc, fault, &asked);
     }
     let mut text = room(alloc)?;
     let mut request = Out::new();

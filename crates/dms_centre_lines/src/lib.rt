@@ -12,6 +12,7 @@
 #![tactic(auto)]
 
 mod answering;
+mod bad_value;
 pub mod laws;
 mod reading;
 mod status;

@@ -8,11 +8,17 @@ idle
 last none
 ok
 > publish 5 1 41 - 0 0 200 1 1 0.0.0.0
-refused a value is out of its range
+refused a value is out of its range: MEMORY
 > publish 3 0 41 - 0 0 200 1 1 0.0.0.0
-refused a value is out of its range
+refused a value is out of its range: NUMBER
+> publish 4 1 41 - 2 2 0 1 1 0.0.0.0
+refused a value is out of its range: BEACON
+> publish 4 1 41 - 1 2 0 1 1 0.0.0.0
+refused a value is out of its range: PIXEL
+> publish 4 1 41 - 1 1 0 1 1 0.0.0.0
+refused a value is out of its range: RUN
 > blank 256 1 1 0.0.0.0
-refused a value is out of its range
+refused a value is out of its range: NUMBER
 > status
 idle
 last none
