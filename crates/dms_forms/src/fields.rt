@@ -33,7 +33,8 @@ pub fn last_number(words: Words<'_>) -> Option<u32>
     if rest.is_empty() { Some(number) } else { None }
 }
 
-/// Octets as pairs of hexadecimal digits, and the words after them. Where there is no word no memory is asked for.
+/// Octets as pairs of hexadecimal digits, and the words after them. Only where octets are spelled can it be out of
+/// memory.
 #[tactic(auto, unfolding(crate::specs::FieldsReading::octets_at))]
 pub fn next_octets(
     alloc: Global,
@@ -41,6 +42,7 @@ pub fn next_octets(
 ) -> Result<Option<(Vec<u8>, Words<'_>)>, AllocError>
     ensures octets { IfOk result (λ found. option_map octets_and_rest found ≡ octets_at words.entry) }
     ensures memory { OnErr result (IsSome (word_at words.entry)) }
+    ensures spelled { OnErr result (IsSome (octets_at words.entry)) }
 {
     let Some((word, rest)) = words.next_word() else {
         return Ok(None);
@@ -51,14 +53,19 @@ pub fn next_octets(
     }
 }
 
-/// Octets as pairs of hexadecimal digits, and nothing after them. Where there is no word no memory is asked for.
-#[tactic(auto, unfolding(crate::specs::FieldsReading::last_octets_at))]
+/// Octets as pairs of hexadecimal digits, and nothing after them. Only where just these are spelled can it be out of
+/// memory.
+#[tactic(auto, unfolding(crate::specs::FieldsReading::last_octets_at, crate::specs::FieldsReading::octets_at))]
 pub fn last_octets(alloc: Global, words: Words<'_>) -> Result<Option<Vec<u8>>, AllocError>
     ensures octets { IfOk result (λ found. octets_found found ≡ last_octets_at words.entry) }
     ensures memory { OnErr result (IsSome (word_at words.entry)) }
+    ensures spelled { OnErr result (IsSome (last_octets_at words.entry)) }
 {
-    match next_octets(alloc, words)? {
-        Some((octets, rest)) if rest.is_empty() => Ok(Some(octets)),
-        _ => Ok(None),
+    let Some((word, after)) = words.next_word() else {
+        return Ok(None);
+    };
+    if !after.is_empty() {
+        return Ok(None);
     }
+    octets(alloc, word)
 }

@@ -1,3 +1,4 @@
+pub mod DigitPairs
 pub mod Splits
 pub mod LineLaws
 pub mod DigitsRead

@@ -1,11 +1,11 @@
 -- Reading a line from its beginning: a value and the words after it (this profile).
-use Rattle.std.specs.Prelude.{ℕ, ◌==◌, ◌&&◌, Bool, true, false, if◌then◌else◌, List, [], ◌∷◌}
+use Rattle.std.specs.Prelude.{ℕ, ◌%◌, ◌==◌, ◌&&◌, Bool, true, false, if◌then◌else◌, List, [], ◌∷◌}
 use Rattle.std.specs.Prelude.{length, nat_lt, nat_le, Option, Some, None, Result, Ok, Err}
 use Rattle.std.specs.Char.{is_digit}
 use Rattle.std.specs.List.{list_all}
 use Rattle.std.specs.Str.{byte}
 use Rattle.std.specs.Str.Parse.{digits_value}
-use Rattle.hex.specs.Hex.{decode_of}
+use Rattle.hex.specs.Hex.{decode_of, is_hex_digit}
 use Rattle.hex.specs.declared.error.FromHexError.{FromHexError}
 
 -- ---- what a word spells
@@ -38,6 +38,10 @@ is_dash (octet ∷ other ∷ octets) = false
 -- the octets that a word spells
 unfoldable pub octets_of : List ℕ → Option (List ℕ)
 octets_of word = if is_dash word then Some [] else octets_decoded (decode_of word)
+
+-- one pair of hexadecimal digits or more
+abbrev pub are_pairs : List ℕ → Bool
+are_pairs word = nat_lt 0 (length word) && (length word % 2 == 0 && list_all is_hex_digit word)
 
 -- ---- the words of a line
 

@@ -1,16 +1,20 @@
 //! Octets as pairs of hexadecimal digits.
 
-ghost use Rattle.std.specs.Prelude.{◌≡◌, IfOk};
-ghost use Rattle.dms_text.specs.Reading.{octets_of, is_dash};
+ghost use Rattle.std.specs.Prelude.{◌≡◌, IfOk, OnErr, IsSome};
+ghost use Rattle.std.specs.List.{list_all};
+ghost use Rattle.hex.specs.Hex.{decode_of, is_hex_digit};
+ghost use Rattle.dms_text.specs.Reading.{octets_of, octets_decoded, is_dash, are_pairs};
 ghost use Rattle.dms_text.specs.Views.{octets_found};
 
 use hex::FromHexError;
 use std::alloc::{AllocError, Global};
 
-/// The octets that a word spells as pairs of hexadecimal digits, or no octets as `-`. Where it spells none, `Ok(None)`.
+/// The octets that a word spells as pairs of hexadecimal digits, or no octets as `-`. Where it spells none, `Ok(None)`:
+/// only a word that spells octets can be out of memory.
 #[tactic(auto, unfolding(crate::specs::Reading::octets_of))]
 pub fn octets(alloc: Global, word: &[u8]) -> Result<Option<Vec<u8>>, AllocError>
-    ensures { IfOk result (λ found. octets_found found ≡ octets_of word.now) }
+    ensures octets { IfOk result (λ found. octets_found found ≡ octets_of word.now) }
+    ensures memory { OnErr result (IsSome (octets_of word.now)) }
 {
     if is_dash(word) {
         return Ok(Some(Vec::new(alloc)));
@@ -18,7 +22,7 @@ pub fn octets(alloc: Global, word: &[u8]) -> Result<Option<Vec<u8>>, AllocError>
     match hex::decode(alloc, word) {
         Ok(octets) if octets.is_empty() => Ok(None),
         Ok(octets) => Ok(Some(octets)),
-        Err(FromHexError::OutOfMemory) => Err(AllocError),
+        Err(FromHexError::OutOfMemory) => unless_at_fault(word),
         Err(_) => Ok(None),
     }
 }
@@ -27,4 +31,34 @@ fn is_dash(word: &[u8]) -> bool
     ensures { result ≡ is_dash word.now }
 {
     matches!(word, [b'-'])
+}
+
+/// What is answered where there is no memory for a word's octets: `Ok(None)` where it has none.
+fn unless_at_fault(word: &[u8]) -> Result<Option<Vec<u8>>, AllocError>
+    ensures none { IfOk result (λ found. octets_found found ≡ octets_decoded (decode_of word.now)) }
+    ensures memory { OnErr result (IsSome (octets_decoded (decode_of word.now))) }
+{
+    if are_pairs(word) {
+        Err(AllocError)
+    } else {
+        Ok(None)
+    }
+}
+
+/// Whether a word is one pair of hexadecimal digits or more.
+fn are_pairs(word: &[u8]) -> bool
+    ensures { result ≡ are_pairs word.now }
+{
+    !word.is_empty() && word.len() % 2 == 0 && are_digits(word)
+}
+
+fn are_digits(word: &[u8]) -> bool
+    ensures { result ≡ list_all is_hex_digit word.now }
+{
+    for octet in word {
+        if !octet.is_ascii_hexdigit() {
+            return false;
+        }
+    }
+    true
 }
