@@ -6,9 +6,7 @@ case ${1-} in -h | --help) exec "$folder/measured.py" --help ;; esac
 crate=$folder/../crates/dms_measures
 build=$crate/out
 
-log=$(mktemp)
-trap 'rm -f "$log"' EXIT
-(cd "$crate" && "${RT:-rt}" lib > "$log" 2>&1) || { cat "$log" >&2; exit 1; }
+"$folder/../tools/static_library.py" dms_measures >&2
 "${CC:-cc}" -O2 -c -o "$build/counted.o" "$folder/counted.c"
 ar rcs "$build/libcounted.a" "$build/counted.o"
 # The kit's own few lines of C, through which what allocates calls malloc and free.

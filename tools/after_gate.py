@@ -36,7 +36,7 @@ STEPS = (
     Step("no memory", "tools/no_memory.sh --built --count 1000", 500),
     Step("lasting", "tools/lasting.py --short {program}", 400),
     Step("conformance", "python3 -m conform.short", 500),
-    Step("library for C", "tools/c_library.py --short --program {program}", 300),
+    Step("library for C", "tools/c_library.py --short --program {program}", 720),
     Step("helps", "tools/helps.sh", 400),
     Step("control room", "python3 -m control.short --signtool {program}", 900),
     Step("tests of tools, types", "tools/python_tests.py", 900),

@@ -4,17 +4,17 @@
     tools/c_library.py [--short] [--library crates/wisangub_c/out/libwisangub_c.a] [--aarch64 LIBRARY] [--program PATH]
         [--seconds 60] [--seed 1]
 
-Without --library it is made first, by `rt lib`. Needed is a C compiler; what else is not here is printed as `skipped
-NAME: why`. Every datagram, request, text, code and script of vectors/ goes through the library, with the sanitizers of
-addresses and of undefined behaviour and under valgrind; talks of many lines are compared with the program's, with the
-whole walk after every call; each allocation of a talk is refused once; signd and tools/udp_sign.py go on from each
-other's journals, which are changed, cut, and refused by the disk; strangers do not fill them; C++, CMake and pkg-config
-build with it; and mutated datagrams go in for --seconds. With --aarch64 the vectors go through that library too, for
-ARM64, under qemu-user.
+Without --library it is taken as it stands, and made where it is of other sources, by tools/static_library.py. Needed is
+a C compiler; what else is not here is printed as `skipped NAME: why`. Every datagram, request, text, code and script of
+vectors/ goes through the library, with the sanitizers of addresses and of undefined behaviour and under valgrind; talks
+of many lines are compared with the program's, with the whole walk after every call; each allocation of a talk is
+refused once; signd and tools/udp_sign.py go on from each other's journals, which are changed, cut, and refused by the
+disk; strangers do not fill them; C++, CMake and pkg-config build with it; and mutated datagrams go in for --seconds.
+With --aarch64 the vectors go through that library too, for ARM64, under qemu-user.
 
-The short form begins nothing after 230 seconds, stops `rt lib` after 150 and all else after 280: what there is no time
-for is skipped by name. In the long form what takes too long has failed. It needs no network but loopback, and leaves no
-process and no file.
+The short form makes the library over crates that stand proved alone, in 400 seconds at most. Once it is there nothing
+begins after 230 seconds, and all is stopped after 280: what there is no time for is skipped by name. In the long form
+what takes too long has failed. It needs no network but loopback, and leaves no process and no file but the library.
 """
 
 from __future__ import annotations
@@ -23,7 +23,6 @@ import argparse
 import os
 import pathlib
 import random
-import shutil
 import signal
 import subprocess
 import sys
@@ -35,34 +34,44 @@ from typing import Callable
 from c_trials import against_program, against_vectors, builds, disks, hostile, journals, powers, strangers, tested
 from c_trials.trial import AARCH64, PLAIN, REFUSING, SANITIZE, SANITIZED, TOP, UNDER_VALGRIND, Late, Trial, Way
 
-BUILT = TOP / "crates/wisangub_c/out/libwisangub_c.a"
-SHORT, MOST_LIB, LONG = 230.0, 150.0, 3600.0  # seconds of the short form, of `rt lib` in it, of `rt lib` else
+SHORT, MOST_MADE, LONG = 230.0, 400.0, 3600.0  # seconds of the short form, of making the library in it, and else
+LACKS = 3  # the status of tools/static_library.py where it skipped the library and said why
 
 
-def built(trial: Trial) -> pathlib.Path | None:
-    """The library, made by `rt lib`, where that does not take too long."""
-    if shutil.which("rt") is None:
-        trial.skip("library", "here is no rt")
-        return None
-    begun, most = time.monotonic(), MOST_LIB if trial.is_short() else LONG
-    made = subprocess.Popen(
-        ["rt", "lib"],
-        cwd=BUILT.parent.parent,
+def ended(making: subprocess.Popen[str]) -> None:
+    """Ends it with all that it started, which removes what it has in other folders if it is given the time."""
+    os.killpg(making.pid, signal.SIGTERM)
+    try:
+        making.communicate(timeout=20)
+    except subprocess.TimeoutExpired:
+        os.killpg(making.pid, signal.SIGKILL)
+        making.communicate()
+
+
+def built(trial: Trial, is_short: bool) -> pathlib.Path | None:
+    """The library, made where it does not stand and that does not take too long."""
+    begun, most = time.monotonic(), MOST_MADE if is_short else LONG
+    making = subprocess.Popen(
+        [str(TOP / "tools/static_library.py"), *["--standing"] * is_short, "wisangub_c"],
         stdin=subprocess.DEVNULL,
         stdout=subprocess.PIPE,
         stderr=subprocess.STDOUT,
+        text=True,
+        errors="replace",
         start_new_session=True,
     )
     try:
-        said, _ = made.communicate(timeout=most)
+        said, _ = making.communicate(timeout=most)
     except subprocess.TimeoutExpired:
-        os.killpg(made.pid, signal.SIGKILL)
-        made.communicate()
-        trial.skip("library", f"rt lib took more than {most:.0f} seconds")
+        ended(making)
+        trial.skip("library", f"making it took more than {most:.0f} seconds")
         return None
-    print(f"rt lib: {time.monotonic() - begun:.0f} s", flush=True)
-    is_made = trial.check("rt lib", made.returncode == 0, said[-600:].decode(errors="replace"))
-    return BUILT if is_made else None
+    if making.returncode == LACKS:
+        print(said, end="", flush=True)
+        return None
+    print(f"the library: {time.monotonic() - begun:.0f} s", flush=True)
+    is_made = trial.check("library", making.returncode == 0, said[-600:])
+    return pathlib.Path(said.splitlines()[-1]) if is_made else None
 
 
 def sanitized(trial: Trial, library: pathlib.Path) -> bool:
@@ -138,16 +147,17 @@ def main() -> int:
     words = argparse.ArgumentParser(description=__doc__, formatter_class=argparse.RawDescriptionHelpFormatter)
     words.add_argument("--short", action="store_true")
     words.add_argument("--library", type=pathlib.Path, help="that is there already")
-    words.add_argument("--aarch64", type=pathlib.Path, metavar="LIBRARY", help="of `rt lib --target`, for ARM64")
+    words.add_argument("--aarch64", type=pathlib.Path, metavar="LIBRARY", help="of `tools/static_library.py --target`, for ARM64")
     words.add_argument("--program", type=pathlib.Path, default=TOP / "crates/signtool/out/signtool")
     words.add_argument("--seconds", type=int, default=60, help="of mutated datagrams")
     words.add_argument("--seed", type=int, default=1)
     asked = words.parse_args()
-    ends = time.monotonic() + SHORT if asked.short else float("inf")
     for_aarch64 = asked.aarch64.absolute() if asked.aarch64 else None
     with tempfile.TemporaryDirectory(prefix="c-library-") as folder:
-        trial = Trial(pathlib.Path(folder), asked.program.absolute(), random.Random(asked.seed), ends)
-        library = asked.library or built(trial)
+        trial = Trial(pathlib.Path(folder), asked.program.absolute(), random.Random(asked.seed))
+        library = asked.library or built(trial, asked.short)
+        if asked.short:
+            trial.ends = time.monotonic() + SHORT
         if library is not None:
             all_tried(trial, library.absolute(), for_aarch64, asked.seconds, asked.seed)
     print(f"{trial.passed} passed, {trial.failed} failed")

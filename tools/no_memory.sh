@@ -4,8 +4,8 @@
 #
 #     tools/no_memory.sh [--built] [--count 100000]
 #
-# It builds the library of crates/dms_measures first. With --built it takes the one that was built before; where there is
-# none it is built by tools/static_library.py over what the gate left, and if that cannot be, all is skipped.
+# It builds the library of crates/dms_measures first, by tools/static_library.py, with what is not proved yet below it.
+# With --built nothing below it is proved: where a crate lacks, all is skipped.
 set -eu
 case " $* " in *" --help "*) sed -n '2,/^[^#]/s/^# \{0,1\}//p' "$0"; exit ;; esac
 tools=$(cd "$(dirname "$0")" && pwd)
@@ -27,13 +27,10 @@ if grep -nE '\bVec::|String::|Box::|vec!|format!|\.to_vec|with_capacity' "$crate
 fi
 folder=$(mktemp -d)
 trap 'rm -rf "$folder"' EXIT
-if [ -n "$built" ] && [ ! -f "$build/libdms_measures.a" ]; then
-    lacks=0
-    "$tools/static_library.py" dms_measures || lacks=$?
-    [ "$lacks" != 3 ] || exit 0
-    [ "$lacks" = 0 ] || exit 1
-fi
-[ -n "$built" ] || (cd "$crate" && "${RT:-rt}" lib > "$folder/log" 2>&1) || { cat "$folder/log" >&2; exit 1; }
+lacks=0
+"$tools/static_library.py" ${built:+--standing} dms_measures || lacks=$?
+[ -z "$built" ] || [ "$lacks" != 3 ] || exit 0
+[ "$lacks" = 0 ] || exit 1
 kit=$(dirname "$("${RT:-rt}" doc)")
 wrapped=-Wl,--wrap=malloc,--wrap=calloc,--wrap=realloc
 "${CC:-cc}" -O2 -Wall $wrapped -o "$folder/no_memory" "$tools/no_memory.c" -L "$build" -ldms_measures -L "$kit/c" -llibc_c

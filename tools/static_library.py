@@ -1,72 +1,105 @@
 #!/usr/bin/env python3
-"""Builds the static library of a crate over what stands proved: `tools/static_library.py CRATE` prints where it is.
+"""Proves a crate and builds its static library: `tools/static_library.py CRATE` prints where it is.
 
-The crates below are taken as `rt ci` or tools/build.py left them, proved of the sources that stand here, so the crate
-alone is proved, in a minute or two. Where there is none of a crate below, or no kit, nothing is built, it says which in
-a line `skipped CRATE: why`, and ends with 3. `rt lib` in the crate's folder proves all below it first.
+    tools/static_library.py [--target aarch64-unknown-linux-gnu] [--standing] [--processors N] CRATE
+
+The crates below are taken as tools/build.py or `rt ci` proved them, from the sources that stand here, so the crate alone
+is proved, in some minutes. Those of which no proof stands are proved first, as tools/build.py does it and where it finds
+them again. A library that was made from the same is taken as it is, in a second.
+
+With --standing no other crate is proved: where one lacks, nothing is built, a line `skipped libCRATE.a: why` says which,
+and the exit status is 3. So it is where there is no kit; but a library that is there is then taken unseen.
 """
 
 from __future__ import annotations
 
 import argparse
+import contextlib
+import os
 import pathlib
 import shutil
-import subprocess
+import signal
 import sys
 import tempfile
+from collections.abc import Iterator
 
 from building.kit import Kit
-from building.plan import TOP, Plan
-from building.proofs import Proofs
+from building.plan import Plan
+from building.proofs import Proofs, proofs
+from building.schedule import MOST_JOBS, SECONDS_A_LINE, Schedule
+from building.static import Static
+from tries.libraries import gathered, whole_plan
 
-PROVED = "crates/signtool/out/proved"
-
-
-def standing(plan: Plan, kit: Kit, name: str) -> pathlib.Path | None:
-    """The statements of a crate: of `rt ci`, which removes what is older than the sources, or of tools/build.py, where
-    these are of the sources of now."""
-    of_gate, of_build = TOP / f"crates/{name}/out/rlib/{name}.rlib", TOP / PROVED / f"{name}.rlib"
-    if (of_gate / "format").exists():
-        return of_gate
-    stamp = TOP / PROVED / f"{name}.sum"
-    if not (of_build / "format").exists() or not stamp.exists():
-        return None
-    plan.crates.update({lower: plan.measured(lower) for lower in {name, *plan.below(name)}})
-    is_fresh = stamp.read_text(encoding="ascii") == Proofs(plan, kit, TOP / PROVED).sum_of(name)
-    return of_build if is_fresh else None
+LACKS = 3
+MOST_SHOWN = 3000
 
 
-def build(name: str) -> int:
-    if not shutil.which("rt"):
-        print(f"skipped lib{name}.a: here is no rt")
-        return 3
-    plan, kit = Plan(), Kit.found()
-    places = {lower: standing(plan, kit, lower) for lower in sorted(plan.below(name))}
-    lacks = [lower for lower, place in places.items() if place is None]
-    if lacks:
-        print(f"skipped lib{name}.a: no statements stand here of {' '.join(lacks)}")
-        return 3
-    crate = plan.measured(name)
-    made = crate.folder / "out" / f"lib{name}.a"
-    made.parent.mkdir(exist_ok=True)
-    with tempfile.TemporaryDirectory() as folder:
-        room = pathlib.Path(folder)
-        for lower, place in places.items():
-            (room / f"{lower}.rlib").symlink_to(place or room)
-        words = [*kit.checked(plan, crate, room, 2), "--crate-type", "staticlib", *kit.compiled(), "-o", str(made)]
-        ended = subprocess.run(words, cwd=crate.folder, capture_output=True, text=True, check=False)
+@contextlib.contextmanager
+def libraries(mine: Proofs, wanted: set[str]) -> Iterator[Proofs]:
+    """The statements of the crates below as tools/build.py left them, or else as the gate did; or some of them."""
+    if wanted <= mine.proved():
+        yield mine
+        return
+    with tempfile.TemporaryDirectory(prefix="static-library-") as folder:
+        found = Proofs(mine.plan, mine.kit, pathlib.Path(folder) / "libraries")
+        gathered(mine.plan, found, mine.room, wanted)
+        yield found if wanted <= found.proved() else mine
+
+
+def built(library: Static, over: Proofs, processors: int) -> int:
+    """Builds it over the crates below, and returns the status."""
+    name, minutes = library.crate.name, library.crate.work * SECONDS_A_LINE / 60
+    print(f"proving {name}, in some {minutes:.0f} minutes", file=sys.stderr, flush=True)
+    ended = library.prove(over.room, max(1, min(MOST_JOBS, processors)))
     if ended.returncode:
-        print(f"{ended.stdout[-3000:]}{ended.stderr[-3000:]}{name} is not built")
+        print(f"{ended.stdout[-MOST_SHOWN:]}{ended.stderr[-MOST_SHOWN:]}{name} is not built")
         return 1
-    print(made)
+    print(library.made)
     return 0
+
+
+def over_what_stands(plan: Plan, asked: argparse.Namespace) -> int:
+    """Builds it where it does not stand, with what lacks below it if that may be proved, and returns the status."""
+    wanted = {*plan.below(asked.crate)}
+    with proofs(plan) as mine:
+        library = Static(mine, plan.crates[asked.crate], asked.target)
+        if library.stands():
+            print(library.made)
+            return 0
+        with libraries(mine, wanted) as over:
+            lacks = wanted - over.proved()
+            if lacks and asked.standing:
+                print(f"skipped lib{asked.crate}.a: no proof stands here of {' '.join(sorted(lacks))}")
+                return LACKS
+            failed = Schedule(plan, wanted, over.proved(), asked.processors).run(over) if lacks else None
+            if failed:
+                print(f"{failed.crate.name} is not proved: {failed.log}")
+                return 1
+            return built(library, over, asked.processors)
+
+
+def without_kit(plan: Plan, asked: argparse.Namespace) -> int:
+    """Takes the library that is there."""
+    made = Static(Proofs(plan, Kit(pathlib.Path()), pathlib.Path()), plan.crates[asked.crate], asked.target).made
+    print(made if made.is_file() else f"skipped lib{asked.crate}.a: here is no rt")
+    return 0 if made.is_file() else LACKS
 
 
 def main() -> int:
     words = argparse.ArgumentParser(description=__doc__, formatter_class=argparse.RawDescriptionHelpFormatter)
+    words.add_argument("--target", help="another than this machine")
+    words.add_argument("--standing", action="store_true", help="no other crate is proved")
+    words.add_argument("--processors", type=int, default=len(os.sched_getaffinity(0)), help="how many are taken; else all")
     words.add_argument("crate", metavar="CRATE")
-    return build(words.parse_args().crate)
+    asked, plan = words.parse_args(), whole_plan()
+    if asked.crate not in plan.crates:
+        words.error(f"crates.txt has no {asked.crate}")
+    signal.signal(signal.SIGTERM, lambda *_: sys.exit(143))
+    return over_what_stands(plan, asked) if shutil.which("rt") else without_kit(plan, asked)
 
 
 if __name__ == "__main__":
-    sys.exit(main())
+    try:
+        sys.exit(main())
+    except KeyboardInterrupt:
+        sys.exit(130)
