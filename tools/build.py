@@ -9,9 +9,11 @@ that it took, and about how long the rest takes. With words it then runs the pro
 outputs and its exit status.
 
 Each crate is proved from nothing, over the statements of those below it. A run that was stopped goes on where it was.
-Whoever changes a crate, or links the library for C, calls it with --libraries: it proves the same crates by `rt lib`,
-which keeps their proofs too, for `rt check` and `make -C examples` to go on from. A crate that fails ends the run: the
-end of its log is shown, and the whole stands in its out/build.log.
+A crate that fails ends the run: the end of its log is shown, and the whole stands in its out/build.log.
+
+What it proved is all that is built on: `make -C examples` and measures/run.sh prove their own crate over it, and `rt
+check` in a crate that crate. Where `rt` built a crate below since then, it may refuse one above, as `proved over another
+build`: tools/build.py, called again, gives it what is proved of the sources as they stand.
 """
 
 from __future__ import annotations
@@ -21,11 +23,12 @@ import os
 import signal
 import sys
 
-from building.libraries import libraries
+from building.libraries import give_all
 from building.plan import Plan
-from building.proofs import proofs
+from building.proofs import Proofs, proofs
 from building.running import Running
 from building.schedule import Schedule
+from tries.libraries import kit_program
 
 LINES_SHOWN = 40
 
@@ -40,29 +43,34 @@ def built(plan: Plan, processors: int) -> int:
     """Proves the program and what is below it, builds it, and returns the status."""
     with proofs(plan) as way:
         failed = Schedule(plan, {*plan.crates}, way.proved(), processors).run(way)
-        return fault(failed) if failed else way.link(plan.built)
+        if failed:
+            return fault(failed)
+        status = way.link(plan.built)
+        give_rt(Proofs(plan, way.kit, way.room))
+        return status
 
 
-def built_libraries(plan: Plan, processors: int) -> int:
-    """Proves all below the program so that a check of a crate can go on from it, and returns the status."""
-    with libraries(plan, processors + 1) as way:
-        failed = Schedule(plan, {*plan.crates} - {plan.program}, set(), processors).run(way)
-    return fault(failed) if failed else 0
+def give_rt(proofs: Proofs) -> None:
+    """Has `rt check` in a crate begin over what is proved; a run without that has built the program all the same."""
+    try:
+        busy = give_all(kit_program(proofs.kit), proofs)
+        why = f"another one works in {busy}" if busy else ""
+    except (Exception, SystemExit) as fault:  # another kit may have other names for all of this
+        why = str(fault)
+    if why:
+        print(f"rt check does not begin over this: {why}", file=sys.stderr, flush=True)
 
 
 def main() -> int:
     words = argparse.ArgumentParser(description=__doc__, formatter_class=argparse.RawDescriptionHelpFormatter)
     processors = len(os.sched_getaffinity(0))
     words.add_argument("--processors", type=int, default=processors, help="how many are taken; else all")
-    words.add_argument("--libraries", action="store_true", help="what a check of a crate goes on from, and no program")
     words.add_argument("words", nargs="*", metavar="WORD", help="after --: what the program is run with")
     asked = words.parse_args()
-    if asked.libraries and asked.words:
-        words.error("--libraries builds no program")
     signal.signal(signal.SIGTERM, lambda *_: sys.exit(143))
     plan = Plan()
-    status = (built_libraries if asked.libraries else built)(plan, max(1, asked.processors))
-    if status == 0 and not asked.libraries:
+    status = built(plan, max(1, asked.processors))
+    if status == 0:
         print(f"the program is {plan.built}", file=sys.stderr, flush=True)
         if asked.words:
             os.execv(plan.built, [str(plan.built), *asked.words])

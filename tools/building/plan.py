@@ -67,7 +67,3 @@ class Plan:
         """The work of a crate and of the longest chain of others that wait for it."""
         above = [other for other in self.crates if name in self.uses[other]]
         return self.crates[name].work + max(map(self.chain, above), default=0)
-
-    def rows(self) -> str:
-        """The rows of crates.txt that name a crate of the plan: a copy of the sources has no others."""
-        return "".join(f"{line}\n" for line in self.lines if line.partition(":")[0].split()[0] in self.crates)

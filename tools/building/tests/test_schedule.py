@@ -47,7 +47,6 @@ def test_the_plan_has_the_program_and_what_is_below_it(plan: Plan) -> None:
     assert plan.below("program") == {"low", "middle", "beside"}
     assert plan.of_kit["low"] == ("hex",) and plan.crates["program"].uses == ("middle", "beside")
     assert plan.crates["program"].root == "src/main.rt" and plan.crates["low"].root == "src/lib.rt"
-    assert "not_below" not in plan.rows() and plan.rows().splitlines()[0] == "low: hex"
 
 
 def test_what_more_waits_for_begins_first(plan: Plan) -> None:
