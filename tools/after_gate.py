@@ -33,7 +33,7 @@ STEPS = (
     Step("pictures", "tools/picture.py --read --program {program}", 120),
     Step("refused memory", "tools/refuse_memory.sh --built --short signtool", 400),
     Step("refused memory in tests", "tools/refuse_memory.sh --built tests", 400),
-    Step("no memory", "tools/no_memory.sh --built --count 1000", 500),
+    Step("no memory", "tools/no_memory.sh --built --count 1000", 900),
     Step("lasting", "tools/lasting.py --short {program}", 400),
     Step("conformance", "python3 -m conform.short", 500),
     Step("library for C", "tools/c_library.py --short --program {program}", 720),
